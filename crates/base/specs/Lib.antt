@@ -1,0 +1,15 @@
+pub mod Memory
+pub mod Value
+pub mod Meaning
+pub mod Items
+pub mod Map
+pub mod Machine
+pub mod Interval
+pub mod Footprint
+pub mod Actions
+pub mod Order
+pub mod Current
+pub mod Accepted
+pub mod Headline
+pub mod Answer
+pub mod Small

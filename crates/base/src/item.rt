@@ -1,0 +1,100 @@
+// What `main` is turned into: items, and the events that they have.
+
+use crate::tree::{ArrayId, DependKind};
+use smallvec::SmallVec;
+
+/// A cell of an array.
+#[derive(Clone, Copy, PartialEq, Eq, PartialOrd, Ord, Debug)]
+pub struct Cell {
+    pub array: ArrayId,
+    pub index: u64,
+}
+
+/// The cells `first` to `first + length - 1` of an array.
+#[derive(Clone, Copy, PartialEq, Eq, Debug)]
+pub struct Section {
+    pub array: ArrayId,
+    pub first: u64,
+    pub length: u64,
+}
+
+/// What a map item or an update does with a section.
+#[derive(Clone, Copy, PartialEq, Eq, Debug)]
+pub enum MapKind {
+    To,
+    From,
+    ToFrom,
+    Alloc,
+    Release,
+    Delete,
+}
+
+#[derive(Clone, Copy, PartialEq, Eq, Debug)]
+pub struct MapItem {
+    pub kind: MapKind,
+    pub always: bool,
+    pub section: Section,
+    pub line: usize,
+    pub column: usize,
+}
+
+#[derive(Clone, Copy, PartialEq, Eq, Debug)]
+pub struct Depend {
+    pub kind: DependKind,
+    pub section: Section,
+    pub line: usize,
+    pub column: usize,
+}
+
+#[derive(Clone, Copy, PartialEq, Eq, Debug)]
+pub enum ItemKind {
+    Host,
+    Target,
+    Begin,
+    End,
+    Enter,
+    Exit,
+    Update,
+    Wait,
+}
+
+/// The value of each loop name around, the outermost first.
+#[derive(Drop)]
+pub struct LoopValues {
+    pub values: SmallVec<u64, 4>,
+}
+
+#[derive(Drop)]
+pub struct Item {
+    pub kind: ItemKind,
+    pub deferred: bool,
+    pub maps: SmallVec<MapItem, 2>,
+    pub depends: SmallVec<Depend, 2>,
+    pub region: Option<u32>,
+    pub loops: LoopValues,
+}
+
+#[derive(Clone, Copy, PartialEq, Eq, Debug)]
+pub enum Event {
+    Gen(u32),
+    Open(u32),
+    Close(u32),
+    Wait(u32),
+    End,
+}
+
+/// Where an item touches a cell: on the host, on the device, or its block's entry of the table.
+#[derive(Clone, Copy, PartialEq, Eq, PartialOrd, Ord, Debug)]
+pub enum Loc {
+    Host,
+    Dev,
+    Tab,
+}
+
+/// What a run ends with.
+#[derive(Drop)]
+pub struct Answer {
+    pub out: Vec<u8>,
+    pub finals: Vec<(ArrayId, Vec<u64>)>,
+    pub history: Vec<Event>,
+}
