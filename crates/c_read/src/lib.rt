@@ -1,0 +1,2 @@
+//! From the bytes of a source to its program.
+#![tactic(auto)]
