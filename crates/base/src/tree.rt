@@ -7,14 +7,14 @@ use indexmap::IndexMap;
 use smallvec::SmallVec;
 
 /// A place in the source text. Both count from 1.
-#[derive(Clone, Copy, PartialEq, Eq, PartialOrd, Ord, Debug)]
+#[derive(Clone, Copy, PartialEq, Eq, PartialOrd, Ord, Debug, Default)]
 pub struct Place {
     pub line: usize,
     pub column: usize,
 }
 
 /// An array, by its number in order of declaration.
-#[derive(Clone, Copy, PartialEq, Eq, PartialOrd, Ord, Debug)]
+#[derive(Clone, Copy, PartialEq, Eq, PartialOrd, Ord, Debug, Default)]
 pub struct ArrayId(pub u32);
 
 /// A global or local scalar, by its number in order of declaration.
@@ -129,6 +129,12 @@ pub enum Term {
     Times(u64, u32),
 }
 
+impl Default for Term {
+    fn default() -> Term {
+        Term::Literal(0)
+    }
+}
+
 /// A bound of a section, the sum of its terms.
 #[derive(Drop)]
 pub struct Bound {
@@ -136,7 +142,7 @@ pub struct Bound {
 }
 
 /// A section as it is written. With no bounds it is the whole array.
-#[derive(Drop)]
+#[derive(Drop, Default)]
 pub struct SectionText {
     pub array: ArrayId,
     pub bounds: Option<(Bound, Bound)>,
@@ -144,55 +150,60 @@ pub struct SectionText {
 }
 
 /// The types of a map clause, by what takes them.
-#[derive(Clone, Copy, PartialEq, Eq, Debug)]
+#[derive(Clone, Copy, PartialEq, Eq, Debug, Default)]
 pub enum RegionKind {
+    #[default]
     To,
     From,
     ToFrom,
     Alloc,
 }
 
-#[derive(Clone, Copy, PartialEq, Eq, Debug)]
+#[derive(Clone, Copy, PartialEq, Eq, Debug, Default)]
 pub enum EnterKind {
+    #[default]
     To,
     Alloc,
 }
 
-#[derive(Clone, Copy, PartialEq, Eq, Debug)]
+#[derive(Clone, Copy, PartialEq, Eq, Debug, Default)]
 pub enum ExitKind {
+    #[default]
     From,
     Release,
     Delete,
 }
 
-#[derive(Clone, Copy, PartialEq, Eq, Debug)]
+#[derive(Clone, Copy, PartialEq, Eq, Debug, Default)]
 pub enum UpdateKind {
+    #[default]
     To,
     From,
 }
 
-#[derive(Clone, Copy, PartialEq, Eq, Debug)]
+#[derive(Clone, Copy, PartialEq, Eq, Debug, Default)]
 pub enum DependKind {
+    #[default]
     In,
     Out,
     InOut,
 }
 
 /// A map item as it is written.
-#[derive(Drop)]
+#[derive(Drop, Default)]
 pub struct MapText<K> {
     pub kind: K,
     pub always: bool,
     pub section: SectionText,
 }
 
-#[derive(Drop)]
+#[derive(Drop, Default)]
 pub struct UpdateText {
     pub kind: UpdateKind,
     pub section: SectionText,
 }
 
-#[derive(Drop)]
+#[derive(Drop, Default)]
 pub struct DependText {
     pub kind: DependKind,
     pub section: SectionText,

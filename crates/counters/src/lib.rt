@@ -43,26 +43,6 @@ pub enum Event {
 pub enum Fault {
     /// The sum passes the largest number.
     Full,
-    /// What was done is not what the item's opening asked for.
-    Stranger,
-}
-
-/// What is to be done for an open item: a sum.
-#[derive(Drop)]
-pub struct Job {
-    item: usize,
-    seen: u64,
-    amount: u64,
-}
-
-/// What was done for an open item.
-#[derive(Drop)]
-pub struct Done {
-    item: usize,
-    seen: u64,
-    amount: u64,
-    sum: u64,
-    ghost is_sum: { sum ≡ seen + amount },
 }
 
 /// The counters, in the middle of a run.
@@ -194,23 +174,12 @@ impl Counters {
         self.place = i + 1;
     }
 
-    fn open(&mut self, i: usize) -> Job
+    fn open(&mut self, i: usize)
         requires { IsEnabled self.old (Open i) }
         ensures { self.new ≡ opened self.old i }
     {
-        let Item {
-            counter,
-            amount,
-            ..
-        } = self.items[i];
-        let seen = self.counters[counter];
+        self.seen[i] = self.counters[self.items[i].counter];
         self.progress[i] = Progress::Opened;
-        self.seen[i] = seen;
-        Job {
-            item: i,
-            seen,
-            amount,
-        }
     }
 
     // Closes an item with a sum that was made before.
@@ -241,22 +210,6 @@ impl Counters {
         };
         self.store(i, sum);
         Ok(())
-    }
-
-    // Closes an item with what was done for it.
-    fn close_by(&mut self, done: &Done) -> Result<usize, Fault>
-        ensures ok { IfOk result (λ i. IsEnabled self.old (Close i) × (self.new ≡ closed self.old i)) }
-        ensures err { OnErr result (self.new ≡ self.old) }
-    {
-        let i = done.item;
-        if !self.is_enabled(&Event::Close(i)) {
-            return Err(Fault::Stranger);
-        }
-        if self.seen[i] != done.seen || self.items[i].amount != done.amount {
-            return Err(Fault::Stranger);
-        }
-        self.store(i, done.sum);
-        Ok(i)
     }
 
     fn wait(&mut self, i: usize)
@@ -292,9 +245,7 @@ impl Machine for Counters {
     fn step(state: &mut Counters, event: &Event) -> Result<(), Fault> {
         match *event {
             Event::Gen(i) => state.generate(i),
-            Event::Open(i) => {
-                let _ = state.open(i);
-            }
+            Event::Open(i) => state.open(i),
             Event::Close(i) => state.close(i)?,
             Event::Wait(i) => state.wait(i),
         }

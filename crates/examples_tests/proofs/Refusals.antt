@@ -1,0 +1,26 @@
+-- The refused programs, each by one computation.
+use Rattle.std.proofs.Common.{◌≡◌, ℕ, List, ◌∷◌, [], true, refl, sym, ap₂, subst, Option, Some, None}
+use Rattle.base.specs.declared.fault.RefusalCode.{RefusalCode}
+use Rattle.base.specs.declared.fault.RefusalCode.TheVariants.{ExitOfAbsent, HostNotCurrent, DeviceNotCurrent, Conflict}
+use Rattle.base.specs.declared.tree.Part.{Part}
+use Rattle.base.specs.Items.{Plan, plan_of}
+use Rattle.base.specs.Accepted.{IsFirstFault, Refused}
+use Rattle.examples_tests.specs.Pieces.{a}
+use Rattle.examples_tests.specs.FirstFault.{refusal, refused_first}
+use Rattle.examples_tests.specs.Refused.{FirstRefusal, not_copied_back, deleted_inside_data, exit_too_early, stale_on_device, TheyAreRefused}
+use Rattle.examples_tests.proofs.FirstFaults.{first_fault_by}
+
+-- one computation serves every program with these arrays and parts
+first_refusal : (n : ℕ) (lengths : List ℕ) (parts : List Part) (code : RefusalCode) (j : ℕ) (other : Option ℕ) →
+    refused_first n (plan_of lengths parts) (refusal code j (record { array = a; index = 0 }) other) ≡ true → FirstRefusal lengths parts code j other
+first_refusal n lengths parts code j other h p l e =
+    subst (λ (plan : Plan). IsFirstFault plan (Refused (refusal code j (record { array = a; index = 0 }) other))) (sym (ap₂ plan_of l e))
+    (first_fault_by n (plan_of lengths parts) (refusal code j (record { array = a; index = 0 }) other) h)
+
+pub they_are_refused : TheyAreRefused
+they_are_refused v p = record {
+  not_copied_back_refused = first_refusal 0 (4 ∷ []) (not_copied_back v p) HostNotCurrent 2 None refl;
+  deleted_inside_data_refused = first_refusal 0 (2 ∷ []) (deleted_inside_data v p) ExitOfAbsent 2 None refl;
+  exit_too_early_refused = first_refusal 1 (8 ∷ []) (exit_too_early v p) Conflict 3 (Some 1) refl;
+  stale_on_device_refused = first_refusal 0 (4 ∷ 4 ∷ []) (stale_on_device v p) DeviceNotCurrent 2 None refl;
+}
