@@ -68,19 +68,29 @@ none_found : (o : Run) → small_found o ≡ None → o ≡ None
 none_found None e = refl
 none_found (Some x) e = absurd cc
 
-pub text_spelled : SmallTextIsSpelled
+abbrev Fine : List ℕ → Type 0
+Fine bytes = (length bytes ≤ max_source) × (run small_grammar small_machine begin start (items_of bytes) ≡ None)
+
+-- where no fault is answered, there are not too many bytes and the machine finds none
+pub not_faulty : (bytes : List ℕ) → small_answer bytes ≡ None → Fine bytes
 unfolding small_answer
-text_spelled bytes t e tokens h = go (nat_lt max_source (length bytes)) refl e
+not_faulty bytes e = go (nat_lt max_source (length bytes)) refl e
   where
     go : (b : Bool) → nat_lt max_source (length bytes) ≡ b → cond b (some_of too_long) (small_fault_in bytes) ≡ None
-        → SpellsSmall bytes t
+        → Fine bytes
     go true l k = absurd cc
-    go false l k =
-        record {
-          short = le_from max_source (length bytes) l;
-          spelled = spelled small_grammar small_machine small_laws
-              (items_of bytes) t (none_found (run small_grammar small_machine begin start (items_of bytes)) k) tokens h;
-        }
+    go false l k = (
+      le_from max_source (length bytes) l,
+      none_found (run small_grammar small_machine begin start (items_of bytes)) k,
+    )
+
+pub text_spelled : SmallTextIsSpelled
+text_spelled bytes t e tokens h =
+    let fine = not_faulty bytes e in
+    record {
+      short = fine.0;
+      spelled = spelled small_grammar small_machine small_laws (items_of bytes) t fine.1 tokens h;
+    }
 
 found_not : (bytes : List ℕ) (f : TextFault) (t : Text) (o : Run)
     → run small_grammar small_machine begin start (items_of bytes) ≡ o → small_found o ≡ some_of f → SpellsSmall bytes t

@@ -17,7 +17,11 @@ SmallTextIsSpelled =
     (bytes : List ℕ) (t : Text) → small_answer bytes ≡ None
     → terminals small_grammar (items_of bytes) ≡ kinds small_grammar (slots t) → IsSmallText t → SpellsSmall bytes t
 
--- and where one is answered it spells none
+-- and there is such a tree
+abbrev pub SmallTextExists : Type 0
+SmallTextExists = (bytes : List ℕ) → small_answer bytes ≡ None → (t : Text) × SpellsSmall bytes t
+
+-- where a fault is answered it spells none
 abbrev pub FaultySmallTextIsNotSpelled : Type 0
 FaultySmallTextIsNotSpelled =
     (bytes : List ℕ) (f : TextFault) (t : Text) → small_answer bytes ≡ Some f → SpellsSmall bytes t → ⊥

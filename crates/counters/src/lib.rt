@@ -6,7 +6,6 @@ ghost use Rattle.counters.specs.Steps.{IsNew, HasTotals};
 ghost use Rattle.std.specs.List.{slice_index_or};
 ghost use Rattle.counters.specs.Tally.{needs, NeededClosed, IsProgram, item};
 
-
 use machine::{Machine, play};
 use std::alloc::{AllocError, Global};
 use std::marker::Model;
@@ -231,6 +230,8 @@ impl Machine for Counters {
     type Event = Event;
 
     type Fault = Fault;
+
+    ghost Location = { ℕ };
 
     ghost parts = { parts };
 

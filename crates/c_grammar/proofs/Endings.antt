@@ -1,0 +1,114 @@
+-- The end of a source stands only behind a whole text.
+use Rattle.std.proofs.Common.{◌≡◌, false, List, [], ◌∷◌, ◌++◌, refl, sym, ap, subst, ◌∙◌, append_assoc}
+use Rattle.c_tokens.specs.declared.kind.Sign.TheVariants as sign
+use Rattle.c_grammar.specs.Lexeme.{Else, Int, Main, Void}
+use Rattle.c_grammar.specs.Terminal.{Terminal, Fixed, Mark, End, same}
+use Rattle.c_grammar.specs.Grammar.{Plain, MakesScalar, Otherwise, Slot, Slots, for, mark, word, inner, closing, Term, Literal, Named, Element, Group, Prefixed, Both, By, operator_sign, fraction_sign, value_of, term, Source, Input, Value, source, Head, Stmt, Declare, Assign, Store, Repeat, Choose, ChooseElse, Show, Block, Directive, OverBlock, OverLoop, Stmts, Done, Then, head_slots, body_opening, body_closing, end_mark, stmt, stmts, Global, Scalar, Array, global, globals, Text, slots}
+
+abbrev NoEnd : Slots → Type 0
+NoEnd [] = Unit {0}
+NoEnd (x ∷ xs) = (same End x.0 ≡ false) × NoEnd xs
+
+both : (xs ys : Slots) → NoEnd xs → NoEnd ys → NoEnd (xs ++ ys)
+both [] ys h k = k
+both (x ∷ xs) ys h k = (h.0, both xs ys h.1 k)
+
+in_term : (e : Term) → NoEnd (term e)
+in_term (Literal n) = (refl, tt)
+in_term (Named x) = (refl, tt)
+in_term (Element x i) = (refl, (refl, both (term i) (closing sign.CloseBracket ∷ []) (in_term i) (refl, tt)))
+in_term (Group e) = (refl, both (term e) (closing sign.CloseParen ∷ []) (in_term e) (refl, tt))
+in_term (Prefixed op e) = (refl, in_term e)
+in_term (Both op a b) = both (term a) (inner (operator_sign op) ∷ term b) (in_term a) (refl, in_term b)
+in_term (By op a n) = both (term a) (inner (fraction_sign op) ∷ value_of op n ∷ []) (in_term a) (refl, (refl, tt))
+
+in_source : (v : Source) → NoEnd (source v)
+in_source Input = (refl, (refl, (refl, tt)))
+in_source (Value e) = in_term e
+
+in_head : (h : Head) → NoEnd (head_slots h)
+in_head h =
+    (refl, (refl, (refl, (refl, (refl, (refl, (refl, (refl, (refl, (refl, (refl, (refl, (refl, (refl, tt))))))))))))))
+
+in_body : (ss : Stmts) → NoEnd (stmts ss) → NoEnd (stmts ss ++ body_closing ∷ [])
+in_body ss h = both (stmts ss) (body_closing ∷ []) h (refl, tt)
+
+mutual
+  in_stmt : (s : Stmt) → NoEnd (stmt s)
+  in_stmt (Declare x v) =
+      (refl, (refl, (refl, both (source v) ((Mark sign.Semicolon, for MakesScalar) ∷ []) (in_source v) (refl, tt))))
+  in_stmt (Assign x v) = (refl, (refl, both (source v) (end_mark ∷ []) (in_source v) (refl, tt)))
+  in_stmt (Store x i v) =
+      let last : Slots = source v ++ end_mark ∷ [] in
+      let ends : NoEnd last = both (source v) (end_mark ∷ []) (in_source v) (refl, tt) in
+      (refl, (refl, both (term i) (mark sign.CloseBracket ∷ mark sign.Equal ∷ last) (in_term i) (refl, (refl, ends))))
+  in_stmt (Repeat h b) = (
+    refl,
+    both (head_slots h) (body_opening ∷ (stmts b ++ body_closing ∷ [])) (in_head h)
+        (refl, in_body b (in_stmts b)),
+  )
+  in_stmt (Choose e a) =
+      (refl, (refl, both (term e) (mark sign.CloseParen ∷ body_opening ∷ (stmts a ++ body_closing ∷ [])) (in_term e) (refl, (refl, in_body a (in_stmts a)))))
+  in_stmt (ChooseElse e a b) =
+      let second : Slots = body_closing ∷ (Fixed Else, for Otherwise) ∷ body_opening ∷ (stmts b ++ body_closing ∷ []) in
+      let rest : NoEnd (stmts a ++ second) =
+      both (stmts a) second (in_stmts a) (refl, (refl, (refl, in_body b (in_stmts b)))) in
+      (refl, (refl, both (term e) (mark sign.CloseParen ∷ body_opening ∷ (stmts a ++ second)) (in_term e) (refl, (refl, rest))))
+  in_stmt (Show e) = (refl, (refl, both (term e) (mark sign.CloseParen ∷ end_mark ∷ []) (in_term e) (refl, (refl, tt))))
+  in_stmt (Block b) = (refl, in_body b (in_stmts b))
+  in_stmt (Directive l) = (refl, tt)
+  in_stmt (OverBlock l b) = (refl, (refl, in_body b (in_stmts b)))
+  in_stmt (OverLoop l h b) = (refl, (refl, both (head_slots h) (body_opening ∷ (stmts b ++ body_closing ∷ [])) (in_head h) (refl, in_body b (in_stmts b))))
+
+  in_stmts : (ss : Stmts) → NoEnd (stmts ss)
+  in_stmts Done = tt
+  in_stmts (Then s ss) = both (stmt s) (stmts ss) (in_stmt s) (in_stmts ss)
+
+in_global : (g : Global) → NoEnd (global g)
+in_global (Scalar x) = (refl, (refl, (refl, tt)))
+in_global (Array x n) = (refl, (refl, (refl, (refl, (refl, (refl, tt))))))
+
+in_globals : (gs : List Global) → NoEnd (globals gs)
+in_globals [] = tt
+in_globals (g ∷ gs) = both (global g) (globals gs) (in_global g) (in_globals gs)
+
+-- a text without its end
+abbrev unended : Text → Slots
+unended t =
+    globals t.globals ++ (word Int ∷ word Main ∷ mark sign.OpenParen ∷ word Void ∷ mark sign.CloseParen ∷ body_opening
+    ∷ (stmts t.body ++ body_closing ∷ []))
+
+in_unended : (t : Text) → NoEnd (unended t)
+in_unended t =
+    both (globals t.globals) _ (in_globals t.globals)
+    (refl, (refl, (refl, (refl, (refl, (refl, in_body t.body (in_stmts t.body)))))))
+
+abbrev the_end : Slot
+the_end = (End, for Plain)
+
+ended : (t : Text) → slots t ≡ unended t ++ the_end ∷ []
+ended t =
+    let head : Slots =
+    word Int ∷ word Main ∷ mark sign.OpenParen ∷ word Void ∷ mark sign.CloseParen ∷ body_opening ∷ [] in
+    let main : Slots = head ++ (stmts t.body ++ body_closing ∷ []) in
+    ap (λ (u : Slots). globals t.globals ++ (head ++ u))
+    (sym (append_assoc (stmts t.body) (body_closing ∷ []) (the_end ∷ [])))
+    ∙ sym (append_assoc (globals t.globals) main (the_end ∷ []))
+
+is_last : (init : Slots) → NoEnd init → (front : Slots) (x : Slot) (more : Slots) → x.0 ≡ End
+    → init ++ the_end ∷ [] ≡ front ++ (x ∷ more) → more ≡ []
+is_last [] h [] x more k e = cc
+is_last [] h (y ∷ []) x more k e = absurd cc
+is_last [] h (y ∷ z ∷ front) x more k e = absurd cc
+is_last (a ∷ init) h [] x more k e =
+    let here : a ≡ x = cc in
+    let bad : same End End ≡ false =
+    subst (λ (t : Terminal). same End t ≡ false) (ap (λ (s : Slot). s.0) here ∙ k) h.0 in
+    absurd cc
+is_last (a ∷ init) h (y ∷ front) x more k e =
+    (let rest : init ++ the_end ∷ [] ≡ front ++ (x ∷ more) = cc in is_last init h.1 front x more k rest)
+
+-- behind the end of a text no token comes
+pub end_is_last : (t : Text) (front : Slots) (x : Slot) (more : Slots) → x.0 ≡ End → slots t ≡ front ++ (x ∷ more)
+    → more ≡ []
+end_is_last t front x more k e = is_last (unended t) (in_unended t) front x more k (sym (ended t) ∙ e)
