@@ -152,7 +152,6 @@ before_chained n plan h _ _ (through i k j first second) =
     let lt : i < j = omega (arith, p.0, q.0) in
     let at_ij = at_pair (length plan.items) (λ i j. list_all (λ k. not (chained plan n i k && chained plan n k j) || chained plan n i j) (range_with_len 0 (length plan.items))) h i j lt q.1 in
     let at_k = in_range (λ k. not (chained plan n i k && chained plan n k j) || chained plan n i j) 0 (length plan.items) k at_ij (omega arith) (omega arith) in
-    
     ⊎_elim (λ e. absurd (not_true (chained plan n i k && chained plan n k j) e (and_from (chained plan n i k) (chained plan n k j) a b))) (λ e. e)
     (or_cases (not (chained plan n i k && chained plan n k j)) (chained plan n i j) at_k)
 
@@ -230,16 +229,22 @@ first_fault_by n plan r h =
   where
     ranges : Bool
     ranges = list_all (λ w. is_empty (range_faults plan.lengths w)) plan.items
+
     clear : Bool
     clear = every_pair (length plan.items) (pair_clear plan)
+
     stay : Bool
     stay = list_all (stage_stays plan.lengths) (stages plan)
+
     alone : Bool
     alone = alone_later plan (fault_key (Refused r))
+
     pairs : Bool
     pairs = every_pair (length (stages plan)) (pair_later n plan (fault_key (Refused r)))
+
     kind : Bool
     kind = same_test (is_conflict r.code) (names_other r.other)
+
     holds : Bool
     holds = refusal_holds n plan r r.other
 
