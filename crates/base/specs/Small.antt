@@ -68,21 +68,25 @@ Fits p capacity = list_any (λ w. nat_lt capacity (need w.maps [])) (plan p).ite
 
 abbrev pub IsRunFault : Program → ℕ → RunFault → Type 0
 IsRunFault p capacity run.OutOfMemory = Unit {0}
-IsRunFault p capacity run.DeviceFull = (length (plan p).items ≤ most_items) × IsAccepted (plan p) × IsOversized p capacity
+IsRunFault p capacity run.DeviceFull = (length (plan p).items ≤ most_items) × IsAccepted (plan p) ×
+    IsOversized p capacity
 IsRunFault p capacity run.Stranger = ⊥
 IsRunFault p capacity run.Absent = ⊥
 IsRunFault p capacity run.ThreadNotStarted = ⊥
 IsRunFault p capacity run.OtherState = ⊥
 IsRunFault p capacity run.RangeRefused = ⊥
 
--- why such a program has no answer on a device of this capacity: too many items, its first fault, or an item that does not fit
+-- why such a program has no answer on a device of this capacity: too many items, its first fault, or an item that does
+-- not fit
 abbrev pub IsFaultOf : Program → ℕ → SourceFault → Type 0
 IsFaultOf p capacity (Read f) = ⊥
 IsFaultOf p capacity (Outline outline.TooManyItems) = most_items < length (plan p).items
 IsFaultOf p capacity (Outline outline.OutOfMemory) = Unit {0}
-IsFaultOf p capacity (Check (check.Range i f)) = (length (plan p).items ≤ most_items) × IsFirstFault (plan p) (Range i f)
+IsFaultOf p capacity (Check (check.Range i f)) = (length (plan p).items ≤ most_items) × IsFirstFault (plan p)
+    (Range i f)
 IsFaultOf p capacity (Check (check.Order f)) = (length (plan p).items ≤ most_items) × IsFirstFault (plan p) (Order f)
-IsFaultOf p capacity (Check (check.Refused f)) = (length (plan p).items ≤ most_items) × IsFirstFault (plan p) (Refused f)
+IsFaultOf p capacity (Check (check.Refused f)) = (length (plan p).items ≤ most_items) × IsFirstFault (plan p)
+    (Refused f)
 IsFaultOf p capacity (Check check.OutOfMemory) = Unit {0}
 IsFaultOf p capacity (Run f) = IsRunFault p capacity f
 

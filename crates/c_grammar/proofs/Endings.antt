@@ -47,18 +47,37 @@ mutual
     both (head_slots h) (body_opening ∷ (stmts b ++ body_closing ∷ [])) (in_head h)
         (refl, in_body b (in_stmts b)),
   )
-  in_stmt (Choose e a) =
-      (refl, (refl, both (term e) (mark sign.CloseParen ∷ body_opening ∷ (stmts a ++ body_closing ∷ [])) (in_term e) (refl, (refl, in_body a (in_stmts a)))))
+  in_stmt (Choose e a) = (
+    refl,
+    (
+      refl,
+      both (term e) (mark sign.CloseParen ∷ body_opening ∷ (stmts a ++ body_closing ∷ [])) (in_term e)
+          (refl, (refl, in_body a (in_stmts a))),
+    ),
+  )
   in_stmt (ChooseElse e a b) =
       let second : Slots = body_closing ∷ (Fixed Else, for Otherwise) ∷ body_opening ∷ (stmts b ++ body_closing ∷ []) in
       let rest : NoEnd (stmts a ++ second) =
-      both (stmts a) second (in_stmts a) (refl, (refl, (refl, in_body b (in_stmts b)))) in
-      (refl, (refl, both (term e) (mark sign.CloseParen ∷ body_opening ∷ (stmts a ++ second)) (in_term e) (refl, (refl, rest))))
+      both (stmts a) second (in_stmts a) (refl, (refl, (refl, in_body b (in_stmts b)))) in (
+        refl,
+        (
+          refl,
+          both (term e) (mark sign.CloseParen ∷ body_opening ∷ (stmts a ++ second)) (in_term e)
+              (refl, (refl, rest)),
+        ),
+      )
   in_stmt (Show e) = (refl, (refl, both (term e) (mark sign.CloseParen ∷ end_mark ∷ []) (in_term e) (refl, (refl, tt))))
   in_stmt (Block b) = (refl, in_body b (in_stmts b))
   in_stmt (Directive l) = (refl, tt)
   in_stmt (OverBlock l b) = (refl, (refl, in_body b (in_stmts b)))
-  in_stmt (OverLoop l h b) = (refl, (refl, both (head_slots h) (body_opening ∷ (stmts b ++ body_closing ∷ [])) (in_head h) (refl, in_body b (in_stmts b))))
+  in_stmt (OverLoop l h b) = (
+    refl,
+    (
+      refl,
+      both (head_slots h) (body_opening ∷ (stmts b ++ body_closing ∷ [])) (in_head h)
+          (refl, in_body b (in_stmts b)),
+    ),
+  )
 
   in_stmts : (ss : Stmts) → NoEnd (stmts ss)
   in_stmts Done = tt

@@ -157,7 +157,35 @@ named x s r = let e : same (Name x) (Name x) ≡ true = same_name x in rw e refl
 goes_head : (inside : Bool) (h : Head) (s : Stack) (xs : Slots) (s' : Stack) → Goes (Steps inside ∷ s) xs s'
     → Goes (loop inside s) (head_slots h ++ (body_opening ∷ xs)) s'
 unfolding advance
-goes_head inside h s xs s' p = (_, refl, (_, refl, (_, refl, (_, refl, (_, refl, (_, refl, (_, named h.name _ _, (_, refl, (_, refl, (_, refl, (_, named h.name _ _, (_, refl, (_, refl, (_, refl, (_, refl, p)))))))))))))))
+goes_head inside h s xs s' p = (
+  _,
+  refl,
+  (
+    _,
+    refl,
+    (
+      _,
+      refl,
+      (
+        _,
+        refl,
+        (
+          _,
+          refl,
+          (
+            _,
+            refl,
+            (
+              _,
+              named h.name _ _,
+              (_, refl, (_, refl, (_, refl, (_, named h.name _ _, (_, refl, (_, refl, (_, refl, (_, refl, p)))))))),
+            ),
+          ),
+        ),
+      ),
+    ),
+  ),
+)
 
 over : (l : List Lexeme) (s : Stack) → is_omp l ≡ true
     → advance (Parts ∷ s) (Line l) ≡ Some (for Over, Under ∷ Parts ∷ s)
@@ -213,6 +241,26 @@ small_passes_text t h = go t.globals h.0
 
     go : (gs : List Global) → IsSmallGlobal gs → Goes start (globals gs ++ main_part t.body) []
     go [] k = (_, refl, (_, refl, (_, refl, (_, refl, (_, refl, (_, refl, body))))))
-    go (Array x n ∷ []) k = (_, refl, (_, refl, (_, refl, (_, refl, (_, refl, (_, refl, (_, refl, (_, refl, (_, refl, (_, refl, (_, refl, (_, refl, body))))))))))))
+    go (Array x n ∷ []) k = (
+      _,
+      refl,
+      (
+        _,
+        refl,
+        (
+          _,
+          refl,
+          (
+            _,
+            refl,
+            (
+              _,
+              refl,
+              (_, refl, (_, refl, (_, refl, (_, refl, (_, refl, (_, refl, (_, refl, body))))))),
+            ),
+          ),
+        ),
+      ),
+    )
     go (Scalar x ∷ gs) k = absurd k
     go (Array x n ∷ g ∷ gs) k = absurd k

@@ -1,4 +1,5 @@
--- The one directive line of small programs, `target map(tofrom: S)`, where S is the array or its section from 0 with its length.
+-- The one directive line of small programs, `target map(tofrom: S)`, where S is the array or its section from 0 with
+-- its length.
 use Rattle.std.specs.Prelude.{ℕ, ◌+◌, Bool, false, ◌==◌, nat_le, if◌then◌else◌, List, [], ◌∷◌, Option, Some, None, codes}
 use Rattle.c_tokens.specs.declared.kind.Sign.TheVariants as sign
 use Rattle.base.specs.declared.fault.ReadCode.{ReadCode as Code}
@@ -35,10 +36,12 @@ against k (p ∷ ps) [] go = Faulty k p.1
 against k (p ∷ ps) (t ∷ ts) go = if same p.0 t then against (k + 1) ps ts go else misfit_at k p.1 t
 
 abbrev pub words_before : List (Lexeme × Code)
-words_before = (Worded (codes "pragma"), UnknownDirective) ∷ (Worded (codes "omp"), UnknownDirective) ∷ (Worded (codes "target"), UnknownDirective) ∷ []
+words_before = (Worded (codes "pragma"), UnknownDirective) ∷ (Worded (codes "omp"), UnknownDirective) ∷
+    (Worded (codes "target"), UnknownDirective) ∷ []
 
 abbrev pub clause_before : List (Lexeme × Code)
-clause_before = (Worded (codes "map"), UnknownClause) ∷ (Signed sign.OpenParen, Unexpected) ∷ (Worded (codes "tofrom"), BadMapType) ∷ (Signed sign.Colon, Unexpected) ∷ []
+clause_before = (Worded (codes "map"), UnknownClause) ∷ (Signed sign.OpenParen, Unexpected) ∷
+    (Worded (codes "tofrom"), BadMapType) ∷ (Signed sign.Colon, Unexpected) ∷ []
 
 abbrev pub line_end : List (Lexeme × Code)
 line_end = (Ended, UnknownClause) ∷ []
@@ -59,7 +62,8 @@ is_zero_number _ = false
 abbrev pub section_on : ℕ → List ℕ → ℕ → List Lexeme → SmallLine
 section_on j x k [] = Faulty k BadBound
 section_on j x k (t ∷ ts) =
-    if is_zero_number t then against (k + 1) ((Signed sign.Colon, BadBound) ∷ []) ts (length_on j x) else misfit_at k BadBound t
+    if is_zero_number t then against (k + 1) ((Signed sign.Colon, BadBound) ∷ []) ts
+    (length_on j x) else misfit_at k BadBound t
 
 -- behind the array's name, which is token j
 abbrev pub behind_name : ℕ → List ℕ → ℕ → List Lexeme → SmallLine

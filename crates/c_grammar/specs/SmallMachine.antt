@@ -26,7 +26,8 @@ pub data Symbol : Type 0 where
   Under : Symbol
   -- a loop's name and the rest of its head and body; whether it is a target's
   Turn : (inside : Bool) → Symbol
-  -- a subscript; an operand; what may follow one; what may follow a name in an expression. An expression is an operand and what may follow
+  -- a subscript; an operand; what may follow one; what may follow a name in an expression. An expression is an operand
+  -- and what may follow
   Subscript Atom Tail Behind : Symbol
 
 abbrev pub Stack : Type 0
@@ -75,8 +76,10 @@ num_step act s _ = None
 -- the rest of a loop of that name
 abbrev pub head_of : Bool → List ℕ → Stack → Stack
 head_of inside x s =
-    m sign.Equal ∷ WantNum Plain ∷ m sign.Semicolon ∷ Want (Name x) (for Plain) ∷ m sign.Less ∷ WantNum Limit ∷ m sign.Semicolon
-    ∷ Want (Name x) (for Plain) ∷ m sign.PlusEqual ∷ WantNum Step ∷ m sign.CloseParen ∷ Want (Mark sign.OpenBrace) (for Opens) ∷ Steps inside ∷ s
+    m sign.Equal ∷ WantNum Plain ∷ m sign.Semicolon ∷ Want (Name x)
+    (for Plain) ∷ m sign.Less ∷ WantNum Limit ∷ m sign.Semicolon
+    ∷ Want (Name x) (for Plain) ∷ m sign.PlusEqual ∷ WantNum Step ∷ m sign.CloseParen ∷ Want (Mark sign.OpenBrace)
+    (for Opens) ∷ Steps inside ∷ s
 
 abbrev pub turn_step : Bool → Stack → Terminal → Move
 turn_step inside s (Name x) = Some (for DeclaresLoop, head_of inside x s)
@@ -118,11 +121,13 @@ under_step s t =
 
 -- behind the word int
 abbrev pub main_rest : Stack → Stack
-main_rest s = w Main ∷ m sign.OpenParen ∷ w Void ∷ m sign.CloseParen ∷ Want (Mark sign.OpenBrace) (for Opens) ∷ Parts ∷ Want End (for Plain) ∷ s
+main_rest s = w Main ∷ m sign.OpenParen ∷ w Void ∷ m sign.CloseParen ∷ Want (Mark sign.OpenBrace)
+    (for Opens) ∷ Parts ∷ Want End (for Plain) ∷ s
 
 -- behind the type of the array
 abbrev pub array_rest : Stack → Stack
-array_rest s = WantName DeclaresGlobal ∷ Want (Mark sign.OpenBracket) (for MakesArray) ∷ WantNum Length ∷ m sign.CloseBracket ∷ m sign.Semicolon ∷ w Int ∷ main_rest s
+array_rest s = WantName DeclaresGlobal ∷ Want (Mark sign.OpenBracket)
+    (for MakesArray) ∷ WantNum Length ∷ m sign.CloseBracket ∷ m sign.Semicolon ∷ w Int ∷ main_rest s
 
 abbrev pub begin_step : Stack → Terminal → Move
 begin_step s t =
@@ -137,13 +142,16 @@ advance (WantName act ∷ s) t = name_step act s t
 advance (WantNum act ∷ s) t = num_step act s t
 advance (Begin ∷ s) t = begin_step s t
 advance (Parts ∷ s) t = if same (Mark sign.CloseBrace) t then Some (for Closes, s) else parts_step (Parts ∷ s) t
-advance (Steps inside ∷ s) t = if same (Mark sign.CloseBrace) t then Some (for Closes, s) else steps_step inside (Steps inside ∷ s) t
+advance (Steps inside ∷ s) t = if same (Mark sign.CloseBrace) t then Some (for Closes, s) else steps_step inside
+    (Steps inside ∷ s) t
 advance (Under ∷ s) t = under_step s t
 advance (Turn inside ∷ s) t = turn_step inside s t
 advance (Subscript ∷ s) t = subscript_step s t
-advance (Atom ∷ s) t = if same (Mark sign.OpenParen) t then Some (for OpensBracket, expr (close sign.CloseParen ∷ s)) else operand_step s t
+advance (Atom ∷ s) t = if same (Mark sign.OpenParen) t then Some
+    (for OpensBracket, expr (close sign.CloseParen ∷ s)) else operand_step s t
 advance (Tail ∷ s) t = if is_operator t then Some (for Inner, expr s) else advance s t
-advance (Behind ∷ s) t = if same (Mark sign.OpenBracket) t then Some (for OpensBracket, Subscript ∷ close sign.CloseBracket ∷ s) else advance s t
+advance (Behind ∷ s) t = if same (Mark sign.OpenBracket) t then Some
+    (for OpensBracket, Subscript ∷ close sign.CloseBracket ∷ s) else advance s t
 
 -- the code for a token that may not come, if it is one of its own
 unfoldable pub place_code : List Symbol → Option Code

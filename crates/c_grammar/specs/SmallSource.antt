@@ -43,7 +43,8 @@ small_fault_in bytes = small_found (run small_grammar small_machine begin start 
 -- the first fault of a source: its length comes before all else
 pub record IsFirstSmallFault (bytes : List ℕ) (f : TextFault) : Type 0 where
   pub long : max_source < length bytes → f ≡ too_long
-  pub other : length bytes ≤ max_source → (i : Item Terminal) × (r : Rule) × (f ≡ small_fault_of i r) × IsFirst small_grammar (items_of bytes) i r
+  pub other : length bytes ≤ max_source →
+      (i : Item Terminal) × (r : Rule) × (f ≡ small_fault_of i r) × IsFirst small_grammar (items_of bytes) i r
 
 -- the source spells the tree
 pub record SpellsSmall (bytes : List ℕ) (t : Text) : Type 0 where

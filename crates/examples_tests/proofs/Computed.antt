@@ -55,7 +55,8 @@ use Rattle.base.proofs.Trees.{vec_of, loop, choice, part_data}
 abbrev cells_of : List ℕ → List Cell
 cells_of lengths =
     flat_map
-    (λ a. map (λ k. let c : Cell = record { array = record { 0 = a }; index = k } in c) (range_with_len 0 (slice_index lengths a)))
+    (λ a. map (λ k. let c : Cell = record { array = record { 0 = a }; index = k } in c)
+    (range_with_len 0 (slice_index lengths a)))
     (range_with_len 0 (length lengths))
 
 abbrev codes_in_order : List RefusalCode
@@ -70,7 +71,8 @@ record Found : Type 0 where
 -- the faults of items by themselves
 abbrev causes : Plan → List Found
 causes plan =
-    flat_map (λ j. flat_map (λ code. map (λ c. let f : Found = record { item = j; code = code; array = c.array.0; index = c.index } in f)
+    flat_map (λ j. flat_map (λ code. map
+    (λ c. let f : Found = record { item = j; code = code; array = c.array.0; index = c.index } in f)
     (filter (λ c. on_stage plan j false (λ s. cause code s (current_before plan j) c)) (cells_of plan.lengths)))
     codes_in_order)
     (range_with_len 0 (length plan.items))
@@ -81,7 +83,8 @@ linked plan i j = nat_lt i j && (on_item plan i false (λ w. not w.deferred) || 
 
 abbrev chained : Plan → ℕ → ℕ → ℕ → Bool
 chained plan zero i j = linked plan i j
-chained plan (suc n) i j = linked plan i j || list_any (λ k. linked plan i k && chained plan n k j) (range_with_len 0 (length plan.items))
+chained plan (suc n) i j = linked plan i j || list_any (λ k. linked plan i k && chained plan n k j)
+    (range_with_len 0 (length plan.items))
 
 record Clash : Type 0 where
   item : ℕ
@@ -105,7 +108,8 @@ clash j a k i = record { item = j; array = a; index = k; other = i }
 
 -- the arrays' cells that are current on the host at the end
 abbrev current_at_end : Plan → List (ℕ × ℕ)
-current_at_end plan = map (λ c. (c.array.0, c.index)) (filter (currency.current_at_end plan).host (cells_of plan.lengths))
+current_at_end plan = map (λ c. (c.array.0, c.index))
+    (filter (currency.current_at_end plan).host (cells_of plan.lengths))
 
 module _ (v : Vec (Unit {0}) Global) (p : Box (Unit {0}) Global) where
   abbrev here : Place
@@ -132,7 +136,8 @@ module _ (v : Vec (Unit {0}) Global) (p : Box (Unit {0}) Global) where
 
   abbrev double_a : Stmt
   double_a =
-      loop v (upto 4 (lit< tt)) (Store a here i (Value (Binary' Add p (Binary' Multiply p (at_a i) p (Number 2)) p (Number 1))) ∷ [])
+      loop v (upto 4 (lit< tt)) (Store a here i
+      (Value (Binary' Add p (Binary' Multiply p (at_a i) p (Number 2)) p (Number 1))) ∷ [])
       (lit< tt)
 
   abbrev print_a : Stmt
@@ -157,7 +162,8 @@ module _ (v : Vec (Unit {0}) Global) (p : Box (Unit {0}) Global) where
   target nowait maps = record { maps = record { items = maps; capacity = 2 }; tasking = tasking nowait }
 
   abbrev enter_whole : ArrayId → Part
-  enter_whole b = part.Alone (directive.Enter (record { items = map_item entered.To (whole b) ∷ []; capacity = 2 }) (tasking false))
+  enter_whole b = part.Alone (directive.Enter (record { items = map_item entered.To (whole b) ∷ []; capacity = 2 })
+      (tasking false))
 
   abbrev update_from : SectionText → Part
   update_from s =
@@ -169,7 +175,8 @@ module _ (v : Vec (Unit {0}) Global) (p : Box (Unit {0}) Global) where
 
   abbrev doubled : List Part
   doubled =
-      part.Host (region (fill_a ∷ []) (lit< tt)) ∷ part.Target (target false (map_item mapped.ToFrom (section a 0 4) ∷ []))
+      part.Host (region (fill_a ∷ []) (lit< tt)) ∷ part.Target
+      (target false (map_item mapped.ToFrom (section a 0 4) ∷ []))
       (region (double_a ∷ []) (lit< tt)) ∷ part.Host (region (print_a ∷ []) (lit< tt)) ∷ []
 
   abbrev fresh : List ℕ → Plain
@@ -207,14 +214,16 @@ module _ (v : Vec (Unit {0}) Global) (p : Box (Unit {0}) Global) where
 
   copied_in_only_refused :
       causes (plan_of (4 ∷ []) copied_in_only)
-      ≡ found 2 HostNotCurrent 0 0 ∷ found 2 HostNotCurrent 0 1 ∷ found 2 HostNotCurrent 0 2 ∷ found 2 HostNotCurrent 0 3 ∷ []
+      ≡ found 2 HostNotCurrent 0 0 ∷ found 2 HostNotCurrent 0 1 ∷ found 2 HostNotCurrent 0 2 ∷ found 2 HostNotCurrent 0
+      3 ∷ []
   copied_in_only_refused = refl
 
   -- data with alloc, a target with an implicit map, an update of two cells, and a print of cell k
   abbrev kept_on_device : ℕ → List Part
   kept_on_device k = part_data v (record { items = map_item mapped.Alloc (section a 0 4) ∷ []; capacity = 2 }) (
       part.Target (target false [])
-      (region (loop v (upto 4 (lit< tt)) (Store a here i (Value (Binary' Add p i p (Number 5))) ∷ []) (lit< tt) ∷ []) (lit< tt))
+      (region (loop v (upto 4 (lit< tt)) (Store a here i (Value (Binary' Add p i p (Number 5))) ∷ []) (lit< tt) ∷ [])
+      (lit< tt))
       ∷ update_from (section a 0 2)
       ∷ part.Host (region (Print (at_a (Number k)) ∷ []) (lit< tt)) ∷ []) (lit< tt) ∷ []
 
@@ -227,7 +236,8 @@ module _ (v : Vec (Unit {0}) Global) (p : Box (Unit {0}) Global) where
   kept_on_device_current : current_at_end (plan_of (4 ∷ []) (kept_on_device 1)) ≡ (0, 0) ∷ (0, 1) ∷ []
   kept_on_device_current = refl
 
-  kept_on_device_output : option_map (λ s. s.output) (run_by_choices (plan_of (4 ∷ []) (kept_on_device 1)) (λ k c. 165) [] []).state ≡ Some (6 ∷ [])
+  kept_on_device_output : option_map (λ s. s.output)
+      (run_by_choices (plan_of (4 ∷ []) (kept_on_device 1)) (λ k c. 165) [] []).state ≡ Some (6 ∷ [])
   kept_on_device_output = refl
 
   kept_on_device_refused : causes (plan_of (4 ∷ []) (kept_on_device 2)) ≡ found 3 HostNotCurrent 0 2 ∷ []
@@ -235,7 +245,8 @@ module _ (v : Vec (Unit {0}) Global) (p : Box (Unit {0}) Global) where
 
   kept_on_device_whole :
       causes (plan_of (8 ∷ []) (kept_on_device 1))
-      ≡ found 1 OverlapsInPart 0 0 ∷ found 1 OverlapsInPart 0 1 ∷ found 1 OverlapsInPart 0 2 ∷ found 1 OverlapsInPart 0 3 ∷ []
+      ≡ found 1 OverlapsInPart 0 0 ∷ found 1 OverlapsInPart 0 1 ∷ found 1 OverlapsInPart 0 2 ∷ found 1 OverlapsInPart 0
+      3 ∷ []
   kept_on_device_whole = refl
 
   abbrev between : (m n : ℕ) → n < 2 ^ 64 → Bounds
@@ -245,9 +256,11 @@ module _ (v : Vec (Unit {0}) Global) (p : Box (Unit {0}) Global) where
   two_targets =
       enter_whole a
       ∷ part.Target (target true (map_item mapped.ToFrom (section a 0 4) ∷ []))
-      (region (loop v (between 0 4 (lit< tt)) (Store a here i (Value (Binary' Add p i p (Number 1))) ∷ []) (lit< tt) ∷ []) (lit< tt))
+      (region (loop v (between 0 4 (lit< tt)) (Store a here i (Value (Binary' Add p i p (Number 1))) ∷ [])
+      (lit< tt) ∷ []) (lit< tt))
       ∷ part.Target (target true (map_item mapped.ToFrom (section a 4 4) ∷ []))
-      (region (loop v (between 4 8 (lit< tt)) (Store a here i (Value (Binary' Multiply p i p (Number 10))) ∷ []) (lit< tt) ∷ []) (lit< tt))
+      (region (loop v (between 4 8 (lit< tt)) (Store a here i (Value (Binary' Multiply p i p (Number 10))) ∷ [])
+      (lit< tt) ∷ []) (lit< tt))
       ∷ []
 
   abbrev the_end : List Part
@@ -262,7 +275,8 @@ module _ (v : Vec (Unit {0}) Global) (p : Box (Unit {0}) Global) where
   two_halves_sound : causes two_halves ≡ []
   two_halves_sound = refl
 
-  two_halves_clashes : clashes two_halves 2 ++ (clashes two_halves 3 ++ (clashes two_halves 4 ++ clashes two_halves 5)) ≡ []
+  two_halves_clashes : clashes two_halves 2 ++
+      (clashes two_halves 3 ++ (clashes two_halves 4 ++ clashes two_halves 5)) ≡ []
   two_halves_clashes = refl
 
   abbrev two_halves_run : Played
@@ -270,7 +284,8 @@ module _ (v : Vec (Unit {0}) Global) (p : Box (Unit {0}) Global) where
 
   two_halves_history :
       two_halves_run.history
-      ≡ Open 0 ∷ Close 0 ∷ Gen 1 ∷ Open 1 ∷ Gen 2 ∷ Open 2 ∷ Close 2 ∷ Close 1 ∷ Wait 3 ∷ Open 4 ∷ Close 4 ∷ Open 5 ∷ Close 5 ∷ End ∷ []
+      ≡ Open 0 ∷ Close 0 ∷ Gen 1 ∷ Open 1 ∷ Gen 2 ∷ Open 2 ∷ Close 2 ∷ Close 1 ∷ Wait 3 ∷ Open 4 ∷ Close 4 ∷ Open 5 ∷
+      Close 5 ∷ End ∷ []
   two_halves_history = refl
 
   two_halves_output : option_map (λ s. s.output) two_halves_run.state ≡ Some (1 ∷ 2 ∷ 3 ∷ 4 ∷ 40 ∷ 50 ∷ 60 ∷ 70 ∷ [])
@@ -279,7 +294,8 @@ module _ (v : Vec (Unit {0}) Global) (p : Box (Unit {0}) Global) where
   abbrev early_exit : Plan
   early_exit =
       plan_of (8 ∷ []) (two_targets
-      ++ part.Alone (directive.Exit (record { items = map_item left.From (whole a) ∷ []; capacity = 2 }) (tasking false)) ∷ the_end)
+      ++ part.Alone (directive.Exit (record { items = map_item left.From (whole a) ∷ []; capacity = 2 })
+      (tasking false)) ∷ the_end)
 
   early_exit_refused : take 2 (clashes early_exit 3) ≡ clash 3 0 0 1 ∷ clash 3 0 0 2 ∷ []
   early_exit_refused = refl
@@ -300,9 +316,11 @@ module _ (v : Vec (Unit {0}) Global) (p : Box (Unit {0}) Global) where
   abbrev two_users : Plan
   two_users = plan_of (4 ∷ 4 ∷ 4 ∷ []) (
       part.Target (target true (map_item mapped.To (whole a) ∷ map_item mapped.From (whole b) ∷ []))
-      (region (loop v (upto 4 (lit< tt)) (Store b here i (Value (Binary' Add p (at_a i) p (Number 1))) ∷ []) (lit< tt) ∷ []) (lit< tt))
+      (region (loop v (upto 4 (lit< tt)) (Store b here i (Value (Binary' Add p (at_a i) p (Number 1))) ∷ [])
+      (lit< tt) ∷ []) (lit< tt))
       ∷ part.Target (target true (map_item mapped.To (whole a) ∷ map_item mapped.From (whole cc) ∷ []))
-      (region (loop v (upto 4 (lit< tt)) (Store cc here i (Value (Binary' Add p (at_a i) p (Number 2))) ∷ []) (lit< tt) ∷ []) (lit< tt))
+      (region (loop v (upto 4 (lit< tt)) (Store cc here i (Value (Binary' Add p (at_a i) p (Number 2))) ∷ [])
+      (lit< tt) ∷ []) (lit< tt))
       ∷ wait_all
       ∷ part.Host (region (Print (at_cell b (Number 3)) ∷ Print (at_cell cc (Number 3)) ∷ []) (lit< tt)) ∷ [])
 
@@ -321,7 +339,8 @@ module _ (v : Vec (Unit {0}) Global) (p : Box (Unit {0}) Global) where
       part.Host (region (Declare scalar Read ∷ []) (lit< tt))
       ∷ part.Target (target false (map_item mapped.From (whole a) ∷ []))
       (region
-      (choice v (Scalar scalar) (Store a here (Number 0) (Value (Number 1)) ∷ Store a here (Number 1) (Value (Number 2)) ∷ []) [] (lit< tt)
+      (choice v (Scalar scalar) (Store a here (Number 0) (Value (Number 1)) ∷ Store a here (Number 1)
+      (Value (Number 2)) ∷ []) [] (lit< tt)
       (lit< tt) ∷ [])
       (lit< tt))
       ∷ part.Host (region (last ∷ []) (lit< tt)) ∷ []
@@ -333,21 +352,25 @@ module _ (v : Vec (Unit {0}) Global) (p : Box (Unit {0}) Global) where
   maybe_written_current = refl
 
   maybe_written_zero :
-      option_map (λ s. s.output) (run_by_choices (plan_of (2 ∷ []) (maybe_written (Print (Scalar scalar)))) (λ k c. 165) (0 ∷ []) []).state
+      option_map (λ s. s.output) (run_by_choices (plan_of (2 ∷ []) (maybe_written (Print (Scalar scalar)))) (λ k c. 165)
+      (0 ∷ []) []).state
       ≡ Some (0 ∷ [])
   maybe_written_zero = refl
 
   maybe_written_one :
-      option_map (λ s. s.output) (run_by_choices (plan_of (2 ∷ []) (maybe_written (Print (Scalar scalar)))) (λ k c. 165) (1 ∷ []) []).state
+      option_map (λ s. s.output) (run_by_choices (plan_of (2 ∷ []) (maybe_written (Print (Scalar scalar)))) (λ k c. 165)
+      (1 ∷ []) []).state
       ≡ Some (1 ∷ [])
   maybe_written_one = refl
 
-  maybe_written_refused : causes (plan_of (2 ∷ []) (maybe_written (Print (at_a (Number 0))))) ≡ found 2 HostNotCurrent 0 0 ∷ []
+  maybe_written_refused : causes (plan_of (2 ∷ []) (maybe_written (Print (at_a (Number 0))))) ≡ found 2 HostNotCurrent 0
+      0 ∷ []
   maybe_written_refused = refl
 
   -- what the machine makes of that refused program: the storage's contents, where the kernel wrote nothing
   maybe_written_shows :
-      option_map (λ s. s.output) (run_by_choices (plan_of (2 ∷ []) (maybe_written (Print (at_a (Number 0))))) (λ k c. 165) (0 ∷ []) []).state
+      option_map (λ s. s.output) (run_by_choices (plan_of (2 ∷ []) (maybe_written (Print (at_a (Number 0)))))
+      (λ k c. 165) (0 ∷ []) []).state
       ≡ Some (165 ∷ [])
   maybe_written_shows = refl
 
@@ -357,26 +380,31 @@ module _ (v : Vec (Unit {0}) Global) (p : Box (Unit {0}) Global) where
       enter_whole a
       ∷ part.Host (region (Store a here (Number 0) (Value (Number 5)) ∷ []) (lit< tt))
       ∷ part.Target (target false (m ∷ map_item mapped.From (whole b) ∷ []))
-      (region (loop v (upto 2 (lit< tt)) (Store b here i (Value (Binary' Add p (at_a i) p (Number 1))) ∷ []) (lit< tt) ∷ []) (lit< tt))
+      (region (loop v (upto 2 (lit< tt)) (Store b here i (Value (Binary' Add p (at_a i) p (Number 1))) ∷ [])
+      (lit< tt) ∷ []) (lit< tt))
       ∷ part.Host (region (Print (at_cell b (Number 0)) ∷ []) (lit< tt)) ∷ []
 
-  host_store_after_entry_refused : causes (plan_of (2 ∷ 2 ∷ []) (host_store_after_entry false)) ≡ found 2 DeviceNotCurrent 0 0 ∷ []
+  host_store_after_entry_refused : causes
+      (plan_of (2 ∷ 2 ∷ []) (host_store_after_entry false)) ≡ found 2 DeviceNotCurrent 0 0 ∷ []
   host_store_after_entry_refused = refl
 
   host_store_after_entry_sound : causes (plan_of (2 ∷ 2 ∷ []) (host_store_after_entry true)) ≡ []
   host_store_after_entry_sound = refl
 
   host_store_after_entry_output :
-      option_map (λ s. s.output) (run_by_choices (plan_of (2 ∷ 2 ∷ []) (host_store_after_entry true)) (λ k c. 165) [] []).state ≡ Some (6 ∷ [])
+      option_map (λ s. s.output) (run_by_choices (plan_of (2 ∷ 2 ∷ []) (host_store_after_entry true))
+      (λ k c. 165) [] []).state ≡ Some (6 ∷ [])
   host_store_after_entry_output = refl
 
-  host_store_after_entry_current : current_at_end (plan_of (2 ∷ 2 ∷ []) (host_store_after_entry true)) ≡ (0, 0) ∷ (0, 1) ∷ (1, 0) ∷ (1, 1) ∷ []
+  host_store_after_entry_current : current_at_end (plan_of (2 ∷ 2 ∷ []) (host_store_after_entry true)) ≡ (0, 0) ∷
+      (0, 1) ∷ (1, 0) ∷ (1, 1) ∷ []
   host_store_after_entry_current = refl
 
   -- a block that is deleted inside its data construct
   deleted_inside_data_refused :
       causes (plan_of (2 ∷ []) (part_data v (record { items = map_item mapped.To (whole a) ∷ []; capacity = 2 })
-      (part.Alone (directive.Exit (record { items = map_item left.Delete (whole a) ∷ []; capacity = 2 }) (tasking false)) ∷ []) (lit< tt)
+      (part.Alone (directive.Exit (record { items = map_item left.Delete (whole a) ∷ []; capacity = 2 })
+      (tasking false)) ∷ []) (lit< tt)
       ∷ []))
       ≡ found 2 ExitOfAbsent 0 0 ∷ []
   deleted_inside_data_refused = refl
@@ -391,7 +419,8 @@ module _ (v : Vec (Unit {0}) Global) (p : Box (Unit {0}) Global) where
   -- a loop of many turns that stops at its fifth: the others are not walked
   long_loop :
       option_map (λ s. s.printed) (erased_list
-      (part.Host (region (loop v (upto 18446744073709551615 (lit< tt)) (Store a here i (Value (Number 1)) ∷ []) (lit< tt) ∷ []) (lit< tt))
+      (part.Host (region (loop v (upto 18446744073709551615 (lit< tt)) (Store a here i (Value (Number 1)) ∷ [])
+      (lit< tt) ∷ []) (lit< tt))
       ∷ [])
       (4 ∷ []) (fresh []))
       ≡ None
@@ -423,14 +452,16 @@ module _ (v : Vec (Unit {0}) Global) (p : Box (Unit {0}) Global) where
   store_before = Store a spot (Binary' Subtract p i p (Number 1)) (Value i)
 
   index_before_faults :
-      range_faults (4 ∷ []) (host_work (region (loop v (upto 4 (lit< tt)) (store_before ∷ []) (lit< tt) ∷ []) (lit< tt)) [])
+      range_faults (4 ∷ []) (host_work
+      (region (loop v (upto 4 (lit< tt)) (store_before ∷ []) (lit< tt) ∷ []) (lit< tt)) [])
       ≡ record { code = SubscriptOutside; line = 3; column = 39 } ∷ []
   index_before_faults = refl
 
   abbrev guarded : Stmt
   guarded = choice v (Binary' Greater p i p (Number 0)) (store_before ∷ []) [] (lit< tt) (lit< tt)
 
-  index_before_fine : range_faults (4 ∷ []) (host_work (region (loop v (upto 4 (lit< tt)) (guarded ∷ []) (lit< tt) ∷ []) (lit< tt)) []) ≡ []
+  index_before_fine : range_faults (4 ∷ [])
+      (host_work (region (loop v (upto 4 (lit< tt)) (guarded ∷ []) (lit< tt) ∷ []) (lit< tt)) []) ≡ []
   index_before_fine = refl
 
   abbrev indices : (Cell → Bool) → List ℕ
@@ -440,10 +471,12 @@ module _ (v : Vec (Unit {0}) Global) (p : Box (Unit {0}) Global) where
   abbrev footprint : List Stmt → List (List ℕ)
   footprint xs =
       let touches = flat_map (λ s. stmt_touches s [] true) xs in
-      indices (reads touches) ∷ indices (exposes touches) ∷ indices (writes touches) ∷ indices (surely_writes touches) ∷ []
+      indices (reads touches) ∷ indices (exposes touches) ∷ indices (writes touches) ∷ indices
+      (surely_writes touches) ∷ []
 
   footprint_guarded :
-      footprint (loop v (upto 4 (lit< tt)) (guarded ∷ []) (lit< tt) ∷ []) ≡ [] ∷ [] ∷ (0 ∷ 1 ∷ 2 ∷ []) ∷ (0 ∷ 1 ∷ 2 ∷ []) ∷ []
+      footprint (loop v (upto 4 (lit< tt)) (guarded ∷ []) (lit< tt) ∷ []) ≡ [] ∷ [] ∷ (0 ∷ 1 ∷ 2 ∷ []) ∷
+      (0 ∷ 1 ∷ 2 ∷ []) ∷ []
   footprint_guarded = refl
 
   footprint_masked :
@@ -453,19 +486,22 @@ module _ (v : Vec (Unit {0}) Global) (p : Box (Unit {0}) Global) where
 
   footprint_exposed :
       footprint
-      (Store a here (Number 0) (Value (Number 1)) ∷ Store a here (Number 1) (Value (Binary' Add p (at_a (Number 0)) p (at_a (Number 2)))) ∷
+      (Store a here (Number 0) (Value (Number 1)) ∷ Store a here (Number 1)
+      (Value (Binary' Add p (at_a (Number 0)) p (at_a (Number 2)))) ∷
       [])
       ≡ (0 ∷ 2 ∷ []) ∷ (2 ∷ []) ∷ (0 ∷ 1 ∷ []) ∷ (0 ∷ 1 ∷ []) ∷ []
   footprint_exposed = refl
 
   footprint_sure :
       footprint
-      (choice v (Or' p (Scalar scalar) p (Number 1)) (Store a here (Number 0) (Value (Number 2)) ∷ []) [] (lit< tt) (lit< tt) ∷ [])
+      (choice v (Or' p (Scalar scalar) p (Number 1)) (Store a here (Number 0) (Value (Number 2)) ∷ []) [] (lit< tt)
+      (lit< tt) ∷ [])
       ≡ [] ∷ [] ∷ (0 ∷ []) ∷ (0 ∷ []) ∷ []
   footprint_sure = refl
 
   -- 1,024 turns around a loop of 1,023 turns
-  turns_at_most : stmt_turns (loop v (upto 1024 (lit< tt)) (loop v (upto 1023 (lit< tt)) [] (lit< tt) ∷ []) (lit< tt)) ≡ 1048576
+  turns_at_most : stmt_turns (loop v (upto 1024 (lit< tt)) (loop v (upto 1023 (lit< tt)) [] (lit< tt) ∷ []) (lit< tt)) ≡
+      1048576
   turns_at_most = refl
 
   abbrev section_at : ℕ → ℕ → Section
@@ -475,5 +511,6 @@ module _ (v : Vec (Unit {0}) Global) (p : Box (Unit {0}) Global) where
   depend_on kind s = record { kind = kind; section = s; line = 1; column = 1 }
 
   -- out: A[0:4] and in: A[2:4]
-  overlapping_depends : indices (λ c. clash_on c (depend_on Out (section_at 0 4)) (depend_on In (section_at 2 4))) ≡ 2 ∷ 3 ∷ []
+  overlapping_depends : indices (λ c. clash_on c (depend_on Out (section_at 0 4)) (depend_on In (section_at 2 4))) ≡ 2 ∷
+      3 ∷ []
   overlapping_depends = refl

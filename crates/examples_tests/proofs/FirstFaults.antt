@@ -20,17 +20,21 @@ use Rattle.examples_tests.proofs.Cells.{not_true, in_range, at_pair, at_cell}
 use Rattle.examples_tests.proofs.Named.{any_gives, conflict_cell, cause_cell}
 use Rattle.examples_tests.proofs.Accepts.{range_off, depends_off, chained_before}
 
-all_at : {X : Type 0} (p : X → Bool) (xs : List X) → list_all p xs ≡ true → (j : ℕ) (x : X) → slice_get xs j ≡ Some x → p x ≡ true
+all_at : {X : Type 0} (p : X → Bool) (xs : List X) → list_all p xs ≡ true → (j : ℕ) (x : X) → slice_get xs j ≡ Some x →
+    p x ≡ true
 all_at p [] h j x e = absurd (cc e)
 all_at p (y ∷ xs) h zero x e = let same : y ≡ x = cc in sym (ap p same) ∙ (and_parts (p y) (list_all p xs) h).0
 all_at p (y ∷ xs) h (suc j) x e = all_at p xs (and_parts (p y) (list_all p xs) h).1 j x e
 
 -- what holds of every code
 codes : (p : RefusalCode → Bool) → every_code p ≡ true →
-    (p OverlapsInPart ≡ true) × (p ExitOfAbsent ≡ true) × (p UpdateOfAbsent ≡ true) × (p Unmapped ≡ true) × (p HostNotCurrent ≡ true) × (p DeviceNotCurrent ≡ true)
+    (p OverlapsInPart ≡ true) × (p ExitOfAbsent ≡ true) × (p UpdateOfAbsent ≡ true) × (p Unmapped ≡ true) ×
+    (p HostNotCurrent ≡ true) × (p DeviceNotCurrent ≡ true)
 codes p h =
-    let a = and_parts (p OverlapsInPart) (p ExitOfAbsent && (p UpdateOfAbsent && (p Unmapped && (p HostNotCurrent && p DeviceNotCurrent)))) h in
-    let b = and_parts (p ExitOfAbsent) (p UpdateOfAbsent && (p Unmapped && (p HostNotCurrent && p DeviceNotCurrent))) a.1 in
+    let a = and_parts (p OverlapsInPart)
+    (p ExitOfAbsent && (p UpdateOfAbsent && (p Unmapped && (p HostNotCurrent && p DeviceNotCurrent)))) h in
+    let b = and_parts (p ExitOfAbsent)
+    (p UpdateOfAbsent && (p Unmapped && (p HostNotCurrent && p DeviceNotCurrent))) a.1 in
     let d = and_parts (p UpdateOfAbsent) (p Unmapped && (p HostNotCurrent && p DeviceNotCurrent)) b.1 in
     let e = and_parts (p Unmapped) (p HostNotCurrent && p DeviceNotCurrent) d.1 in
     let f = and_parts (p HostNotCurrent) (p DeviceNotCurrent) e.1 in
@@ -46,49 +50,66 @@ module _ (n : ℕ) (plan : Plan) (key : List ℕ) (stay : list_all (stage_stays 
   sooner r = key_less (fault_key (Refused r)) key
 
   module _ (alone : alone_later plan key ≡ true) where
-    alone_off : (code : RefusalCode) → ((p : RefusalCode → Bool) → every_code p ≡ true → p code ≡ true) → (j : ℕ) (c : Cell) →
-        IsTrue (on_stage plan j false (λ s. cause code s (current_before plan j) c)) → key_less (fault_key (Refused (refusal code j c None))) key ≡ false
+    alone_off : (code : RefusalCode) → ((p : RefusalCode → Bool) → every_code p ≡ true → p code ≡ true) →
+        (j : ℕ) (c : Cell) →
+        IsTrue (on_stage plan j false (λ s. cause code s (current_before plan j) c)) →
+        key_less (fault_key (Refused (refusal code j c None))) key ≡ false
     alone_off code pick j c e = go (slice_get (stages plan) j) refl e
       where
         test : Option Stage → Bool
         test o = elim o [ None ↦ true | Some s ↦ stage_later plan key j s ]
 
-        go : (o : Option Stage) → slice_get (stages plan) j ≡ o → elim o [ None ↦ false | Some s ↦ cause code s (current_before plan j) c ] ≡ true →
+        go : (o : Option Stage) → slice_get (stages plan) j ≡ o →
+            elim o [ None ↦ false | Some s ↦ cause code s (current_before plan j) c ] ≡ true →
             key_less (fault_key (Refused (refusal code j c None))) key ≡ false
         go None f e = absurd (false≢true e)
         go (Some s) f e =
             let within : j < length (stages plan) = slice_get_within (stages plan) j s f in
-            let at_j : on_stage plan j true (stage_later plan key j) ≡ true = in_range (λ j. on_stage plan j true (stage_later plan key j)) 0 (length (stages plan)) j alone (omega arith) (omega arith) in
+            let at_j : on_stage plan j true (stage_later plan key j) ≡ true = in_range
+            (λ j. on_stage plan j true (stage_later plan key j)) 0 (length (stages plan)) j alone (omega arith)
+            (omega arith) in
             let here : stage_later plan key j s ≡ true = sym (ap test f) ∙ at_j in
-            let at_code = pick (λ code. every_cell plan.lengths (λ c. not (cause code s (current_before plan j) c) || not_sooner key (refusal code j c None))) here in
-            let is_cell = cause_cell plan.lengths c code s (current_before plan j) e (all_at (stage_stays plan.lengths) (stages plan) stay j s f) in
-            then_later (cause code s (current_before plan j) c) (key_less (fault_key (Refused (refusal code j c None))) key)
-            (at_cell plan.lengths (λ c. not (cause code s (current_before plan j) c) || not_sooner key (refusal code j c None)) at_code c is_cell) e
+            let at_code = pick (λ code. every_cell plan.lengths
+            (λ c. not (cause code s (current_before plan j) c) || not_sooner key (refusal code j c None))) here in
+            let is_cell = cause_cell plan.lengths c code s (current_before plan j) e
+            (all_at (stage_stays plan.lengths) (stages plan) stay j s f) in
+            then_later (cause code s (current_before plan j) c)
+            (key_less (fault_key (Refused (refusal code j c None))) key)
+            (at_cell plan.lengths (λ c. not (cause code s (current_before plan j) c) || not_sooner key
+            (refusal code j c None)) at_code c is_cell) e
 
   module _ (pairs : every_pair (length (stages plan)) (pair_later n plan key) ≡ true) where
-    conflict_off : (i j : ℕ) (c : Cell) → i < j → Conflicts plan i j c → (Before plan i j → ⊥) → key_less (fault_key (Refused (refusal Conflict j c (Some i)))) key ≡ false
+    conflict_off : (i j : ℕ) (c : Cell) → i < j → Conflicts plan i j c → (Before plan i j → ⊥) →
+        key_less (fault_key (Refused (refusal Conflict j c (Some i)))) key ≡ false
     conflict_off i j c lt e none = go (slice_get (stages plan) i) (slice_get (stages plan) j) refl refl e
       where
         test : Option Stage → Option Stage → Bool
         test o p = elim o [ None ↦ true | Some s ↦ elim p [ None ↦ true | Some t ↦ stages_later plan key i j s t ] ]
 
-        actions : (s : Stage) → slice_get (stages plan) i ≡ Some s → list_all (action_stays plan.lengths) s.actions ≡ true
+        actions : (s : Stage) → slice_get (stages plan) i ≡ Some s →
+            list_all (action_stays plan.lengths) s.actions ≡ true
         actions s f =
-            (and_parts (list_all (action_stays plan.lengths) s.actions) (list_all (λ m. section_stays plan.lengths m.item.section) s.met && touches_stay plan.lengths (touches_in s.work))
+            (and_parts (list_all (action_stays plan.lengths) s.actions)
+            (list_all (λ m. section_stays plan.lengths m.item.section) s.met && touches_stay plan.lengths
+            (touches_in s.work))
             (all_at (stage_stays plan.lengths) (stages plan) stay i s f)).0
 
         go : (o p : Option Stage) → slice_get (stages plan) i ≡ o → slice_get (stages plan) j ≡ p →
-            elim o [ None ↦ false | Some s ↦ elim p [ None ↦ false | Some t ↦ conflict s t c ] ] ≡ true → key_less (fault_key (Refused (refusal Conflict j c (Some i)))) key ≡ false
+            elim o [ None ↦ false | Some s ↦ elim p [ None ↦ false | Some t ↦ conflict s t c ] ] ≡ true →
+            key_less (fault_key (Refused (refusal Conflict j c (Some i)))) key ≡ false
         go None p f g k = absurd (false≢true k)
         go (Some s) None f g k = absurd (false≢true k)
         go (Some s) (Some t) f g k =
-            let at_pair_ij = at_pair (length (stages plan)) (pair_later n plan key) pairs i j lt (slice_get_within (stages plan) j t g) in
+            let at_pair_ij = at_pair (length (stages plan)) (pair_later n plan key) pairs i j lt
+            (slice_get_within (stages plan) j t g) in
             ⊎_elim (λ h. absurd (none (chained_before plan n i j h)))
             (λ h.
             let here : stages_later plan key i j s t ≡ true = sym (ap₂ test f g) ∙ h in
             then_later (conflict s t c) (key_less (fault_key (Refused (refusal Conflict j c (Some i)))) key)
-            (at_cell plan.lengths (λ c. not (conflict s t c) || not_sooner key (refusal Conflict j c (Some i))) here c (conflict_cell plan.lengths c s t k (actions s f))) k)
-            (or_cases (chained plan n i j) (on_stage plan i true (λ s. on_stage plan j true (stages_later plan key i j s))) at_pair_ij)
+            (at_cell plan.lengths (λ c. not (conflict s t c) || not_sooner key (refusal Conflict j c (Some i))) here c
+            (conflict_cell plan.lengths c s t k (actions s f))) k)
+            (or_cases (chained plan n i j) (on_stage plan i true
+            (λ s. on_stage plan j true (stages_later plan key i j s))) at_pair_ij)
 
 -- Before is what chains tell, where two in a row give one
 
@@ -99,8 +120,11 @@ linked_within plan i j h =
     let p = and_parts (nat_lt i j) (nat_lt j (length plan.items) && on_item plan i false (λ w. not w.deferred)) e in
     let q = and_parts (nat_lt j (length plan.items)) (on_item plan i false (λ w. not w.deferred)) p.1 in
     (below i j p.0, below j (length plan.items) q.0))
-    (λ e. let p = and_parts (nat_lt i j) (on_item plan i false (λ earlier. on_item plan j false (λ later. is_pred earlier later))) e in (below i j p.0, within p.1))
-    (or_cases (nat_lt i j && (nat_lt j (length plan.items) && on_item plan i false (λ w. not w.deferred))) (precedes plan i j) h)
+    (λ e. let p = and_parts (nat_lt i j)
+    (on_item plan i false (λ earlier. on_item plan j false (λ later. is_pred earlier later))) e in
+    (below i j p.0, within p.1))
+    (or_cases (nat_lt i j && (nat_lt j (length plan.items) && on_item plan i false (λ w. not w.deferred)))
+    (precedes plan i j) h)
   where
     below : (a b : ℕ) → nat_lt a b ≡ true → a < b
     below a b e = grind (arith, nat_tests)
@@ -108,10 +132,13 @@ linked_within plan i j h =
     is_pred : Work → Work → Bool
     is_pred earlier later = is_predecessor earlier later
 
-    within : on_item plan i false (λ earlier. on_item plan j false (λ later. is_pred earlier later)) ≡ true → j < length plan.items
+    within : on_item plan i false (λ earlier. on_item plan j false (λ later. is_pred earlier later)) ≡ true →
+        j < length plan.items
     within e = go (slice_get plan.items i) (slice_get plan.items j) refl e
       where
-        go : (o p : Option Work) → slice_get plan.items j ≡ p → elim o [ None ↦ false | Some earlier ↦ elim p [ None ↦ false | Some later ↦ is_pred earlier later ] ] ≡ true → j < length plan.items
+        go : (o p : Option Work) → slice_get plan.items j ≡ p →
+            elim o [ None ↦ false | Some earlier ↦ elim p [ None ↦ false | Some later ↦ is_pred earlier later ] ] ≡ true
+            → j < length plan.items
         go None p g k = absurd (false≢true k)
         go (Some earlier) None g k = absurd (false≢true k)
         go (Some earlier) (Some later) g k = slice_get_within plan.items j later g
@@ -128,31 +155,43 @@ chained_within plan (suc n) i j h =
     let second = chained_within plan n k j p.1 in
     (omega (arith, first.0, second.0), second.1))
     (range_with_len 0 (length plan.items)) e)
-    (or_cases (linked plan i j) (list_any (λ k. linked plan i k && chained plan n k j) (range_with_len 0 (length plan.items))) h)
+    (or_cases (linked plan i j) (list_any (λ k. linked plan i k && chained plan n k j)
+    (range_with_len 0 (length plan.items))) h)
 
 linked_chained : (plan : Plan) (n i j : ℕ) → linked plan i j ≡ true → chained plan n i j ≡ true
 linked_chained plan zero i j h = h
-linked_chained plan (suc n) i j h = or_left (linked plan i j) (list_any (λ k. linked plan i k && chained plan n k j) (range_with_len 0 (length plan.items))) h
+linked_chained plan (suc n) i j h = or_left (linked plan i j)
+    (list_any (λ k. linked plan i k && chained plan n k j) (range_with_len 0 (length plan.items))) h
 
-before_chained : (n : ℕ) (plan : Plan) → is_closed_under n plan ≡ true → (i j : ℕ) → Before plan i j → chained plan n i j ≡ true
+before_chained : (n : ℕ) (plan : Plan) → is_closed_under n plan ≡ true → (i j : ℕ) → Before plan i j →
+    chained plan n i j ≡ true
 before_chained n plan h _ _ (in_line i j lt within e) =
-    linked_chained plan n i j (or_left (nat_lt i j && (nat_lt j (length plan.items) && on_item plan i false (λ w. not w.deferred))) (precedes plan i j)
-    (and_from (nat_lt i j) (nat_lt j (length plan.items) && on_item plan i false (λ w. not w.deferred)) (is_below i j lt)
-    (and_from (nat_lt j (length plan.items)) (on_item plan i false (λ w. not w.deferred)) (is_below j (length plan.items) within) e)))
+    linked_chained plan n i j (or_left
+    (nat_lt i j && (nat_lt j (length plan.items) && on_item plan i false (λ w. not w.deferred))) (precedes plan i j)
+    (and_from (nat_lt i j) (nat_lt j (length plan.items) && on_item plan i false (λ w. not w.deferred))
+    (is_below i j lt)
+    (and_from (nat_lt j (length plan.items)) (on_item plan i false (λ w. not w.deferred))
+    (is_below j (length plan.items) within) e)))
   where
     is_below : (a b : ℕ) → a < b → nat_lt a b ≡ true
     is_below a b e = grind (arith, nat_tests)
 before_chained n plan h _ _ (after_predecessor i j e) =
-    linked_chained plan n i j (or_right (nat_lt i j && (nat_lt j (length plan.items) && on_item plan i false (λ w. not w.deferred))) (precedes plan i j) e)
+    linked_chained plan n i j (or_right
+    (nat_lt i j && (nat_lt j (length plan.items) && on_item plan i false (λ w. not w.deferred)))
+    (precedes plan i j) e)
 before_chained n plan h _ _ (through i k j first second) =
     let a = before_chained n plan h i k first in
     let b = before_chained n plan h k j second in
     let p = chained_within plan n i k a in
     let q = chained_within plan n k j b in
     let lt : i < j = omega (arith, p.0, q.0) in
-    let at_ij = at_pair (length plan.items) (λ i j. list_all (λ k. not (chained plan n i k && chained plan n k j) || chained plan n i j) (range_with_len 0 (length plan.items))) h i j lt q.1 in
-    let at_k = in_range (λ k. not (chained plan n i k && chained plan n k j) || chained plan n i j) 0 (length plan.items) k at_ij (omega arith) (omega arith) in
-    ⊎_elim (λ e. absurd (not_true (chained plan n i k && chained plan n k j) e (and_from (chained plan n i k) (chained plan n k j) a b))) (λ e. e)
+    let at_ij = at_pair (length plan.items)
+    (λ i j. list_all (λ k. not (chained plan n i k && chained plan n k j) || chained plan n i j)
+    (range_with_len 0 (length plan.items))) h i j lt q.1 in
+    let at_k = in_range (λ k. not (chained plan n i k && chained plan n k j) || chained plan n i j) 0
+    (length plan.items) k at_ij (omega arith) (omega arith) in
+    ⊎_elim (λ e. absurd (not_true (chained plan n i k && chained plan n k j) e
+    (and_from (chained plan n i k) (chained plan n k j) a b))) (λ e. e)
     (or_cases (not (chained plan n i k && chained plan n k j)) (chained plan n i j) at_k)
 
 -- the refusal is one
@@ -182,7 +221,8 @@ holds_pair n plan r i h =
     below a b e = grind (arith, nat_tests)
 
 holds_either : (n : ℕ) (plan : Plan) (code : RefusalCode) (j : ℕ) (c : Cell) (other : Option ℕ) →
-    same_test (is_conflict code) (names_other other) ≡ true → refusal_holds n plan (refusal code j c other) other ≡ true → IsRefusal plan code j c other
+    same_test (is_conflict code) (names_other other) ≡ true →
+    refusal_holds n plan (refusal code j c other) other ≡ true → IsRefusal plan code j c other
 holds_either n plan code j c None f e = holds_alone n plan code j c (no_other (is_conflict code) f) e
   where
     no_other : (b : Bool) → same_test b false ≡ true → b ≡ false
@@ -198,7 +238,8 @@ holds_either n plan DeviceNotCurrent j c (Some i) f e = absurd (false≢true f)
 
 -- no refusal comes before it
 module _ (n : ℕ) (plan : Plan) (key : List ℕ) (stay : list_all (stage_stays plan.lengths) (stages plan) ≡ true)
-    (alone : alone_later plan key ≡ true) (pairs : every_pair (length (stages plan)) (pair_later n plan key) ≡ true) where
+    (alone : alone_later plan key ≡ true)
+    (pairs : every_pair (length (stages plan)) (pair_later n plan key) ≡ true) where
   refused_later : (code : RefusalCode) (j : ℕ) (c : Cell) (other : Option ℕ) → IsRefusal plan code j c other →
       key_less (fault_key (Refused (refusal code j c other))) key ≡ false
   refused_later Conflict j c (Some i) e = conflict_off n plan key stay pairs i j c e.0 e.1 e.2
@@ -214,7 +255,8 @@ module _ (n : ℕ) (plan : Plan) (key : List ℕ) (stay : list_all (stage_stays 
   refused_later UpdateOfAbsent j c None e = alone_off n plan key stay alone UpdateOfAbsent (λ p h. (codes p h).2) j c e
   refused_later Unmapped j c None e = alone_off n plan key stay alone Unmapped (λ p h. (codes p h).3) j c e
   refused_later HostNotCurrent j c None e = alone_off n plan key stay alone HostNotCurrent (λ p h. (codes p h).4) j c e
-  refused_later DeviceNotCurrent j c None e = alone_off n plan key stay alone DeviceNotCurrent (λ p h. (codes p h).5) j c e
+  refused_later DeviceNotCurrent j c None e = alone_off n plan key stay alone DeviceNotCurrent
+      (λ p h. (codes p h).5) j c e
 
 -- the refusal that passes the test is the first fault
 pub first_fault_by : FirstFaultByTest
@@ -248,7 +290,8 @@ first_fault_by n plan r h =
     holds : Bool
     holds = refusal_holds n plan r r.other
 
-    first : ranges ≡ true → clear ≡ true → stay ≡ true → alone ≡ true → pairs ≡ true → (g : Fault) → IsFault plan g → key_less (fault_key g) (fault_key (Refused r)) ≡ false
+    first : ranges ≡ true → clear ≡ true → stay ≡ true → alone ≡ true → pairs ≡ true → (g : Fault) → IsFault plan g →
+        key_less (fault_key g) (fault_key (Refused r)) ≡ false
     first a b d e f (Range i g) h = absurd (range_off plan.lengths plan.items i g a h)
     first a b d e f (Order g) h = absurd (depends_off plan g.other g.item g.cell b h.0 h.1)
     first a b d e f (Refused g) h = refused_later n plan (fault_key (Refused r)) d e f g.code g.item g.cell g.other h

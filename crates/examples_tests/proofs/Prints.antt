@@ -19,12 +19,14 @@ abbrev printed_by : Option Plain → Option (List ℕ)
 printed_by o = option_map (λ s. s.printed) o
 
 prints_always : (n : ℕ) (lengths : List ℕ) (parts : List Part) (printed : List ℕ) →
-    accepts n (plan_of lengths parts) ≡ true → printed_by (erased_list parts lengths fresh) ≡ Some printed → PrintsAlways lengths parts printed
+    accepts n (plan_of lengths parts) ≡ true → printed_by (erased_list parts lengths fresh) ≡ Some printed →
+    PrintsAlways lengths parts printed
 prints_always n lengths parts printed h computed p l e fill events s is_fill run ended =
     let right = headline p (all_accepted n lengths parts h p l e) in
     let shown = right.shows [] fill events s (search rules) is_fill run ended in
     let same : erased p [] ≡ erased_list parts lengths fresh = ap₂ (λ ps ls. erased_list ps ls fresh) e l in
-    let both : Some shown.plain.printed ≡ Some printed = sym (ap printed_by shown.is_erased) ∙ ap printed_by same ∙ computed in
+    let both : Some shown.plain.printed ≡ Some printed = sym (ap printed_by shown.is_erased) ∙ ap printed_by same ∙
+    computed in
     let equal : shown.plain.printed ≡ printed = cc in
     shown.output ∙ equal
 

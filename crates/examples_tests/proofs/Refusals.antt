@@ -12,9 +12,11 @@ use Rattle.examples_tests.proofs.FirstFaults.{first_fault_by}
 
 -- one computation serves every program with these arrays and parts
 first_refusal : (n : ℕ) (lengths : List ℕ) (parts : List Part) (code : RefusalCode) (j : ℕ) (other : Option ℕ) →
-    refused_first n (plan_of lengths parts) (refusal code j (record { array = a; index = 0 }) other) ≡ true → FirstRefusal lengths parts code j other
+    refused_first n (plan_of lengths parts) (refusal code j (record { array = a; index = 0 }) other) ≡ true →
+    FirstRefusal lengths parts code j other
 first_refusal n lengths parts code j other h p l e =
-    subst (λ (plan : Plan). IsFirstFault plan (Refused (refusal code j (record { array = a; index = 0 }) other))) (sym (ap₂ plan_of l e))
+    subst (λ (plan : Plan). IsFirstFault plan (Refused (refusal code j (record { array = a; index = 0 }) other)))
+    (sym (ap₂ plan_of l e))
     (first_fault_by n (plan_of lengths parts) (refusal code j (record { array = a; index = 0 }) other) h)
 
 pub they_are_refused : TheyAreRefused

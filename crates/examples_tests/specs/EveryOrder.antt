@@ -17,7 +17,8 @@ use Rattle.examples_tests.specs.More.{two_halves, one_after_other, in_data, copi
 abbrev pub PrintsAlways : List ℕ → List Part → List ℕ → Type 0
 PrintsAlways lengths parts printed =
     (p : Program) → lengths_of p ≡ lengths → p.body.items ≡ parts →
-    (fill : ℕ → Fill) (events : List Event) (s : State) → IsFill fill → RunFrom (plan p) fill [] events (Some s) → HasEnded (plan p) s → s.output ≡ printed
+    (fill : ℕ → Fill) (events : List Event) (s : State) → IsFill fill → RunFrom (plan p) fill [] events (Some s) →
+    HasEnded (plan p) s → s.output ≡ printed
 
 pub record OrdersShowNothing (v : Vec (Unit {0}) Global) (p : Box (Unit {0}) Global) : Type 0 where
   pub smallest_prints : PrintsAlways (4 ∷ []) (smallest v p) (1 ∷ 3 ∷ 5 ∷ 7 ∷ [])

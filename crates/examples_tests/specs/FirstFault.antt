@@ -14,7 +14,8 @@ use Rattle.examples_tests.specs.Decide.{every_cell, every_pair, stage_stays, cha
 -- the codes of the third pass that are of one item by itself
 abbrev pub every_code : (RefusalCode → Bool) → Bool
 every_code p =
-    p OverlapsInPart && (p ExitOfAbsent && (p UpdateOfAbsent && (p Unmapped && (p HostNotCurrent && p DeviceNotCurrent))))
+    p OverlapsInPart && (p ExitOfAbsent &&
+    (p UpdateOfAbsent && (p Unmapped && (p HostNotCurrent && p DeviceNotCurrent))))
 
 abbrev pub refusal : RefusalCode → ℕ → Cell → Option ℕ → Refusal
 refusal code j c other = record { code = code; item = j; cell = c; other = other }
@@ -26,29 +27,36 @@ not_sooner key r = not (key_less (fault_key (Refused r)) key)
 -- no cause of refusal of one item by itself comes before the key
 abbrev pub stage_later : Plan → List ℕ → ℕ → Stage → Bool
 stage_later plan key j s =
-    every_code (λ code. every_cell plan.lengths (λ c. not (cause code s (current_before plan j) c) || not_sooner key (refusal code j c None)))
+    every_code (λ code. every_cell plan.lengths
+    (λ c. not (cause code s (current_before plan j) c) || not_sooner key (refusal code j c None)))
 
 abbrev pub alone_later : Plan → List ℕ → Bool
-alone_later plan key = list_all (λ j. on_stage plan j true (stage_later plan key j)) (range_with_len 0 (length (stages plan)))
+alone_later plan key = list_all (λ j. on_stage plan j true (stage_later plan key j))
+    (range_with_len 0 (length (stages plan)))
 
 -- no unordered conflict of two items comes before the key
 abbrev pub stages_later : Plan → List ℕ → ℕ → ℕ → Stage → Stage → Bool
-stages_later plan key i j s t = every_cell plan.lengths (λ c. not (conflict s t c) || not_sooner key (refusal Conflict j c (Some i)))
+stages_later plan key i j s t = every_cell plan.lengths
+    (λ c. not (conflict s t c) || not_sooner key (refusal Conflict j c (Some i)))
 
 abbrev pub pair_later : ℕ → Plan → List ℕ → ℕ → ℕ → Bool
-pair_later n plan key i j = chained plan n i j || on_stage plan i true (λ s. on_stage plan j true (stages_later plan key i j s))
+pair_later n plan key i j = chained plan n i j || on_stage plan i true
+    (λ s. on_stage plan j true (stages_later plan key i j s))
 
 -- chains of at most n + 1 links are all that there are: two in a row give one
 abbrev pub is_closed_under : ℕ → Plan → Bool
 is_closed_under n plan =
-    every_pair (length plan.items) (λ i j. list_all (λ k. not (chained plan n i k && chained plan n k j) || chained plan n i j) (range_with_len 0 (length plan.items)))
+    every_pair (length plan.items) (λ i j. list_all
+    (λ k. not (chained plan n i k && chained plan n k j) || chained plan n i j)
+    (range_with_len 0 (length plan.items)))
 
 -- the refusal is one: of an item by itself, or for a conflict with another item and no order between the two
 abbrev pub refusal_holds : ℕ → Plan → Refusal → Option ℕ → Bool
 refusal_holds n plan r None = on_stage plan r.item false (λ s. cause r.code s (current_before plan r.item) r.cell)
 refusal_holds n plan r (Some i) =
     nat_lt i r.item
-    && (on_stage plan i false (λ s. on_stage plan r.item false (λ t. conflict s t r.cell)) && (not (chained plan n i r.item) && is_closed_under n plan))
+    && (on_stage plan i false (λ s. on_stage plan r.item false (λ t. conflict s t r.cell)) &&
+    (not (chained plan n i r.item) && is_closed_under n plan))
 
 abbrev pub is_conflict : RefusalCode → Bool
 is_conflict Conflict = true

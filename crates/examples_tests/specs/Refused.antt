@@ -1,4 +1,5 @@
--- Programs that are refused: a copy back that was forgotten, storage that is gone, an exit that is not ordered, a stale device.
+-- Programs that are refused: a copy back that was forgotten, storage that is gone, an exit that is not ordered, a stale
+-- device.
 use Rattle.std.specs.Prelude.{ℕ, ◌≡◌, false, true, List, [], ◌∷◌, Option, Some, None, Vec, Box}
 use Rattle.std.proofs.Common.{lit<}
 use Rattle.std.specs.declared.alloc.Global.{Global}
@@ -25,29 +26,35 @@ use Rattle.examples_tests.specs.FirstFault.{refusal}
 -- of a program with arrays of these lengths and with these parts the refusal is the first fault
 abbrev pub FirstRefusal : List ℕ → List Part → RefusalCode → ℕ → Option ℕ → Type 0
 FirstRefusal lengths parts code j other =
-    (p : Program) → lengths_of p ≡ lengths → p.body.items ≡ parts → IsFirstFault (plan p) (Refused (refusal code j (record { array = a; index = 0 }) other))
+    (p : Program) → lengths_of p ≡ lengths → p.body.items ≡ parts →
+    IsFirstFault (plan p) (Refused (refusal code j (record { array = a; index = 0 }) other))
 
 abbrev pub exit_of : ExitKind → ArrayId → Part
-exit_of kind x = part.Alone (directive.Exit (record { items = map_item kind (whole x) ∷ []; capacity = 2 }) (tasking false []))
+exit_of kind x = part.Alone (directive.Exit (record { items = map_item kind (whole x) ∷ []; capacity = 2 })
+    (tasking false []))
 
 module _ (v : Vec (Unit {0}) Global) (p : Box (Unit {0}) Global) where
   -- the target maps A `to` where it should be `tofrom`, so the host prints what it had before
   abbrev pub not_copied_back : List Part
   not_copied_back =
       part.Host (looped v p to_four (Store a here i (Value i)))
-      ∷ part.Target (target false [] (map_item To (section a 0 4) ∷ [])) (looped v p to_four (Store a here i (Value (plus v p (times v p (cell v p a i) 2) 1))))
+      ∷ part.Target (target false [] (map_item To (section a 0 4) ∷ []))
+      (looped v p to_four (Store a here i (Value (plus v p (times v p (cell v p a i) 2) 1))))
       ∷ part.Host (looped v p to_four (Print (cell v p a i))) ∷ []
 
   -- the storage of A is deleted inside the data construct that ends with an exit of it
   abbrev pub deleted_inside_data : List Part
-  deleted_inside_data = part_data v (record { items = map_item To (whole a) ∷ []; capacity = 2 }) (exit_of left.Delete a ∷ []) (lit< tt) ∷ []
+  deleted_inside_data = part_data v (record { items = map_item To (whole a) ∷ []; capacity = 2 })
+      (exit_of left.Delete a ∷ []) (lit< tt) ∷ []
 
   -- two deferred targets, and an exit of A that waits for neither
   abbrev pub exit_too_early : List Part
   exit_too_early =
       enter_to a
-      ∷ part.Target (target true [] (map_item ToFrom (section a 0 4) ∷ [])) (looped v p to_four (Store a here i (Value (plus v p i 1))))
-      ∷ part.Target (target true [] (map_item ToFrom (section a 4 4) ∷ [])) (looped v p four_to_eight (Store a here i (Value (times v p i 10))))
+      ∷ part.Target (target true [] (map_item ToFrom (section a 0 4) ∷ []))
+      (looped v p to_four (Store a here i (Value (plus v p i 1))))
+      ∷ part.Target (target true [] (map_item ToFrom (section a 4 4) ∷ []))
+      (looped v p four_to_eight (Store a here i (Value (times v p i 10))))
       ∷ exit_of left.From a
       ∷ wait_all
       ∷ update_from (whole a)
@@ -58,7 +65,8 @@ module _ (v : Vec (Unit {0}) Global) (p : Box (Unit {0}) Global) where
   stale_on_device =
       enter_to a
       ∷ part.Host (region v p (Store a here (Number 0) (Value (Number 5)) ∷ []) (lit< tt))
-      ∷ part.Target (target false [] (map_item To (whole a) ∷ map_item From (whole b) ∷ [])) (looped v p to_four (Store b here i (Value (plus v p (cell v p a i) 1))))
+      ∷ part.Target (target false [] (map_item To (whole a) ∷ map_item From (whole b) ∷ []))
+      (looped v p to_four (Store b here i (Value (plus v p (cell v p a i) 1))))
       ∷ part.Host (region v p (Print (cell v p b (Number 0)) ∷ []) (lit< tt)) ∷ []
 
 pub record ExamplesAreRefused (v : Vec (Unit {0}) Global) (p : Box (Unit {0}) Global) : Type 0 where

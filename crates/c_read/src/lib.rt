@@ -1,2 +1,0 @@
-//! From the bytes of a source to its program.
-#![tactic(auto)]

@@ -1,0 +1,13 @@
+pub mod Turns
+pub mod Outcomes
+pub mod Stores
+pub mod Touches
+pub mod Leasts
+pub mod Tables
+pub mod Effects
+pub mod Steps
+pub mod SmallSteps
+pub mod Standings
+pub mod Choices
+pub mod WholeRuns
+pub mod Final

@@ -1,0 +1,10 @@
+pub mod Cells
+pub mod Frame
+pub mod Ran
+pub mod Range
+pub mod Stop
+pub mod Table
+pub mod State
+pub mod Run
+pub mod Checks
+pub mod Ends
