@@ -1,0 +1,15 @@
+pub mod Means
+pub mod Spells
+pub mod Seen
+pub mod Lines
+pub mod Scopes
+pub mod Reading
+pub mod Cursor
+pub mod Trees
+pub mod Statements
+pub mod Loops
+pub mod Targets
+pub mod Mains
+pub mod Arrays
+pub mod Whole
+pub mod Sources

@@ -1,0 +1,91 @@
+//! The tokens of a line that begins with `#`, one after another.
+
+ghost use Rattle.std.specs.Prelude.{◌+◌, ◌<◌, ◌^◌, length};
+
+use crate::lexeme::{Lexeme, PlacedLexeme, lexeme_of, piece_on};
+use c_tokens::{Mood, Piece, mood_after};
+
+/// What is left of a line.
+#[derive(Clone, Copy)]
+pub struct Lexemes<'a> {
+    rest: &'a [u8],
+    mood: Mood,
+    column: usize,
+    /// Nothing follows the end of the line, nor a byte that begins no token.
+    over: bool,
+    ghost fits: { column + length rest.now < 2 ^ 64 },
+}
+
+impl<'a> Lexemes<'a> {
+    ghost use Rattle.std.specs.Prelude.{◌≡◌, ◌+◌, ◌≤◌, ◌<◌, ◌^◌, ◌∷◌, [], length, drop, MatchOption};
+    ghost use Rattle.c_grammar.specs.Lexeme.{lexemes_of};
+    ghost use Rattle.c_read.specs.Lines.{ahead_on_line, seen_placed};
+
+    /// The line behind its `#`, which stands at the column.
+    pub fn new(line: &'a [u8], column: usize) -> Lexemes<'a>
+        requires { column ≤ 2 ^ 63 }
+        ensures { ahead_on_line result ≡ lexemes_of line.now column }
+    {
+        let rest = match line {
+            [] => line,
+            [_, rest @ ..] => rest,
+        };
+        Lexemes {
+            rest,
+            mood: Mood::Inside,
+            column: column + 1,
+            over: false,
+        }
+    }
+
+    /// Goes past some bytes.
+    fn pass(&mut self, len: usize, mood: Mood)
+        requires { len ≤ length self.old.rest.now }
+        ensures rest { self.new.rest.now ≡ drop len self.old.rest.now }
+        ensures column { self.new.column ≡ self.old.column + len }
+        ensures mood { self.new.mood ≡ mood }
+        ensures over { self.new.over ≡ self.old.over }
+    {
+        self.column += len;
+        self.rest = &self.rest[len..];
+        self.mood = mood;
+    }
+
+    /// The next token, if there is one.
+    #[tactic(auto, using(crate::proofs::OnLine::at_layout, crate::proofs::OnLine::at_token, crate::proofs::OnLine::at_unknown, crate::proofs::OnLine::at_end))]
+    pub fn next(&mut self) -> Option<PlacedLexeme<'a>>
+        ensures { MatchOption result (ahead_on_line self.old ≡ []) (λ p. ahead_on_line self.old ≡ seen_placed p ∷ ahead_on_line self.new) }
+    {
+        if self.over {
+            return None;
+        }
+        'pieces: while !self.rest.is_empty() {
+            match piece_on(self.mood, self.rest) {
+                Piece::Layout(len, mood) => self.pass(len, mood),
+                Piece::Token(kind, len) => {
+                    let placed = PlacedLexeme {
+                        lexeme: lexeme_of(kind, &self.rest[..len]),
+                        column: self.column,
+                    };
+                    self.pass(len, mood_after(kind));
+                    return Some(placed);
+                }
+                Piece::Unknown => return Some(self.end(Lexeme::Strange)),
+            }
+        }
+        Some(self.end(Lexeme::Ended))
+    }
+
+    /// The last token.
+    fn end(&mut self, lexeme: Lexeme<'a>) -> PlacedLexeme<'a>
+        ensures lexeme { result.lexeme ≡ lexeme.entry }
+        ensures column { result.column ≡ self.old.column }
+        ensures over { ahead_on_line self.new ≡ [] }
+    {
+        self.over = true;
+        PlacedLexeme {
+            lexeme,
+            column: self.column,
+        }
+    }
+}

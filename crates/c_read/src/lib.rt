@@ -1,0 +1,23 @@
+//! From the bytes of a source to its program.
+#![tactic(auto)]
+
+mod array;
+mod cursor;
+mod expr;
+mod fault;
+mod lexeme;
+mod lexemes;
+mod line;
+mod number;
+mod program;
+mod scope;
+mod stmt;
+mod target;
+mod terminal;
+mod turns;
+mod word;
+
+pub use program::read_small;
+
+#[cfg(test)]
+mod tests;

@@ -1,0 +1,14 @@
+//! The commands of `ompc`: from the words of a command line to what it prints and its status.
+#![tactic(auto)]
+
+mod command;
+mod numbers;
+mod perform;
+mod source;
+mod texts;
+
+pub use perform::{SourceError, Sources, drive};
+pub use source::run_source;
+
+#[cfg(test)]
+mod tests;

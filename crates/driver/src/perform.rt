@@ -1,0 +1,191 @@
+//! One command, over any sources, reader and writers.
+
+ghost use Rattle.std.specs.Prelude.{◌≡◌, ◌≤◌, ◌⊎◌};
+
+use crate::command::parse;
+use crate::numbers::{NumbersFault, choice_list, input_numbers};
+use crate::source::load;
+use crate::texts::log_text;
+use base::fault::{CheckFault, OutlineFault, ReadFault, RunFault, SourceFault};
+use base::item::Answer;
+use clap::error::ErrorKind;
+use device::run_small;
+use std::alloc::Global;
+use std::io;
+use std::io::{Read, Write};
+
+/// Why a source has no bytes.
+#[derive(Clone, Copy, Debug, PartialEq, Eq)]
+pub enum SourceError {
+    Unreadable,
+    OutOfMemory,
+}
+
+/// Where sources are found.
+pub trait Sources {
+    /// The bytes of the source of that name.
+    fn source(&mut self, name: &str) -> Result<Vec<u8>, SourceError>;
+}
+
+/// The command did what was asked.
+const DONE: u8 = 0;
+
+/// The program is refused.
+const REFUSED: u8 = 1;
+
+/// The command cannot be done as it was given.
+const MISUSED: u8 = 2;
+
+/// The run stopped before its end, or memory ran out.
+const FAILED: u8 = 3;
+
+/// Why a command prints nothing to standard output.
+#[derive(Drop)]
+enum Ending<'a> {
+    Usage(clap::Error),
+    BadChoices,
+    Unreadable(&'a str),
+    Source(SourceFault),
+    BadInput,
+    OutOfMemory,
+}
+
+impl From<SourceFault> for Ending<'_> {
+    fn from(fault: SourceFault) -> Self {
+        Ending::Source(fault)
+    }
+}
+
+impl Ending<'_> {
+    ghost use Rattle.std.specs.Prelude.{◌≤◌};
+
+    fn status(&self) -> u8
+        ensures { (1 ≤ result) × (result ≤ 3) }
+    {
+        match self {
+            Ending::Usage(error) => match error.kind() {
+                ErrorKind::OutOfMemory => FAILED,
+                _ => MISUSED,
+            },
+            Ending::BadChoices | Ending::Unreadable(_) | Ending::BadInput => MISUSED,
+            Ending::Source(fault) => status_of(*fault),
+            Ending::OutOfMemory => FAILED,
+        }
+    }
+
+    fn write<E: Write>(&self, err: &mut E) -> io::Result<()> {
+        match self {
+            Ending::Usage(error) => match error.kind() {
+                ErrorKind::OutOfMemory => writeln!(err, "F1"),
+                _ => write!(err, "{error}"),
+            },
+            Ending::BadChoices => writeln!(err, "bad choices"),
+            Ending::Unreadable(name) => writeln!(err, "cannot read {name}"),
+            Ending::Source(fault) => writeln!(err, "{fault}"),
+            Ending::BadInput => writeln!(err, "bad input"),
+            Ending::OutOfMemory => writeln!(err, "F1"),
+        }
+    }
+}
+
+fn status_of(fault: SourceFault) -> u8
+    ensures { (1 ≤ result) × (result ≤ 3) }
+{
+    match fault {
+        SourceFault::Read(ReadFault::OutOfMemory)
+        | SourceFault::Outline(OutlineFault::OutOfMemory)
+        | SourceFault::Check(CheckFault::OutOfMemory)
+        | SourceFault::Run(_) => FAILED,
+        SourceFault::Read(_) | SourceFault::Outline(_) | SourceFault::Check(_) => REFUSED,
+    }
+}
+
+fn no_source(error: SourceError, name: &str) -> Ending<'_> {
+    match error {
+        SourceError::Unreadable => Ending::Unreadable(name),
+        SourceError::OutOfMemory => Ending::OutOfMemory,
+    }
+}
+
+/// Reads the input of a program to its end.
+fn read_input<'a, R: Read>(alloc: Global, input: &mut R) -> Result<Vec<u64>, Ending<'a>> {
+    let mut bytes = Vec::new(alloc);
+    match input.read_to_end(&mut bytes) {
+        Ok(_) => {}
+        Err(error) => {
+            return Err(match error.kind() {
+                io::ErrorKind::OutOfMemory => Ending::OutOfMemory,
+                _ => Ending::BadInput,
+            });
+        }
+    }
+    match input_numbers(alloc, &bytes) {
+        Ok(numbers) => Ok(numbers),
+        Err(NumbersFault::Malformed) => Err(Ending::BadInput),
+        Err(NumbersFault::OutOfMemory) => Err(Ending::OutOfMemory),
+    }
+}
+
+/// The answer of the program that the words name. Faults are looked for in this order: the words, the choices, the
+/// source's bytes, the program, the input, the run.
+fn answer<'a, S: Sources, R: Read>(
+    alloc: Global,
+    words: &'a [&'a str],
+    sources: &mut S,
+    input: &mut R,
+) -> Result<Answer, Ending<'a>> {
+    let step = match parse(alloc, words) {
+        Ok(step) => step,
+        Err(error) => return Err(Ending::Usage(error)),
+    };
+    let choices = match choice_list(alloc, step.choices) {
+        Ok(choices) => choices,
+        Err(NumbersFault::Malformed) => return Err(Ending::BadChoices),
+        Err(NumbersFault::OutOfMemory) => return Err(Ending::OutOfMemory),
+    };
+    let bytes = match sources.source(step.file) {
+        Ok(bytes) => bytes,
+        Err(error) => return Err(no_source(error, step.file)),
+    };
+    let program = load(alloc, &bytes)?;
+    let numbers = read_input(alloc, input)?;
+    match run_small(alloc, &program, &numbers, &choices, step.capacity) {
+        Ok(answer) => Ok(answer),
+        Err(fault) => Err(Ending::Source(SourceFault::Run(fault))),
+    }
+}
+
+fn write_answer<W: Write>(answer: &Answer, out: &mut W) -> io::Result<()> {
+    out.write_all(&answer.out)?;
+    log_text(&answer.history, out)?;
+    out.flush()
+}
+
+/// Does the command of the words, which are without the program's name, and answers its status: 0 where it was done, 1
+/// where the program is refused, 2 where the command cannot be done as it was given, 3 where the run stopped before its
+/// end, where memory ran out, or where standard output cannot be written.
+///
+/// What a command prints goes to `out` at its end, and only where it succeeds; the text of a fault goes to `err`.
+pub fn drive<S: Sources, R: Read, W: Write, E: Write>(
+    alloc: Global,
+    words: &[&str],
+    sources: &mut S,
+    input: &mut R,
+    out: &mut W,
+    err: &mut E,
+) -> u8
+    ensures status { result ≤ 3 }
+    ensures quiet { (result ≡ 1) ⊎ (result ≡ 2) → W.contents out.new ≡ W.contents out.old }
+{
+    match answer(alloc, words, sources, input) {
+        Ok(answer) => match write_answer(&answer, out) {
+            Ok(()) => DONE,
+            Err(_) => FAILED,
+        },
+        Err(ending) => {
+            // A status is answered even where its text cannot be written.
+            let _ = ending.write(err);
+            ending.status()
+        }
+    }
+}
