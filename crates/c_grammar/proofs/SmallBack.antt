@@ -1,5 +1,5 @@
 -- What goes on from where the machine for small programs has come goes on from where it was.
-use Rattle.std.proofs.Common.{◌≡◌, ℕ, Bool, true, cond, List, [], ◌∷◌, ◌++◌, Option, Some, None, refl, sym, ap, subst, ◌∙◌, append_assoc, inl, inr}
+use Rattle.std.proofs.Common.{◌≡◌, ℕ, Bool, true, cond, List, [], ◌∷◌, ◌++◌, Option, Some, None, refl, sym, ap, ◌∙◌, append_assoc, inl, inr}
 use Rattle.std.specs.Prelude.{◌||◌}
 use Rattle.c_tokens.specs.declared.kind.Sign.TheVariants as sign
 use Rattle.base.specs.declared.fault.ReadCode.{ReadCode as Code}
@@ -7,26 +7,19 @@ use Rattle.c_grammar.specs.Lexeme.{Uint64, Print}
 use Rattle.c_grammar.specs.Terminal.{Terminal, Fixed, Mark, Name, Num, Line, Unknown, End, same}
 use Rattle.c_grammar.specs.Grammar.{Act, Plain, DeclaresLoop, Limit, Step, Prints, Assigned, Operand, OpensBracket, Inner, Slots, for, mark, word, inner, opening, closing, Operator, Add, Subtract, Multiply, operator_sign, Term, Literal, Named, Element, Group, Prefixed, Both, By, term, Value, Stmt, Store, Show, stmt, stmts, Head, head_rest, head_slots, Stmts, body_opening, body_closing, end_mark}
 use Rattle.c_grammar.specs.SmallRules.{IsSubscript, IsArithmetic, IsExpression, IsSimple, AreSimple, IsPart}
-use Rattle.c_grammar.specs.SmallMachine.{Symbol, Want, WantName, WantNum, Turn, Subscript, Atom, Tail, Behind, Stack, Move, m, expr, close, subscript_step, operand_step, is_operator, name_step, num_step, head_of, turn_step, loop, store_rest, print_rest, store_step, simple_step, advance}
+use Rattle.c_grammar.specs.SmallMachine.{Symbol, Want, WantName, WantNum, Turn, Subscript, Atom, Tail, Behind, Stack, m, expr, close, subscript_step, operand_step, is_operator, name_step, num_step, head_of, turn_step, loop, store_rest, print_rest, store_step, simple_step, advance}
 use Rattle.c_grammar.proofs.Ways.{some_of}
 use Rattle.c_grammar.proofs.Lexemes.{chosen, some_is, or_true}
-use Rattle.c_grammar.proofs.Terminals.{same-true}
-use Rattle.c_grammar.proofs.SmallFits.{operands, IsIndex, index, Fits, has_term}
+use Rattle.c_grammar.proofs.Terminals.{same-true, tested}
+use Rattle.c_grammar.proofs.Operands.{WithTerm, operations}
+use Rattle.c_grammar.proofs.Parts.{index}
+use Rattle.c_grammar.proofs.SmallFits.{IsIndex, Fits, has_term}
 
 abbrev pub Taken : Type 0
 Taken = (Option Code × Act) × List Symbol
 
 abbrev pub Back : Symbol → Stack → Terminal → Taken → Type 0
 Back x s t q = (ws : Slots) → Fits q.1 ws → Fits (x ∷ s) ((t, q.0) ∷ ws)
-
--- where a test for a token leads to a move with what follows from it, and else another move
-pub tested : (u t : Terminal) (to q : Taken) (other : Move) (B : Terminal → Taken → Type 0) → B u to
-    → (other ≡ some_of q → B t q) → cond (same u t) (some_of to) other ≡ some_of q → B t q
-tested u t to q other B b ih e =
-    elim (chosen (same u t) (some_of to) other (some_of q) e) [
-      | inl h ↦ some_is to q (λ p. B t p) h.1 (subst (λ (v : Terminal). B v to) (same-true u t h.0) b)
-      | inr h ↦ ih h.1
-    ]
 
 pub none : (x : Symbol) (s : Stack) (t : Terminal) (q : Taken) → None ≡ some_of q → Back x s t q
 none x s t q e = absurd cc
@@ -159,9 +152,9 @@ back_tail s t q ih e =
     more : Spells t → Back Tail s t (for Inner, expr s)
     more o ws f =
         let rest = f.4 in
-        let whole : ws ≡ (term f.0 ++ operands rest.0) ++ rest.2 =
-        f.3 ∙ ap (λ (v : Slots). term f.0 ++ v) rest.3 ∙ sym (append_assoc (term f.0) (operands rest.0) rest.2) in (
-          (o.0, f.0) ∷ rest.0,
+        let whole : ws ≡ (term f.0 ++ operations rest.0) ++ rest.2 =
+        f.3 ∙ ap (λ (v : Slots). term f.0 ++ v) rest.3 ∙ sym (append_assoc (term f.0) (operations rest.0) rest.2) in (
+          WithTerm o.0 f.0 ∷ rest.0,
           (o.1, f.1, rest.1),
           rest.2,
           ap (λ (u : Terminal). (u, for Inner) ∷ ws) (sym o.2)

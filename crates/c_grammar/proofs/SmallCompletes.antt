@@ -6,14 +6,16 @@ use Rattle.base.specs.declared.fault.ReadCode.TheVariants.{NoBody}
 use Rattle.c_grammar.specs.Lexeme.{Lexeme, Uint64, Int, Main, Void, For}
 use Rattle.c_grammar.specs.Terminal.{Terminal, Fixed, Mark, Name, Num, Line, Unknown, End, same}
 use Rattle.c_grammar.specs.Lines.{is_omp}
-use Rattle.c_grammar.specs.Grammar.{Plain, DeclaresGlobal, MakesArray, Length, Starts, Opens, Closes, Alone, Over, Slots, for, mark, word, Stmt, Repeat, Directive, OverBlock, OverLoop, stmt, Head, head_slots, Stmts, Done, Then, stmts, body_opening, body_closing, end_mark, Array, Text, main_part, slots}
+use Rattle.c_grammar.specs.Grammar.{Plain, DeclaresGlobal, MakesArray, Length, Starts, Opens, Closes, Alone, Over, Slots, for, mark, word, Stmt, Repeat, Directive, stmt, Head, head_slots, Stmts, Done, Then, stmts, body_opening, body_closing, end_mark, Array, Text, main_part, slots}
 use Rattle.c_grammar.specs.SmallRules.{AreSimple, AreParts, IsSmallText}
 use Rattle.c_grammar.specs.SmallMachine.{Want, WantName, WantNum, Begin, Parts, Steps, Under, Turn, Subscript, Atom, Tail, Behind, Stack, loop, simple_step, steps_step, parts_step, under_step, main_rest, array_rest, begin_step, advance, start}
 use Rattle.c_grammar.proofs.Ways.{some_of}
 use Rattle.c_grammar.proofs.Lexemes.{chosen, some_is}
+use Rattle.c_grammar.proofs.Terminals.{tested}
+use Rattle.c_grammar.proofs.Parts.{held, over, over_slots}
 use Rattle.c_grammar.proofs.SmallGoes.{Goes}
-use Rattle.c_grammar.proofs.SmallFits.{held, Fits, default}
-use Rattle.c_grammar.proofs.SmallBack.{Taken, Back, tested, none, back_want, back_name, back_num, back_subscript, back_atom, back_tail, back_behind, back_simple, back_turn, loop_fits}
+use Rattle.c_grammar.proofs.SmallFits.{Fits, default}
+use Rattle.c_grammar.proofs.SmallBack.{Taken, Back, none, back_want, back_name, back_num, back_subscript, back_atom, back_tail, back_behind, back_simple, back_turn, loop_fits}
 
 -- ---- the statements of a body
 
@@ -127,16 +129,6 @@ repeat_fits s ws f =
           ∙ sym (append_assoc (stmt st) (stmts rest.0) (body_closing ∷ rest.2)),
       rest.4,
     )
-
--- the statement that a line and what follows it are
-over : List Lexeme → Option Head → Stmts → Stmt
-over l None b = OverBlock l b
-over l (Some h) b = OverLoop l h b
-
-over_slots : (l : List Lexeme) (o : Option Head) (b : Stmts) → stmt (over l o b) ≡ (Line l, for Over) ∷ held o b
-unfolding over
-over_slots l None b = refl
-over_slots l (Some h) b = refl
 
 over_part : (l : List Lexeme) (o : Option Head) (b : Stmts) (ss : Stmts) → is_omp l ≡ true → AreSimple true b
     → AreParts ss → AreParts (Then (over l o b) ss)

@@ -1,35 +1,20 @@
 -- Where the machine for small programs has come, a text goes on: what a stack stands for.
-use Rattle.std.proofs.Common.{◌≡◌, ℕ, ◌≤◌, Bool, true, false, cond, List, [], ◌∷◌, ◌++◌, Option, Some, None, refl, sym, ap, ◌∙◌, append_assoc, arith}
+use Rattle.std.proofs.Common.{◌≡◌, ℕ, Bool, true, false, cond, List, [], ◌∷◌, ◌++◌, Option, Some, None, refl}
 use Rattle.std.specs.Prelude.{nat_le}
-use Rattle.std.proofs.lemmas.List.{append-nil}
-use Rattle.c_tokens.specs.declared.kind.Sign.TheVariants as sign
-use Rattle.base.specs.declared.fault.ReadCode.TheVariants.{NoBody}
-use Rattle.c_grammar.specs.Terminal.{Mark, Name, Num, Fixed}
-use Rattle.c_grammar.specs.Lexeme.{For}
-use Rattle.c_grammar.specs.Grammar.{Plain, DeclaresLoop, Opens, for, Slots, inner, opening, closing, Operator, Term, Literal, Named, Element, Group, Prefixed, Both, By, operator_sign, term, level, level_of, Head, head_rest, head_slots, Stmts, Done, stmts, body_opening, body_closing, Text, slots}
+use Rattle.c_grammar.specs.Terminal.{Name, Num}
+use Rattle.c_grammar.specs.Grammar.{DeclaresLoop, for, Slots, Term, Literal, Named, Element, Group, Prefixed, Both, By, term, level, level_of, Head, head_rest, Stmts, Done, stmts, body_opening, body_closing, Text, slots}
 use Rattle.c_grammar.specs.SmallRules.{IsSubscript, IsArithmetic, IsSmallTerm, IsExpression, AreSimple, AreParts, IsSmallText}
 use Rattle.c_grammar.specs.SmallMachine.{Want, WantName, WantNum, Begin, Parts, Steps, Under, Turn, Subscript, Atom, Tail, Behind, Stack}
-use Rattle.c_grammar.proofs.Goes.{after, level_high}
-use Rattle.c_grammar.proofs.Attach.{attach, term_attach, ranked_attach}
+use Rattle.c_grammar.proofs.Goes.{level_high}
+use Rattle.c_grammar.proofs.Attach.{attach}
+use Rattle.c_grammar.proofs.Operands.{WithTerm, WithNumber, Operations, operations, applied, AreOperations, attach_all, ranked_behind, term_behind}
+use Rattle.c_grammar.proofs.Parts.{index, held}
 
 -- ---- an operand behind an expression
 
 -- an expression with no operator outside its brackets
 abbrev pub IsAtom : Term → Type 0
 IsAtom e = (level_of e ≡ 10) × IsExpression e
-
-abbrev pub with_operand : Operator → Term → Term → Term
-with_operand op b a = Both op a b
-
--- behind a small expression any operator may stand
-after_small : (e : Term) → IsSmallTerm e → 9 ≤ after e
-after_small (Literal n) h = omega arith
-after_small (Named x) h = omega arith
-after_small (Element x i) h = omega arith
-after_small (Group e) h = omega arith
-after_small (Prefixed op e) h = absurd h
-after_small (Both op a b) h = after_small b h.2
-after_small (By op a n) h = absurd h
 
 small_chosen : (c : Bool) (e f : Term) → IsSmallTerm e → IsSmallTerm f → IsSmallTerm (cond c e f)
 small_chosen true e f p q = p
@@ -47,56 +32,30 @@ small_attach (Both p x y) n f g h =
     (h.0, h.1, small_attach y n f g h.2)
 small_attach (By p x v) n f g h = g (By p x v) h
 
-abbrev pub Operands : Type 0
-Operands = List (Operator × Term)
+-- each with a sum, a difference or a product
+abbrev pub AreSmall : Operations → Type 0
+AreSmall [] = Unit {0}
+AreSmall (WithTerm op b ∷ os) = IsArithmetic op × IsAtom b × AreSmall os
+AreSmall (WithNumber op n ∷ os) = ⊥
 
-abbrev pub operands : Operands → Slots
-operands [] = []
-operands (o ∷ os) = inner (operator_sign o.0) ∷ (term o.1 ++ operands os)
+small_operations : (os : Operations) → AreSmall os → AreOperations 9 os
+small_operations [] h = tt
+small_operations (WithTerm op b ∷ os) h = (level_high op, (h.1.0, h.1.1.0), small_operations os h.2)
+small_operations (WithNumber op n ∷ os) h = absurd h
 
-abbrev pub AreAtoms : Operands → Type 0
-AreAtoms [] = Unit {0}
-AreAtoms (o ∷ os) = IsArithmetic o.0 × IsAtom o.1 × AreAtoms os
-
-abbrev pub attach_all : Term → Operands → Term
-attach_all e [] = e
-attach_all e (o ∷ os) = attach_all (attach e (level o.0) (with_operand o.0 o.1)) os
-
-term_attach_all : (os : Operands) (e : Term) → term (attach_all e os) ≡ term e ++ operands os
-term_attach_all [] e = sym (append-nil (term e))
-term_attach_all (o ∷ os) e =
-    let one : Slots = inner (operator_sign o.0) ∷ term o.1 in
-    let e1 : Term = attach e (level o.0) (with_operand o.0 o.1) in
-    let step : term e1 ≡ term e ++ one = term_attach e (level o.0) (with_operand o.0 o.1) one (λ _. refl) in
-    term_attach_all os e1 ∙ ap (λ (ws : Slots). ws ++ operands os) step ∙ append_assoc (term e) one (operands os)
-
-expression_attach : (op : Operator) (b e : Term) → IsArithmetic op → IsAtom b → IsExpression e
-    → IsExpression (attach e (level op) (with_operand op b))
-expression_attach op b e k a r = (
-  ranked_attach e (level op) (with_operand op b) (λ _. refl) (λ x h s. (h, omega (arith, a.0, level_high op), s, a.1.0))
-      (level_high op) r.0 (omega (arith, level_high op, after_small e r.1)),
-  small_attach e (level op) (with_operand op b) (λ x s. (k, s, a.1.1)) r.1,
-)
-
-expression_attach_all : (os : Operands) (e : Term) → IsExpression e → AreAtoms os → IsExpression (attach_all e os)
-expression_attach_all [] e r a = r
-expression_attach_all (o ∷ os) e r a =
-    expression_attach_all os (attach e (level o.0) (with_operand o.0 o.1)) (expression_attach o.0 o.1 e a.0 a.1 r) a.2
+small_attach_all : (os : Operations) (e : Term) → IsSmallTerm e → AreSmall os → IsSmallTerm (attach_all e os)
+small_attach_all [] e h k = h
+small_attach_all (WithTerm op b ∷ os) e h k =
+    let more = applied (WithTerm op b) in
+    small_attach_all os (attach e (level op) more)
+    (small_attach e (level op) more (λ x s. (k.0, s, k.1.1.1)) h) k.2
+small_attach_all (WithNumber op n ∷ os) e h k = absurd k
 
 -- ---- what a stack stands for
-
-abbrev pub index : Option Term → Slots
-index None = []
-index (Some i) = opening sign.OpenBracket ∷ (term i ++ closing sign.CloseBracket ∷ [])
 
 abbrev pub IsIndex : Option Term → Type 0
 IsIndex None = Unit {0}
 IsIndex (Some i) = IsSubscript i
-
--- a block, or a loop with that head
-abbrev pub held : Option Head → Stmts → Slots
-held None b = (Mark sign.OpenBrace, (Some NoBody, Opens)) ∷ (stmts b ++ body_closing ∷ [])
-held (Some h) b = (Fixed For, (Some NoBody, Plain)) ∷ (head_slots h ++ (body_opening ∷ (stmts b ++ body_closing ∷ [])))
 
 abbrev pub Fits : Stack → Slots → Type 0
 Fits [] ws = ws ≡ []
@@ -114,7 +73,7 @@ Fits (Turn inside ∷ s) ws =
     × Fits s v
 Fits (Subscript ∷ s) ws = (i : Term) × IsSubscript i × (v : Slots) × (ws ≡ term i ++ v) × Fits s v
 Fits (Atom ∷ s) ws = (e : Term) × IsAtom e × (v : Slots) × (ws ≡ term e ++ v) × Fits s v
-Fits (Tail ∷ s) ws = (os : Operands) × AreAtoms os × (v : Slots) × (ws ≡ operands os ++ v) × Fits s v
+Fits (Tail ∷ s) ws = (os : Operations) × AreSmall os × (v : Slots) × (ws ≡ operations os ++ v) × Fits s v
 Fits (Behind ∷ s) ws = (o : Option Term) × IsIndex o × (v : Slots) × (ws ≡ index o ++ v) × Fits s v
 
 -- an expression and what follows it
@@ -123,14 +82,14 @@ HasTerm s ws = (e : Term) × IsExpression e × (v : Slots) × (ws ≡ term e ++ 
 
 pub has_term : (s : Stack) (ws : Slots) → Fits (Atom ∷ Tail ∷ s) ws → HasTerm s ws
 has_term s ws f =
-    let rest = f.4 in
-    let whole : ws ≡ (term f.0 ++ operands rest.0) ++ rest.2 =
-    f.3 ∙ ap (λ (v : Slots). term f.0 ++ v) rest.3 ∙ sym (append_assoc (term f.0) (operands rest.0) rest.2) in (
+    let rest = f.4 in (
       attach_all f.0 rest.0,
-      expression_attach_all rest.0 f.0 f.1.1 rest.1,
+      (
+        ranked_behind f.0 rest.0 (f.1.0, f.1.1.0) (small_operations rest.0 rest.1),
+        small_attach_all rest.0 f.0 f.1.1.1 rest.1,
+      ),
       rest.2,
-      whole
-          ∙ ap (λ (v : Slots). v ++ rest.2) (sym (term_attach_all rest.0 f.0)),
+      term_behind f.0 rest.0 ws f.2 rest.2 f.3 rest.3,
       rest.4,
     )
 

@@ -1,15 +1,16 @@
 -- The tokens of a small program tell its text.
-use Rattle.std.proofs.Common.{◌≡◌, ℕ, Bool, true, false, List, [], ◌∷◌, ◌++◌, Option, refl, sym, ap, ◌∙◌}
+use Rattle.std.proofs.Common.{◌≡◌, ℕ, true, false, List, [], ◌∷◌, ◌++◌, refl, sym, ap, ◌∙◌}
 use Rattle.c_grammar.specs.Lexeme.{Lexeme}
 use Rattle.c_grammar.specs.Terminal.{End}
-use Rattle.c_grammar.specs.Grammar.{Plain, Slots, for, Term, Input, Value, Head, Stmt, Declare, Assign, Store, Repeat, Choose, ChooseElse, Show, Block, Directive, OverBlock, OverLoop, Stmts, head_slots, body_opening, body_closing, stmt, stmts, Global, Scalar, Array, globals, Text, main_part, slots}
+use Rattle.c_grammar.specs.Grammar.{Plain, Slots, for, Term, Input, Value, Head, Stmt, Declare, Assign, Store, Repeat, Choose, ChooseElse, Show, Block, Directive, OverBlock, OverLoop, Stmts, body_closing, stmt, stmts, Text, main_part, slots}
 use Rattle.c_grammar.specs.Texts.{kinds}
-use Rattle.c_grammar.specs.SmallRules.{IsSubscript, IsExpression, AreSimple, IsPart, AreParts, IsSmallGlobal, IsSmallText, small_grammar}
+use Rattle.c_grammar.specs.SmallRules.{IsSubscript, IsExpression, AreSimple, IsPart, AreParts, IsSmallText, small_grammar}
 use Rattle.c_grammar.specs.SmallMachine.{start, small_machine}
 use Rattle.c_grammar.specs.SmallClaims.{OneSmallText}
 use Rattle.c_grammar.proofs.Ways.{same_way}
 use Rattle.c_grammar.proofs.SmallGoes.{small_passes_text}
-use Rattle.c_grammar.proofs.SmallViews.{tokens_too, Tells, one_list, one_head, one_store, one_show, one_body}
+use Rattle.c_grammar.proofs.Views.{tokens_too, one_show, one_body, turns, one_turns, one_globals, text_is}
+use Rattle.c_grammar.proofs.SmallViews.{Tells, one_list, one_small_store, one_small_body}
 
 -- ---- the parts of main
 
@@ -51,42 +52,25 @@ seen (ChooseElse e a b) h = absurd h
 seen (Block b) h = absurd h
 seen (Directive l) h = absurd h
 
-abbrev turns : Head → Stmts → Slots
-turns h b = head_slots h ++ (body_opening ∷ (stmts b ++ body_closing ∷ []))
-
--- a loop behind its first word
-one_turns : (inside : Bool) (h k : Head) (b c : Stmts) → AreSimple inside b → AreSimple inside c → (xs ys : Slots)
-    → turns h b ++ xs ≡ turns k c ++ ys → (h ≡ k) × (b ≡ c) × (xs ≡ ys)
-one_turns inside h k b c p q xs ys e =
-    let heads =
-    one_head h k (body_opening ∷ ((stmts b ++ body_closing ∷ []) ++ xs))
-    (body_opening ∷ ((stmts c ++ body_closing ∷ []) ++ ys)) e in
-    let left : Slots = (stmts b ++ body_closing ∷ []) ++ xs in
-    let right : Slots = (stmts c ++ body_closing ∷ []) ++ ys in
-    let rest : body_opening ∷ left ≡ body_opening ∷ right = heads.1 in
-    let tail : left ≡ right = cc in
-    let bodies = one_body inside b c p q xs ys tail in
-    (heads.0, bodies.0, bodies.1)
-
 one_part : (v w : Part) → IsSmall v → IsSmall w → (xs ys : Slots) → stmt (as_stmt v) ++ xs ≡ stmt (as_stmt w) ++ ys
     → (as_stmt v ≡ as_stmt w) × (xs ≡ ys)
-one_part (PStore x i e) (PStore y j f) p q xs ys g = one_store x y i j e f p.0 q.0 p.1 q.1 xs ys g
-one_part (PShow e) (PShow f) p q xs ys g = one_show e f p q xs ys g
+one_part (PStore x i e) (PStore y j f) p q xs ys g = one_small_store x y i j e f p.0 q.0 p.1 q.1 xs ys g
+one_part (PShow e) (PShow f) p q xs ys g = one_show e f p.0 q.0 xs ys g
 one_part (PLoop h b) (PLoop k c) p q xs ys g =
     let tail : turns h b ++ xs ≡ turns k c ++ ys = cc in
-    let both = one_turns false h k b c p q xs ys tail in
+    let both = one_turns h k b c (one_small_body false b c p q) xs ys tail in
     (ap (λ (u : Head). Repeat u b) both.0 ∙ ap (λ (u : Stmts). Repeat k u) both.1, both.2)
 one_part (PBlock l b) (PBlock m c) p q xs ys g =
     let all = tokens_too _ _ g in
     let lines : l ≡ m = cc in
     let tail : (stmts b ++ body_closing ∷ []) ++ xs ≡ (stmts c ++ body_closing ∷ []) ++ ys = cc in
-    let both = one_body true b c p q xs ys tail in
+    let both = one_body b c (one_small_body true b c p q) xs ys tail in
     (ap (λ (u : List Lexeme). OverBlock u b) lines ∙ ap (λ (u : Stmts). OverBlock m u) both.0, both.1)
 one_part (PLoopOver l h b) (PLoopOver m k c) p q xs ys g =
     let all = tokens_too _ _ g in
     let lines : l ≡ m = cc in
     let tail : turns h b ++ xs ≡ turns k c ++ ys = cc in
-    let both = one_turns true h k b c p q xs ys tail in (
+    let both = one_turns h k b c (one_small_body true b c p q) xs ys tail in (
       ap (λ (u : List Lexeme). OverLoop u h b) lines ∙ ap (λ (u : Head). OverLoop m u b) both.0
           ∙ ap (λ (u : Stmts). OverLoop m k u) both.1,
       both.2,
@@ -144,32 +128,9 @@ one_main b c h k e =
     let tail : stmts b ++ (body_closing ∷ last) ≡ stmts c ++ (body_closing ∷ last) = cc in
     (one_list tells_parts b c h k last last tail).0
 
-one_globals : (gs hs : List Global) (b c : Stmts) → IsSmallGlobal gs → IsSmallGlobal hs
-    → globals gs ++ main_part b ≡ globals hs ++ main_part c → (gs ≡ hs) × (main_part b ≡ main_part c)
-one_globals [] [] b c p q e = (refl, e)
-one_globals (Array x n ∷ []) (Array y m ∷ []) b c p q e =
-    let all = tokens_too _ _ e in
-    let names : x ≡ y = cc in
-    let lengths : n ≡ m = cc in
-    (ap (λ (u : List ℕ). Array u n ∷ []) names ∙ ap (λ (u : Option ℕ). Array y u ∷ []) lengths, cc)
-one_globals [] (Array y m ∷ []) b c p q e = (let all = tokens_too _ _ e in absurd cc)
-one_globals (Array x n ∷ []) [] b c p q e = (let all = tokens_too _ _ e in absurd cc)
-one_globals (Scalar x ∷ gs) hs b c p q e = absurd p
-one_globals (Array x n ∷ g ∷ gs) hs b c p q e = absurd p
-one_globals [] (Scalar y ∷ hs) b c p q e = absurd q
-one_globals [] (Array y m ∷ h ∷ hs) b c p q e = absurd q
-one_globals (Array x n ∷ []) (Scalar y ∷ hs) b c p q e = absurd q
-one_globals (Array x n ∷ []) (Array y m ∷ h ∷ hs) b c p q e = absurd q
-
-abbrev text : List Global → Stmts → Text
-text gs b = record { globals = gs; body = b }
-
-text_is : (gs hs : List Global) (b c : Stmts) → gs ≡ hs → b ≡ c → text gs b ≡ text hs c
-text_is gs hs b c p q = ap (λ (u : List Global). text u b) p ∙ ap (λ (u : Stmts). text hs u) q
-
 same_slots : (t u : Text) → IsSmallText t → IsSmallText u → slots t ≡ slots u → t ≡ u
 same_slots t u h k e =
-    let first = one_globals t.globals u.globals t.body u.body h.0 k.0 e in
+    let first = one_globals t.globals u.globals t.body u.body e in
     text_is t.globals u.globals t.body u.body first.0 (one_main t.body u.body h.1 k.1 first.1)
 
 pub same_text : (t u : Text) → IsSmallText t → IsSmallText u

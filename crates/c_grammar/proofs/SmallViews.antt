@@ -1,11 +1,9 @@
 -- A statement of a small program is known from its tokens.
-use Rattle.std.proofs.Common.{◌≡◌, ℕ, Bool, List, [], ◌∷◌, ◌++◌, Option, refl, sym, ap, ◌∙◌, append_assoc}
-use Rattle.c_tokens.specs.declared.kind.Sign.TheVariants as sign
+use Rattle.std.proofs.Common.{◌≡◌, ℕ, Bool, List, ◌∷◌, ◌++◌, refl, sym, ap, ◌∙◌, append_assoc}
 use Rattle.c_grammar.specs.Lexeme.{Lexeme}
-use Rattle.c_grammar.specs.Grammar.{Slots, mark, Term, Literal, Named, Element, Group, Prefixed, Both, By, term, Input, Value, Head, Stmt, Declare, Assign, Store, Repeat, Choose, ChooseElse, Show, Block, Directive, OverBlock, OverLoop, Stmts, Done, Then, head_slots, body_closing, end_mark, stmt, stmts}
-use Rattle.c_grammar.specs.Texts.{kinds}
-use Rattle.c_grammar.specs.SmallRules.{small_grammar, IsSubscript, IsExpression, IsSimple, AreSimple}
-use Rattle.c_grammar.proofs.TermReader.{one_term}
+use Rattle.c_grammar.specs.Grammar.{Slots, Term, Literal, Named, Element, Group, Prefixed, Both, By, IsRanked, Input, Value, Stmt, Declare, Assign, Store, Repeat, Choose, ChooseElse, Show, Block, Directive, OverBlock, OverLoop, Stmts, Done, Then, body_closing, stmt, stmts}
+use Rattle.c_grammar.specs.SmallRules.{IsSubscript, IsExpression, IsSimple, AreSimple}
+use Rattle.c_grammar.proofs.Views.{tokens_too, OneBody, one_store, one_show}
 
 -- ---- lists of statements
 
@@ -33,81 +31,21 @@ one_list t (Then a ss) (Then b us) h k xs ys e =
     let more = one_list t ss us (t.rest a ss h) (t.rest b us k) xs ys here.1 in
     (ap (λ (s : Stmt). Then s ss) here.0 ∙ ap (λ (v : Stmts). Then b v) more.0, more.1)
 
--- ---- the parts of a statement
+-- a subscript has no operator
+subscript_ranked : (i : Term) → IsSubscript i → IsRanked i
+subscript_ranked (Literal n) h = tt
+subscript_ranked (Named x) h = tt
+subscript_ranked (Element x j) h = absurd h
+subscript_ranked (Group a) h = absurd h
+subscript_ranked (Prefixed op a) h = absurd h
+subscript_ranked (Both op a b) h = absurd h
+subscript_ranked (By op a n) h = absurd h
 
-pub tokens_too : (xs ys : Slots) → xs ≡ ys → kinds small_grammar xs ≡ kinds small_grammar ys
-tokens_too xs ys e = ap (λ (u : Slots). kinds small_grammar u) e
-
-pub one_subscript : (i j : Term) → IsSubscript i → IsSubscript j → (xs ys : Slots) → term i ++ xs ≡ term j ++ ys
-    → (i ≡ j) × (xs ≡ ys)
-one_subscript (Literal n) (Literal v) h k xs ys e =
-    (let all = tokens_too _ _ e in let same : n ≡ v = cc in ap (λ (u : Option ℕ). Literal u) same, cc)
-one_subscript (Named x) (Named y) h k xs ys e =
-    (let all = tokens_too _ _ e in let same : x ≡ y = cc in ap (λ (u : List ℕ). Named u) same, cc)
-one_subscript (Literal n) (Named y) h k xs ys e = (let all = tokens_too _ _ e in absurd cc)
-one_subscript (Named x) (Literal v) h k xs ys e = (let all = tokens_too _ _ e in absurd cc)
-one_subscript i (Element x j) h k xs ys e = absurd k
-one_subscript i (Group a) h k xs ys e = absurd k
-one_subscript i (Prefixed op a) h k xs ys e = absurd k
-one_subscript i (Both op a b) h k xs ys e = absurd k
-one_subscript i (By op a n) h k xs ys e = absurd k
-one_subscript (Element x j) (Literal v) h k xs ys e = absurd h
-one_subscript (Group a) (Literal v) h k xs ys e = absurd h
-one_subscript (Prefixed op a) (Literal v) h k xs ys e = absurd h
-one_subscript (Both op a b) (Literal v) h k xs ys e = absurd h
-one_subscript (By op a n) (Literal v) h k xs ys e = absurd h
-one_subscript (Element x j) (Named y) h k xs ys e = absurd h
-one_subscript (Group a) (Named y) h k xs ys e = absurd h
-one_subscript (Prefixed op a) (Named y) h k xs ys e = absurd h
-one_subscript (Both op a b) (Named y) h k xs ys e = absurd h
-one_subscript (By op a n) (Named y) h k xs ys e = absurd h
-
-abbrev head : List ℕ → Option ℕ → Option ℕ → Option ℕ → Head
-head x a b c = record { name = x; first = a; limit = b; step = c }
-
-head_is : (x y : List ℕ) (a b c d e f : Option ℕ) → x ≡ y → a ≡ b → c ≡ d → e ≡ f → head x a c e ≡ head y b d f
-head_is x y a b c d e f p q r s = cc
-
-pub one_head : (h k : Head) (xs ys : Slots) → head_slots h ++ xs ≡ head_slots k ++ ys → (h ≡ k) × (xs ≡ ys)
-one_head h k xs ys e =
-    let all = tokens_too _ _ e in
-    let names : h.name ≡ k.name = cc in
-    let firsts : h.first ≡ k.first = cc in
-    let limits : h.limit ≡ k.limit = cc in
-    let steps : h.step ≡ k.step = cc in
-    (head_is h.name k.name h.first k.first h.limit k.limit h.step k.step names firsts limits steps, cc)
-
-pub one_store : (x y : List ℕ) (i j a b : Term) → IsSubscript i → IsSubscript j → IsExpression a → IsExpression b
+pub one_small_store : (x y : List ℕ) (i j a b : Term) → IsSubscript i → IsSubscript j → IsExpression a → IsExpression b
     → (xs ys : Slots) → stmt (Store x i (Value a)) ++ xs ≡ stmt (Store y j (Value b)) ++ ys
     → (Store x i (Value a) ≡ Store y j (Value b)) × (xs ≡ ys)
-one_store x y i j a b hi hj ha hb xs ys e =
-    let last : Slots = end_mark ∷ [] in
-    let rest : Term → Slots = λ v. mark sign.CloseBracket ∷ mark sign.Equal ∷ (term v ++ last) in
-    let all = tokens_too _ _ e in
-    let names : x ≡ y = cc in
-    let tail : (term i ++ rest a) ++ xs ≡ (term j ++ rest b) ++ ys = cc in
-    let first =
-    one_subscript i j hi hj (rest a ++ xs) (rest b ++ ys)
-    (sym (append_assoc (term i) (rest a) xs) ∙ tail ∙ append_assoc (term j) (rest b) ys) in
-    let both : rest a ++ xs ≡ rest b ++ ys = first.1 in
-    let value : (term a ++ last) ++ xs ≡ (term b ++ last) ++ ys = cc in
-    let second =
-    one_term a b ha.0 hb.0 end_mark xs ys (refl, refl, refl)
-    (sym (append_assoc (term a) last xs) ∙ value ∙ append_assoc (term b) last ys) in
-    let ij : i ≡ j = first.0 in
-    let ab : a ≡ b = second.0 in
-    (cc, second.1)
-
-pub one_show : (a b : Term) → IsExpression a → IsExpression b → (xs ys : Slots)
-    → stmt (Show a) ++ xs ≡ stmt (Show b) ++ ys → (Show a ≡ Show b) × (xs ≡ ys)
-one_show a b ha hb xs ys e =
-    let rest : Slots = mark sign.CloseParen ∷ end_mark ∷ [] in
-    let tail : (term a ++ rest) ++ xs ≡ (term b ++ rest) ++ ys = cc in
-    let both =
-    one_term a b ha.0 hb.0 (mark sign.CloseParen) (end_mark ∷ xs) (end_mark ∷ ys) (refl, refl, refl)
-    (sym (append_assoc (term a) rest xs) ∙ tail ∙ append_assoc (term b) rest ys) in
-    let ends : end_mark ∷ xs ≡ end_mark ∷ ys = both.1 in
-    (ap (λ (v : Term). Show v) both.0, cc)
+one_small_store x y i j a b hi hj ha hb xs ys e =
+    one_store x y i j (Value a) (Value b) (subscript_ranked i hi) (subscript_ranked j hj) ha.0 hb.0 xs ys e
 
 -- ---- stores, prints and lines
 
@@ -145,8 +83,8 @@ seen inside (OverLoop l a b) h = absurd h
 
 one_leaf : (v w : Leaf) → IsSmall v → IsSmall w → (xs ys : Slots) → stmt (as_stmt v) ++ xs ≡ stmt (as_stmt w) ++ ys
     → (as_stmt v ≡ as_stmt w) × (xs ≡ ys)
-one_leaf (AStore x i e) (AStore y j f) p q xs ys g = one_store x y i j e f p.0 q.0 p.1 q.1 xs ys g
-one_leaf (AShow e) (AShow f) p q xs ys g = one_show e f p q xs ys g
+one_leaf (AStore x i e) (AStore y j f) p q xs ys g = one_small_store x y i j e f p.0 q.0 p.1 q.1 xs ys g
+one_leaf (AShow e) (AShow f) p q xs ys g = one_show e f p.0 q.0 xs ys g
 one_leaf (ALine l) (ALine k) p q xs ys e =
     (let all = tokens_too _ _ e in let same : l ≡ k = cc in ap (λ (u : List Lexeme). Directive u) same, cc)
 one_leaf (AStore x i e) (AShow f) p q xs ys g = (let all = tokens_too _ _ g in absurd cc)
@@ -179,10 +117,5 @@ tells_steps : (inside : Bool) → Tells (IsSimple inside) (AreSimple inside)
 tells_steps inside =
     record { first = λ s ss h. h.0; rest = λ s ss h. h.1; one = one_simple inside; begins = simple_begins inside }
 
--- the same for a body and its end
-pub one_body : (inside : Bool) (b c : Stmts) → AreSimple inside b → AreSimple inside c → (xs ys : Slots)
-    → (stmts b ++ body_closing ∷ []) ++ xs ≡ (stmts c ++ body_closing ∷ []) ++ ys → (b ≡ c) × (xs ≡ ys)
-one_body inside b c h k xs ys e =
-    let last : Slots = body_closing ∷ [] in
-    one_list (tells_steps inside) b c h k xs ys
-    (sym (append_assoc (stmts b) last xs) ∙ e ∙ append_assoc (stmts c) last ys)
+pub one_small_body : (inside : Bool) (b c : Stmts) → AreSimple inside b → AreSimple inside c → OneBody b c
+one_small_body inside b c h k = one_list (tells_steps inside) b c h k

@@ -1,8 +1,9 @@
 -- What the tests on the tokens of a source say.
-use Rattle.std.proofs.Common.{◌≡◌, ℕ, List, true, refl, ap}
+use Rattle.std.proofs.Common.{◌≡◌, ℕ, cond, List, true, Option, refl, ap, subst, inl, inr}
 use Rattle.std.proofs.lemmas.Slice.Eq.{bytes_eq-Decides}
 use Rattle.c_grammar.specs.Terminal.{Terminal, Fixed, Mark, Name, Num, Line, Unknown, End, same}
-use Rattle.c_grammar.proofs.Lexemes.{same_sign, same_word}
+use Rattle.c_grammar.proofs.Lexemes.{same_sign, same_word, chosen, some_is}
+use Rattle.c_grammar.proofs.Ways.{some_of}
 
 -- the test finds the same token
 pub same-true : (u t : Terminal) → same u t ≡ true → u ≡ t
@@ -40,3 +41,12 @@ same-true End Unknown e = absurd cc
 
 pub same_name : (x : List ℕ) → same (Name x) (Name x) ≡ true
 same_name x = (bytes_eq-Decides x x).1 refl
+
+-- where a test for a token leads to a move with what follows from it, and else another move
+pub tested : {Q : Type 0} (u t : Terminal) (to q : Q) (other : Option Q) (B : Terminal → Q → Type 0) → B u to
+    → (other ≡ some_of q → B t q) → cond (same u t) (some_of to) other ≡ some_of q → B t q
+tested u t to q other B b ih e =
+    elim (chosen (same u t) (some_of to) other (some_of q) e) [
+      | inl h ↦ some_is to q (λ p. B t p) h.1 (subst (λ (v : Terminal). B v to) (same-true u t h.0) b)
+      | inr h ↦ ih h.1
+    ]
