@@ -1,34 +1,20 @@
 -- What the reader of a line has read and has left.
 use Rattle.std.specs.Prelude.{◌≡◌, ℕ, Bool, true, false, if◌then◌else◌, List, [], ◌∷◌, Option, Some, None, Result, Ok, Err, codes}
 use Rattle.c_tokens.specs.declared.kind.Sign.TheVariants as sign
-use Rattle.c_tokens.specs.declared.kind.Mood.{Mood}
-use Rattle.c_tokens.specs.declared.kind.Piece.{Piece}
-use Rattle.c_tokens.specs.declared.kind.Piece.TheVariants as piece
 use Rattle.base.specs.declared.fault.ReadCode.{ReadCode as Code}
 use Rattle.base.specs.declared.fault.ReadCode.TheVariants.{UnknownByte, Unexpected, TooMany, UnknownDirective, UnknownClause, ClauseCount, BadMapType, BadBound}
-use Rattle.c_grammar.specs.Lexeme.{Lexeme, Signed, Worded, Numbered, Ended, Placed, same, piece_on_line, lexemes_from}
+use Rattle.c_grammar.specs.Lexeme.{Lexeme, Signed, Worded, Numbered, Ended, Placed, same}
 use Rattle.c_grammar.specs.LineRules.{is_long}
 use Rattle.c_grammar.specs.Source.{nth}
 use Rattle.c_grammar.specs.SmallLines.{SmallLine, Faulty, Maps, own_code, lower_code, words_before, clause_before, line_end, section_end, is_zero_number}
-use Rattle.c_read.specs.declared.lexeme.PlacedLexeme.{PlacedLexeme}
-use Rattle.c_read.specs.declared.lexemes.Lexemes.{Lexemes}
+use Rattle.directives.specs.declared.lexeme.PlacedLexeme.{PlacedLexeme}
+use Rattle.directives.specs.declared.lexemes.Lexemes.{Lexemes}
+use Rattle.directives.specs.Ahead.{ahead_on_line}
 use Rattle.c_read.specs.declared.line.LineCursor.{LineCursor}
 use Rattle.c_read.specs.declared.line.Misfit.{Misfit}
 use Rattle.c_read.specs.declared.line.Length.{Length}
 use Rattle.c_read.specs.declared.line.Mapped.{Mapped}
-use Rattle.c_read.specs.Seen.{seen_lexeme}
-
--- the piece at the front of the rest of a line
-abbrev pub piece_on : Mood → List ℕ → Piece
-piece_on mood [] = piece.Unknown
-piece_on mood (b ∷ bs) = piece_on_line mood b bs
-
-abbrev pub seen_placed : PlacedLexeme → Placed
-seen_placed p = record { lexeme = seen_lexeme p.lexeme; column = p.column }
-
--- the tokens of the rest of a line
-abbrev pub ahead_on_line : Lexemes → List Placed
-ahead_on_line l = if l.over then [] else lexemes_from l.rest.now 0 l.mood l.column
+use Rattle.directives.specs.Seen.{seen_placed}
 
 abbrev pub placed_from : Option PlacedLexeme → Lexemes → List Placed
 placed_from None l = []

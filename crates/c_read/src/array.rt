@@ -17,10 +17,10 @@ use crate::cursor::Cursor;
 use crate::fault::ReadError;
 use crate::scope::{Array, MAX_CELLS, MAX_NAME, Scope};
 use crate::terminal::Terminal;
-use crate::word::Word;
 use base::fault::ReadCode;
 use base::tree::ArrayInfo;
 use c_tokens::Sign;
+use directives::Word;
 use indexmap::IndexMap;
 
 /// The name of the array, where it is declared.

@@ -5,13 +5,13 @@ ghost use Rattle.c_read.specs.Seen.{is_near_token};
 ghost use Rattle.c_grammar.specs.Source.{end_of};
 
 use crate::fault::ReadError;
-use crate::line::{is_omp, lower, said};
+use crate::line::said;
 use crate::scope::MAX_NAME;
 use crate::terminal::{Terminal, terminal_of};
-use crate::word::Word;
 use base::fault::{ReadCode, TextFault};
 use base::tree::Place;
 use c_tokens::{Sign, Token, Tokens, tokens};
+use directives::{Word, is_directive_at, lower};
 
 #[derive(Clone, Copy)]
 pub struct Cursor<'a> {
@@ -36,7 +36,8 @@ impl<'a> Cursor<'a> {
     ghost use Rattle.c_grammar.specs.SmallMachine.{Stack, Want, WantNum, m, w};
     ghost use Rattle.c_grammar.specs.Source.{items_of};
     ghost use Rattle.c_read.specs.Means.{place_of};
-    ghost use Rattle.c_read.specs.Seen.{HasColumns, is_near, seen, seen_word};
+    ghost use Rattle.c_read.specs.Seen.{HasColumns, is_near, seen};
+    ghost use Rattle.directives.specs.Seen.{seen_word};
     ghost use Rattle.c_read.specs.Cursor.{items, first_item, behind};
     ghost use Rattle.c_read.specs.Scopes.{limited};
     ghost use Rattle.c_read.specs.Reading.{run, Outcome, OutcomeBy, IsNumberAct, fault_at, misfit_at, is_line, is_directive, stops, Failed};
@@ -96,7 +97,7 @@ impl<'a> Cursor<'a> {
                 self.fault(code)
             }
             Terminal::Line(line, column) => {
-                if is_omp(line, column) {
+                if is_directive_at(line, column) {
                     return self.fault(code);
                 }
                 match said(line, column) {
@@ -154,7 +155,7 @@ impl<'a> Cursor<'a> {
         ensures { result ≡ is_directive (first_item self.now).terminal }
     {
         match self.peek() {
-            Terminal::Line(line, column) => is_omp(line, column),
+            Terminal::Line(line, column) => is_directive_at(line, column),
             _ => false,
         }
     }

@@ -5,8 +5,6 @@ mod array;
 mod cursor;
 mod expr;
 mod fault;
-mod lexeme;
-mod lexemes;
 mod line;
 mod number;
 mod program;
@@ -15,7 +13,6 @@ mod stmt;
 mod target;
 mod terminal;
 mod turns;
-mod word;
 
 pub use program::read_small;
 

@@ -1,18 +1,15 @@
 //! What the directive line of a small program says.
 
 ghost use Rattle.std.specs.Prelude.{◌≡◌, ◌≤◌, ◌^◌};
-ghost use Rattle.c_grammar.specs.Code.{code_number};
 ghost use Rattle.c_grammar.specs.Lexeme.{lexemes_of};
-ghost use Rattle.c_grammar.specs.Lines.{is_omp};
-ghost use Rattle.c_grammar.specs.SmallLines.{own_code, lower_code, small_line};
-ghost use Rattle.c_read.specs.Seen.{kinds_on, seen_lexeme};
+ghost use Rattle.c_grammar.specs.SmallLines.{own_code};
+ghost use Rattle.directives.specs.Seen.{seen_lexeme};
 ghost use Rattle.c_read.specs.Lines.{said_on, seen_said};
 
-use crate::lexeme::{Lexeme, PlacedLexeme, same_lexeme};
-use crate::lexemes::Lexemes;
 use crate::scope::MAX_NAME;
 use base::fault::ReadCode;
 use c_tokens::Sign;
+use directives::{Lexeme, Lexemes, PlacedLexeme, lower, same_lexeme};
 
 /// A token that does not fit.
 #[derive(Clone, Copy, Debug)]
@@ -36,35 +33,6 @@ pub struct Mapped<'a> {
     pub length: Option<Length>,
 }
 
-/// The number of a code in their order.
-fn code_number(code: ReadCode) -> u8
-    ensures { result ≡ code_number code }
-{
-    match code {
-        ReadCode::UnknownByte => 0,
-        ReadCode::Unexpected => 1,
-        ReadCode::Undeclared => 2,
-        ReadCode::AlreadyDeclared => 3,
-        ReadCode::BadNumber => 4,
-        ReadCode::BadLength => 5,
-        ReadCode::LoopNameAssigned => 6,
-        ReadCode::BadOperand => 7,
-        ReadCode::TooDeep => 8,
-        ReadCode::TooMany => 9,
-        ReadCode::UnknownDirective => 10,
-        ReadCode::UnknownClause => 11,
-        ReadCode::ClauseCount => 12,
-        ReadCode::BadMapType => 13,
-        ReadCode::BadBound => 14,
-        ReadCode::ArrayTwice => 15,
-        ReadCode::DirectiveInTarget => 16,
-        ReadCode::OuterAssigned => 17,
-        ReadCode::HostOnly => 18,
-        ReadCode::NoBody => 19,
-        ReadCode::DirectiveUnderIf => 20,
-    }
-}
-
 /// The code that a token has wherever it stands.
 fn own_code(lexeme: Lexeme<'_>) -> Option<ReadCode>
     ensures { result ≡ own_code (seen_lexeme lexeme.entry) }
@@ -83,22 +51,6 @@ fn own_code(lexeme: Lexeme<'_>) -> Option<ReadCode>
     }
 }
 
-/// The lower of two codes.
-pub fn lower(own: Option<ReadCode>, code: ReadCode) -> ReadCode
-    ensures { result ≡ lower_code own code }
-{
-    match own {
-        None => code,
-        Some(own) => {
-            if code_number(own) <= code_number(code) {
-                own
-            } else {
-                code
-            }
-        }
-    }
-}
-
 /// The tokens of a line, of which the next can be seen.
 #[derive(Clone, Copy)]
 struct LineCursor<'a> {
@@ -110,7 +62,7 @@ impl<'a> LineCursor<'a> {
     ghost use Rattle.std.specs.Prelude.{◌≡◌, ◌≤◌, ◌^◌, ◌∷◌, ℕ, List, OnOk, IfErr, Some, None, true, false};
     ghost use Rattle.base.specs.declared.fault.ReadCode.{ReadCode};
     ghost use Rattle.c_grammar.specs.Lexeme.{Lexeme as Kind, Placed, lexemes_of};
-    ghost use Rattle.c_read.specs.Seen.{seen_lexeme};
+    ghost use Rattle.directives.specs.Seen.{seen_lexeme};
     ghost use Rattle.c_read.specs.Lines.{SaidAt, LineOutcome, LengthOutcome, LengthsOutcome, begins_with, begins_with_zero, behind_first, misfit_first, seen_misfit, placed_against, placed_clause, placed_name, placed_behind, placed_length, placed_in, seen_said};
 
     fn new(line: &'a [u8], column: usize) -> LineCursor<'a>
@@ -118,7 +70,7 @@ impl<'a> LineCursor<'a> {
         ensures { placed_in result ≡ lexemes_of line.now column }
     {
         let mut lexemes = Lexemes::new(line, column);
-        let token = lexemes.next();
+        let token = lexemes.next_token();
         LineCursor { lexemes, token }
     }
 
@@ -127,7 +79,7 @@ impl<'a> LineCursor<'a> {
         ensures { behind_first (placed_in self.old) ≡ placed_in self.new }
     {
         if self.token.is_some() {
-            self.token = self.lexemes.next();
+            self.token = self.lexemes.next_token();
         }
     }
 
@@ -289,18 +241,4 @@ pub fn said<'a>(line: &'a [u8], column: usize) -> Result<Mapped<'a>, Misfit>
         ReadCode::UnknownDirective,
     )?;
     line.clause()
-}
-
-#[tactic(auto, using(crate::proofs::OnLine::omp_not, crate::proofs::OnLine::omp_is))]
-/// Whether the words of the line are `pragma omp`.
-pub fn is_omp(line: &[u8], column: usize) -> bool
-    requires { column ≤ 2 ^ 63 }
-    ensures { result ≡ is_omp (kinds_on (lexemes_of line.now column)) }
-{
-    let mut line = LineCursor::new(line, column);
-    if !line.at(Lexeme::Name(b"pragma".as_slice())) {
-        return false;
-    }
-    line.take();
-    line.at(Lexeme::Name(b"omp".as_slice()))
 }

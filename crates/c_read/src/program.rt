@@ -14,10 +14,10 @@ use crate::cursor::Cursor;
 use crate::fault::ReadError;
 use crate::scope::{MAX_SOURCE, Scope};
 use crate::terminal::Terminal;
-use crate::word::Word;
 use base::fault::{ReadCode, ReadFault, TextFault};
 use base::tree::{Part, Program, Region, Stmt};
 use c_tokens::Sign;
+use directives::Word;
 use indexmap::IndexMap;
 use std::alloc::Global;
 

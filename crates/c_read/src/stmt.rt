@@ -9,10 +9,10 @@ use crate::cursor::Cursor;
 use crate::fault::ReadError;
 use crate::scope::{MAX_NAME, MAX_STATEMENTS, Scope, Sort};
 use crate::terminal::Terminal;
-use crate::word::Word;
 use base::fault::{ReadCode, TextFault};
 use base::tree::{ArrayId, Expr, Source, Stmt};
 use c_tokens::Sign;
+use directives::Word;
 
 /// The fault of a name with which a statement begins, where an equals sign or a bracket follows, or a limit is met.
 fn assign_fault(sort: Option<Sort>, equal: bool, bracket: bool, over: bool) -> Option<ReadCode>

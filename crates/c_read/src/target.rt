@@ -4,12 +4,12 @@ use crate::cursor::Cursor;
 use crate::fault::ReadError;
 use crate::line::{Mapped, Misfit, said};
 use crate::scope::{Body, MAX_STATEMENTS, Scope};
-use crate::word::Word;
 use base::fault::{ReadCode, TextFault};
 use base::tree::{
     ArrayId, Bound, MapText, Part, Place, Region, RegionKind, SectionText, Target, Tasking, Term,
 };
 use c_tokens::Sign;
+use directives::Word;
 use smallvec::SmallVec;
 
 impl<'a> Scope<'a> {

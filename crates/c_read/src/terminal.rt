@@ -4,8 +4,8 @@ ghost use Rattle.std.specs.Prelude.{◌≡◌, Some, true};
 ghost use Rattle.c_grammar.specs.Source.{text_of, item_of};
 ghost use Rattle.c_read.specs.Seen.{HasColumns, is_near, is_near_token, seen};
 
-use crate::word::{Word, word_of};
 use c_tokens::{Kind, Sign, Token};
+use directives::{Word, word_of};
 
 #[derive(Clone, Copy, Debug)]
 pub enum Terminal<'a> {

@@ -4,10 +4,10 @@ use crate::cursor::Cursor;
 use crate::fault::ReadError;
 use crate::scope::{Body, MAX_NAME, MAX_SCALARS, MAX_STATEMENTS, Scope};
 use crate::terminal::Terminal;
-use crate::word::Word;
 use base::fault::ReadCode;
 use base::tree::{Bounds, Stmt};
 use c_tokens::Sign;
+use directives::Word;
 
 impl<'a> Scope<'a> {
     ghost use Rattle.std.specs.Prelude.{◌≡◌, ◌≤◌, ◌+◌, ◌^◌, ◌∷◌, [], ℕ, length, OnOk, IfOk, Some, None};

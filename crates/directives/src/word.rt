@@ -3,7 +3,7 @@
 ghost use Rattle.std.specs.Prelude.{◌≡◌};
 ghost use Rattle.std.specs.Option.{option_map};
 ghost use Rattle.c_grammar.specs.Lexeme.{word_of, word_number};
-ghost use Rattle.c_read.specs.Seen.{seen_word};
+ghost use Rattle.directives.specs.Seen.{seen_word};
 
 /// The reserved words.
 #[derive(Clone, Copy, Debug)]
@@ -22,7 +22,7 @@ pub enum Word {
 impl Word {
     ghost use Rattle.std.specs.Prelude.{◌≡◌};
     ghost use Rattle.c_grammar.specs.Lexeme.{word_number};
-    ghost use Rattle.c_read.specs.Seen.{seen_word};
+    ghost use Rattle.directives.specs.Seen.{seen_word};
 
     /// Its number in the order of the reserved words.
     pub fn number(self) -> u8

@@ -17,14 +17,16 @@ pub struct Lexemes<'a> {
 }
 
 impl<'a> Lexemes<'a> {
-    ghost use Rattle.std.specs.Prelude.{◌≡◌, ◌+◌, ◌≤◌, ◌<◌, ◌^◌, ◌∷◌, [], length, drop, MatchOption};
+    ghost use Rattle.std.specs.Prelude.{◌≡◌, ◌+◌, ◌≤◌, ◌<◌, ◌^◌, ◌∷◌, [], length, drop, MatchOption, true, false};
     ghost use Rattle.c_grammar.specs.Lexeme.{lexemes_of};
-    ghost use Rattle.c_read.specs.Lines.{ahead_on_line, seen_placed};
+    ghost use Rattle.directives.specs.Seen.{seen_lexeme, seen_placed, ends_well};
+    ghost use Rattle.directives.specs.Ahead.{ahead_on_line};
 
     /// The line behind its `#`, which stands at the column.
     pub fn new(line: &'a [u8], column: usize) -> Lexemes<'a>
         requires { column ≤ 2 ^ 63 }
-        ensures { ahead_on_line result ≡ lexemes_of line.now column }
+        ensures ahead { ahead_on_line result ≡ lexemes_of line.now column }
+        ensures going { result.over ≡ false }
     {
         let rest = match line {
             [] => line,
@@ -51,14 +53,13 @@ impl<'a> Lexemes<'a> {
         self.mood = mood;
     }
 
-    /// The next token, if there is one.
-    #[tactic(auto, using(crate::proofs::OnLine::at_layout, crate::proofs::OnLine::at_token, crate::proofs::OnLine::at_unknown, crate::proofs::OnLine::at_end))]
-    pub fn next(&mut self) -> Option<PlacedLexeme<'a>>
-        ensures { MatchOption result (ahead_on_line self.old ≡ []) (λ p. ahead_on_line self.old ≡ seen_placed p ∷ ahead_on_line self.new) }
+    /// The next token.
+    #[tactic(auto, using(crate::proofs::Pieces::at_layout, crate::proofs::Pieces::at_token, crate::proofs::Pieces::at_unknown, crate::proofs::Pieces::at_end, crate::proofs::Pieces::token_goes))]
+    pub fn next(&mut self) -> PlacedLexeme<'a>
+        requires { self.old.over ≡ false }
+        ensures next { ahead_on_line self.old ≡ seen_placed result ∷ ahead_on_line self.new }
+        ensures last { ends_well (seen_lexeme result.lexeme) self.new.over ≡ true }
     {
-        if self.over {
-            return None;
-        }
         'pieces: while !self.rest.is_empty() {
             match piece_on(self.mood, self.rest) {
                 Piece::Layout(len, mood) => self.pass(len, mood),
@@ -68,19 +69,30 @@ impl<'a> Lexemes<'a> {
                         column: self.column,
                     };
                     self.pass(len, mood_after(kind));
-                    return Some(placed);
+                    return placed;
                 }
-                Piece::Unknown => return Some(self.end(Lexeme::Strange)),
+                Piece::Unknown => return self.end(Lexeme::Strange),
             }
         }
-        Some(self.end(Lexeme::Ended))
+        self.end(Lexeme::Ended)
+    }
+
+    /// The next token, if there is one.
+    pub fn next_token(&mut self) -> Option<PlacedLexeme<'a>>
+        ensures { MatchOption result (ahead_on_line self.old ≡ [])
+            (λ p. ahead_on_line self.old ≡ seen_placed p ∷ ahead_on_line self.new) }
+    {
+        if self.over {
+            return None;
+        }
+        Some(self.next())
     }
 
     /// The last token.
     fn end(&mut self, lexeme: Lexeme<'a>) -> PlacedLexeme<'a>
         ensures lexeme { result.lexeme ≡ lexeme.entry }
         ensures column { result.column ≡ self.old.column }
-        ensures over { ahead_on_line self.new ≡ [] }
+        ensures over { self.new.over ≡ true }
     {
         self.over = true;
         PlacedLexeme {

@@ -3,8 +3,8 @@
 ghost use Rattle.std.specs.Prelude.{◌≡◌, ◌<◌, length};
 ghost use Rattle.c_tokens.specs.Piece.{IsWithin};
 ghost use Rattle.c_grammar.specs.Lexeme.{lexeme_of, same, piece_on_line};
-ghost use Rattle.c_read.specs.Seen.{seen_lexeme};
-ghost use Rattle.c_read.specs.Lines.{piece_on};
+ghost use Rattle.directives.specs.Seen.{seen_lexeme};
+ghost use Rattle.directives.specs.Pieces.{piece_on};
 
 use crate::word::{Word, word_of};
 use c_tokens::{

@@ -1,6 +1,6 @@
 use Rattle.std.proofs.Common.{◌≡◌, false, length}
-use Rattle.c_read.specs.Lines.{ahead_on_line}
-use Rattle.c_read.proofs.lexemes.Lexemes.next.Given as goal
+use Rattle.directives.specs.Ahead.{ahead_on_line}
+use Rattle.directives.proofs.lexemes.Lexemes.next.Given as goal
 
 abbrev pub invariant-pieces : goal.invariant-pieces
 invariant-pieces l = record {

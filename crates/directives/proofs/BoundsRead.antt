@@ -1,0 +1,74 @@
+-- The bounds that were read.
+use Rattle.std.proofs.Common.{◌≡◌, ℕ, true, List, [], ◌∷◌, ◌++◌, Some, None, refl, sym, ap}
+use Rattle.std.specs.Borrow.{Bor}
+use Rattle.c_tokens.specs.declared.kind.Sign.TheVariants as sign
+use Rattle.c_grammar.specs.Lexeme.{Signed, Worded, Numbered, same}
+use Rattle.directives.specs.declared.line.Line.{Line}
+use Rattle.directives.specs.declared.tree.Name.{Name}
+use Rattle.directives.specs.declared.tree.Term.{Term}
+use Rattle.directives.specs.declared.tree.Term.TheVariants.{Literal, Product}
+use Rattle.directives.specs.declared.tree.Bound.{Bound}
+use Rattle.directives.specs.Cursor.{Items, first_item, behind, items}
+use Rattle.directives.specs.Reading.{IsSpelled}
+use Rattle.directives.specs.Trees.{Spelling, name_mark, sign_mark, term_marks, bound_marks, first_marks, second_marks, bounds_marks, each_behind}
+use Rattle.directives.proofs.Moves.{sign_is}
+use Rattle.directives.proofs.Spellings.{spelled_one, spelled_first, spelled_then, spelled_none, spelled_as, spelled_more}
+
+pub read_name : (l l' : Line) (x : Bor (List ℕ)) (k : ℕ) → (first_item l).terminal ≡ Worded x.now →
+    k ≡ (first_item l).column → behind l ≡ items l' →
+    IsSpelled (name_mark (record { text = x; column = k }) ∷ []) (items l) (items l')
+read_name l l' x k e h b = spelled_one l (items l') (Worded x.now) (Some k) e (sym h) b
+
+pub read_literal : (l l' : Line) (n : ℕ) → (first_item l).terminal ≡ Numbered (Some n) → behind l ≡ items l' →
+    IsSpelled (term_marks (Literal n)) (items l) (items l')
+read_literal l l' n e b = spelled_one l (items l') (Numbered (Some n)) None e tt b
+
+pub read_product : (l l1 l2 l3 : Line) (n : ℕ) (x : Name) → (first_item l).terminal ≡ Numbered (Some n) →
+    behind l ≡ items l1 → same (Signed sign.Star) (first_item l1).terminal ≡ true → behind l1 ≡ items l2 →
+    IsSpelled (name_mark x ∷ []) (items l2) (items l3) → IsSpelled (term_marks (Product n x)) (items l) (items l3)
+read_product l l1 l2 l3 n x e b f d r =
+    spelled_first l l1 (Numbered (Some n)) None (sign_mark sign.Star ∷ name_mark x ∷ []) (items l3) e tt b
+    (spelled_first l1 l2 (Signed sign.Star) None (name_mark x ∷ []) (items l3) (sign_is l1 sign.Star f) tt d r)
+
+-- ---- a bound
+
+pub read_bound : (t : Term) (a b : Items) → IsSpelled (term_marks t) a b →
+    IsSpelled (term_marks t ++ each_behind sign.Plus term_marks []) a b
+read_bound t a b r = spelled_as (term_marks t) (term_marks t ++ []) a b (sym (append_nil (term_marks t))) r
+  where
+    append_nil : (zs : Spelling) → zs ++ [] ≡ zs
+    append_nil [] = refl
+    append_nil (z ∷ zs) = ap (λ (us : Spelling). z ∷ us) (append_nil zs)
+
+pub read_term_more : (t u : Term) (xs ys : List Term) (before : Items) (l l' : Line) (after : Items) →
+    ys ≡ xs ++ u ∷ [] → IsSpelled (term_marks t ++ each_behind sign.Plus term_marks xs) before (items l) →
+    same (Signed sign.Plus) (first_item l).terminal ≡ true → behind l ≡ items l' →
+    IsSpelled (term_marks u) (items l') after →
+    IsSpelled (term_marks t ++ each_behind sign.Plus term_marks ys) before after
+read_term_more t u xs ys before l l' after e r f b h =
+    spelled_more sign.Plus term_marks (term_marks t) xs ys u before l l' after e r (sign_is l sign.Plus f) b h
+
+-- ---- two bounds
+
+pub read_first : (l l1 l2 l3 : Line) (b : Bound) → (first_item l).terminal ≡ Signed sign.OpenBracket →
+    behind l ≡ items l1 → IsSpelled (bound_marks b) (items l1) (items l2) → (first_item l2).terminal ≡
+    Signed sign.Colon →
+    behind l2 ≡ items l3 → IsSpelled (first_marks b) (items l) (items l3)
+read_first l l1 l2 l3 b e d r f g =
+    let last : Spelling = sign_mark sign.Colon ∷ [] in
+    let ends : IsSpelled last (items l2) (items l3) = spelled_one l2 (items l3) (Signed sign.Colon) None f tt g in
+    spelled_first l l1 (Signed sign.OpenBracket) None (bound_marks b ++ last) (items l3) e tt d
+    (spelled_then (bound_marks b) last (items l1) (items l2) (items l3) r ends)
+
+pub read_second : (l1 l2 l3 : Line) (b : Bound) → IsSpelled (bound_marks b) (items l1) (items l2) →
+    (first_item l2).terminal ≡ Signed sign.CloseBracket → behind l2 ≡ items l3 →
+    IsSpelled (second_marks b) (items l1) (items l3)
+read_second l1 l2 l3 b r f g = spelled_then (bound_marks b) (sign_mark sign.CloseBracket ∷ []) (items l1) (items l2)
+    (items l3) r (spelled_one l2 (items l3) (Signed sign.CloseBracket) None f tt g)
+
+pub read_two : (l l1 l2 : Line) (b c : Bound) → IsSpelled (first_marks b) (items l) (items l1) →
+    IsSpelled (second_marks c) (items l1) (items l2) → IsSpelled (bounds_marks (Some (b, c))) (items l) (items l2)
+read_two l l1 l2 b c r s = spelled_then (first_marks b) (second_marks c) (items l) (items l1) (items l2) r s
+
+pub read_no_bounds : (l : Line) → IsSpelled (bounds_marks None) (items l) (items l)
+read_no_bounds l = spelled_none (items l)

@@ -1,0 +1,160 @@
+-- The machine at the words before the clauses.
+use Rattle.std.proofs.Common.{◌≡◌, ℕ, true, false, List, [], ◌∷◌, ◌++◌, Some, None, refl, sym}
+use Rattle.std.specs.Prelude.{codes}
+use Rattle.base.specs.declared.fault.ReadCode.TheVariants.{UnknownDirective, UnknownClause}
+use Rattle.c_grammar.specs.Lexeme.{Lexeme, Worded, Ended}
+use Rattle.c_grammar.specs.LineGrammar.{Plain, Demands, of, Target, Data, Enter, Exit, Update, Wait}
+use Rattle.c_grammar.specs.LineMachine.{LineStack, Want, Begin, AfterTarget, Clauses, is_word, line_advance, line_place}
+use Rattle.directives.specs.declared.line.Line.{Line}
+use Rattle.directives.specs.declared.tree.Directive.{Directive}
+use Rattle.directives.specs.declared.tree.DirectiveKind.{DirectiveKind as GivenKind}
+use Rattle.directives.specs.declared.tree.DirectiveKind.TheVariants as kind
+use Rattle.directives.specs.Cursor.{first_item, behind, items}
+use Rattle.directives.specs.Reading.{rest, took, misfit_at, IsSpelled}
+use Rattle.directives.specs.Trees.{word_mark, target_marks, kind_marks, head_marks, line_marks, clauses_marks}
+use Rattle.directives.proofs.Moves.{goes, stops, word_is}
+use Rattle.directives.proofs.Bounding.{same_rest}
+use Rattle.directives.proofs.Spellings.{spelled_one, spelled_first, spelled_then, spelled_none, spelled_as}
+
+-- ---- behind the word target
+
+data_goes : (s : LineStack) (t : Lexeme) → is_word (codes "data") t ≡ true →
+    line_advance (AfterTarget ∷ s) t ≡ Some (of UnknownClause Demands, Clauses Data ∷ s)
+unfolding line_advance
+data_goes s t e = rw e refl
+
+pub at_data : (l : Line) (s : LineStack) → is_word (codes "data") (first_item l).terminal ≡ true →
+    rest l (AfterTarget ∷ s) ≡ took l (of UnknownClause Demands) (Clauses Data ∷ s)
+at_data l s e = goes l (AfterTarget ∷ s) (Clauses Data ∷ s) (of UnknownClause Demands)
+    (data_goes s (first_item l).terminal e)
+
+update_goes : (s : LineStack) (t : Lexeme) → is_word (codes "data") t ≡ false → is_word (codes "update") t ≡ true →
+    line_advance (AfterTarget ∷ s) t ≡ Some (of UnknownClause Demands, Clauses Update ∷ s)
+unfolding line_advance
+update_goes s t d e = rw (d, e) refl
+
+pub at_update : (l : Line) (s : LineStack) → is_word (codes "data") (first_item l).terminal ≡ false →
+    is_word (codes "update") (first_item l).terminal ≡ true →
+    rest l (AfterTarget ∷ s) ≡ took l (of UnknownClause Demands) (Clauses Update ∷ s)
+at_update l s d e = goes l (AfterTarget ∷ s) (Clauses Update ∷ s) (of UnknownClause Demands)
+    (update_goes s (first_item l).terminal d e)
+
+enter_goes : (s : LineStack) (t : Lexeme) → is_word (codes "data") t ≡ false → is_word (codes "update") t ≡ false →
+    is_word (codes "enter") t ≡ true → line_advance (AfterTarget ∷ s) t ≡ Some
+    (of UnknownClause Plain, Want (Worded (codes "data")) (of UnknownDirective Demands) ∷ Clauses Enter ∷ s)
+unfolding line_advance
+enter_goes s t d u e = rw (d, u, e) refl
+
+pub at_enter : (l : Line) (s : LineStack) → is_word (codes "data") (first_item l).terminal ≡ false →
+    is_word (codes "update") (first_item l).terminal ≡ false → is_word (codes "enter") (first_item l).terminal ≡ true →
+    rest l (AfterTarget ∷ s) ≡ took l (of UnknownClause Plain)
+    (Want (Worded (codes "data")) (of UnknownDirective Demands) ∷ Clauses Enter ∷ s)
+at_enter l s d u e = goes l (AfterTarget ∷ s) (Want (Worded (codes "data")) (of UnknownDirective Demands) ∷
+    Clauses Enter ∷ s)
+    (of UnknownClause Plain) (enter_goes s (first_item l).terminal d u e)
+
+exit_goes : (s : LineStack) (t : Lexeme) → is_word (codes "data") t ≡ false → is_word (codes "update") t ≡ false →
+    is_word (codes "enter") t ≡ false → is_word (codes "exit") t ≡ true → line_advance (AfterTarget ∷ s) t ≡ Some
+    (of UnknownClause Plain, Want (Worded (codes "data")) (of UnknownDirective Demands) ∷ Clauses Exit ∷ s)
+unfolding line_advance
+exit_goes s t d u n e = rw (d, u, n, e) refl
+
+pub at_exit : (l : Line) (s : LineStack) → is_word (codes "data") (first_item l).terminal ≡ false →
+    is_word (codes "update") (first_item l).terminal ≡ false → is_word (codes "enter") (first_item l).terminal ≡ false →
+    is_word (codes "exit") (first_item l).terminal ≡ true → rest l (AfterTarget ∷ s) ≡ took l (of UnknownClause Plain)
+    (Want (Worded (codes "data")) (of UnknownDirective Demands) ∷ Clauses Exit ∷ s)
+at_exit l s d u n e = goes l (AfterTarget ∷ s) (Want (Worded (codes "data")) (of UnknownDirective Demands) ∷
+    Clauses Exit ∷ s)
+    (of UnknownClause Plain) (exit_goes s (first_item l).terminal d u n e)
+
+target_not : (s : LineStack) (t : Lexeme) → is_word (codes "data") t ≡ false → is_word (codes "update") t ≡ false →
+    is_word (codes "enter") t ≡ false → is_word (codes "exit") t ≡ false →
+    line_advance (AfterTarget ∷ s) t ≡ line_advance (Clauses Target ∷ s) t
+unfolding line_advance
+target_not s t d u n e = rw (d, u, n, e) refl
+
+pub no_more : (l : Line) (s : LineStack) → is_word (codes "data") (first_item l).terminal ≡ false →
+    is_word (codes "update") (first_item l).terminal ≡ false → is_word (codes "enter") (first_item l).terminal ≡ false →
+    is_word (codes "exit") (first_item l).terminal ≡ false → rest l (AfterTarget ∷ s) ≡ rest l (Clauses Target ∷ s)
+unfolding line_place
+no_more l s d u n e = same_rest l (AfterTarget ∷ s) (Clauses Target ∷ s)
+    (target_not s (first_item l).terminal d u n e) refl
+
+-- ---- the first word of its name
+
+target_goes : (s : LineStack) (t : Lexeme) → is_word (codes "target") t ≡ true →
+    line_advance (Begin ∷ s) t ≡ Some (of UnknownDirective Plain, AfterTarget ∷ s)
+unfolding line_advance
+target_goes s t e = rw e refl
+
+pub at_target : (l : Line) (s : LineStack) → is_word (codes "target") (first_item l).terminal ≡ true →
+    rest l (Begin ∷ s) ≡ took l (of UnknownDirective Plain) (AfterTarget ∷ s)
+at_target l s e = goes l (Begin ∷ s) (AfterTarget ∷ s) (of UnknownDirective Plain)
+    (target_goes s (first_item l).terminal e)
+
+wait_goes : (s : LineStack) (t : Lexeme) → is_word (codes "target") t ≡ false → is_word (codes "taskwait") t ≡ true →
+    line_advance (Begin ∷ s) t ≡ Some (of UnknownDirective Plain, Clauses Wait ∷ s)
+unfolding line_advance
+wait_goes s t d e = rw (d, e) refl
+
+pub at_wait : (l : Line) (s : LineStack) → is_word (codes "target") (first_item l).terminal ≡ false →
+    is_word (codes "taskwait") (first_item l).terminal ≡ true →
+    rest l (Begin ∷ s) ≡ took l (of UnknownDirective Plain) (Clauses Wait ∷ s)
+at_wait l s d e = goes l (Begin ∷ s) (Clauses Wait ∷ s) (of UnknownDirective Plain)
+    (wait_goes s (first_item l).terminal d e)
+
+begin_none : (s : LineStack) (t : Lexeme) → is_word (codes "target") t ≡ false → is_word (codes "taskwait") t ≡ false →
+    line_advance (Begin ∷ s) t ≡ None
+unfolding line_advance
+begin_none s t d e = rw (d, e) refl
+
+pub stop_begin : (l : Line) (s : LineStack) → is_word (codes "target") (first_item l).terminal ≡ false →
+    is_word (codes "taskwait") (first_item l).terminal ≡ false →
+    rest l (Begin ∷ s) ≡ Some (misfit_at UnknownDirective (first_item l))
+unfolding line_place
+stop_begin l s d e = stops l (Begin ∷ s) UnknownDirective (begin_none s (first_item l).terminal d e) refl
+
+-- ---- what was read
+
+-- one word of the name
+pub read_one : (l l1 : Line) (x : List ℕ) → is_word x (first_item l).terminal ≡ true → behind l ≡ items l1 →
+    IsSpelled (word_mark x ∷ []) (items l) (items l1)
+read_one l l1 x e b = spelled_one l (items l1) (Worded x) None (word_is l x e) tt b
+
+-- two
+pub read_both : (l l1 l2 : Line) (x y : List ℕ) → is_word x (first_item l).terminal ≡ true → behind l ≡ items l1 →
+    (first_item l1).terminal ≡ Worded y → behind l1 ≡ items l2 →
+    IsSpelled (word_mark x ∷ word_mark y ∷ []) (items l) (items l2)
+read_both l l1 l2 x y e b f d = spelled_first l l1 (Worded x) None (word_mark y ∷ []) (items l2) (word_is l x e) tt b
+    (spelled_one l1 (items l2) (Worded y) None f tt d)
+
+pub read_no_words : (l : Line) → IsSpelled (target_marks kind.Target) (items l) (items l)
+read_no_words l = spelled_none (items l)
+
+-- the word target and those behind it
+pub read_target : (l l1 l2 : Line) (k : GivenKind) → is_word (codes "target") (first_item l).terminal ≡ true →
+    behind l ≡ items l1 → IsSpelled (target_marks k) (items l1) (items l2) →
+    kind_marks k ≡ word_mark (codes "target") ∷ target_marks k → IsSpelled (kind_marks k) (items l) (items l2)
+read_target l l1 l2 k e b r n = spelled_as (word_mark (codes "target") ∷ target_marks k) (kind_marks k) (items l)
+    (items l2)
+    (sym n) (spelled_first l l1 (Worded (codes "target")) None (target_marks k) (items l2)
+    (word_is l (codes "target") e) tt b r)
+
+pub read_wait : (l l1 : Line) → is_word (codes "taskwait") (first_item l).terminal ≡ true → behind l ≡ items l1 →
+    IsSpelled (kind_marks kind.TaskWait) (items l) (items l1)
+read_wait l l1 e b = read_one l l1 (codes "taskwait") e b
+
+-- the words before the clauses
+pub read_head : (l l1 l2 l3 : Line) (k : GivenKind) → (first_item l).terminal ≡ Worded (codes "pragma") →
+    behind l ≡ items l1 → (first_item l1).terminal ≡ Worded (codes "omp") → behind l1 ≡ items l2 →
+    IsSpelled (kind_marks k) (items l2) (items l3) → IsSpelled (head_marks k) (items l) (items l3)
+read_head l l1 l2 l3 k e b f d r = spelled_first l l1 (Worded (codes "pragma")) None
+    (word_mark (codes "omp") ∷ kind_marks k)
+    (items l3) e tt b (spelled_first l1 l2 (Worded (codes "omp")) None (kind_marks k) (items l3) f tt d r)
+
+pub read_line : (l l1 : Line) (d : Directive) → IsSpelled (head_marks d.kind) (items l) (items l1) →
+    IsSpelled (clauses_marks d.clauses.items ++ (Ended, None) ∷ []) (items l1) [] →
+    IsSpelled (line_marks d) (items l) []
+unfolding line_marks
+read_line l l1 d r s = spelled_then (head_marks d.kind) (clauses_marks d.clauses.items ++ (Ended, None) ∷ []) (items l)
+    (items l1) [] r s

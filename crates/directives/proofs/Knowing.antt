@@ -1,0 +1,88 @@
+-- What is known of a line, and which rule a token breaks.
+use Rattle.std.proofs.Common.{◌≡◌, ℕ, Bool, true, false, List, [], ◌∷◌, ◌++◌, Option, Some, None, refl, ◌∙◌}
+use Rattle.std.specs.Prelude.{◌||◌, if◌then◌else◌}
+use Rattle.std.specs.List.{list_any}
+use Rattle.std.specs.Str.{bytes_eq}
+use Rattle.std.specs.Borrow.{Bor}
+use Rattle.base.specs.declared.fault.ReadCode.{ReadCode as Code}
+use Rattle.base.specs.declared.fault.ReadCode.TheVariants.{UnknownByte, BadNumber, TooMany, ClauseCount, ArrayTwice}
+use Rattle.c_grammar.specs.Lexeme.{Lexeme}
+use Rattle.c_grammar.specs.LineGrammar.{LineAct, Plain, Demands, Meets, Once, Ends, Maps, Depends, Opens, Begins, BeginsNamed, Times}
+use Rattle.c_grammar.specs.LineRules.{LineContext, is_among, is_strange, is_bad_number, is_long, line_wrong, line_breaks, line_breaks_act}
+use Rattle.c_grammar.specs.LineMachine.{line_first_broken, line_first_wrong}
+use Rattle.directives.specs.Known.{names_onto, own_code, first_some, broken_by}
+
+-- ---- the names that were there
+
+pub names_one_more : (xs : List (Bor (List ℕ))) (x : Bor (List ℕ)) (ys : List (List ℕ)) →
+    names_onto (xs ++ x ∷ []) ys ≡ x.now ∷ names_onto xs ys
+names_one_more [] x ys = refl
+names_one_more (z ∷ zs) x ys = names_one_more zs x (z.now ∷ ys)
+
+turned : (a b c : Bool) → ((a || b) || c) ≡ (b || (a || c))
+turned true true c = refl
+turned true false c = refl
+turned false true c = refl
+turned false false c = refl
+
+among : (xs : List (Bor (List ℕ))) (ys : List (List ℕ)) (y : List ℕ) →
+    is_among (names_onto xs ys) y ≡ (is_among ys y || list_any (λ x. bytes_eq x.now y) xs)
+among [] ys y = or_false (is_among ys y)
+  where
+    or_false : (b : Bool) → b ≡ (b || false)
+    or_false true = refl
+    or_false false = refl
+among (x ∷ xs) ys y = among xs (x.now ∷ ys) y ∙ turned (bytes_eq x.now y) (is_among ys y)
+    (list_any (λ x. bytes_eq x.now y) xs)
+
+pub any_is_among : (xs : List (Bor (List ℕ))) (y : List ℕ) →
+    is_among (names_onto xs []) y ≡ list_any (λ x. bytes_eq x.now y) xs
+any_is_among xs y = among xs [] y
+
+-- ---- the rules
+
+lowest : (a b l m cc at : Bool) →
+    (if a || false then Some UnknownByte
+    else (if b || false then Some BadNumber
+    else (if l || m then Some TooMany
+    else (if false || cc then Some ClauseCount
+    else (if false || at then Some ArrayTwice
+    else None))))) ≡ first_some
+    (if a then Some UnknownByte else (if b then Some BadNumber else (if l then Some TooMany else None)))
+    (if m then Some TooMany else (if cc then Some ClauseCount else (if at then Some ArrayTwice else None)))
+lowest true b l m cc at = refl
+lowest false true l m cc at = refl
+lowest false false true m cc at = refl
+lowest false false false true cc at = refl
+lowest false false false false true at = refl
+lowest false false false false false true = refl
+lowest false false false false false false = refl
+
+pub broken_is : (c : LineContext) (t : Lexeme) (a : LineAct) (m : Option Code) (n : Lexeme) →
+    line_first_broken c (t, (m, a)) n ≡ broken_by c t a
+unfolding line_first_broken line_breaks line_wrong broken_by
+broken_is c t Plain m n = lowest (is_strange t) (is_bad_number t) (is_long t) false false false
+broken_is c t Demands m n = lowest (is_strange t) (is_bad_number t) (is_long t) false false false
+broken_is c t Meets m n = lowest (is_strange t) (is_bad_number t) (is_long t) false false false
+broken_is c t Once m n = lowest (is_strange t) (is_bad_number t) (is_long t) false
+    (line_breaks_act ClauseCount c t Once) false
+broken_is c t Ends m n = lowest (is_strange t) (is_bad_number t) (is_long t) false
+    (line_breaks_act ClauseCount c t Ends) false
+broken_is c t Maps m n = lowest (is_strange t) (is_bad_number t) (is_long t) false false
+    (line_breaks_act ArrayTwice c t Maps)
+broken_is c t Depends m n = lowest (is_strange t) (is_bad_number t) (is_long t)
+    (line_breaks_act TooMany c t Depends) false false
+broken_is c t Opens m n = lowest (is_strange t) (is_bad_number t) (is_long t) false false false
+broken_is c t Begins m n = lowest (is_strange t) (is_bad_number t) (is_long t)
+    (line_breaks_act TooMany c t Begins) false false
+broken_is c t BeginsNamed m n = lowest (is_strange t) (is_bad_number t) (is_long t)
+    (line_breaks_act TooMany c t BeginsNamed) false false
+broken_is c t Times m n = lowest (is_strange t) (is_bad_number t) (is_long t) false false false
+
+or_false : (b : Bool) → (b || false) ≡ b
+or_false true = refl
+or_false false = refl
+
+pub wrong_is : (t : Lexeme) → line_first_wrong t ≡ own_code t
+unfolding line_first_wrong line_wrong
+wrong_is t = refl

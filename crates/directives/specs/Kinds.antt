@@ -1,0 +1,53 @@
+-- The words of a directive, as the grammar has them.
+use Rattle.std.specs.Prelude.{◌≡◌, Bool, false}
+use Rattle.c_grammar.specs.Lexeme.{Lexeme, Worded}
+use Rattle.c_grammar.specs.LineMachine.{is_word, is_map_type}
+use Rattle.c_grammar.specs.LineGrammar.{map_word, depend_word, map_types, DirectiveKind, Target, Data, Enter, Exit, Update, Wait, MapType, To, From, ToFrom, Alloc, Release, Delete, DependType, In, Out, InOut, MotionType, ToDevice, FromDevice}
+use Rattle.directives.specs.declared.tree.DirectiveKind.{DirectiveKind as GivenKind}
+use Rattle.directives.specs.declared.tree.DirectiveKind.TheVariants as kind
+use Rattle.directives.specs.declared.tree.MapType.{MapType as GivenMap}
+use Rattle.directives.specs.declared.tree.MapType.TheVariants as map_type
+use Rattle.directives.specs.declared.tree.DependType.{DependType as GivenDepend}
+use Rattle.directives.specs.declared.tree.DependType.TheVariants as depend_type
+use Rattle.directives.specs.declared.tree.MotionType.{MotionType as GivenMotion}
+use Rattle.directives.specs.declared.tree.MotionType.TheVariants as motion_type
+
+abbrev pub seen_kind : GivenKind → DirectiveKind
+seen_kind kind.Target = Target
+seen_kind kind.TargetData = Data
+seen_kind kind.TargetEnterData = Enter
+seen_kind kind.TargetExitData = Exit
+seen_kind kind.TargetUpdate = Update
+seen_kind kind.TaskWait = Wait
+
+abbrev pub seen_map : GivenMap → MapType
+seen_map map_type.To = To
+seen_map map_type.From = From
+seen_map map_type.ToFrom = ToFrom
+seen_map map_type.Alloc = Alloc
+seen_map map_type.Release = Release
+seen_map map_type.Delete = Delete
+
+abbrev pub seen_depend : GivenDepend → DependType
+seen_depend depend_type.In = In
+seen_depend depend_type.Out = Out
+seen_depend depend_type.InOut = InOut
+
+abbrev pub seen_motion : GivenMotion → MotionType
+seen_motion motion_type.To = ToDevice
+seen_motion motion_type.From = FromDevice
+
+-- the map clauses of a directive may have the type
+abbrev pub allows : DirectiveKind → MapType → Bool
+allows k t = is_map_type (map_types k) (Worded (map_word t))
+
+-- no word of a map type
+abbrev pub IsNoMapWord : Lexeme → Type 0
+IsNoMapWord t = (is_word (map_word To) t ≡ false) × (is_word (map_word From) t ≡ false) ×
+    (is_word (map_word ToFrom) t ≡ false) × (is_word (map_word Alloc) t ≡ false) ×
+    (is_word (map_word Release) t ≡ false) × (is_word (map_word Delete) t ≡ false)
+
+-- no word of a depend type
+abbrev pub IsNoDependWord : Lexeme → Type 0
+IsNoDependWord t = (is_word (depend_word In) t ≡ false) × (is_word (depend_word Out) t ≡ false) ×
+    (is_word (depend_word InOut) t ≡ false)

@@ -1,0 +1,11 @@
+pub mod Seen
+pub mod Pieces
+pub mod Ahead
+pub mod Kinds
+pub mod Clauses
+pub mod Known
+pub mod Trees
+pub mod Reading
+pub mod Cursor
+pub mod Spells
+pub mod Names

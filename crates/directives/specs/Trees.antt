@@ -1,0 +1,142 @@
+-- What a directive stands for in the grammar: its tree, and the tokens that spell it with the columns of its names.
+use Rattle.std.specs.Prelude.{ℕ, Bool, true, false, List, [], ◌∷◌, ◌++◌, map, Option, Some, None, codes}
+use Rattle.c_tokens.specs.declared.kind.Sign.{Sign}
+use Rattle.c_tokens.specs.declared.kind.Sign.TheVariants as sign
+use Rattle.c_grammar.specs.Lexeme.{Lexeme, Signed, Worded, Numbered, Ended}
+use Rattle.c_grammar.specs.LineGrammar as grammar
+use Rattle.directives.specs.declared.tree.Name.{Name}
+use Rattle.directives.specs.declared.tree.Term.{Term}
+use Rattle.directives.specs.declared.tree.Term.TheVariants.{Literal, Variable, Product}
+use Rattle.directives.specs.declared.tree.Bound.{Bound}
+use Rattle.directives.specs.declared.tree.Section.{Section}
+use Rattle.directives.specs.declared.tree.Sections.{Sections}
+use Rattle.directives.specs.declared.tree.Clause.{Clause}
+use Rattle.directives.specs.declared.tree.Clause.TheVariants.{Map, Depend, Motion, NoWait}
+use Rattle.directives.specs.declared.tree.Directive.{Directive}
+use Rattle.directives.specs.declared.tree.DirectiveKind.{DirectiveKind as GivenKind}
+use Rattle.directives.specs.declared.tree.DirectiveKind.TheVariants as kind
+use Rattle.directives.specs.Kinds.{seen_kind, seen_map, seen_depend, seen_motion}
+
+-- ---- the tree
+
+abbrev pub term_of : Term → grammar.Term
+term_of (Literal n) = grammar.Literal (Some n)
+term_of (Variable x) = grammar.Variable x.text.now
+term_of (Product n x) = grammar.Product (Some n) x.text.now
+
+abbrev pub bound_of : Bound → grammar.Bound
+bound_of b = (term_of b.first, map term_of b.more.items)
+
+abbrev pub bounds_of : Option (Bound × Bound) → Option (grammar.Bound × grammar.Bound)
+bounds_of None = None
+bounds_of (Some b) = Some (bound_of b.0, bound_of b.1)
+
+abbrev pub section_of : Section → grammar.Section
+section_of s = (s.array.text.now, bounds_of s.bounds)
+
+abbrev pub sections_of : Sections → grammar.Items
+sections_of s = (section_of s.first, map section_of s.more.items)
+
+abbrev pub clause_of : Clause → grammar.Clause
+clause_of (Map m) = grammar.MapOf m.always (seen_map m.map_type) (sections_of m.sections)
+clause_of (Depend d) = grammar.DependOf (seen_depend d.depend_type) (sections_of d.sections)
+clause_of (Motion m) = grammar.MotionOf (seen_motion m.motion_type) (sections_of m.sections)
+clause_of NoWait = grammar.NoWait
+
+abbrev pub text_of : Directive → grammar.LineText
+text_of d = record { kind = seen_kind d.kind; clauses = map clause_of d.clauses.items }
+
+-- ---- its tokens, a name's with its column
+
+abbrev pub Spelling : Type 0
+Spelling = List (Lexeme × Option ℕ)
+
+abbrev pub sign_mark : Sign → Lexeme × Option ℕ
+sign_mark s = (Signed s, None)
+
+abbrev pub word_mark : List ℕ → Lexeme × Option ℕ
+word_mark x = (Worded x, None)
+
+abbrev pub number_mark : ℕ → Lexeme × Option ℕ
+number_mark n = (Numbered (Some n), None)
+
+abbrev pub name_mark : Name → Lexeme × Option ℕ
+name_mark x = (Worded x.text.now, Some x.column)
+
+-- each with the sign before it
+abbrev pub each_behind : {X : Type 0} → Sign → (X → Spelling) → List X → Spelling
+each_behind s f [] = []
+each_behind s f (x ∷ xs) = sign_mark s ∷ (f x ++ each_behind s f xs)
+
+abbrev pub term_marks : Term → Spelling
+term_marks (Literal n) = number_mark n ∷ []
+term_marks (Variable x) = name_mark x ∷ []
+term_marks (Product n x) = number_mark n ∷ sign_mark sign.Star ∷ name_mark x ∷ []
+
+abbrev pub bound_marks : Bound → Spelling
+bound_marks b = term_marks b.first ++ each_behind sign.Plus term_marks b.more.items
+
+-- with the bracket before it and the colon behind it
+abbrev pub first_marks : Bound → Spelling
+first_marks b = sign_mark sign.OpenBracket ∷ (bound_marks b ++ sign_mark sign.Colon ∷ [])
+
+-- with the bracket behind it
+abbrev pub second_marks : Bound → Spelling
+second_marks b = bound_marks b ++ sign_mark sign.CloseBracket ∷ []
+
+abbrev pub bounds_marks : Option (Bound × Bound) → Spelling
+bounds_marks None = []
+bounds_marks (Some b) = first_marks b.0 ++ second_marks b.1
+
+unfoldable pub section_marks : Section → Spelling
+section_marks s = name_mark s.array ∷ bounds_marks s.bounds
+
+-- with the closing bracket
+unfoldable pub sections_marks : Sections → Spelling
+sections_marks s = (section_marks s.first ++ each_behind sign.Comma section_marks s.more.items) ++
+    sign_mark sign.CloseParen ∷ []
+
+abbrev pub always_marks : Bool → Spelling
+always_marks false = []
+always_marks true = word_mark (codes "always") ∷ sign_mark sign.Comma ∷ []
+
+-- a type and the colon behind it
+abbrev pub type_marks : List ℕ → Spelling
+type_marks x = word_mark x ∷ sign_mark sign.Colon ∷ []
+
+unfoldable pub clause_marks : Clause → Spelling
+clause_marks (Map m) = (word_mark (codes "map") ∷ sign_mark sign.OpenParen ∷ []) ++ (always_marks m.always ++
+    (type_marks (grammar.map_word (seen_map m.map_type)) ++ sections_marks m.sections))
+clause_marks (Depend d) = (word_mark (codes "depend") ∷ sign_mark sign.OpenParen ∷ []) ++
+    (type_marks (grammar.depend_word (seen_depend d.depend_type)) ++ sections_marks d.sections)
+clause_marks (Motion m) = (word_mark (grammar.motion_word (seen_motion m.motion_type)) ∷ sign_mark sign.OpenParen ∷ [])
+    ++ sections_marks m.sections
+clause_marks NoWait = word_mark (codes "nowait") ∷ []
+
+abbrev pub clauses_marks : List Clause → Spelling
+clauses_marks [] = []
+clauses_marks (c ∷ cs) = clause_marks c ++ clauses_marks cs
+
+-- the words behind the word target
+abbrev pub target_marks : GivenKind → Spelling
+target_marks kind.Target = []
+target_marks kind.TargetData = word_mark (codes "data") ∷ []
+target_marks kind.TargetEnterData = word_mark (codes "enter") ∷ word_mark (codes "data") ∷ []
+target_marks kind.TargetExitData = word_mark (codes "exit") ∷ word_mark (codes "data") ∷ []
+target_marks kind.TargetUpdate = word_mark (codes "update") ∷ []
+target_marks kind.TaskWait = []
+
+abbrev pub kind_marks : GivenKind → Spelling
+kind_marks kind.Target = word_mark (codes "target") ∷ target_marks kind.Target
+kind_marks kind.TargetData = word_mark (codes "target") ∷ target_marks kind.TargetData
+kind_marks kind.TargetEnterData = word_mark (codes "target") ∷ target_marks kind.TargetEnterData
+kind_marks kind.TargetExitData = word_mark (codes "target") ∷ target_marks kind.TargetExitData
+kind_marks kind.TargetUpdate = word_mark (codes "target") ∷ target_marks kind.TargetUpdate
+kind_marks kind.TaskWait = word_mark (codes "taskwait") ∷ []
+
+abbrev pub head_marks : GivenKind → Spelling
+head_marks k = word_mark (codes "pragma") ∷ word_mark (codes "omp") ∷ kind_marks k
+
+-- with the end of the line
+unfoldable pub line_marks : Directive → Spelling
+line_marks d = head_marks d.kind ++ (clauses_marks d.clauses.items ++ (Ended, None) ∷ [])

@@ -1,0 +1,150 @@
+//! A whole line.
+
+ghost use Rattle.std.specs.Prelude.{◌≡◌, ◌≤◌, ◌^◌, [], IfOk, IfErr, OnOk, None, Some};
+ghost use Rattle.c_grammar.specs.LineRules.{IsLine, line_begin};
+ghost use Rattle.c_grammar.specs.LineMachine.{line_start};
+ghost use Rattle.directives.specs.Cursor.{line_items};
+ghost use Rattle.directives.specs.Names.{IsInSource};
+ghost use Rattle.directives.specs.Reading.{IsSpelled, Outcome, run};
+ghost use Rattle.directives.specs.Spells.{IsFirstLineFault, OnLine, SpellsLine, line_answer};
+ghost use Rattle.directives.specs.Trees.{line_marks, text_of};
+
+use crate::fault::DirectiveFault;
+use crate::known::Act;
+use crate::line::Line;
+use crate::tree::{Directive, DirectiveKind};
+use base::fault::ReadCode;
+use std::alloc::Global;
+
+impl<'a> Line<'a> {
+    ghost use Rattle.std.specs.Prelude.{◌≡◌, ◌∷◌, ◌++◌, [], IfOk, None, codes};
+    ghost use Rattle.c_grammar.specs.LineRules.{IsLine};
+    ghost use Rattle.c_grammar.specs.LineMachine.{LineStack, AfterTarget, Begin, Clauses, line_start};
+    ghost use Rattle.directives.specs.Kinds.{seen_kind};
+    ghost use Rattle.directives.specs.Cursor.{items};
+    ghost use Rattle.directives.specs.Reading.{IsSpelled, Outcome, OutcomeBy, rest};
+    ghost use Rattle.directives.specs.Trees.{head_marks, kind_marks, line_marks, target_marks, text_of, word_mark};
+
+    /// The kind of a directive behind the word `target`.
+    #[tactic(auto, using(crate::proofs::Outcomes::on_from_by, crate::proofs::Outcomes::failed_from, crate::proofs::Moves::word_is, crate::proofs::Heading::at_data, crate::proofs::Heading::at_update, crate::proofs::Heading::at_enter, crate::proofs::Heading::at_exit, crate::proofs::Heading::no_more, crate::proofs::Heading::read_one, crate::proofs::Heading::read_both, crate::proofs::Heading::read_no_words))]
+    fn target_kind(&mut self) -> Result<DirectiveKind, DirectiveFault>
+        ensures read { (s : LineStack) → OutcomeBy result (rest self.old (AfterTarget ∷ s))
+            (λ k. rest self.new (Clauses (seen_kind k) ∷ s)) }
+        ensures tree { IfOk result (λ k. IsSpelled (target_marks k) (items self.old) (items self.new)) }
+        ensures named { IfOk result (λ k. kind_marks k ≡ word_mark (codes "target") ∷ target_marks k) }
+    {
+        if self.at_word(b"data".as_slice()) {
+            self.enter(Act::Demands)?;
+            return Ok(DirectiveKind::TargetData);
+        }
+        if self.at_word(b"update".as_slice()) {
+            self.enter(Act::Demands)?;
+            return Ok(DirectiveKind::TargetUpdate);
+        }
+        if self.at_word(b"enter".as_slice()) {
+            self.enter(Act::Plain)?;
+            self.expect_word(b"data".as_slice(), Act::Demands)?;
+            return Ok(DirectiveKind::TargetEnterData);
+        }
+        if self.at_word(b"exit".as_slice()) {
+            self.enter(Act::Plain)?;
+            self.expect_word(b"data".as_slice(), Act::Demands)?;
+            return Ok(DirectiveKind::TargetExitData);
+        }
+        Ok(DirectiveKind::Target)
+    }
+
+    /// The kind of the directive.
+    #[tactic(auto, using(crate::proofs::Outcomes::on_from_by, crate::proofs::Outcomes::failed_from, crate::proofs::Moves::word_is, crate::proofs::Heading::at_target, crate::proofs::Heading::at_wait, crate::proofs::Heading::stop_begin, crate::proofs::Heading::read_target, crate::proofs::Heading::read_wait))]
+    fn kind(&mut self) -> Result<DirectiveKind, DirectiveFault>
+        ensures read { (s : LineStack) → OutcomeBy result (rest self.old (Begin ∷ s))
+            (λ k. rest self.new (Clauses (seen_kind k) ∷ s)) }
+        ensures tree { IfOk result (λ k. IsSpelled (kind_marks k) (items self.old) (items self.new)) }
+    {
+        if self.at_word(b"target".as_slice()) {
+            self.enter(Act::Plain)?;
+            let kind = self.target_kind()?;
+            return Ok(kind);
+        }
+        if self.at_word(b"taskwait".as_slice()) {
+            self.enter(Act::Plain)?;
+            return Ok(DirectiveKind::TaskWait);
+        }
+        Err(DirectiveFault::Line(self.misfit(ReadCode::UnknownDirective)))
+    }
+
+    /// The words before the clauses.
+    #[tactic(auto, using(crate::proofs::Outcomes::on_from_by, crate::proofs::Outcomes::failed_from, crate::proofs::Heading::read_head))]
+    fn head(&mut self) -> Result<DirectiveKind, DirectiveFault>
+        ensures read { OutcomeBy result (rest self.old line_start) (λ k. rest self.new (Clauses (seen_kind k) ∷ [])) }
+        ensures tree { IfOk result (λ k. IsSpelled (head_marks k) (items self.old) (items self.new)) }
+    {
+        self.expect_word(b"pragma".as_slice(), Act::Plain)?;
+        self.expect_word(b"omp".as_slice(), Act::Plain)?;
+        let kind = self.kind()?;
+        Ok(kind)
+    }
+
+    /// The whole line.
+    #[tactic(auto, using(crate::proofs::Outcomes::on_from, crate::proofs::Outcomes::failed_from, crate::proofs::Heading::read_line))]
+    fn directive(&mut self) -> Result<Directive<'a>, DirectiveFault>
+        ensures read { Outcome result (rest self.old line_start) None }
+        ensures tree { IfOk result (λ d. IsSpelled (line_marks d) (items self.old) []) }
+        ensures line { IfOk result (λ d. IsLine (text_of d)) }
+    {
+        let kind = self.head()?;
+        let clauses = self.clauses(kind)?;
+        Ok(Directive { kind, clauses })
+    }
+}
+
+/// The directive of a line whose `#` stands at the column.
+fn read_line<'a>(
+    alloc: Global,
+    line: &'a [u8],
+    column: usize,
+) -> Result<Directive<'a>, DirectiveFault>
+    requires { column ≤ 2 ^ 63 }
+    ensures read { Outcome result (run line_begin line_start (line_items line.now column)) None }
+    ensures tree { IfOk result (λ d. IsSpelled (line_marks d) (line_items line.now column) []) }
+    ensures line { IfOk result (λ d. IsLine (text_of d)) }
+{
+    let mut rest = Line::new(alloc, line, column);
+    rest.directive()
+}
+
+/// Reads one directive line, its `#` first, which stands at the column. Columns count bytes. No name is looked up.
+/// A fault is the first of the line, the lowest code at its token. Want of memory comes in place of any answer.
+#[tactic(auto, using(crate::proofs::Answering::spells, crate::proofs::Answering::first_line_fault, crate::proofs::Answering::told, crate::proofs::Answering::no_directive, crate::proofs::InSource::in_source))]
+pub fn read_directive_at<'a>(
+    alloc: Global,
+    line: &'a [u8],
+    column: usize,
+) -> Result<Directive<'a>, DirectiveFault>
+    requires { column ≤ 2 ^ 63 }
+    ensures found { IfOk result (λ d. SpellsLine line.now column d) }
+    ensures sound { OnOk result (line_answer line.now column ≡ None) }
+    ensures source { IfOk result (λ d. IsInSource line.now column d) }
+    ensures fault { IfErr result (OnLine (λ f. IsFirstLineFault line.now column f)) }
+    ensures told { IfErr result (OnLine (λ f. line_answer line.now column ≡ Some f)) }
+    ensures refused { IfErr result (OnLine (λ _. (d : Directive) → SpellsLine line.now column d → ⊥)) }
+{
+    match read_line(alloc, line, column) {
+        Ok(directive) => Ok(directive),
+        Err(DirectiveFault::OutOfMemory) => Err(DirectiveFault::OutOfMemory),
+        Err(DirectiveFault::Line(fault)) => Err(DirectiveFault::Line(fault)),
+    }
+}
+
+/// Reads one directive line, its `#` first. Columns count bytes of the line from 1. No name is looked up.
+/// A fault is the first of the line, the lowest code at its token. Want of memory comes in place of any answer.
+pub fn read_directive<'a>(alloc: Global, line: &'a [u8]) -> Result<Directive<'a>, DirectiveFault>
+    ensures found { IfOk result (λ d. SpellsLine line.now 1 d) }
+    ensures sound { OnOk result (line_answer line.now 1 ≡ None) }
+    ensures source { IfOk result (λ d. IsInSource line.now 1 d) }
+    ensures fault { IfErr result (OnLine (λ f. IsFirstLineFault line.now 1 f)) }
+    ensures told { IfErr result (OnLine (λ f. line_answer line.now 1 ≡ Some f)) }
+    ensures refused { IfErr result (OnLine (λ _. (d : Directive) → SpellsLine line.now 1 d → ⊥)) }
+{
+    read_directive_at(alloc, line, 1)
+}

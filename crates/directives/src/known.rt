@@ -1,0 +1,163 @@
+//! What the tokens of a line before one say, as far as a rule asks, and which rule that one breaks.
+
+ghost use Rattle.std.specs.Prelude.{◌≡◌};
+ghost use Rattle.std.specs.List.{list_any};
+ghost use Rattle.std.specs.Str.{bytes_eq};
+ghost use Rattle.directives.specs.Seen.{seen_lexeme};
+ghost use Rattle.directives.specs.Known.{own_code};
+
+use crate::lexeme::Lexeme;
+use base::fault::ReadCode;
+use std::alloc::{AllocError, Global};
+
+/// How many bytes a name may have.
+pub const MAX_NAME: usize = 64;
+
+/// How many depend items a directive may have.
+pub const MAX_DEPENDS: u32 = 64;
+
+/// How many terms a bound may have.
+pub const MAX_TERMS: u32 = 8;
+
+/// What a token is there for.
+#[derive(Clone, Copy, Debug)]
+pub enum Act {
+    Plain,
+    /// A word after which a map, to or from clause must come.
+    Demands,
+    /// Such a clause's word.
+    Meets,
+    /// The word of a clause that stands once at most.
+    Once,
+    /// The end of the line.
+    Ends,
+    /// An array's name in a map, to or from clause.
+    Maps,
+    /// An array's name in a depend clause.
+    Depends,
+    /// A sign behind which a bound begins.
+    Opens,
+    /// The number that begins a term.
+    Begins,
+    /// The name that begins a term.
+    BeginsNamed,
+    /// A name behind a factor.
+    Times,
+}
+
+/// What the tokens before say.
+#[derive(Drop)]
+pub struct Known<'a> {
+    /// A map, to or from clause must still come.
+    pub missing: bool,
+    /// `nowait` was there.
+    pub waits: bool,
+    /// The arrays of the map, to and from clauses.
+    pub arrays: Vec<&'a [u8]>,
+    pub depends: u32,
+    /// The terms of the last bound.
+    pub terms: u32,
+}
+
+/// The code that a token has wherever it stands.
+pub fn own_code(lexeme: Lexeme<'_>) -> Option<ReadCode>
+    ensures { result ≡ own_code (seen_lexeme lexeme.entry) }
+{
+    match lexeme {
+        Lexeme::Strange => Some(ReadCode::UnknownByte),
+        Lexeme::BadNumber => Some(ReadCode::BadNumber),
+        Lexeme::Name(name) => {
+            if name.len() > MAX_NAME {
+                return Some(ReadCode::TooMany);
+            }
+            None
+        }
+        _ => None,
+    }
+}
+
+/// Whether the name is one of those.
+fn is_among(names: &[&[u8]], name: &[u8]) -> bool
+    ensures { result ≡ list_any (λ x. bytes_eq x.now name.now) names.now }
+{
+    names.iter().any(|one| *one == name)
+}
+
+impl<'a> Known<'a> {
+    ghost use Rattle.std.specs.Prelude.{◌≡◌, OnOk, None};
+    ghost use Rattle.c_grammar.specs.LineRules.{line_act, line_begin, is_name_among};
+    ghost use Rattle.directives.specs.Seen.{seen_lexeme};
+    ghost use Rattle.directives.specs.Known.{act_code, broken_by, known_of, names_onto, seen_act};
+
+    pub fn new(alloc: Global) -> Known<'a>
+        ensures { known_of result ≡ line_begin }
+    {
+        Known {
+            missing: false,
+            waits: false,
+            arrays: Vec::new(alloc),
+            depends: 0,
+            terms: 0,
+        }
+    }
+
+    /// Whether the token is the name of an array that was there.
+    #[tactic(auto, using(crate::proofs::Knowing::any_is_among))]
+    fn has(&self, lexeme: Lexeme<'_>) -> bool
+        ensures { result ≡ is_name_among (known_of self.now).arrays (seen_lexeme lexeme.entry) }
+    {
+        match lexeme {
+            Lexeme::Name(name) => is_among(&self.arrays, name),
+            _ => false,
+        }
+    }
+
+    /// The code that the token has for what it does.
+    fn act_code(&self, lexeme: Lexeme<'_>, act: Act) -> Option<ReadCode>
+        ensures { result ≡ act_code (known_of self.now) (seen_lexeme lexeme.entry) (seen_act act) }
+    {
+        let (breaks, code) = match act {
+            Act::Once => (self.waits, ReadCode::ClauseCount),
+            Act::Ends => (self.missing, ReadCode::ClauseCount),
+            Act::Maps => (self.has(lexeme), ReadCode::ArrayTwice),
+            Act::Depends => (self.depends >= MAX_DEPENDS, ReadCode::TooMany),
+            Act::Begins | Act::BeginsNamed => (self.terms >= MAX_TERMS, ReadCode::TooMany),
+            _ => return None,
+        };
+        if breaks { Some(code) } else { None }
+    }
+
+    /// The lowest code of the rules that the token breaks.
+    #[tactic(auto, unfolding(crate::specs::Known::broken_by))]
+    pub fn broken(&self, lexeme: Lexeme<'_>, act: Act) -> Option<ReadCode>
+        ensures { result ≡ broken_by (known_of self.now) (seen_lexeme lexeme.entry) (seen_act act) }
+    {
+        match own_code(lexeme) {
+            Some(code) => Some(code),
+            None => self.act_code(lexeme, act),
+        }
+    }
+
+    /// Takes note of a token that breaks no rule.
+    #[tactic(auto, using(crate::proofs::Knowing::names_one_more), unfolding(crate::specs::Known::broken_by))]
+    pub fn note(&mut self, lexeme: Lexeme<'a>, act: Act) -> Result<(), AllocError>
+        requires { broken_by (known_of self.old) (seen_lexeme lexeme) (seen_act act) ≡ None }
+        ensures { OnOk result (known_of self.new ≡ line_act (known_of self.old) (seen_lexeme lexeme.entry) (seen_act act)) }
+    {
+        match act {
+            Act::Plain | Act::Ends | Act::Times => {}
+            Act::Demands => self.missing = true,
+            Act::Meets => self.missing = false,
+            Act::Once => self.waits = true,
+            Act::Maps => {
+                if let Lexeme::Name(name) = lexeme {
+                    self.arrays.push(name)?;
+                }
+            }
+            Act::Depends => self.depends += 1,
+            Act::Opens => self.terms = 0,
+            Act::Begins | Act::BeginsNamed => self.terms += 1,
+        }
+        Ok(())
+    }
+}

@@ -1,0 +1,33 @@
+//! From a line of a source that begins with `#` to its directive.
+#![tactic(auto)]
+
+mod bounds;
+mod clauses;
+mod code;
+mod fault;
+mod first_words;
+mod heads;
+mod items;
+mod kinds;
+mod known;
+mod lexeme;
+mod lexemes;
+mod line;
+mod tree;
+mod types;
+mod word;
+
+pub use code::lower;
+pub use fault::{DirectiveFault, LineFault};
+pub use first_words::is_directive_at;
+pub use heads::{read_directive, read_directive_at};
+pub use lexeme::{Lexeme, PlacedLexeme, same_lexeme};
+pub use lexemes::Lexemes;
+pub use tree::{
+    Bound, Clause, DependClause, DependType, Directive, DirectiveKind, MapClause, MapType,
+    MotionClause, MotionType, Name, Section, Sections, Term,
+};
+pub use word::{Word, word_of};
+
+#[cfg(test)]
+mod tests;

@@ -1,0 +1,106 @@
+//! A directive as it is written. Its names are not looked up.
+
+/// A name, and the column of its first byte.
+#[derive(Clone, Copy, Debug)]
+pub struct Name<'a> {
+    pub text: &'a [u8],
+    pub column: usize,
+}
+
+/// A term of a bound: a number, the name of a loop, or their product.
+#[derive(Clone, Copy, Debug)]
+pub enum Term<'a> {
+    Literal(u64),
+    Variable(Name<'a>),
+    Product(u64, Name<'a>),
+}
+
+/// A bound of a section, the sum of its terms.
+#[derive(Debug, Drop)]
+pub struct Bound<'a> {
+    pub first: Term<'a>,
+    pub more: Vec<Term<'a>>,
+}
+
+/// An array's section: its first cell and its length. With no bounds it is the whole array.
+#[derive(Debug, Drop)]
+pub struct Section<'a> {
+    pub array: Name<'a>,
+    pub bounds: Option<(Bound<'a>, Bound<'a>)>,
+}
+
+/// The sections of a clause, in the order of the source.
+#[derive(Debug, Drop)]
+pub struct Sections<'a> {
+    pub first: Section<'a>,
+    pub more: Vec<Section<'a>>,
+}
+
+#[derive(Clone, Copy, PartialEq, Eq, Debug)]
+pub enum MapType {
+    To,
+    From,
+    ToFrom,
+    Alloc,
+    Release,
+    Delete,
+}
+
+#[derive(Clone, Copy, PartialEq, Eq, Debug)]
+pub enum DependType {
+    In,
+    Out,
+    InOut,
+}
+
+/// Which way an update copies: `to` or `from` the device.
+#[derive(Clone, Copy, PartialEq, Eq, Debug)]
+pub enum MotionType {
+    To,
+    From,
+}
+
+#[derive(Debug, Drop)]
+pub struct MapClause<'a> {
+    pub always: bool,
+    pub map_type: MapType,
+    pub sections: Sections<'a>,
+}
+
+#[derive(Debug, Drop)]
+pub struct DependClause<'a> {
+    pub depend_type: DependType,
+    pub sections: Sections<'a>,
+}
+
+#[derive(Debug, Drop)]
+pub struct MotionClause<'a> {
+    pub motion_type: MotionType,
+    pub sections: Sections<'a>,
+}
+
+#[derive(Debug, Drop)]
+pub enum Clause<'a> {
+    Map(MapClause<'a>),
+    Depend(DependClause<'a>),
+    Motion(MotionClause<'a>),
+    NoWait,
+}
+
+#[derive(Clone, Copy, PartialEq, Eq, Debug)]
+pub enum DirectiveKind {
+    Target,
+    TargetData,
+    TargetEnterData,
+    TargetExitData,
+    TargetUpdate,
+    TaskWait,
+}
+
+/// A directive and its clauses, in the order of the source. Which clauses and types its kind takes is part of what
+/// `read_directive` ensures.
+#[derive(Debug, Drop)]
+pub struct Directive<'a> {
+    pub kind: DirectiveKind,
+    pub clauses: Vec<Clause<'a>>,
+}
