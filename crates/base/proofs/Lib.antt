@@ -1,3 +1,6 @@
 pub mod Trees
 pub mod Bodies
 pub mod Runs
+pub mod Closing
+pub mod Places
+pub mod HostRows

@@ -1,4 +1,5 @@
 pub mod Memory
+pub mod Arrays
 pub mod Value
 pub mod Meaning
 pub mod Items

@@ -11,7 +11,7 @@ pub struct Cell {
 }
 
 /// The cells `first` to `first + length - 1` of an array.
-#[derive(Clone, Copy, PartialEq, Eq, Debug)]
+#[derive(Clone, Copy, PartialEq, Eq, Debug, Default)]
 pub struct Section {
     pub array: ArrayId,
     pub first: u64,
@@ -19,8 +19,9 @@ pub struct Section {
 }
 
 /// What a map item or an update does with a section.
-#[derive(Clone, Copy, PartialEq, Eq, Debug)]
+#[derive(Clone, Copy, PartialEq, Eq, Debug, Default)]
 pub enum MapKind {
+    #[default]
     To,
     From,
     ToFrom,
@@ -29,7 +30,7 @@ pub enum MapKind {
     Delete,
 }
 
-#[derive(Clone, Copy, PartialEq, Eq, Debug)]
+#[derive(Clone, Copy, PartialEq, Eq, Debug, Default)]
 pub struct MapItem {
     pub kind: MapKind,
     pub always: bool,
@@ -38,7 +39,7 @@ pub struct MapItem {
     pub column: usize,
 }
 
-#[derive(Clone, Copy, PartialEq, Eq, Debug)]
+#[derive(Clone, Copy, PartialEq, Eq, Debug, Default)]
 pub struct Depend {
     pub kind: DependKind,
     pub section: Section,

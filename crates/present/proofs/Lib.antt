@@ -1,0 +1,17 @@
+pub mod Finds
+pub mod Orders
+pub mod Sections
+pub mod Founds
+pub mod Blocks
+pub mod Moves
+pub mod InUse
+pub mod Shown
+pub mod BlockReads
+pub mod Storing
+pub mod Entries
+pub mod Copies
+pub mod Rules
+pub mod NeededCells
+pub mod Turns
+pub mod Undone
+pub mod EachTurn

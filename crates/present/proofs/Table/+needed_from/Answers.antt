@@ -1,0 +1,67 @@
+use Rattle.std.proofs.Common.{◌+◌, ◌<◌, length, drop, get_or, Some, None, false, sym, subst, arith}
+use Rattle.std.proofs.lemmas.Option.{slice_get-get_or}
+use Rattle.base.specs.declared.item.MapItem.{MapItem}
+use Rattle.base.specs.declared.item.MapKind.TheVariants.{To}
+use Rattle.present.specs.Needed.{Needs, sections_in}
+use Rattle.present.proofs.NeededCells.{drop_item, needs_free, needs_taken}
+use Rattle.present.proofs.Table.+needed_from.Goals as goal
+
+abbrev other : MapItem
+other = record {
+  kind = To;
+  always = false;
+  section = record { array = record { 0 = 0 }; first = 0; length = 0 };
+  line = 0;
+  column = 0;
+}
+
+pub returns-in-None : goal.returns-in-None
+returns-in-None t c =
+    let items = c.args.items.now in
+    let within : c.args.from < length items = omega arith in
+    let item = get_or items c.args.from other in
+    let w = c.requires.items c.args.from item (slice_get-get_or items c.args.from other within) in
+    let cs = sections_in c.args.created.now in
+    subst (λ xs. Needs c.args.self.now cs xs None) (sym (drop_item items c.args.from other within))
+    (λ blocks k. (let n = needs_free c.args.self.now cs item (drop
+    (c.args.from + 1) items) w c.if-is_free.ensures None c.in-None.ensures blocks k in
+    let big = n.1 in let is = n.2 in omega (arith, big, is)))
+
+pub returns-then-section-cells : goal.returns-then-section-cells
+returns-then-section-cells t c =
+    let items = c.args.items.now in
+    let within : c.args.from < length items = omega arith in
+    let item = get_or items c.args.from other in
+    let w = c.requires.items c.args.from item (slice_get-get_or items c.args.from other within) in
+    let cs = sections_in c.args.created.now in
+    subst (λ xs. Needs c.args.self.now cs xs None) (sym (drop_item items c.args.from other within))
+    (λ blocks k. (let n = needs_free c.args.self.now cs item (drop (c.args.from + 1) items) w c.if-is_free.ensures
+    (Some c.in-Some.cells) c.in-Some.ensures blocks k in
+    let count = n.1 in let is = n.2 in let over = c.if-section-cells.true in let end = w.end in omega
+    (arith, count, is, over, end)))
+
+pub returns-else-section-cells : goal.returns-else-section-cells
+returns-else-section-cells t c =
+    let items = c.args.items.now in
+    let within : c.args.from < length items = omega arith in
+    let item = get_or items c.args.from other in
+    let w = c.requires.items c.args.from item (slice_get-get_or items c.args.from other within) in
+    let cs = sections_in c.args.created.now in
+    subst (λ xs. Needs c.args.self.now cs xs (Some (c.in-Some.cells + item.section.length))) (sym
+    (drop_item items c.args.from other within))
+    (λ blocks k. (let n = needs_free c.args.self.now cs item (drop (c.args.from + 1) items) w c.if-is_free.ensures
+    (Some c.in-Some.cells) c.in-Some.ensures blocks k in
+    let count = n.1 in let is = n.2 in omega (arith, count, is)))
+
+pub returns-else-is_free : goal.returns-else-is_free
+returns-else-is_free t c =
+    let items = c.args.items.now in
+    let within : c.args.from < length items = omega arith in
+    let item = get_or items c.args.from other in
+    let w = c.requires.items c.args.from item (slice_get-get_or items c.args.from other within) in
+    let cs = sections_in c.args.created.now in
+    subst (λ xs. Needs c.args.self.now cs xs c.needed_from-else-is_free.result) (sym
+    (drop_item items c.args.from other within))
+    (needs_taken c.args.self.now cs item (drop
+    (c.args.from + 1) items) w c.if-is_free.ensures c.needed_from-else-is_free.result
+    c.needed_from-else-is_free.ensures)

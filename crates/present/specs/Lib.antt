@@ -1,0 +1,5 @@
+pub mod Blocks
+pub mod Found
+pub mod Table
+pub mod Change
+pub mod Needed
