@@ -1,0 +1,85 @@
+-- A graph of which an item is closed, from its fields.
+use Rattle.std.proofs.Common.{◌≡◌, ℕ, ◌+◌, ◌<◌, ◌≤◌, Bool, true, false, List, [], ◌++◌, length, map, take, drop, get_or, Option, Some, None, refl, sym, ap, subst, ◌∙◌, arith}
+use Rattle.std.specs.Prelude.{slice_get, slice_index, option_map}
+use Rattle.std.specs.List.{slice_set}
+use Rattle.std.proofs.Math.Seq.{take-append_seam}
+use Rattle.std.proofs.lemmas.List.{length-map}
+use Rattle.std.proofs.lemmas.Option.{slice_get-map, slice_get-get_or, same_Some}
+use Rattle.base.specs.declared.item.Event.TheVariants.{Close}
+use Rattle.base.specs.Map.{Fill}
+use Rattle.base.specs.Items.{Work, Plan}
+use Rattle.base.specs.Machine.{State, on_item, step}
+use Rattle.taskgraph.specs.declared.Stage.{Stage}
+use Rattle.taskgraph.specs.declared.Stage.TheVariants as stage
+use Rattle.taskgraph.specs.declared.Task.{Task}
+use Rattle.taskgraph.specs.Board.{Facts, Board, Stands, task_facts, work_of, plan_in, allows}
+use Rattle.taskgraph.specs.Waiting.{IsCounted, one_if, precedes_in}
+use Rattle.taskgraph.proofs.Parts.{asked_at}
+use Rattle.taskgraph.proofs.Kept.{may_close}
+use Rattle.taskgraph.proofs.Closes.{host, task, in_count, opened_at}
+use Rattle.taskgraph.proofs.Standing.{place_after, closed}
+
+abbrev pub board_of : List Task → List Stage → ℕ → Board
+board_of ts stages place = record { tasks = map task_facts ts; stages = stages; place = place }
+
+facts_at : (ts : List Task) (i : ℕ) (t : Task) → slice_get ts i ≡ Some t →
+    slice_get (map task_facts ts) i ≡ Some (task_facts t)
+facts_at ts i t e = slice_get-map task_facts ts i ∙ ap (option_map task_facts) e
+
+pub in_counts : (ts : List Task) (ss : List Stage) (place : ℕ) (counts : List ℕ) (i : ℕ) →
+    IsCounted (board_of ts ss place) counts → allows (board_of ts ss place) (Close i) ≡ true → (j : ℕ) → j < length ts →
+    one_if (precedes_in ts i j) ≤ slice_index counts j
+in_counts ts ss place counts i h a j lt = in_count (board_of ts ss place) counts i j h a (omega (arith, lt, length-map ts task_facts))
+
+pub host_counted : (ts : List Task) (ss : List Stage) (place : ℕ) (counts : List ℕ) (i : ℕ) (t : Task) →
+    IsCounted (board_of ts ss place) counts → allows (board_of ts ss place) (Close i) ≡ true → slice_get ts i ≡ Some t →
+    t.deferred ≡ false → IsCounted (board_of ts (slice_set ss i stage.Closed) (place + 1)) counts
+host_counted ts ss place counts i t h a e d = host (board_of ts ss place) counts i (task_facts t) h a (facts_at ts i t e) d
+
+pub task_counted : (ts : List Task) (ss : List Stage) (place : ℕ) (counts less : List ℕ) (i : ℕ) (t : Task) →
+    IsCounted (board_of ts ss place) counts → allows (board_of ts ss place) (Close i) ≡ true → slice_get ts i ≡ Some t →
+    t.deferred ≡ true → length less ≡ length ts →
+    ((j : ℕ) → j < length ts → slice_index less j + one_if (precedes_in ts i j) ≡ slice_index counts j) →
+    IsCounted (board_of ts (slice_set ss i stage.Closed) place) less
+task_counted ts ss place counts less i t h a e d long taken =
+    task (board_of ts ss place) counts less i h a (long ∙ sym (length-map ts task_facts))
+    (λ j lt. taken j (omega (arith, lt, length-map ts task_facts)))
+    (λ f q. ap (λ (v : Facts). v.deferred) (same_Some f (task_facts t) (sym q ∙ facts_at ts i t e)) ∙ d)
+
+pub host_follows : (ts : List Task) (ss : List Stage) (place : ℕ) (counts : List ℕ) (i : ℕ) (t : Task) →
+    IsCounted (board_of ts ss place) counts → allows (board_of ts ss place) (Close i) ≡ true → slice_get ts i ≡ Some t →
+    t.deferred ≡ false → (plan : Plan) (fill : ℕ → Fill) (s u : State) → Stands plan s (board_of ts ss place) →
+    step plan fill s (Close i) ≡ Some u → Stands plan u (board_of ts (slice_set ss i stage.Closed) (place + 1))
+host_follows ts ss place counts i t h a e d plan fill s u st q =
+    let m = may_close (board_of ts ss place) i a in
+    closed plan s u (board_of ts ss place) i (task_facts t) (place + 1) st q (facts_at ts i t e)
+    (omega (arith, m.inside, h.stages)) h.stages (ap (λ c. place_after c place) (sym d))
+
+pub task_follows : (ts : List Task) (ss : List Stage) (place : ℕ) (counts : List ℕ) (i : ℕ) (t : Task) →
+    IsCounted (board_of ts ss place) counts → allows (board_of ts ss place) (Close i) ≡ true → slice_get ts i ≡ Some t →
+    t.deferred ≡ true → (plan : Plan) (fill : ℕ → Fill) (s u : State) → Stands plan s (board_of ts ss place) →
+    step plan fill s (Close i) ≡ Some u → Stands plan u (board_of ts (slice_set ss i stage.Closed) place)
+task_follows ts ss place counts i t h a e d plan fill s u st q =
+    let m = may_close (board_of ts ss place) i a in
+    closed plan s u (board_of ts ss place) i (task_facts t) place st q (facts_at ts i t e)
+    (omega (arith, m.inside, h.stages)) h.stages (ap (λ c. place_after c place) (sym d))
+
+-- the host's place is that of the item
+pub host_here : (ts : List Task) (ss : List Stage) (place : ℕ) (counts : List ℕ) (i : ℕ) (t : Task) →
+    IsCounted (board_of ts ss place) counts → allows (board_of ts ss place) (Close i) ≡ true → slice_get ts i ≡ Some t →
+    t.deferred ≡ false → place ≡ i
+host_here ts ss place counts i t h a e d =
+    let m = may_close (board_of ts ss place) i a in
+    (opened_at (board_of ts ss place) counts i (task_facts t) h m.stage_is (facts_at ts i t e)).1 d
+
+pub written_back : (new old : List ℕ) (n : ℕ) → n ≡ length old → length new ≡ length old →
+    take n (new ++ drop (length new) old) ≡ new
+written_back new old n e f =
+    ap (λ m. take m (new ++ drop (length new) old)) (e ∙ sym f) ∙ take-append_seam new (drop (length new) old)
+
+-- a question to one of the tasks
+pub asked : (ts : List Task) (ss : List Stage) (place i : ℕ) (g : Work → Bool) (t : Task) → i < length ts →
+    t ≡ get_or ts i t → g (work_of (task_facts t)) ≡ on_item (plan_in (board_of ts ss place)) i false g
+asked ts ss place i g t lt e =
+    asked_at (board_of ts ss place) i g (task_facts t)
+    (facts_at ts i t (slice_get-get_or ts i t lt ∙ ap (λ (x : Task). Some x) (sym e)))

@@ -1,0 +1,12 @@
+pub mod Laws
+pub mod Counts
+pub mod Ready
+pub mod Pairs
+pub mod Kept
+pub mod Stays
+pub mod Releases
+pub mod Closes
+pub mod Standing
+pub mod Parts
+pub mod ClosedGraph
+pub mod Fresh

@@ -1,0 +1,96 @@
+-- The parts of readiness: whether an item may be opened, passed or closed.
+use Rattle.std.proofs.Common.{◌≡◌, ◌⊎◌, inl, inr, get_or, ℕ, ◌<◌, ◌≤◌, Bool, true, false, List, length, map, Option, Some, None, refl, sym, ap, ◌∙◌, arith}
+use Rattle.std.specs.Prelude.{◌==◌, ◌&&◌, ◌||◌, not, slice_get, option_map}
+use Rattle.std.proofs.lemmas.List.{get_or_past, length-map}
+use Rattle.std.proofs.lemmas.Option.{slice_get-map, slice_get-get_or, slice_get_past}
+use Rattle.base.specs.declared.item.Event.TheVariants.{Open, Close, Wait}
+use Rattle.base.specs.Items.{Work}
+use Rattle.base.specs.Machine.{is_open, is_wait, is_waiting, is_ready, on_item}
+use Rattle.taskgraph.specs.declared.Stage.{Stage}
+use Rattle.taskgraph.specs.declared.Stage.TheVariants as stage
+use Rattle.taskgraph.specs.declared.Task.{Task}
+use Rattle.taskgraph.specs.Board.{Facts, Board, work_of, plan_in, state_in, stage_at, condition_of, allows}
+use Rattle.taskgraph.proofs.Ready.{answered}
+
+and_false : (x : Bool) → (x && false) ≡ false
+and_false true = refl
+and_false false = refl
+
+and_true : (x : Bool) → (x && true) ≡ x
+and_true true = refl
+and_true false = refl
+
+or_false : (x : Bool) → (x || false) ≡ x
+or_false true = refl
+or_false false = refl
+
+open_table : (x a p r : Bool) → (((not x && a) || (p && (x && r))) && not x) ≡ (not x && a)
+open_table true a p r = and_false (p && (true && r))
+open_table false a p r = and_true (a || (p && false)) ∙ ap (λ y. a || y) (and_false p) ∙ or_false a
+
+wait_table : (x a p r : Bool) → (((not x && a) || (p && (x && r))) && x) ≡ (p && (x && r))
+wait_table true a p r = and_true (p && (true && r))
+wait_table false a p r = and_false (a || (p && false)) ∙ sym (and_false p)
+
+abbrev waits : Option Work → Bool
+waits o = elim o [ None ↦ false | Some w ↦ is_wait w.kind ]
+
+abbrev opens : Board → ℕ → Option Work → Bool
+opens b i o = elim o [
+  | None ↦ false
+  | Some w ↦
+      not (is_wait w.kind) && ((w.deferred || (b.place == i)) &&
+      (is_waiting w.deferred ((state_in b).condition i) && is_ready (plan_in b) (state_in b) i))
+]
+
+pub open_part : (b : Board) (i : ℕ) →
+    ((allows b (Open i) || allows b (Wait i)) && not (on_item (plan_in b) i false (λ w. is_wait w.kind)))
+    ≡ allows b (Open i)
+open_part b i = go (slice_get (map work_of b.tasks) i)
+  where
+    go : (o : Option Work) → (answered b i o && not (waits o)) ≡ opens b i o
+    go None = and_true (answered b i None) ∙ and_false (b.place == i)
+    go (Some w) =
+        open_table (is_wait w.kind)
+        ((w.deferred || (b.place == i)) &&
+        (is_waiting w.deferred ((state_in b).condition i) && is_ready (plan_in b) (state_in b) i))
+        (b.place == i) (is_ready (plan_in b) (state_in b) i)
+
+pub wait_part : (b : Board) (i : ℕ) →
+    ((allows b (Open i) || allows b (Wait i)) && on_item (plan_in b) i false (λ w. is_wait w.kind)) ≡ allows b (Wait i)
+wait_part b i = go (slice_get (map work_of b.tasks) i)
+  where
+    go : (o : Option Work) →
+        (answered b i o && waits o) ≡ ((b.place == i) && (waits o && is_ready (plan_in b) (state_in b) i))
+    go None = and_false (answered b i None) ∙ sym (and_false (b.place == i))
+    go (Some w) =
+        wait_table (is_wait w.kind)
+        ((w.deferred || (b.place == i)) &&
+        (is_waiting w.deferred ((state_in b).condition i) && is_ready (plan_in b) (state_in b) i))
+        (b.place == i) (is_ready (plan_in b) (state_in b) i)
+
+-- a question to an item past the last
+none_at : (b : Board) (i : ℕ) (g : Work → Bool) → slice_get b.tasks i ≡ None → false ≡ on_item (plan_in b) i false g
+none_at b i g e =
+    sym (ap (λ (o : Option Work). elim o [ None ↦ false | Some w ↦ g w ])
+    (slice_get-map work_of b.tasks i ∙ ap (option_map work_of) e))
+
+pub asked_past : (b : Board) (i : ℕ) (g : Work → Bool) → length b.tasks ≤ i → false ≡ on_item (plan_in b) i false g
+asked_past b i g h = none_at b i g (slice_get_past b.tasks i h)
+
+-- and to one of them
+pub asked_at : (b : Board) (i : ℕ) (g : Work → Bool) (f : Facts) → slice_get b.tasks i ≡ Some f →
+    g (work_of f) ≡ on_item (plan_in b) i false g
+asked_at b i g f e =
+    sym (ap (λ (o : Option Work). elim o [ None ↦ false | Some w ↦ g w ])
+    (slice_get-map work_of b.tasks i ∙ ap (option_map work_of) e))
+
+pub open_past : (b : Board) (i : ℕ) → length b.stages ≤ i → false ≡ is_open ((state_in b).condition i)
+open_past b i h = sym (ap (λ st. is_open (condition_of st)) (get_or_past b.stages i stage.Untouched h))
+
+pub close_past : (b : Board) (i : ℕ) → length b.tasks ≤ i → false ≡ allows b (Close i)
+close_past b i h = asked_past b i (λ w. is_open ((state_in b).condition i)) h
+
+pub close_at : (b : Board) (i : ℕ) (f : Facts) → slice_get b.tasks i ≡ Some f →
+    is_open ((state_in b).condition i) ≡ allows b (Close i)
+close_at b i f e = asked_at b i (λ w. is_open ((state_in b).condition i)) f e
