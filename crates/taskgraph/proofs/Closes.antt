@@ -1,21 +1,20 @@
 -- The counts stay right where an item is closed.
-use Rattle.std.proofs.Common.{◌≡◌, ◌⊎◌, inl, inr, ℕ, zero, suc, ◌+◌, ◌-◌, ◌<◌, ◌≤◌, Bool, true, false, List, length, map, Option, Some, None, refl, sym, ap, subst, ◌∙◌, arith}
+use Rattle.std.proofs.Common.{◌≡◌, ◌⊎◌, inl, inr, ℕ, suc, ◌+◌, ◌-◌, ◌<◌, ◌≤◌, true, false, List, length, map, Option, Some, None, refl, sym, ap, subst, ◌∙◌, arith}
 use Rattle.std.specs.Prelude.{◌&&◌, nat_lt, slice_get, slice_index, option_map}
-use Rattle.std.specs.List.{slice_set}
 use Rattle.std.proofs.lemmas.Bool.{cases_lt}
 use Rattle.std.proofs.lemmas.List.{length-set}
 use Rattle.std.proofs.lemmas.Option.{slice_get-map}
 use Rattle.base.specs.declared.item.Event.TheVariants.{Close}
 use Rattle.base.specs.Items.{Work}
 use Rattle.base.specs.Machine.{is_closed, is_wait, is_predecessor, on_item, precedes}
-use Rattle.taskgraph.specs.declared.Stage.{Stage}
 use Rattle.taskgraph.specs.declared.Stage.TheVariants as stage
 use Rattle.taskgraph.specs.Board.{Facts, Board, work_of, plan_in, stage_at, condition_of, allows}
 use Rattle.taskgraph.specs.Waiting.{IsCounted, IsOpenTask, waits_for, held_by, one_if}
 use Rattle.taskgraph.proofs.Counts.{closed_in, set_at, close_keeps, close_takes}
 use Rattle.taskgraph.proofs.Kept.{may_close}
-use Rattle.taskgraph.proofs.Stays.{after, HasCounts}
+use Rattle.taskgraph.proofs.Stays.{after}
 use Rattle.taskgraph.proofs.Releases.{none_before}
+use Rattle.taskgraph.proofs.Laws.{and_false}
 
 -- what item j waits for, before and after item i is closed
 pub closing : (b : Board) (i j place : ℕ) → i < length b.stages → closed_in b i ≡ false →
@@ -46,10 +45,6 @@ host_precedes b i j f e d =
     no_one : (o : Option Work) → elim o [ None ↦ false | Some w ↦ is_predecessor (work_of f) w ] ≡ false
     no_one None = refl
     no_one (Some w) = rw d refl
-
-    and_false : (x : Bool) → (x && false) ≡ false
-    and_false true = refl
-    and_false false = refl
 
 was_open : (b : Board) (i : ℕ) → stage_at b i ≡ stage.Open → closed_in b i ≡ false
 was_open b i e = ap (λ x. is_closed (condition_of x)) e

@@ -1,5 +1,5 @@
 -- Counting the predecessors of an item that are not closed.
-use Rattle.std.proofs.Common.{◌≡◌, ◌⊎◌, inl, inr, ℕ, zero, suc, ◌+◌, ◌<◌, ◌≤◌, Bool, true, false, List, [], ◌∷◌, length, refl, sym, ap, subst, ◌∙◌, arith}
+use Rattle.std.proofs.Common.{◌≡◌, ◌⊎◌, inl, inr, ℕ, zero, suc, ◌+◌, ◌<◌, ◌≤◌, Bool, true, false, List, length, refl, sym, ap, subst, ◌∙◌, arith}
 use Rattle.std.specs.Prelude.{◌&&◌, ◌||◌, not}
 use Rattle.std.specs.List.{list_all, range_with_len, slice_set}
 use Rattle.std.proofs.lemmas.Bool.{and_parts, cases_eq}
@@ -9,6 +9,7 @@ use Rattle.taskgraph.specs.declared.Stage.{Stage}
 use Rattle.taskgraph.specs.declared.Stage.TheVariants as stage
 use Rattle.taskgraph.specs.Board.{Board, plan_in, state_in, stage_at, condition_of}
 use Rattle.taskgraph.specs.Waiting.{holds_back, one_if, held_by, waits_for}
+use Rattle.taskgraph.proofs.Laws.{and_false, and_true}
 
 abbrev pub closed_in : Board → ℕ → Bool
 closed_in b k = is_closed (condition_of (stage_at b k))
@@ -57,14 +58,6 @@ close_keeps b i place j n le =
     held_kept b (slice_set b.stages i stage.Closed) place j n
     (λ k lt. ap (λ x. is_closed (condition_of x))
     (sym (stage_kept b i k stage.Closed place (λ e. omega (arith, le, lt, e)))))
-
-and_true : (x : Bool) → (x && true) ≡ x
-and_true true = refl
-and_true false = refl
-
-and_false : (x : Bool) → (x && false) ≡ false
-and_false true = refl
-and_false false = refl
 
 -- and takes one from each that it holds back
 pub close_takes : (b : Board) (i place j d : ℕ) → i < length b.stages → closed_in b i ≡ false →

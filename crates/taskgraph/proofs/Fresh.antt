@@ -1,13 +1,12 @@
 -- The graph of items of which no event has happened.
-use Rattle.std.proofs.Common.{◌≡◌, ℕ, ◌+◌, ◌<◌, ◌≤◌, Bool, true, false, List, [], length, map, refl, sym, ap, ◌∙◌, arith}
-use Rattle.std.specs.Prelude.{slice_index}
+use Rattle.std.proofs.Common.{◌≡◌, ℕ, List, length, map, sym, ap, ◌∙◌, arith}
 use Rattle.std.proofs.lemmas.List.{length-map}
 use Rattle.base.specs.Machine.{is_closed}
 use Rattle.taskgraph.specs.declared.Stage.{Stage}
 use Rattle.taskgraph.specs.declared.Stage.TheVariants as stage
 use Rattle.taskgraph.specs.declared.Task.{Task}
-use Rattle.taskgraph.specs.Board.{Board, task_facts, untouched, stage_at, condition_of}
-use Rattle.taskgraph.specs.Waiting.{IsCounted, AreUntouched, AreCounts, waits_for, held_by}
+use Rattle.taskgraph.specs.Board.{task_facts, untouched, stage_at, condition_of}
+use Rattle.taskgraph.specs.Waiting.{IsCounted, AreUntouched, AreCounts}
 use Rattle.taskgraph.proofs.Counts.{held_kept}
 use Rattle.taskgraph.proofs.ClosedGraph.{board_of}
 

@@ -1,18 +1,14 @@
 -- What each event keeps of a graph.
-use Rattle.std.proofs.Common.{◌≡◌, ◌⊎◌, inl, inr, ℕ, zero, suc, ◌+◌, ◌-◌, ◌<◌, ◌≤◌, Bool, true, false, List, length, map, Option, Some, None, refl, sym, ap, subst, ◌∙◌, arith}
-use Rattle.std.specs.Prelude.{◌&&◌, ◌||◌, ◌==◌, not, slice_get, slice_index, option_map}
-use Rattle.std.specs.List.{slice_set}
-use Rattle.std.proofs.lemmas.Bool.{and_parts, cases_eq, cases_lt, eqb-true}
-use Rattle.std.proofs.lemmas.List.{length-set, get_or_past}
+use Rattle.std.proofs.Common.{◌≡◌, ℕ, ◌<◌, Bool, true, false, length, map, Option, Some, None, refl, sym, ap, subst, ◌∙◌}
+use Rattle.std.specs.Prelude.{◌||◌, ◌==◌, not, slice_get, option_map}
+use Rattle.std.proofs.lemmas.Bool.{and_parts, eqb-true}
 use Rattle.std.proofs.lemmas.Option.{slice_get-map, slice_get_within}
 use Rattle.base.specs.declared.item.Event.TheVariants.{Gen, Open, Close, Wait}
 use Rattle.base.specs.Items.{Work}
-use Rattle.base.specs.Machine.{is_closed, is_open, is_wait, is_waiting, on_item, precedes}
+use Rattle.base.specs.Machine.{is_open, is_wait, is_waiting, on_item}
 use Rattle.taskgraph.specs.declared.Stage.{Stage}
 use Rattle.taskgraph.specs.declared.Stage.TheVariants as stage
 use Rattle.taskgraph.specs.Board.{Facts, Board, work_of, plan_in, state_in, stage_at, condition_of, allows}
-use Rattle.taskgraph.specs.Waiting.{IsCounted, IsOpenTask, waits_for, held_by, one_if}
-use Rattle.taskgraph.proofs.Counts.{closed_in, with, set_at, stage_set, stage_kept, set_keeps, close_keeps, close_takes}
 
 -- an item of which a question is answered with yes
 record Found (b : Board) (i : ℕ) (g : Work → Bool) : Type 0 where

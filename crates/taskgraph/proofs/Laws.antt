@@ -1,16 +1,15 @@
 -- The graph allows what the machine enables in each state that it stands for.
-use Rattle.std.proofs.Common.{◌≡◌, ℕ, ◌+◌, ◌<◌, ◌≤◌, Bool, true, false, List, [], ◌∷◌, map, length, Option, Some, None, refl, sym, ap, ◌∙◌, subst, arith}
+use Rattle.std.proofs.Common.{◌≡◌, ℕ, ◌<◌, Bool, true, false, List, [], ◌∷◌, map, length, Option, Some, None, refl, sym, ap, ◌∙◌}
 use Rattle.std.specs.Prelude.{◌==◌, ◌&&◌, ◌||◌, not, nat_lt, slice_get, option_map}
-use Rattle.std.specs.List.{list_all, list_any, range_with_len, slice_index_or}
+use Rattle.std.specs.List.{list_all, range_with_len}
 use Rattle.std.proofs.lemmas.Option.{slice_get-map, slice_get_within}
 use Rattle.std.proofs.lemmas.List.{length-map}
 use Rattle.taskgraph.specs.Laws.{AllowedIsEnabled}
 use Rattle.base.specs.declared.item.Event.{Event}
 use Rattle.base.specs.declared.item.Event.TheVariants as event
 use Rattle.base.specs.Items.{Work, Plan}
-use Rattle.base.specs.Machine.{Condition, Untouched, Generated, Opened, Closed, Passed, State, is_closed, is_open, is_waiting, is_wait, is_empty, is_predecessor, match_depends, on_item, precedes, is_ready, deferred_closed, enabled}
-use Rattle.taskgraph.specs.declared.Stage.{Stage}
-use Rattle.taskgraph.specs.Board.{Facts, Board, Stands, facts_of, work_of, plan_in, state_in, condition_of, stage_of, stage_at}
+use Rattle.base.specs.Machine.{Condition, Untouched, Generated, Opened, Closed, Passed, State, is_closed, is_open, is_waiting, is_wait, is_predecessor, on_item, precedes, is_ready, deferred_closed, enabled}
+use Rattle.taskgraph.specs.Board.{Facts, Board, Stands, facts_of, work_of, plan_in, state_in, condition_of, stage_of}
 
 -- a question to an item of the plan has the same answer of its task
 on_same : {A : Type 0} → (plan : Plan) (b : Board) (i : ℕ) (other : A) (f g : Work → A) → map facts_of plan.items ≡ b.tasks →
@@ -85,9 +84,13 @@ all_same : (p q : ℕ → Bool) (xs : List ℕ) → ((x : ℕ) → p x ≡ q x) 
 all_same p q [] h = refl
 all_same p q (x ∷ xs) h = rw (h x, all_same p q xs h) refl
 
-and_false : (x : Bool) → (x && false) ≡ false
+pub and_false : (x : Bool) → (x && false) ≡ false
 and_false true = refl
 and_false false = refl
+
+pub and_true : (x : Bool) → (x && true) ≡ x
+and_true true = refl
+and_true false = refl
 
 -- an item that precedes another is one
 pub precedes_inside : (b : Board) (i j : ℕ) → precedes (plan_in b) i j ≡ true → i < length b.tasks

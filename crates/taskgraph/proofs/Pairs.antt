@@ -1,13 +1,14 @@
 -- Which tasks precede which.
-use Rattle.std.proofs.Common.{◌≡◌, ℕ, zero, suc, ◌+◌, ◌<◌, Bool, true, false, List, map, length, Option, Some, None, refl, sym, ap, ◌∙◌, arith}
-use Rattle.std.specs.Prelude.{◌&&◌, not, nat_lt, slice_get, option_map}
+use Rattle.std.proofs.Common.{◌≡◌, ℕ, suc, ◌+◌, ◌<◌, Bool, true, false, List, map, Option, Some, None, refl, ap, ◌∙◌, arith}
+use Rattle.std.specs.Prelude.{◌&&◌, nat_lt, slice_get, option_map}
 use Rattle.std.proofs.lemmas.Bool.{lt-ltb}
 use Rattle.std.proofs.lemmas.Option.{slice_get-map}
 use Rattle.base.specs.Items.{Work}
 use Rattle.base.specs.Machine.{is_predecessor, precedes}
 use Rattle.taskgraph.specs.declared.Task.{Task}
 use Rattle.taskgraph.specs.Board.{Facts, Board, task_facts, work_of, untouched, plan_in}
-use Rattle.taskgraph.specs.Waiting.{holds_back, one_if, held_by}
+use Rattle.taskgraph.specs.Waiting.{one_if, held_by}
+use Rattle.taskgraph.proofs.Laws.{and_true}
 
 abbrev pub facts_in : List Task → List Facts
 facts_in ts = map task_facts ts
@@ -31,10 +32,6 @@ precedes_is b ts k j t u same e f lt =
     ∙ ap (λ o. asked k j o (slice_get (map work_of (facts_in ts)) j)) (work_at ts k t e)
     ∙ ap (asked k j (Some (work_of (task_facts t)))) (work_at ts j u f)
     ∙ ap (λ x. x && is_predecessor (work_of (task_facts t)) (work_of (task_facts u))) (lt-ltb k j lt)
-
-and_true : (x : Bool) → (x && true) ≡ x
-and_true true = refl
-and_true false = refl
 
 -- counting one task more
 one_more : (ts : List Task) (k j : ℕ) (t u : Task) → slice_get ts k ≡ Some t → slice_get ts j ≡ Some u → k < j →

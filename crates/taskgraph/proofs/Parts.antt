@@ -1,24 +1,15 @@
 -- The parts of readiness: whether an item may be opened, passed or closed.
-use Rattle.std.proofs.Common.{◌≡◌, ◌⊎◌, inl, inr, get_or, ℕ, ◌<◌, ◌≤◌, Bool, true, false, List, length, map, Option, Some, None, refl, sym, ap, ◌∙◌, arith}
+use Rattle.std.proofs.Common.{◌≡◌, ℕ, ◌≤◌, Bool, true, false, length, map, Option, Some, None, refl, sym, ap, ◌∙◌}
 use Rattle.std.specs.Prelude.{◌==◌, ◌&&◌, ◌||◌, not, slice_get, option_map}
-use Rattle.std.proofs.lemmas.List.{get_or_past, length-map}
-use Rattle.std.proofs.lemmas.Option.{slice_get-map, slice_get-get_or, slice_get_past}
+use Rattle.std.proofs.lemmas.List.{get_or_past}
+use Rattle.std.proofs.lemmas.Option.{slice_get-map, slice_get_past}
 use Rattle.base.specs.declared.item.Event.TheVariants.{Open, Close, Wait}
 use Rattle.base.specs.Items.{Work}
 use Rattle.base.specs.Machine.{is_open, is_wait, is_waiting, is_ready, on_item}
-use Rattle.taskgraph.specs.declared.Stage.{Stage}
 use Rattle.taskgraph.specs.declared.Stage.TheVariants as stage
-use Rattle.taskgraph.specs.declared.Task.{Task}
-use Rattle.taskgraph.specs.Board.{Facts, Board, work_of, plan_in, state_in, stage_at, condition_of, allows}
+use Rattle.taskgraph.specs.Board.{Facts, Board, work_of, plan_in, state_in, condition_of, allows}
 use Rattle.taskgraph.proofs.Ready.{answered}
-
-and_false : (x : Bool) → (x && false) ≡ false
-and_false true = refl
-and_false false = refl
-
-and_true : (x : Bool) → (x && true) ≡ x
-and_true true = refl
-and_true false = refl
+use Rattle.taskgraph.proofs.Laws.{and_false, and_true}
 
 or_false : (x : Bool) → (x || false) ≡ x
 or_false true = refl
@@ -90,7 +81,3 @@ open_past b i h = sym (ap (λ st. is_open (condition_of st)) (get_or_past b.stag
 
 pub close_past : (b : Board) (i : ℕ) → length b.tasks ≤ i → false ≡ allows b (Close i)
 close_past b i h = asked_past b i (λ w. is_open ((state_in b).condition i)) h
-
-pub close_at : (b : Board) (i : ℕ) (f : Facts) → slice_get b.tasks i ≡ Some f →
-    is_open ((state_in b).condition i) ≡ allows b (Close i)
-close_at b i f e = asked_at b i (λ w. is_open ((state_in b).condition i)) f e

@@ -1,14 +1,14 @@
 -- When an item may be opened, or passed by the host.
-use Rattle.std.proofs.Common.{◌≡◌, ℕ, ◌+◌, ◌<◌, ◌≤◌, Bool, true, false, List, map, length, Option, Some, None, refl, sym, ap, ◌∙◌, get_or, arith}
+use Rattle.std.proofs.Common.{◌≡◌, ℕ, ◌<◌, ◌≤◌, Bool, true, false, map, length, Option, Some, None, refl, sym, ap, ◌∙◌, arith}
 use Rattle.std.specs.Prelude.{◌==◌, ◌&&◌, ◌||◌, not, slice_get, option_map, if◌then◌else◌}
 use Rattle.std.proofs.lemmas.Option.{slice_get-map, slice_get_past}
 use Rattle.base.specs.declared.item.Event.TheVariants.{Open, Wait}
 use Rattle.base.specs.Items.{Work}
-use Rattle.base.specs.Machine.{is_wait, is_waiting, is_ready, on_item, enabled}
-use Rattle.taskgraph.specs.declared.Stage.{Stage}
+use Rattle.base.specs.Machine.{is_wait, is_waiting, is_ready}
 use Rattle.taskgraph.specs.Board.{Facts, Board, work_of, plan_in, state_in, stage_at, allows}
 use Rattle.taskgraph.specs.Waiting.{begins, waits_for}
 use Rattle.taskgraph.proofs.Counts.{ready_free, free_ready}
+use Rattle.taskgraph.proofs.Laws.{and_false}
 
 abbrev pub comes : Board → ℕ → Bool
 comes b i = allows b (Open i) || allows b (Wait i)
@@ -23,10 +23,6 @@ abbrev pub answered : Board → ℕ → Option Work → Bool
 answered b i o =
     elim o [ None ↦ false | Some w ↦ may_open b i w ]
     || ((b.place == i) && (elim o [ None ↦ false | Some w ↦ is_wait w.kind ] && is_ready (plan_in b) (state_in b) i))
-
-and_false : (x : Bool) → (x && false) ≡ false
-and_false true = refl
-and_false false = refl
 
 none : (b : Board) (i : ℕ) → slice_get b.tasks i ≡ None → false ≡ (allows b (Open i) || allows b (Wait i))
 none b i e =

@@ -1,15 +1,14 @@
 -- The counts stay right where an item is generated, opened or passed.
-use Rattle.std.proofs.Common.{◌≡◌, ◌⊎◌, inl, inr, ℕ, ◌+◌, ◌<◌, ◌≤◌, Bool, true, false, List, length, Option, Some, None, refl, sym, ap, subst, ◌∙◌, arith}
+use Rattle.std.proofs.Common.{◌≡◌, ◌⊎◌, inl, inr, ℕ, ◌+◌, ◌<◌, Bool, true, false, List, length, Option, Some, None, refl, sym, ap, subst, ◌∙◌, arith}
 use Rattle.std.specs.Prelude.{slice_get, slice_index}
-use Rattle.std.specs.List.{slice_set}
 use Rattle.std.proofs.lemmas.Bool.{cases_eq}
 use Rattle.std.proofs.lemmas.List.{length-set}
-use Rattle.base.specs.declared.item.Event.TheVariants.{Gen, Open, Close, Wait}
+use Rattle.base.specs.declared.item.Event.TheVariants.{Gen, Open, Wait}
 use Rattle.base.specs.Machine.{is_closed, is_wait}
 use Rattle.taskgraph.specs.declared.Stage.{Stage}
 use Rattle.taskgraph.specs.declared.Stage.TheVariants as stage
 use Rattle.taskgraph.specs.Board.{Facts, Board, stage_at, condition_of, allows}
-use Rattle.taskgraph.specs.Waiting.{IsCounted, IsOpenTask, waits_for, held_by}
+use Rattle.taskgraph.specs.Waiting.{IsCounted, IsOpenTask, waits_for}
 use Rattle.taskgraph.proofs.Counts.{closed_in, set_at, stage_set, stage_kept, set_keeps}
 use Rattle.taskgraph.proofs.Kept.{may_generate, may_pass, may_open}
 

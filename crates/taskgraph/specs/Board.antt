@@ -1,5 +1,5 @@
 -- A task graph as a state of the machine with two memories.
-use Rattle.std.specs.Prelude.{◌≡◌, ℕ, ◌<◌, Bool, true, false, ◌&&◌, nat_lt, List, [], map, Some, None, length}
+use Rattle.std.specs.Prelude.{◌≡◌, ℕ, ◌<◌, Bool, List, [], map, Some, None, length}
 use Rattle.std.specs.List.{slice_index_or}
 use Rattle.base.specs.declared.item.Event.{Event}
 use Rattle.base.specs.declared.item.Item.{Item}
@@ -7,7 +7,7 @@ use Rattle.base.specs.declared.item.ItemKind.{ItemKind}
 use Rattle.base.specs.declared.item.Depend.{Depend}
 use Rattle.base.specs.Items.{Work, Plan}
 use Rattle.base.specs.Map.{Fill}
-use Rattle.base.specs.Machine.{Condition, Untouched, Generated, Opened, Closed, Passed, State, is_open, is_closed, start, enabled, step}
+use Rattle.base.specs.Machine.{Condition, Untouched, Generated, Opened, Closed, Passed, State, start, enabled, step}
 use Rattle.taskgraph.specs.declared.Stage.{Stage}
 use Rattle.taskgraph.specs.declared.Stage.TheVariants as stage
 use Rattle.taskgraph.specs.declared.Task.{Task}

@@ -1,10 +1,8 @@
-use Rattle.std.proofs.Common.{rules, ◌≡◌, ◌<◌, ◌≤◌, ◌+◌, suc, Some, length, refl, sym, ap, subst, ◌∙◌, get_or, arith}
+use Rattle.std.proofs.Common.{◌≡◌, ◌<◌, Some, length, sym, ap, ◌∙◌, arith}
 use Rattle.std.specs.Prelude.{slice_get}
 use Rattle.std.proofs.lemmas.Option.{slice_get-get_or}
 use Rattle.taskgraph.specs.declared.Task.{Task}
-use Rattle.taskgraph.specs.Board.{untouched}
-use Rattle.taskgraph.specs.Waiting.{held_by}
-use Rattle.taskgraph.proofs.Pairs.{facts_in, counted, passed}
+use Rattle.taskgraph.proofs.Pairs.{counted, passed}
 use Rattle.taskgraph.proofs.predecessors.Goals.{then-is_predecessor, else-is_predecessor}
 use Rattle.taskgraph.proofs.predecessors.Goals as goal
 

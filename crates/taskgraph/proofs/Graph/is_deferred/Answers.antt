@@ -1,5 +1,5 @@
-use Rattle.std.proofs.Common.{◌≡◌, false, ◌∙◌, subst, sym, arith}
-use Rattle.base.specs.Machine.{is_wait, on_item}
+use Rattle.std.proofs.Common.{◌≡◌, false, subst, arith}
+use Rattle.base.specs.Machine.{on_item}
 use Rattle.taskgraph.specs.Board.{Board, plan_in}
 use Rattle.taskgraph.proofs.ClosedGraph.{asked}
 use Rattle.taskgraph.proofs.Graph.is_deferred.Goals as goal

@@ -1,4 +1,4 @@
-use Rattle.std.proofs.Common.{◌≡◌, false, ◌∙◌, subst, sym, arith}
+use Rattle.std.proofs.Common.{◌≡◌, false, ◌∙◌, subst, arith}
 use Rattle.base.specs.Machine.{is_wait, on_item}
 use Rattle.taskgraph.specs.Board.{Board, plan_in}
 use Rattle.taskgraph.proofs.ClosedGraph.{asked}

@@ -1,4 +1,4 @@
-use Rattle.std.proofs.Common.{◌≡◌, ◌<◌, ℕ, false, Some, map, length, get_or, sym, ap, subst, ◌∙◌, arith}
+use Rattle.std.proofs.Common.{◌≡◌, ◌<◌, false, Some, map, length, sym, ap, subst, ◌∙◌, arith}
 use Rattle.std.specs.Prelude.{slice_get, slice_index, option_map, ◌||◌, ◌==◌}
 use Rattle.std.proofs.lemmas.Option.{slice_get-map, slice_get-get_or}
 use Rattle.std.proofs.lemmas.List.{length-map, get_or_default}
@@ -7,7 +7,7 @@ use Rattle.base.specs.declared.item.Event.TheVariants.{Open, Wait}
 use Rattle.taskgraph.specs.declared.Task.{Task}
 use Rattle.taskgraph.specs.declared.Stage.{Stage}
 use Rattle.taskgraph.specs.declared.Stage.TheVariants as stage
-use Rattle.taskgraph.specs.Board.{Board, Facts, task_facts, stage_at, allows}
+use Rattle.taskgraph.specs.Board.{Board, task_facts, stage_at, allows}
 use Rattle.taskgraph.specs.Waiting.{begins, waits_for}
 use Rattle.taskgraph.proofs.Ready.{held, free}
 use Rattle.taskgraph.proofs.Graph.ready.Goals as goal

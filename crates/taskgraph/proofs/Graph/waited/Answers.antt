@@ -1,4 +1,4 @@
-use Rattle.std.proofs.Common.{◌≡◌, ◌+◌, true, map, sym, subst, arith}
+use Rattle.std.proofs.Common.{◌≡◌, true, map, sym, subst, arith}
 use Rattle.base.specs.declared.item.Event.TheVariants.{Wait}
 use Rattle.taskgraph.specs.Board.{Board, task_facts, allows}
 use Rattle.taskgraph.proofs.Stays.{passed}
