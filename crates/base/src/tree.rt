@@ -252,6 +252,7 @@ pub struct ArrayInfo {
 #[derive(Drop)]
 pub struct Program {
     pub arrays: IndexMap<String, ArrayInfo>,
-    pub scalars: IndexMap<String, u32>,
+    /// How many scalars are declared. Each number below is that of one.
+    pub scalars: u32,
     pub body: Vec<Part>,
 }

@@ -16,7 +16,8 @@ use Rattle.c_read.specs.declared.scope.Array.{Array}
 use Rattle.c_read.specs.Means.{Items}
 use Rattle.c_read.specs.Cursor.{items, first_item, behind}
 use Rattle.c_read.specs.Reading.{run, terminals}
-use Rattle.c_read.specs.Arrays.{AreGlobals, AreText, IsTextArray, globals_of}
+use Rattle.c_read.specs.Arrays.{AreGlobals, IsTextArray, globals_of}
+use Rattle.c_grammar.specs.AsciiNames.{AreAscii}
 use Rattle.c_grammar.specs.Grammar.{globals}
 use Rattle.c_read.specs.Reading.{kinds}
 use Rattle.c_read.proofs.Going.{put, put_same}
@@ -54,12 +55,12 @@ pub name_kept : (x : List ℕ) → IsAscii x → utf8_lossy x ≡ x
 name_kept x h = utf8_lossy-IsUtf8 x (IsUtf8-from_ascii x h)
 
 -- the array's name is one of the names of the source
-pub name_is_text : (a : Option Array) (before after : Items) → AreText (terminals before) → AreGlobals before after a → IsTextArray a
+pub name_is_text : (a : Option Array) (before after : Items) → AreAscii (terminals before) → AreGlobals before after a → IsTextArray a
 name_is_text a before after h g = go a (subst_text g.tokens h)
   where
-    subst_text : {ts us : List Terminal} → ts ≡ us → AreText ts → AreText us
+    subst_text : {ts us : List Terminal} → ts ≡ us → AreAscii ts → AreAscii us
     subst_text e x = rw (sym e) x
 
-    go : (b : Option Array) → AreText (kinds (globals (globals_of b)) ++ terminals after) → IsTextArray b
+    go : (b : Option Array) → AreAscii (kinds (globals (globals_of b)) ++ terminals after) → IsTextArray b
     go None x = tt
     go (Some b) x = x.1.0

@@ -23,7 +23,6 @@ pub mod Mains
 pub mod Fronts
 pub mod Arrays
 pub mod Declared
-pub mod Names
 pub mod Whole
 pub mod Sources
 pub mod Answered

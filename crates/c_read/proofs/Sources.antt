@@ -49,7 +49,7 @@ still_fresh old new f e =
 -- the array, the word int, main and the end
 pub read_text : (a : Option Array) (i0 : Items) (t1 t2 : Cursor) (i4 : Items) (p : Program) → AreGlobals i0 (items t1) a → (first_item t1).terminal ≡ Fixed Int →
     behind t1 ≡ items t2 → IsMainPartRead (names_at a) (items t2) i4 p.body.items → terminals i4 ≡ End ∷ [] →
-    map (λ e. (let d : List ℕ × Option ℕ = (string_bytes e.0, Some e.1.length) in d)) p.arrays.entries ≡ arrays_in (globals_of a) → p.scalars.entries ≡ [] → IsTextRead i0 p
+    map (λ e. (let d : List ℕ × Option ℕ = (string_bytes e.0, Some e.1.length) in d)) p.arrays.entries ≡ arrays_in (globals_of a) → p.scalars ≡ 0 → IsTextRead i0 p
 read_text a i0 t1 t2 i4 p g first b r end entries scalars =
     let gs = globals_of a in
     let head : IsGone (Fixed Int ∷ []) (items t1) (items t2) = gone_one (Fixed Int) t1 t2 first b in

@@ -31,15 +31,6 @@ abbrev pub HasLength : Option Array → Type 0
 HasLength None = Unit {0}
 HasLength (Some a) = (1 ≤ a.cells) × (a.cells ≤ 65536)
 
--- the names of all tokens are ASCII
-abbrev pub IsTextTerminal : Terminal → Type 0
-IsTextTerminal (Name x) = IsAscii x
-IsTextTerminal _ = Unit {0}
-
-abbrev pub AreText : List Terminal → Type 0
-AreText [] = Unit {0}
-AreText (t ∷ ts) = IsTextTerminal t × AreText ts
-
 -- the name of the array is ASCII
 abbrev pub IsTextArray : Option Array → Type 0
 IsTextArray None = Unit {0}

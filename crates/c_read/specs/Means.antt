@@ -191,5 +191,5 @@ front_size gs = length (globals gs) + 6
 -- the program that a text means, where these tokens spell it
 pub record IsProgram (is : Items) (t : Text) (p : Program) : Type 0 where
   pub arrays : map (λ e. (string_bytes e.0, Some e.1.length)) p.arrays.entries ≡ arrays_in t.globals
-  pub scalars : p.scalars.entries ≡ []
+  pub scalars : p.scalars ≡ 0
   pub body : AreParts (names_in t.globals) (drop (front_size t.globals) is) None t.body p.body.items

@@ -14,6 +14,7 @@ mod target;
 mod terminal;
 mod turns;
 
+pub use c_programs::read_program;
 pub use program::read_small;
 
 #[cfg(test)]

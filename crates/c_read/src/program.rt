@@ -18,7 +18,6 @@ use base::fault::{ReadCode, ReadFault, TextFault};
 use base::tree::{Part, Program, Region, Stmt};
 use c_tokens::Sign;
 use directives::Word;
-use indexmap::IndexMap;
 use std::alloc::Global;
 
 impl<'a> Scope<'a> {
@@ -31,7 +30,7 @@ impl<'a> Scope<'a> {
     ghost use Rattle.c_grammar.specs.Grammar.{Opens, Plain, for};
     ghost use Rattle.c_grammar.specs.Rules.{begin};
     ghost use Rattle.c_grammar.specs.SmallMachine.{Begin};
-    ghost use Rattle.c_read.specs.Arrays.{AreText};
+    ghost use Rattle.c_grammar.specs.AsciiNames.{AreAscii};
     ghost use Rattle.c_read.specs.Sources.{IsTextRead};
     ghost use Rattle.c_read.specs.Loops.{IsGone};
     ghost use Rattle.c_read.specs.Cursor.{items, first_item, behind};
@@ -165,7 +164,7 @@ impl<'a> Scope<'a> {
     fn program(&mut self, tokens: &mut Cursor<'a>) -> Result<Program, ReadError>
         requires fresh { IsFresh self.old }
         requires none { self.old.array ≡ None }
-        requires text { AreText (terminals (items tokens.old)) }
+        requires text { AreAscii (terminals (items tokens.old)) }
         ensures read { Outcome result (run begin (Begin ∷ []) (items tokens.old)) None }
         ensures tree { IfOk result (λ p. IsTextRead (items tokens.old) p) }
     {
@@ -174,17 +173,16 @@ impl<'a> Scope<'a> {
         let body = self.main_part(tokens)?;
         tokens.end()?;
         let arrays = self.arrays()?;
-        let scalars = IndexMap::new(self.alloc);
         Ok(Program {
             arrays,
-            scalars,
+            scalars: 0,
             body,
         })
     }
 }
 
 /// The program of a source that is not too long.
-#[tactic(auto, using(crate::proofs::Names::names_are_text))]
+#[tactic(auto, using(c_grammar::proofs::AsciiNames::names_are_ascii))]
 fn read_short(alloc: Global, bytes: &[u8]) -> Result<Program, ReadError>
     ensures read { Outcome result (run begin (Begin ∷ []) (items_of bytes.now)) None }
     ensures tree { IfOk result (λ p. IsTextRead (items_of bytes.now) p) }

@@ -18,8 +18,7 @@ use Rattle.c_tokens.specs.Text.{Place, start, after, after_kind, token_at, unkno
 use Rattle.c_grammar.specs.Lexeme.{Word, word_of, Placed}
 use Rattle.c_grammar.specs.Terminal.{Terminal}
 use Rattle.c_grammar.specs.Source.{text_of, word_or_name, kind_terminal, on_line, item_of, end_of, items_of}
-use Rattle.c_read.specs.Arrays.{IsTextTerminal, AreText}
-use Rattle.c_read.specs.Reading.{terminals}
+use Rattle.c_grammar.specs.AsciiNames.{IsAsciiTerminal, AreAscii, terminals_of}
 
 low : (b : ℕ) → is_name_part b ≡ true → b < 128
 low b e = grind (arith, nat_tests)
@@ -37,11 +36,11 @@ text_prefix (b ∷ bs) i = step (is_name_part b) refl (text_prefix bs) i
     step true e h i = (let one : 1 + prefix_len is_name_part bs ≡ suc (prefix_len is_name_part bs) = omega arith in rw (e, one) (front (prefix_len is_name_part bs) (low b e) h i))
     step false e h i = rw e (omega arith)
 
-word_text : (x : List ℕ) (o : Option Word) → IsAscii x → IsTextTerminal (word_or_name x o)
+word_text : (x : List ℕ) (o : Option Word) → IsAscii x → IsAsciiTerminal (word_or_name x o)
 word_text x None h = h
 word_text x (Some w) h = tt
 
-kind_text : (x : List ℕ) (ps : List Placed) (k : Kind) → (k ≡ kind.Name → IsAscii x) → IsTextTerminal (kind_terminal x ps k)
+kind_text : (x : List ℕ) (ps : List Placed) (k : Kind) → (k ≡ kind.Name → IsAscii x) → IsAsciiTerminal (kind_terminal x ps k)
 kind_text x ps kind.Name h = word_text x (word_of x) (h refl)
 kind_text x ps (kind.Number n) h = tt
 kind_text x ps kind.BadNumber h = tt
@@ -51,7 +50,7 @@ kind_text x ps kind.Unknown h = tt
 
 -- the tokens have names of ASCII bytes
 abbrev pub AreTokensText : List ℕ → List Token → Type 0
-AreTokensText bytes ts = AreText (terminals (map (item_of bytes) ts ++ end_of bytes ∷ []))
+AreTokensText bytes ts = AreAscii (terminals_of (map (item_of bytes) ts ++ end_of bytes ∷ []))
 
 token_text : (bytes : List ℕ) (t : Token) (ts : List Token) → (t.kind ≡ kind.Name → IsAscii (text_of bytes t)) → AreTokensText bytes ts → AreTokensText bytes (t ∷ ts)
 token_text bytes t ts h k = (kind_text (text_of bytes t) (on_line bytes t t.kind) t.kind h, k)
@@ -166,5 +165,5 @@ tokens_text bytes (b ∷ bs) (suc k) mood p e = tokens_text bytes bs k mood (aft
 tokens_text bytes (b ∷ bs) zero mood p e = given_text bytes b bs p (piece_at mood b bs) (λ k m. tokens_from bs k m (after p b)) e (piece_named mood b bs) (λ k m. tokens_text bytes bs k m (after p b) (next_rest bytes b bs p e))
 
 -- the names of a source are ASCII
-pub names_are_text : (bytes : List ℕ) → AreText (terminals (items_of bytes))
-names_are_text bytes = tokens_text bytes bytes 0 Fresh start refl
+pub names_are_ascii : (bytes : List ℕ) → AreAscii (terminals_of (items_of bytes))
+names_are_ascii bytes = tokens_text bytes bytes 0 Fresh start refl

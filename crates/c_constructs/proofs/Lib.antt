@@ -1,0 +1,15 @@
+pub mod Outcomes
+pub mod Known
+pub mod Terms
+pub mod LineFaults
+pub mod Taken
+pub mod Growing
+pub mod Reading
+pub mod ClauseSteps
+pub mod Directives
+pub mod Placing
+pub mod Matching
+pub mod LineMeanings
+pub mod Passing
+pub mod Counted
+pub mod AtStatement

@@ -1,0 +1,128 @@
+-- Clauses one after the other.
+use Rattle.std.proofs.Common.{◌≡◌, ℕ, zero, suc, ◌<◌, Bool, true, false, List, [], ◌∷◌, ◌++◌, length, map, get_or, refl, sym, ap, ◌∙◌, append_assoc, subst, arith}
+use Rattle.std.specs.Prelude.{◌||◌}
+use Rattle.c_grammar.specs.LineGrammar as line
+use Rattle.c_grammar.specs.LineRules.{AreClauses}
+use Rattle.c_expressions.specs.Means.{Names}
+use Rattle.directives.specs.declared.tree.Clause.{Clause}
+use Rattle.directives.specs.declared.tree.Clause.TheVariants.{Map, Depend, Motion, NoWait}
+use Rattle.directives.specs.declared.tree.MapClause.{MapClause}
+use Rattle.directives.specs.declared.tree.DependClause.{DependClause}
+use Rattle.directives.specs.declared.tree.MotionClause.{MotionClause}
+use Rattle.directives.specs.Kinds.{seen_map, seen_depend, seen_motion}
+use Rattle.directives.specs.Trees.{clause_of}
+use Rattle.base.specs.declared.tree.Tasking.{Tasking}
+use Rattle.base.specs.declared.tree.UpdateKind.{UpdateKind}
+use Rattle.base.specs.declared.tree.DependKind.{DependKind}
+use Rattle.c_constructs.specs.declared.clauses.Clauses.{Clauses}
+use Rattle.c_constructs.specs.Sections.{Grows, IsMapAt, IsUpdateAt, IsDependAt, given, all_given}
+use Rattle.c_constructs.specs.Clauses.{HasType, HaveTypes, Reads}
+use Rattle.c_constructs.specs.Written.{waits_in, seen_update, seen_depend as given_depend}
+use Rattle.c_constructs.proofs.Growing.{grows_none}
+
+pub all_both : {X : Type 0} (f : Clause → List X) (xs ys : List Clause) →
+    all_given f (xs ++ ys) ≡ all_given f xs ++ all_given f ys
+all_both f [] ys = refl
+all_both f (x ∷ xs) ys =
+    ap (λ us. f x ++ us) (all_both f xs ys) ∙ sym (append_assoc (f x) (all_given f xs) (all_given f ys))
+
+pub waits_both : (xs ys : List Clause) → waits_in (map clause_of (xs ++ ys)) ≡
+    (waits_in (map clause_of xs) || waits_in (map clause_of ys))
+waits_both [] ys = refl
+waits_both (Map m ∷ xs) ys = waits_both xs ys
+waits_both (Depend m ∷ xs) ys = waits_both xs ys
+waits_both (Motion m ∷ xs) ys = waits_both xs ys
+waits_both (NoWait ∷ xs) ys = refl
+
+append_nil : {X : Type 0} (xs : List X) → xs ≡ xs ++ []
+append_nil [] = refl
+append_nil (x ∷ xs) = ap (λ ys. x ∷ ys) (append_nil xs)
+
+or_false : (b c : Bool) → b ≡ c → b ≡ (c || false)
+or_false true c e = rw (sym e) refl
+or_false false c e = rw (sym e) refl
+
+none_more : {X : Type 0} → {Y : Type 0} → (R : X → Y → Type 0) (old new : List Y) → new ≡ old → Grows R [] old new
+none_more R old new e = subst (λ ys. Grows R [] old ys) (sym e) (grows_none R old)
+
+pub reads_maps : {K : Type 0} → (seen : K → line.MapType) (names : Names) (at : ℕ) (m : MapClause) (kind : K)
+    (old new : Clauses K) → seen kind ≡ seen_map m.map_type →
+    Grows (IsMapAt seen names at) (given (m.always, seen kind) m.sections) old.maps.items new.maps.items →
+    new.updates ≡ old.updates → new.tasking ≡ old.tasking → Reads seen names at (Map m ∷ []) old new
+reads_maps seen names at m kind old new k g u t = record {
+  maps = subst (λ gs. Grows (IsMapAt seen names at) gs old.maps.items new.maps.items)
+      (append_nil (given (m.always, seen_map m.map_type) m.sections))
+      (subst (λ (t : line.MapType). Grows (IsMapAt seen names at) (given (m.always, t) m.sections) old.maps.items
+      new.maps.items) k g);
+  updates = none_more (IsUpdateAt names at) old.updates.items new.updates.items (ap (λ us. us.items) u);
+  depends = none_more (IsDependAt names at) old.tasking.depends.items new.tasking.depends.items
+      (ap (λ (x : Tasking). x.depends.items) t);
+  nowait = or_false new.tasking.nowait old.tasking.nowait (ap (λ (x : Tasking). x.nowait) t);
+}
+
+pub reads_updates : {K : Type 0} → (seen : K → line.MapType) (names : Names) (at : ℕ) (m : MotionClause)
+    (kind : UpdateKind) (old new : Clauses K) → seen_update kind ≡ seen_motion m.motion_type →
+    Grows (IsUpdateAt names at) (given (seen_update kind) m.sections) old.updates.items new.updates.items →
+    new.maps ≡ old.maps → new.tasking ≡ old.tasking → Reads seen names at (Motion m ∷ []) old new
+reads_updates seen names at m kind old new k g u t = record {
+  maps = none_more (IsMapAt seen names at) old.maps.items new.maps.items (ap (λ us. us.items) u);
+  updates = subst (λ gs. Grows (IsUpdateAt names at) gs old.updates.items new.updates.items)
+      (append_nil (given (seen_motion m.motion_type) m.sections))
+      (subst (λ (t : line.MotionType). Grows (IsUpdateAt names at) (given t m.sections) old.updates.items
+      new.updates.items) k g);
+  depends = none_more (IsDependAt names at) old.tasking.depends.items new.tasking.depends.items
+      (ap (λ (x : Tasking). x.depends.items) t);
+  nowait = or_false new.tasking.nowait old.tasking.nowait (ap (λ (x : Tasking). x.nowait) t);
+}
+
+pub reads_depends : {K : Type 0} → (seen : K → line.MapType) (names : Names) (at : ℕ) (d : DependClause)
+    (kind : DependKind) (old new : Clauses K) → given_depend kind ≡ seen_depend d.depend_type →
+    Grows (IsDependAt names at) (given (given_depend kind) d.sections) old.tasking.depends.items
+    new.tasking.depends.items →
+    new.maps ≡ old.maps → new.updates ≡ old.updates → new.tasking.nowait ≡ old.tasking.nowait →
+    Reads seen names at (Depend d ∷ []) old new
+reads_depends seen names at d kind old new k g m u w = record {
+  maps = none_more (IsMapAt seen names at) old.maps.items new.maps.items (ap (λ us. us.items) m);
+  updates = none_more (IsUpdateAt names at) old.updates.items new.updates.items (ap (λ us. us.items) u);
+  depends = subst (λ gs. Grows (IsDependAt names at) gs old.tasking.depends.items new.tasking.depends.items)
+      (append_nil (given (seen_depend d.depend_type) d.sections))
+      (subst (λ (t : line.DependType). Grows (IsDependAt names at) (given t d.sections) old.tasking.depends.items
+      new.tasking.depends.items) k g);
+  nowait = or_false new.tasking.nowait old.tasking.nowait w;
+}
+
+or_true : (b c : Bool) → b ≡ true → b ≡ (c || true)
+or_true b true e = e
+or_true b false e = e
+
+pub reads_nowait : {K : Type 0} → (seen : K → line.MapType) (names : Names) (at : ℕ) (old new : Clauses K) →
+    new.maps ≡ old.maps → new.updates ≡ old.updates → new.tasking.depends ≡ old.tasking.depends →
+    new.tasking.nowait ≡ true → Reads seen names at (NoWait ∷ []) old new
+reads_nowait seen names at old new m u d w = record {
+  maps = none_more (IsMapAt seen names at) old.maps.items new.maps.items (ap (λ us. us.items) m);
+  updates = none_more (IsUpdateAt names at) old.updates.items new.updates.items (ap (λ us. us.items) u);
+  depends = none_more (IsDependAt names at) old.tasking.depends.items new.tasking.depends.items
+      (ap (λ us. us.items) d);
+  nowait = or_true new.tasking.nowait old.tasking.nowait w;
+}
+
+-- ---- the types of map clauses
+
+pub type_at : (types : List line.MapType) (xs ys : List Clause) (k : ℕ) (d : Clause) → ys ≡ xs → HaveTypes types xs →
+    k < length ys → HasType types (get_or ys k d)
+type_at types xs ys k d e h l = go ys k (subst (λ (zs : List Clause). HaveTypes types zs) (sym e) h) l
+  where
+    go : (zs : List Clause) (k : ℕ) → HaveTypes types zs → k < length zs → HasType types (get_or zs k d)
+    go [] k h l = absurd (omega arith)
+    go (z ∷ zs) zero h l = h.0
+    go (z ∷ zs) (suc k) h l = go zs k h.1 (omega (arith, l))
+
+-- a directive's map clauses have the types that it takes
+pub types_fit : (k : line.DirectiveKind) (types : List line.MapType) (xs : List Clause) →
+    (line.takes_map k ≡ true → line.map_types k ≡ types) → AreClauses k (map clause_of xs) → HaveTypes types xs
+types_fit k types [] e h = tt
+types_fit k types (Map m ∷ xs) e h =
+    (subst (λ (ts : List line.MapType). HasType ts (Map m)) (e h.0.0) h.0.1, types_fit k types xs e h.1)
+types_fit k types (Depend d ∷ xs) e h = (tt, types_fit k types xs e h.1)
+types_fit k types (Motion m ∷ xs) e h = (tt, types_fit k types xs e h.1)
+types_fit k types (NoWait ∷ xs) e h = (tt, types_fit k types xs e h.1)

@@ -1,0 +1,24 @@
+use Rattle.std.proofs.Common.{refl}
+use Rattle.c_expressions.specs.Scopes.{names_of}
+use Rattle.c_constructs.proofs.Reading.{reads_maps, reads_depends, reads_updates, reads_nowait}
+use Rattle.c_constructs.proofs.clauses.clause.Goals as goal
+
+pub returns-in_ok-map_items-in-Map-clause-means : goal.returns-in_ok-map_items-in-Map-clause-means
+returns-in_ok-map_items-in-Map-clause-means g c = rw c.in-Map.is
+    (reads_maps g.K.MapKind.seen (names_of c.args.scope.now)
+    c.args.line c.in-Map.map c.of-kind.result c.args.read.now _ c.of-kind.ensures
+    c.in_ok-map_items-in-Map.ensures.means refl refl)
+
+pub returns-in_ok-depend_items-in-Depend-clause-means : goal.returns-in_ok-depend_items-in-Depend-clause-means
+returns-in_ok-depend_items-in-Depend-clause-means g c = rw c.in-Depend.is (reads_depends g.K.MapKind.seen
+    (names_of c.args.scope.now) c.args.line c.in-Depend.depend c.depend_kind-kind.result c.args.read.now _
+    c.depend_kind-kind.ensures c.in_ok-depend_items-in-Depend.ensures.means refl refl refl)
+
+pub returns-in_ok-update_items-in-Motion-clause-means : goal.returns-in_ok-update_items-in-Motion-clause-means
+returns-in_ok-update_items-in-Motion-clause-means g c = rw c.in-Motion.is (reads_updates g.K.MapKind.seen
+    (names_of c.args.scope.now) c.args.line c.in-Motion.motion c.update_kind-kind.result c.args.read.now _
+    c.update_kind-kind.ensures c.in_ok-update_items-in-Motion.ensures.means refl refl)
+
+pub returns-in-NoWait-clause-means : goal.returns-in-NoWait-clause-means
+returns-in-NoWait-clause-means g c = rw c.in-NoWait.is (reads_nowait g.K.MapKind.seen (names_of c.args.scope.now)
+    c.args.line c.args.read.now _ refl refl refl refl)

@@ -1,0 +1,52 @@
+//! The bounds of a section.
+
+ghost use Rattle.std.specs.Prelude.{◌≡◌, ◌++◌, IfOk};
+ghost use Rattle.c_expressions.specs.Scopes.{names_of};
+ghost use Rattle.directives.specs.Names.{Uses, bound_names, term_names};
+ghost use Rattle.directives.specs.Reading.{Outcome};
+ghost use Rattle.directives.specs.Trees.{bound_of, term_of};
+ghost use Rattle.c_constructs.specs.Uses.{fault_in};
+ghost use Rattle.c_constructs.specs.Written.{IsBound, IsTerm};
+
+use crate::names::loop_level;
+use base::tree;
+use c_expressions::Scope;
+use directives::{Bound, DirectiveFault, Term};
+use smallvec::SmallVec;
+
+/// What a term of a bound means.
+#[tactic(auto, using(crate::proofs::Outcomes::on_from))]
+pub fn term(scope: &Scope<'_>, term: &Term<'_>) -> Result<tree::Term, DirectiveFault>
+    ensures told { (us : Uses) → Outcome result (fault_in scope.now (term_names term.now ++ us))
+        (fault_in scope.now us) }
+    ensures means { IfOk result (λ p. IsTerm (names_of scope.now) (term_of term.now) p) }
+{
+    match term {
+        Term::Literal(number) => Ok(tree::Term::Literal(*number)),
+        Term::Variable(name) => {
+            let level = loop_level(scope, name)?;
+            Ok(tree::Term::Times(1, level))
+        }
+        Term::Product(number, name) => {
+            let level = loop_level(scope, name)?;
+            Ok(tree::Term::Times(*number, level))
+        }
+    }
+}
+
+/// What a bound means.
+#[tactic(auto, using(crate::proofs::Outcomes::on_from, crate::proofs::Terms::terms_told, crate::proofs::Terms::terms_over))]
+pub fn bound(scope: &Scope<'_>, bound: &Bound<'_>) -> Result<tree::Bound, DirectiveFault>
+    ensures told { (us : Uses) → Outcome result (fault_in scope.now (bound_names bound.now ++ us))
+        (fault_in scope.now us) }
+    ensures means { IfOk result (λ b. IsBound (names_of scope.now) (bound_of bound.now) b) }
+{
+    let mut terms = SmallVec::new(scope.alloc);
+    let first = term(scope, &bound.first)?;
+    terms.push(first)?;
+    'terms: for more in &bound.more {
+        let next = term(scope, more)?;
+        terms.push(next)?;
+    }
+    Ok(tree::Bound { terms })
+}

@@ -1,0 +1,109 @@
+//! The clauses of a directive.
+
+ghost use Rattle.std.specs.Prelude.{◌≡◌, ◌++◌, ◌∷◌, [], IfOk, OnOk};
+ghost use Rattle.c_expressions.specs.Scopes.{names_of};
+ghost use Rattle.directives.specs.Names.{Uses, clause_names, each_names};
+ghost use Rattle.directives.specs.Reading.{Outcome};
+ghost use Rattle.c_constructs.specs.Clauses.{AreRead, HasType, HaveTypes, Reads};
+ghost use Rattle.c_constructs.specs.Uses.{fault_in};
+ghost use Rattle.c_constructs.specs.Written.{seen_update, seen_depend as given_depend};
+ghost use Rattle.directives.specs.Kinds.{seen_depend, seen_motion};
+
+use crate::items::{depend_items, map_items, update_items};
+use crate::map_kind::MapKind;
+use base::tree::{DependKind, MapText, Tasking, UpdateKind, UpdateText};
+use c_expressions::Scope;
+use directives::{Clause, DependType, DirectiveFault, MotionType};
+use smallvec::SmallVec;
+
+/// What the clauses of a directive mean.
+#[derive(Drop)]
+pub struct Clauses<K> {
+    pub maps: SmallVec<MapText<K>, 2>,
+    pub updates: SmallVec<UpdateText, 2>,
+    pub tasking: Tasking,
+}
+
+fn depend_kind(depend_type: DependType) -> DependKind
+    ensures { given_depend result ≡ seen_depend depend_type }
+{
+    match depend_type {
+        DependType::In => DependKind::In,
+        DependType::Out => DependKind::Out,
+        DependType::InOut => DependKind::InOut,
+    }
+}
+
+fn update_kind(motion_type: MotionType) -> UpdateKind
+    ensures { seen_update result ≡ seen_motion motion_type }
+{
+    match motion_type {
+        MotionType::To => UpdateKind::To,
+        MotionType::From => UpdateKind::From,
+    }
+}
+
+/// One more clause.
+#[tactic(auto, using(crate::proofs::Outcomes::on_from))]
+fn clause<K: MapKind>(
+    scope: &Scope<'_>,
+    line: usize,
+    clause: &Clause<'_>,
+    read: &mut Clauses<K>,
+) -> Result<(), DirectiveFault>
+    requires { HasType K.types clause.now }
+    ensures told { (us : Uses) → Outcome result (fault_in scope.now (clause_names clause.now ++ us))
+        (fault_in scope.now us) }
+    ensures means { OnOk result (Reads K.seen (names_of scope.now) line (clause.now ∷ []) read.old read.new) }
+{
+    match clause {
+        Clause::Map(map) => {
+            let kind = K::of(map.map_type);
+            map_items(scope, line, kind, map.always, &map.sections, &mut read.maps)?;
+        }
+        Clause::Depend(depend) => {
+            let kind = depend_kind(depend.depend_type);
+            depend_items(
+                scope,
+                line,
+                kind,
+                &depend.sections,
+                &mut read.tasking.depends,
+            )?;
+        }
+        Clause::Motion(motion) => {
+            let kind = update_kind(motion.motion_type);
+            update_items(scope, line, kind, &motion.sections, &mut read.updates)?;
+        }
+        Clause::NoWait => {
+            read.tasking.nowait = true;
+        }
+    }
+    Ok(())
+}
+
+/// The clauses of a directive on that line of the source.
+#[tactic(auto, using(crate::proofs::Outcomes::on_from, crate::proofs::Outcomes::failed_from, crate::proofs::ClauseSteps::read_next, crate::proofs::ClauseSteps::read_all, crate::proofs::ClauseSteps::clauses_told, crate::proofs::ClauseSteps::clauses_over, crate::proofs::ClauseSteps::typed_at))]
+pub fn all_clauses<K: MapKind>(
+    scope: &Scope<'_>,
+    line: usize,
+    clauses: &[Clause<'_>],
+) -> Result<Clauses<K>, DirectiveFault>
+    requires { HaveTypes K.types clauses.now }
+    ensures told { (us : Uses) → Outcome result (fault_in scope.now (each_names clause_names clauses.now ++ us))
+        (fault_in scope.now us) }
+    ensures means { IfOk result (λ r. AreRead K.seen (names_of scope.now) line clauses.now r) }
+{
+    let mut read = Clauses {
+        maps: SmallVec::new(scope.alloc),
+        updates: SmallVec::new(scope.alloc),
+        tasking: Tasking {
+            nowait: false,
+            depends: SmallVec::new(scope.alloc),
+        },
+    };
+    'clauses: for one in clauses {
+        clause(scope, line, one, &mut read)?;
+    }
+    Ok(read)
+}

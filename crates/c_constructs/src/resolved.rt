@@ -1,0 +1,106 @@
+//! Directives with their names resolved.
+
+ghost use Rattle.std.specs.Prelude.{◌≡◌, IfOk, None, true, false};
+ghost use Rattle.c_grammar.specs.LineRules.{IsLine};
+ghost use Rattle.c_grammar.specs.Lines.{holds_kind};
+ghost use Rattle.c_expressions.specs.Scopes.{names_of};
+ghost use Rattle.directives.specs.Kinds.{seen_kind};
+ghost use Rattle.directives.specs.Names.{names_in};
+ghost use Rattle.directives.specs.Reading.{Outcome};
+ghost use Rattle.directives.specs.Trees.{text_of};
+ghost use Rattle.c_constructs.specs.Clauses.{AreRead, HaveTypes};
+ghost use Rattle.c_constructs.specs.Directives.{IsAloneAt, IsConstructAt};
+ghost use Rattle.c_constructs.specs.Uses.{fault_in};
+
+use crate::clauses::{Clauses, all_clauses};
+use crate::map_kind::MapKind;
+use base::tree::{self, EnterKind, ExitKind, MapText, RegionKind, Target};
+use c_expressions::Scope;
+use directives::{Directive, DirectiveFault, DirectiveKind};
+use smallvec::SmallVec;
+
+/// A directive that is followed by a block or loop.
+#[derive(Drop)]
+pub enum Construct {
+    Target(Target),
+    Data(SmallVec<MapText<RegionKind>, 2>),
+}
+
+/// A directive with its names resolved.
+#[derive(Drop)]
+pub enum Resolved {
+    /// It stands alone.
+    Alone(tree::Directive),
+    /// A block or loop follows it.
+    Over(Construct),
+}
+
+/// What the clauses of a directive on that line of the source mean.
+#[tactic(auto, using(crate::proofs::Directives::all_told, crate::proofs::Directives::all_failed))]
+fn clauses_of<K: MapKind>(
+    scope: &Scope<'_>,
+    line: usize,
+    directive: &Directive<'_>,
+) -> Result<Clauses<K>, DirectiveFault>
+    requires { HaveTypes K.types directive.now.clauses.items }
+    ensures told { Outcome result (fault_in scope.now (names_in directive.now)) None }
+    ensures means { IfOk result (λ r. AreRead K.seen (names_of scope.now) line directive.now.clauses.items r) }
+{
+    let read = all_clauses(scope, line, &directive.clauses)?;
+    Ok(read)
+}
+
+/// What a directive that stands alone on that line of the source means.
+#[tactic(auto, using(crate::proofs::Directives::enter_types, crate::proofs::Directives::exit_types, crate::proofs::Directives::update_types, crate::proofs::Directives::wait_types, crate::proofs::Directives::tasking))]
+pub fn alone_at(
+    scope: &Scope<'_>,
+    line: usize,
+    directive: &Directive<'_>,
+) -> Result<tree::Directive, DirectiveFault>
+    requires line { IsLine (text_of directive.now) }
+    requires kind { holds_kind (seen_kind directive.now.kind) ≡ false }
+    ensures told { Outcome result (fault_in scope.now (names_in directive.now)) None }
+    ensures means { IfOk result (λ d. IsAloneAt (names_of scope.now) line directive.now d) }
+{
+    match directive.kind {
+        DirectiveKind::TargetEnterData => {
+            let read: Clauses<EnterKind> = clauses_of(scope, line, directive)?;
+            Ok(tree::Directive::Enter(read.maps, read.tasking))
+        }
+        DirectiveKind::TargetExitData => {
+            let read: Clauses<ExitKind> = clauses_of(scope, line, directive)?;
+            Ok(tree::Directive::Exit(read.maps, read.tasking))
+        }
+        DirectiveKind::TargetUpdate => {
+            let read: Clauses<RegionKind> = clauses_of(scope, line, directive)?;
+            Ok(tree::Directive::Update(read.updates, read.tasking))
+        }
+        DirectiveKind::TaskWait => {
+            let read: Clauses<RegionKind> = clauses_of(scope, line, directive)?;
+            Ok(tree::Directive::Wait(read.tasking.depends))
+        }
+        _ => unreachable!(),
+    }
+}
+
+/// What a directive over a block or loop means, which stands on that line of the source.
+#[tactic(auto, using(crate::proofs::Directives::over_types, crate::proofs::Directives::tasking))]
+pub fn construct_at(
+    scope: &Scope<'_>,
+    line: usize,
+    directive: &Directive<'_>,
+) -> Result<Construct, DirectiveFault>
+    requires line { IsLine (text_of directive.now) }
+    requires kind { holds_kind (seen_kind directive.now.kind) ≡ true }
+    ensures told { Outcome result (fault_in scope.now (names_in directive.now)) None }
+    ensures means { IfOk result (λ d. IsConstructAt (names_of scope.now) line directive.now d) }
+{
+    let read: Clauses<RegionKind> = clauses_of(scope, line, directive)?;
+    if directive.kind == DirectiveKind::Target {
+        return Ok(Construct::Target(Target {
+            maps: read.maps,
+            tasking: read.tasking,
+        }));
+    }
+    Ok(Construct::Data(read.maps))
+}

@@ -1,0 +1,15 @@
+pub mod Terminals
+pub mod Outcomes
+pub mod Going
+pub mod Words
+pub mod Misfits
+pub mod Numbers
+pub mod Ends
+pub mod Contexts
+pub mod Spending
+pub mod Fractions
+pub mod Signs
+pub mod Terms
+pub mod Expressions
+pub mod Joins
+pub mod Blocks

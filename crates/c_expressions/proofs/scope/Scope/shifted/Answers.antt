@@ -1,0 +1,36 @@
+use Rattle.std.proofs.Common.{◌∙◌, ◌∷◌, rules}
+use Rattle.c_grammar.specs.Program.{Fractional, Tail}
+use Rattle.c_expressions.specs.Means.{shift_of}
+use Rattle.c_expressions.specs.Scopes.{context_of, names_of}
+use Rattle.c_expressions.proofs.Joins.{read_shift}
+use Rattle.c_expressions.proofs.Outcomes.{on_from, on_memory}
+use Rattle.c_expressions.proofs.Terms.{go_shift}
+use Rattle.c_expressions.proofs.scope.Scope.shifted.Goals as goal
+
+pub returns-clause-tree : goal.returns-clause-tree
+returns-clause-tree c = λ least before low left.
+    read_shift (names_of c.args.self.now) least c.args.tally.now.top c.args.op c.in_ok-count.count before
+    c.args.tokens.now c.spend.new.tokens c.shift_count.new.tokens c.args.left c.shift.result
+    left low c.requires.sign c.requires.top c.in_ok-spend.ensures.taken c.in_ok-count.ensures.first
+    c.in_ok-count.ensures.taken c.shift.ensures.made
+
+pub returns-in_err-spend-clause-read : goal.returns-in_err-spend-clause-read
+returns-in_err-spend-clause-read c = λ d s.
+    let go = go_shift (context_of c.args.self.now d c.args.tally.now.tokens) c.args.tally.now.top s c.args.op
+    c.args.tokens.now c.requires.sign c.requires.top in
+    on_from _ _ _ _ go (let h = c.in_err-spend.ensures.read d (Fractional (shift_of c.args.op) ∷ Tail 7 ∷ s) in
+    search rules)
+
+pub returns-in_err-count-clause-read : goal.returns-in_err-count-clause-read
+returns-in_err-count-clause-read c = λ d s.
+    let go = go_shift (context_of c.args.self.now d c.args.tally.now.tokens) c.args.tally.now.top s c.args.op
+    c.args.tokens.now c.requires.sign c.requires.top in
+    on_from _ _ _ _ (go ∙ c.in_ok-spend.ensures.read d (Fractional (shift_of c.args.op) ∷ Tail 7 ∷ s))
+    (let h = c.in_err-count.ensures.read d c.args.op (Tail 7 ∷ s) in search rules)
+
+pub returns-clause-read : goal.returns-clause-read
+returns-clause-read c = λ d s.
+    let go = go_shift (context_of c.args.self.now d c.args.tally.now.tokens) c.args.tally.now.top s c.args.op
+    c.args.tokens.now c.requires.sign c.requires.top in
+    on_memory _ _ _ (go ∙ c.in_ok-spend.ensures.read d (Fractional (shift_of c.args.op) ∷ Tail 7 ∷ s)
+    ∙ c.in_ok-count.ensures.read d c.args.op (Tail 7 ∷ s)) c.shift.ensures.memory

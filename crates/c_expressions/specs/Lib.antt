@@ -1,0 +1,9 @@
+pub mod Means
+pub mod Seen
+pub mod Lines
+pub mod Cursor
+pub mod Reading
+pub mod Scopes
+pub mod Signs
+pub mod Trees
+pub mod Changes

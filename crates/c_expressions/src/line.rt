@@ -1,0 +1,70 @@
+//! Whether the words of a line that begins with `#` are `pragma omp`.
+
+ghost use Rattle.std.specs.Prelude.{◌≡◌, ◌≤◌, ◌^◌};
+ghost use Rattle.std.specs.Option.{option_map};
+ghost use Rattle.c_grammar.specs.Lexeme.{lexemes_of};
+ghost use Rattle.c_grammar.specs.LineMachine.{line_first_wrong};
+ghost use Rattle.directives.specs.Seen.{seen_lexeme, seen_placed};
+ghost use Rattle.c_expressions.specs.Lines.{misfit_on, seen_misfit, words_misfit};
+
+use crate::scope::MAX_NAME;
+use base::fault::ReadCode;
+use directives::{Lexeme, Lexemes, PlacedLexeme, lower, same_lexeme};
+
+/// A token that does not fit.
+#[derive(Clone, Copy, Debug)]
+pub struct Misfit {
+    pub code: ReadCode,
+    pub column: usize,
+}
+
+/// The code that a token has wherever it stands.
+#[tactic(auto, using(crate::proofs::Words::own_strange, crate::proofs::Words::own_bad, crate::proofs::Words::own_long, crate::proofs::Words::own_short, crate::proofs::Words::own_other))]
+fn own_code(lexeme: Lexeme<'_>) -> Option<ReadCode>
+    ensures { result ≡ line_first_wrong (seen_lexeme lexeme.entry) }
+{
+    match lexeme {
+        Lexeme::Strange => Some(ReadCode::UnknownByte),
+        Lexeme::BadNumber => Some(ReadCode::BadNumber),
+        Lexeme::Name(name) => {
+            if name.len() > MAX_NAME {
+                Some(ReadCode::TooMany)
+            } else {
+                None
+            }
+        }
+        _ => None,
+    }
+}
+
+/// The fault at a token that stands in the place of another word.
+fn misplaced(placed: PlacedLexeme<'_>) -> Misfit
+    ensures { seen_misfit result ≡ misfit_on (seen_placed placed.entry) }
+{
+    Misfit {
+        code: lower(own_code(placed.lexeme), ReadCode::UnknownDirective),
+        column: placed.column,
+    }
+}
+
+/// The fault of a line that begins with `#` at the column, if its words are not `pragma omp`.
+#[tactic(auto, using(crate::proofs::Words::none_words, crate::proofs::Words::first_words, crate::proofs::Words::one_words, crate::proofs::Words::second_words, crate::proofs::Words::sound_words))]
+pub fn words_misfit(line: &[u8], column: usize) -> Option<Misfit>
+    requires { column ≤ 2 ^ 63 }
+    ensures { option_map seen_misfit result ≡ words_misfit (lexemes_of line.now column) }
+{
+    let mut lexemes = Lexemes::new(line, column);
+    let Some(first) = lexemes.next_token() else {
+        return None;
+    };
+    if !same_lexeme(Lexeme::Name(b"pragma".as_slice()), first.lexeme) {
+        return Some(misplaced(first));
+    }
+    let Some(second) = lexemes.next_token() else {
+        return None;
+    };
+    if !same_lexeme(Lexeme::Name(b"omp".as_slice()), second.lexeme) {
+        return Some(misplaced(second));
+    }
+    None
+}

@@ -1,0 +1,111 @@
+//! What is known where an expression or a statement stands.
+
+ghost use Rattle.std.specs.Prelude.{◌≤◌};
+
+use base::tree::{ArrayId, ScalarId};
+use std::alloc::Global;
+
+/// How many bytes a name may have.
+pub const MAX_NAME: usize = 64;
+
+/// How many brackets may be open in an expression.
+pub const MAX_BRACKETS: u32 = 16;
+
+/// How many tokens an expression may have.
+pub const MAX_TOKENS: u32 = 256;
+
+/// What a visible name means.
+#[derive(Clone, Copy, Debug)]
+pub enum Meaning {
+    Array(ArrayId),
+    /// Whether it is declared inside a target.
+    Scalar(ScalarId, bool),
+    /// How many loops stand around the loop.
+    Loop(u32),
+}
+
+/// A name that is declared.
+#[derive(Clone, Copy, Debug)]
+pub struct Name<'a> {
+    pub text: &'a [u8],
+    pub meaning: Meaning,
+}
+
+/// An open block.
+#[derive(Drop)]
+pub struct Frame<'a> {
+    /// The names declared in it, in order of declaration.
+    pub names: Vec<Name<'a>>,
+    /// It is inside a target.
+    pub inside: bool,
+    /// It is under an `if`.
+    pub choice: bool,
+}
+
+#[derive(Drop)]
+pub struct Scope<'a> {
+    pub alloc: Global,
+    /// The open blocks, the outermost first: that of the globals.
+    pub frames: Vec<Frame<'a>>,
+    /// The name that is being declared. It is not visible yet.
+    pub fresh: Option<&'a [u8]>,
+    /// The next block is that of a target.
+    pub target: bool,
+    /// The next block is that of an `if`.
+    pub choice: bool,
+    /// The limit in the head of the last loop.
+    pub limit: u64,
+    /// The length of the last array.
+    pub cells: u64,
+    /// How many arrays, and how many scalars with the names of loops, are declared.
+    pub arrays: u32,
+    pub scalars: u32,
+    /// How many scalars that are no names of loops are declared: the number of the next.
+    pub next_scalar: u32,
+    /// How many statements have begun.
+    pub statements: u32,
+    ghost counted: { next_scalar ≤ scalars },
+}
+
+impl<'a> Frame<'a> {
+    ghost use Rattle.std.specs.Prelude.{◌≡◌};
+    ghost use Rattle.c_expressions.specs.Means.{meaning_of};
+    ghost use Rattle.c_expressions.specs.Scopes.{names_in};
+
+    /// What a name that is declared in the block means.
+    #[tactic(auto, using(crate::proofs::Contexts::newest_is, crate::proofs::Contexts::newest_not))]
+    fn meaning(&self, name: &[u8]) -> Option<Meaning>
+        ensures { result ≡ meaning_of (names_in self.now) name.now }
+    {
+        let mut found = None;
+        'names: for declared in &self.names {
+            if declared.text == name {
+                found = Some(declared.meaning);
+            }
+        }
+        found
+    }
+}
+
+impl<'a> Scope<'a> {
+    ghost use Rattle.std.specs.Prelude.{◌≡◌, ℕ, IfSome, IsSome, true};
+    ghost use Rattle.std.specs.Option.{option_map};
+    ghost use Rattle.c_grammar.specs.Rules.{sort_of};
+    ghost use Rattle.c_expressions.specs.Means.{meaning_of};
+    ghost use Rattle.c_expressions.specs.Scopes.{context_of, names_of, sort_of_meaning, is_array_meaning, is_operand};
+
+    /// What a visible name means.
+    #[tactic(auto, using(crate::proofs::Contexts::innermost_is, crate::proofs::Contexts::innermost_not, crate::proofs::Contexts::sort_is))]
+    pub fn meaning(&self, name: &[u8]) -> Option<Meaning>
+        ensures means { result ≡ meaning_of (names_of self.now) name.now }
+        ensures sort { (d n : ℕ) → option_map sort_of_meaning result ≡ sort_of (context_of self.now d n) name.now }
+    {
+        let mut found = None;
+        'frames: for frame in &self.frames {
+            if let Some(meaning) = frame.meaning(name) {
+                found = Some(meaning);
+            }
+        }
+        found
+    }
+}

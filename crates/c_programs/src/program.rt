@@ -1,0 +1,131 @@
+//! Whole programs.
+
+ghost use Rattle.std.specs.Prelude.{◌≡◌, [], ◌∷◌, OnOk, IfOk, IfErr, None, false};
+ghost use Rattle.base.specs.declared.tree.Program.{Program};
+ghost use Rattle.c_grammar.specs.AsciiNames.{AreAscii};
+ghost use Rattle.c_grammar.specs.Grammar.{Plain, for};
+ghost use Rattle.c_grammar.specs.Lexeme.{Uint64};
+ghost use Rattle.c_grammar.specs.Program.{Stack, Body, Globals, Want, start};
+ghost use Rattle.c_grammar.specs.Rules.{begin};
+ghost use Rattle.c_grammar.specs.Source.{items_of, IsFirstFault};
+ghost use Rattle.c_grammar.specs.Terminal.{End, Fixed, same};
+ghost use Rattle.c_expressions.specs.Cursor.{items, first_item};
+ghost use Rattle.c_expressions.specs.Reading.{run, terminals, Outcome};
+ghost use Rattle.c_expressions.specs.Scopes.{context_of, names_of};
+ghost use Rattle.c_statements.specs.Blocks.{turned};
+ghost use Rattle.c_statements.specs.Loops.{IsGone};
+ghost use Rattle.c_grammar.specs.Rules.{opened};
+ghost use Rattle.c_programs.specs.Spells.{main_tokens, IsTextRead, Spells, OnText};
+ghost use Rattle.c_programs.specs.Starts.{IsStart};
+
+use crate::globals::globals;
+use crate::limits::MAX_SOURCE;
+use crate::parts::gather;
+use base::fault::{ReadCode, ReadFault, TextFault};
+use base::tree::Program;
+use c_expressions::{Cursor, Frame, ReadError, Scope};
+use c_statements::open_body;
+use c_tokens::Sign;
+use directives::Word;
+use std::alloc::{AllocError, Global};
+
+/// The words of `main`, up to its brace, behind the globals.
+#[tactic(auto, using(c_expressions::proofs::Outcomes::on_from, crate::proofs::Programs::main_comes, crate::proofs::Programs::gone_six))]
+fn main_head<'a>(scope: &mut Scope<'a>, tokens: &mut Cursor<'a>) -> Result<(), ReadError>
+    requires { same (Fixed Uint64) (first_item tokens.old).terminal ≡ false }
+    ensures read { (s : Stack) → Outcome result (run (context_of scope.old 0 0) (Globals ∷ s) (items tokens.old))
+        (run (context_of scope.new 0 0) (Body ∷ Want End (for Plain) ∷ s) (items tokens.new)) }
+    ensures opened { OnOk result (context_of scope.new 0 0 ≡ opened (turned None scope.old)) }
+    ensures names { OnOk result (names_of scope.new ≡ names_of scope.old) }
+    ensures next { OnOk result (scope.new.next_scalar ≡ scope.old.next_scalar) }
+    ensures gone { OnOk result (IsGone main_tokens (items tokens.old) (items tokens.new)) }
+{
+    tokens.expect_word(Word::Int)?;
+    tokens.expect_word(Word::Main)?;
+    tokens.expect(Sign::OpenParen)?;
+    tokens.expect_word(Word::Void)?;
+    tokens.expect(Sign::CloseParen)?;
+    open_body(scope, tokens, None)?;
+    Ok(())
+}
+
+/// The whole source.
+#[tactic(auto, using(c_expressions::proofs::Outcomes::on_from, crate::proofs::Programs::main_outside, crate::proofs::Programs::read_text))]
+fn program<'a>(scope: &mut Scope<'a>, tokens: &mut Cursor<'a>) -> Result<Program, ReadError>
+    requires fresh { IsStart scope.old }
+    requires text { AreAscii (terminals (items tokens.old)) }
+    ensures read { Outcome result (run begin start (items tokens.old)) None }
+    ensures tree { IfOk result (λ p. IsTextRead (items tokens.old) p) }
+{
+    let arrays = globals(scope, tokens)?;
+    main_head(scope, tokens)?;
+    let gathered = gather(scope, tokens)?;
+    tokens.end()?;
+    let body = gathered.parts()?;
+    Ok(Program {
+        arrays,
+        scalars: scope.next_scalar,
+        body,
+    })
+}
+
+/// What is known before the first token.
+#[tactic(auto, using(crate::proofs::Programs::start_is))]
+fn new_scope<'a>(alloc: Global) -> Result<Scope<'a>, AllocError>
+    ensures { IfOk result (λ s. IsStart s) }
+{
+    let mut frames = Vec::new(alloc);
+    frames.push(Frame {
+        names: Vec::new(alloc),
+        inside: false,
+        choice: false,
+    })?;
+    Ok(Scope {
+        alloc,
+        frames,
+        fresh: None,
+        target: false,
+        choice: false,
+        limit: 0,
+        cells: 0,
+        arrays: 0,
+        scalars: 0,
+        next_scalar: 0,
+        statements: 0,
+    })
+}
+
+/// The program of a source that is not too long.
+#[tactic(auto, using(c_grammar::proofs::AsciiNames::names_are_ascii))]
+fn read_short(alloc: Global, bytes: &[u8]) -> Result<Program, ReadError>
+    ensures read { Outcome result (run begin start (items_of bytes.now)) None }
+    ensures tree { IfOk result (λ p. IsTextRead (items_of bytes.now) p) }
+{
+    let mut tokens = Cursor::new(bytes);
+    let mut scope = new_scope(alloc)?;
+    let program = program(&mut scope, &mut tokens)?;
+    Ok(program)
+}
+
+/// Reads a source of the language. Places count bytes from 1. A fault is the first in the source, the lowest code at
+/// its token; a source of more than 1,048,576 bytes has `TooMany` at its first byte. Want of memory comes in place of
+/// any answer.
+#[tactic(auto, using(crate::proofs::Answered::spells, crate::proofs::Answered::is_first, crate::proofs::Answered::is_none, crate::proofs::Answered::too_long_first, crate::proofs::Answered::too_long_none))]
+pub fn read_program(alloc: Global, bytes: &[u8]) -> Result<Program, ReadFault>
+    ensures found { IfOk result (λ p. Spells bytes.now p) }
+    ensures fault { IfErr result (OnText (λ f. IsFirstFault bytes.now f)) }
+    ensures refused { IfErr result (OnText (λ _. (p : Program) → Spells bytes.now p → ⊥)) }
+{
+    if bytes.len() > MAX_SOURCE {
+        return Err(ReadFault::Text(TextFault {
+            code: ReadCode::TooMany,
+            line: 1,
+            column: 1,
+        }));
+    }
+    match read_short(alloc, bytes) {
+        Ok(program) => Ok(program),
+        Err(ReadError::Memory) => Err(ReadFault::OutOfMemory),
+        Err(ReadError::Fault(fault)) => Err(ReadFault::Text(fault)),
+    }
+}

@@ -1,0 +1,7 @@
+use Rattle.std.proofs.Common.{◌+◌}
+use Rattle.c_statements.proofs.Locals.{scalar_declared}
+use Rattle.c_statements.proofs.declare.new_scalar.Goals as goal
+
+pub returns-clause-context : goal.returns-clause-context
+returns-clause-context c = scalar_declared c.args.scope.now c.declare.new.self c.args.name.now c.is_inside-inside.result
+    (c.args.scope.now.scalars + 1) c.is_inside-inside.ensures (c.in_ok-declare.ensures.declared 0 0)

@@ -1,0 +1,5 @@
+pub mod Statements
+pub mod Simple
+pub mod Loops
+pub mod Blocks
+pub mod Bodies

@@ -1,0 +1,105 @@
+-- Which statement a text means: names are resolved by declaration, and each place is that of its token.
+use Rattle.std.specs.Prelude.{◌≡◌, ℕ, ◌+◌, Bool, List, [], ◌∷◌, length, drop, Some}
+use Rattle.base.specs.declared.tree.Bounds.{Bounds}
+use Rattle.base.specs.declared.tree.Source.{Source as Assigned}
+use Rattle.base.specs.declared.tree.Source.TheVariants as from
+use Rattle.base.specs.declared.tree.Stmt.{Stmt as Statement, items-the_row-Stmt}
+use Rattle.base.specs.declared.tree.Stmt.TheVariants as statement
+use Rattle.c_grammar.specs.Grammar.{Source, Input, Value, Head, head_slots, Stmt, Declare, Assign, Store, Repeat, Choose, ChooseElse, Show, Block, Directive, OverBlock, OverLoop, stmt, source, Stmts, Done, Then, stmts}
+use Rattle.c_expressions.specs.declared.scope.Meaning.TheVariants as meaning
+use Rattle.c_expressions.specs.Means.{Items, Names, meaning_of, place_of, term_size, MeansScalar, IsExpr}
+
+-- what stands before a statement: the names that can be used, how many scalars are declared, how many loops stand
+-- around, and whether a target does
+pub record Env : Type 0 where
+  pub names : Names
+  pub scalars : ℕ
+  pub loops : ℕ
+  pub inside : Bool
+
+abbrev pub stmt_size : Stmt → ℕ
+stmt_size s = length (stmt s)
+
+abbrev pub source_size : Source → ℕ
+source_size v = length (source v)
+
+-- a loop's head with the word before it and the brace behind it
+abbrev pub head_size : Head → ℕ
+head_size h = length (head_slots h) + 2
+
+abbrev mutual
+  -- how many scalars a statement declares
+  pub declared_by : Stmt → ℕ
+  declared_by (Declare x v) = 1
+  declared_by (Repeat h b) = declared_in b
+  declared_by (Choose e a) = declared_in a
+  declared_by (ChooseElse e a b) = declared_in a + declared_in b
+  declared_by (Block b) = declared_in b
+  declared_by (OverBlock l b) = declared_in b
+  declared_by (OverLoop l h b) = declared_in b
+  declared_by (Assign x v) = 0
+  declared_by (Store x i v) = 0
+  declared_by (Show e) = 0
+  declared_by (Directive l) = 0
+
+  pub declared_in : Stmts → ℕ
+  declared_in Done = 0
+  declared_in (Then s ss) = declared_by s + declared_in ss
+
+abbrev pub more : ℕ → Env → Env
+more n env = record env { scalars = env.scalars + n }
+
+abbrev pub with_scalar : List ℕ → Env → Env
+with_scalar x env =
+    record env {
+      names = (x, meaning.Scalar (record { 0 = env.scalars }) env.inside) ∷ env.names;
+      scalars = env.scalars + 1;
+    }
+
+-- behind a statement: a declaration's name is visible to the end of its block
+abbrev pub behind : Stmt → Env → Env
+behind (Declare x v) env = with_scalar x env
+behind s env = more (declared_by s) env
+
+-- in a loop of that name
+abbrev pub in_loop : List ℕ → Env → Env
+in_loop x env = record env { names = (x, meaning.Loop env.loops) ∷ env.names; loops = env.loops + 1 }
+
+pub record IsHead (h : Head) (b : Bounds) : Type 0 where
+  pub first : h.first ≡ Some b.first
+  pub limit : h.limit ≡ Some b.end
+  pub step : h.step ≡ Some b.step
+
+abbrev pub IsSource : Env → Items → Source → Assigned → Type 0
+IsSource env is Input from.Read = Unit {0}
+IsSource env is (Value t) (from.Value e) = IsExpr env.names is t e
+IsSource env is _ _ = ⊥
+
+abbrev mutual
+  -- the statement that a text without a directive means, where the text is spelled by the first of these tokens
+  pub IsStatement : Env → Items → Stmt → Statement → Type 0
+  IsStatement env is (Declare x v) (statement.Declare id w) = (id.0 ≡ env.scalars) × IsSource env (drop 3 is) v w
+  IsStatement env is (Assign x v) (statement.Assign id w) =
+      MeansScalar (meaning_of env.names x) id × IsSource env (drop 2 is) v w
+  IsStatement env is (Store x i v) (statement.Store a at e w) =
+      (meaning_of env.names x ≡ Some (meaning.Array a)) × (at ≡ place_of is) × IsExpr env.names (drop 2 is) i e ×
+      IsSource env (drop (term_size i + 4) is) v w
+  IsStatement env is (Show t) (statement.Print e) = IsExpr env.names (drop 2 is) t e
+  IsStatement env is (Block b) (statement.Block' shape row) =
+      AreStatements env (drop 1 is) b (items-the_row-Stmt _ row)
+  IsStatement env is (Repeat h b) (statement.Loop' bounds shape row) =
+      IsHead h bounds × AreStatements (in_loop h.name env) (drop (head_size h) is) b (items-the_row-Stmt _ row)
+  IsStatement env is (Choose t a) (statement.If' e shape row shape' row') =
+      IsExpr env.names (drop 2 is) t e × AreStatements env (drop (term_size t + 4) is) a (items-the_row-Stmt _ row) ×
+      (items-the_row-Stmt _ row' ≡ [])
+  IsStatement env is (ChooseElse t a b) (statement.If' e shape row shape' row') =
+      IsExpr env.names (drop 2 is) t e × AreStatements env (drop (term_size t + 4) is) a (items-the_row-Stmt _ row) ×
+      AreStatements (more (declared_in a) env) (drop (term_size t + length (stmts a) + 7) is) b
+      (items-the_row-Stmt _ row')
+  IsStatement env is _ _ = ⊥
+
+  pub AreStatements : Env → Items → Stmts → List Statement → Type 0
+  AreStatements env is Done [] = Unit {0}
+  AreStatements env is (Then s ss) (x ∷ xs) =
+      IsStatement env is s x × AreStatements (behind s env) (drop (stmt_size s) is) ss xs
+  AreStatements env is _ _ = ⊥

@@ -1,0 +1,28 @@
+//! Statements of a source that are no directive lines. After an error neither the scope nor the tokens are of use.
+#![tactic(auto)]
+
+mod assign;
+mod block;
+mod declare;
+mod directive;
+mod head;
+mod if_head;
+mod level;
+mod limits;
+mod print;
+mod right_side;
+mod stmt;
+
+pub use assign::assigned;
+pub use block::{begin_block, begin_choice, begin_loop, close_body, open_body, otherwise};
+pub use declare::{declared, new_scalar};
+pub use directive::line_fault;
+pub use head::{bounds, head_name};
+pub use if_head::condition;
+pub use level::loops_around;
+pub use print::printed;
+pub use right_side::{ended_source, source};
+pub use stmt::{body, choice, statement, statements};
+
+#[cfg(test)]
+mod tests;
