@@ -86,7 +86,7 @@ fn doubles(alloc: Global) -> Result<Program, AllocError>
     arrays.insert(name, ArrayInfo { length: 4 })?;
     Ok(Program {
         arrays,
-        scalars: IndexMap::new(alloc),
+        scalars: 0,
         body: vec![in alloc;
             Part::Host(for_four(alloc, fill)?),
             Part::Target(mapping(alloc)?, for_four(alloc, double(alloc)?)?),

@@ -11,14 +11,25 @@ const MAX_CAPACITY: i64 = 4_294_967_296;
 
 /// What the words ask for.
 #[derive(Clone, Copy)]
+pub enum Request<'a> {
+    Step(Step<'a>),
+    /// The items of the program in the file.
+    List(&'a str),
+}
+
+/// A run event by event.
+#[derive(Clone, Copy)]
 pub struct Step<'a> {
     pub file: &'a str,
     pub choices: &'a str,
     pub capacity: u64,
 }
 
+fn file<'a>(alloc: Global) -> Arg<'a> {
+    Arg::new(alloc, "FILE").required(true).help("the source")
+}
+
 fn step_command<'a>(alloc: Global) -> Result<Command<'a>, Error> {
-    let file = Arg::new(alloc, "FILE").required(true).help("the source");
     let choices = Arg::new(alloc, "choices")
         .long("choices")
         .value_name("LIST")
@@ -30,14 +41,28 @@ fn step_command<'a>(alloc: Global) -> Result<Command<'a>, Error> {
         .help("the device's capacity in cells");
     let step = Command::new(alloc, "step")
         .about("runs a program event by event, and prints its output and its log")
-        .arg(file)?
+        .arg(file(alloc))?
         .arg(choices)?
         .arg(capacity)?;
+    Ok(step)
+}
+
+fn list_command<'a>(alloc: Global) -> Result<Command<'a>, Error> {
+    let list = Command::new(alloc, "list")
+        .about("prints the items of a program, a line each")
+        .arg(file(alloc))?;
+    Ok(list)
+}
+
+fn commands<'a>(alloc: Global) -> Result<Command<'a>, Error> {
+    let step = step_command(alloc)?;
+    let list = list_command(alloc)?;
     let program = Command::new(alloc, "ompc")
         .about("checks and runs C programs with OpenMP target directives")
         .subcommand_required(true)
         .arg_required_else_help(true)
         .no_binary_name(true)
+        .subcommand(list)?
         .subcommand(step)?;
     Ok(program)
 }
@@ -50,21 +75,25 @@ fn text_of<'a>(step: &ArgMatches<'a>, id: &str) -> &'a str {
     }
 }
 
-/// Reads the words, without the program's name.
-pub fn parse<'a>(alloc: Global, words: &'a [&'a str]) -> Result<Step<'a>, Error> {
-    let command = step_command(alloc)?;
-    let matches = command.try_get_matches_from(words)?;
+fn step_of<'a>(given: &ArgMatches<'a>) -> Step<'a> {
     let mut step = Step {
-        file: "",
-        choices: "",
+        file: text_of(given, "FILE"),
+        choices: text_of(given, "choices"),
         capacity: DEFAULT_CAPACITY,
     };
-    if let Some((_, given)) = matches.subcommand() {
-        step.file = text_of(given, "FILE");
-        step.choices = text_of(given, "choices");
-        if let Some(capacity) = given.get_one::<u64>("capacity") {
-            step.capacity = capacity;
-        }
+    if let Some(capacity) = given.get_one::<u64>("capacity") {
+        step.capacity = capacity;
     }
-    Ok(step)
+    step
+}
+
+/// Reads the words, without the program's name.
+pub fn parse<'a>(alloc: Global, words: &'a [&'a str]) -> Result<Request<'a>, Error> {
+    let command = commands(alloc)?;
+    let matches = command.try_get_matches_from(words)?;
+    match matches.subcommand() {
+        Some(("list", given)) => Ok(Request::List(text_of(given, "FILE"))),
+        Some((_, given)) => Ok(Request::Step(step_of(given))),
+        None => Ok(Request::List("")),
+    }
 }

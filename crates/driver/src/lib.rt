@@ -2,11 +2,13 @@
 #![tactic(auto)]
 
 mod command;
+mod listing;
 mod numbers;
 mod perform;
 mod source;
 mod texts;
 
+pub use listing::list_source;
 pub use perform::{SourceError, Sources, drive};
 pub use source::run_source;
 

@@ -1,8 +1,9 @@
 //! One command, over any sources, reader and writers.
 
-ghost use Rattle.std.specs.Prelude.{◌≡◌, ◌≤◌, ◌⊎◌};
+ghost use Rattle.std.specs.Prelude.{◌≡◌, ◌≤◌, ◌⊎◌, IfOk, OnErr};
 
-use crate::command::parse;
+use crate::command::{Request, Step, parse};
+use crate::listing::list_source;
 use crate::numbers::{NumbersFault, choice_list, input_numbers};
 use crate::source::load;
 use crate::texts::log_text;
@@ -126,27 +127,28 @@ fn read_input<'a, R: Read>(alloc: Global, input: &mut R) -> Result<Vec<u64>, End
     }
 }
 
-/// The answer of the program that the words name. Faults are looked for in this order: the words, the choices, the
-/// source's bytes, the program, the input, the run.
+/// The bytes of the source of that name.
+fn bytes_of<'a, S: Sources>(sources: &mut S, name: &'a str) -> Result<Vec<u8>, Ending<'a>> {
+    match sources.source(name) {
+        Ok(bytes) => Ok(bytes),
+        Err(error) => Err(no_source(error, name)),
+    }
+}
+
+/// The answer of a run. Faults are looked for in this order: the choices, the source's bytes, the program, the input, the
+/// run.
 fn answer<'a, S: Sources, R: Read>(
     alloc: Global,
-    words: &'a [&'a str],
+    step: Step<'a>,
     sources: &mut S,
     input: &mut R,
 ) -> Result<Answer, Ending<'a>> {
-    let step = match parse(alloc, words) {
-        Ok(step) => step,
-        Err(error) => return Err(Ending::Usage(error)),
-    };
     let choices = match choice_list(alloc, step.choices) {
         Ok(choices) => choices,
         Err(NumbersFault::Malformed) => return Err(Ending::BadChoices),
         Err(NumbersFault::OutOfMemory) => return Err(Ending::OutOfMemory),
     };
-    let bytes = match sources.source(step.file) {
-        Ok(bytes) => bytes,
-        Err(error) => return Err(no_source(error, step.file)),
-    };
+    let bytes = bytes_of(sources, step.file)?;
     let program = load(alloc, &bytes)?;
     let numbers = read_input(alloc, input)?;
     match run_small(alloc, &program, &numbers, &choices, step.capacity) {
@@ -159,6 +161,58 @@ fn write_answer<W: Write>(answer: &Answer, out: &mut W) -> io::Result<()> {
     out.write_all(&answer.out)?;
     log_text(&answer.history, out)?;
     out.flush()
+}
+
+/// Runs a program and prints its output and its log.
+fn do_step<'a, S: Sources, R: Read, W: Write>(
+    alloc: Global,
+    step: Step<'a>,
+    sources: &mut S,
+    input: &mut R,
+    out: &mut W,
+) -> Result<u8, Ending<'a>>
+    ensures status { IfOk result (λ s. (s ≡ 0) ⊎ (s ≡ 3)) }
+    ensures quiet { OnErr result (W.contents out.new ≡ W.contents out.old) }
+{
+    let answer = answer(alloc, step, sources, input)?;
+    match write_answer(&answer, out) {
+        Ok(()) => Ok(DONE),
+        Err(_) => Ok(FAILED),
+    }
+}
+
+/// Prints the items of a program.
+fn do_list<'a, S: Sources, W: Write>(
+    alloc: Global,
+    name: &'a str,
+    sources: &mut S,
+    out: &mut W,
+) -> Result<u8, Ending<'a>>
+    ensures status { IfOk result (λ s. (s ≡ 0) ⊎ (s ≡ 3)) }
+    ensures quiet { OnErr result (W.contents out.new ≡ W.contents out.old) }
+{
+    let bytes = bytes_of(sources, name)?;
+    match list_source(alloc, &bytes, out)? {
+        Ok(()) => Ok(DONE),
+        Err(_) => Ok(FAILED),
+    }
+}
+
+fn perform<'a, S: Sources, R: Read, W: Write>(
+    alloc: Global,
+    words: &'a [&'a str],
+    sources: &mut S,
+    input: &mut R,
+    out: &mut W,
+) -> Result<u8, Ending<'a>>
+    ensures status { IfOk result (λ s. (s ≡ 0) ⊎ (s ≡ 3)) }
+    ensures quiet { OnErr result (W.contents out.new ≡ W.contents out.old) }
+{
+    match parse(alloc, words) {
+        Ok(Request::Step(step)) => do_step(alloc, step, sources, input, out),
+        Ok(Request::List(name)) => do_list(alloc, name, sources, out),
+        Err(error) => Err(Ending::Usage(error)),
+    }
 }
 
 /// Does the command of the words, which are without the program's name, and answers its status: 0 where it was done, 1
@@ -177,11 +231,8 @@ pub fn drive<S: Sources, R: Read, W: Write, E: Write>(
     ensures status { result ≤ 3 }
     ensures quiet { (result ≡ 1) ⊎ (result ≡ 2) → W.contents out.new ≡ W.contents out.old }
 {
-    match answer(alloc, words, sources, input) {
-        Ok(answer) => match write_answer(&answer, out) {
-            Ok(()) => DONE,
-            Err(_) => FAILED,
-        },
+    match perform(alloc, words, sources, input, out) {
+        Ok(status) => status,
         Err(ending) => {
             // A status is answered even where its text cannot be written.
             let _ = ending.write(err);

@@ -293,3 +293,110 @@ fn answers_a_source(rt: HostRuntime) -> Result<(), Fail> {
     assert!(rt; answer.finals[0].1.as_slice() == [1, 3, 5, 7].as_slice());
     Ok(())
 }
+
+const ROW_LISTED: &str =
+    "uint64_t A[4];\nint main(void) {\nfor (uint64_t k = 0; k < 2; k += 1) {\n#pragma omp target update to(A[2*k:1])\nA[0] = k;\n}\n}\n";
+
+#[test]
+fn lists_the_items_of_loops(rt: HostRuntime) {
+    let outcome = run(rt.alloc(), &["list", "a.c"], ROW_LISTED, "");
+    assert!(rt;
+        prints(
+            &outcome,
+            "0 update to A[0:1]\n1 host\n2 update to A[2:1]\n3 host\n",
+        )
+    );
+}
+
+const DATA: &str =
+    "uint64_t A[4];\nuint64_t n;\nint main(void) {\n#pragma omp target data map(alloc: A)\n{\n#pragma omp target\n{ A[0] = n; }\n#pragma omp target update from(A[0:2])\n{ print(A[0]); }\n}\n}\n";
+
+#[test]
+fn lists_a_target_data(rt: HostRuntime) {
+    let outcome = run(rt.alloc(), &["list", "a.c"], DATA, "");
+    assert!(rt;
+        prints(
+            &outcome,
+            "0 begin alloc A[0:4]\n1 target tofrom A[0:4]\n2 update from A[0:2]\n3 host\n4 end alloc A[0:4]\n",
+        )
+    );
+}
+
+const NONE_MANY_TIMES: &str =
+    "int main(void) {\nfor (uint64_t k = 0; k < 18446744073709551615; k += 1) {\nfor (uint64_t i = 0; i < 0; i += 1) {\n#pragma omp taskwait\n}\n}\n}\n";
+
+const ONE_MANY_TIMES: &str =
+    "int main(void) {\nfor (uint64_t k = 0; k < 18446744073709551615; k += 1) {\nfor (uint64_t i = 0; i < 1; i += 1) {\n#pragma omp taskwait\n}\n}\n}\n";
+
+#[test]
+fn counts_items_before_it_walks(rt: HostRuntime) {
+    let none = run(rt.alloc(), &["list", "a.c"], NONE_MANY_TIMES, "");
+    assert!(rt; prints(&none, ""));
+    let many = run(rt.alloc(), &["list", "a.c"], ONE_MANY_TIMES, "");
+    assert!(rt; fails(&many, 1, "E401\n"));
+}
+
+const MOST: &str =
+    "int main(void) {\nfor (uint64_t i = 0; i < 4096; i += 1) {\n#pragma omp taskwait\n}\n}\n";
+
+const ONE_MORE: &str =
+    "int main(void) {\nfor (uint64_t i = 0; i < 4097; i += 1) {\n#pragma omp taskwait\n}\n}\n";
+
+fn lines(bytes: &[u8]) -> usize {
+    bytes.iter().filter(|b| **b == b'\n').count()
+}
+
+#[test]
+fn lists_at_most_4096_items(rt: HostRuntime) {
+    let most = run(rt.alloc(), &["list", "a.c"], MOST, "");
+    assert_eq!(rt; most.status, 0);
+    assert_eq!(rt; lines(&most.out), 4096);
+    assert!(rt; most.out.as_slice().ends_with(b"\n4095 wait\n".as_slice()));
+    let more = run(rt.alloc(), &["list", "a.c"], ONE_MORE, "");
+    assert!(rt; fails(&more, 1, "E401\n"));
+}
+
+const TWO_TASKS: &str =
+    "uint64_t A[8];\nint main(void) {\n#pragma omp target enter data map(to: A)\n#pragma omp target map(tofrom: A[0:4]) nowait\nfor (uint64_t i = 0; i < 4; i += 1) { A[i] = i + 1; }\n#pragma omp target map(tofrom: A[4:4]) nowait\nfor (uint64_t i = 4; i < 8; i += 1) { A[i] = i * 10; }\n#pragma omp taskwait\n#pragma omp target update from(A)\nfor (uint64_t i = 0; i < 8; i += 1) { print(A[i]); }\n}\n";
+
+#[test]
+fn lists_deferred_items(rt: HostRuntime) {
+    let outcome = run(rt.alloc(), &["list", "a.c"], TWO_TASKS, "");
+    assert!(rt;
+        prints(
+            &outcome,
+            "0 enter to A[0:8]\n1 target nowait tofrom A[0:4]\n2 target nowait tofrom A[4:4]\n3 wait\n4 update from A[0:8]\n5 host\n",
+        )
+    );
+}
+
+/// The items of an empty block, of an empty `target data`, and of a loop in one.
+#[test]
+fn lists_empty_blocks(rt: HostRuntime) {
+    let block = run(rt.alloc(), &["list", "a.c"], "int main(void) { { } }\n", "");
+    assert!(rt; prints(&block, "0 host\n"));
+    let nothing = run(rt.alloc(), &["list", "a.c"], "int main(void) { }\n", "");
+    assert!(rt; prints(&nothing, ""));
+    let empty = "uint64_t A[4];\nint main(void) {\n#pragma omp target data map(alloc: A)\n{ }\n}\n";
+    let data = run(rt.alloc(), &["list", "a.c"], empty, "");
+    assert!(rt; prints(&data, "0 begin alloc A[0:4]\n1 end alloc A[0:4]\n"));
+    let over_loop =
+        "uint64_t A[4];\nint main(void) {\n#pragma omp target data map(alloc: A)\nfor (uint64_t i = 0; i < 4; i += 1) { A[i] = i; }\n}\n";
+    let turns = run(rt.alloc(), &["list", "a.c"], over_loop, "");
+    assert!(rt;
+        prints(
+            &turns,
+            "0 begin alloc A[0:4]\n1 host\n2 end alloc A[0:4]\n",
+        )
+    );
+}
+
+#[test]
+fn refuses_to_list_a_faulty_text(rt: HostRuntime) {
+    let text = "int main(void) {\n#pragma omp target map(to: B)\n{ }\n}\n";
+    let outcome = run(rt.alloc(), &["list", "a.c"], text, "");
+    assert!(rt; fails(&outcome, 1, "E103 line 2 column 28\n"));
+    let absent = run(rt.alloc(), &["list", "b.c"], text, "");
+    assert!(rt; fails(&absent, 2, "cannot read b.c\n"));
+    assert!(rt; is_usage(&run(rt.alloc(), &["list"], text, "")));
+}

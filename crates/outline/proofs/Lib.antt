@@ -1,0 +1,13 @@
+pub mod Rows
+pub mod Naming
+pub mod Counting
+pub mod Trees
+pub mod Names
+pub mod Stands
+pub mod Turns
+pub mod Walks
+pub mod AddedTurns
+pub mod Lengths
+pub mod Implicit
+pub mod Shows
+pub mod Builds

@@ -1,0 +1,6 @@
+use Rattle.std.proofs.Common.{◌≡◌, map, take}
+use Rattle.base.specs.Items.{map_of, region_kind}
+use Rattle.outline.proofs.maps.region_maps.Given as goal
+
+abbrev pub invariant-texts : goal.invariant-texts
+invariant-texts l = l.maps.items ≡ map (map_of region_kind l.lengths l.loops) (take l.text-index l.texts)

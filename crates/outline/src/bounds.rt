@@ -1,0 +1,45 @@
+// The sections of map and depend items, with the loops' names at their values.
+
+ghost use Rattle.std.specs.Prelude.{◌≡◌, ◌-◌, ◌^◌, min};
+ghost use Rattle.base.specs.Items.{bound_value, section_of, term_value};
+
+use base::item::Section;
+use base::tree::{Bound, SectionText, Term};
+
+fn value_of(term: Term, loops: &[u64]) -> u64
+    ensures { result ≡ min (term_value loops.now term) (2 ^ 64 - 1) }
+{
+    match term {
+        Term::Literal(n) => n,
+        Term::Times(n, level) => n.saturating_mul(loops.get(level as usize).copied().unwrap_or(0)),
+    }
+}
+
+/// The sum of a bound's terms; one above `u64::MAX` is kept as that.
+fn bound(bound: &Bound, loops: &[u64]) -> u64
+    ensures { result ≡ bound_value loops.now bound.now }
+{
+    let mut total = 0u64;
+    'terms: for term in bound.terms.as_slice() {
+        total = total.saturating_add(value_of(*term, loops));
+    }
+    total
+}
+
+/// A section's cells. One that is written without bounds is the whole array.
+pub fn section(text: &SectionText, lengths: &[u32], loops: &[u64]) -> Section
+    ensures { result ≡ section_of lengths.now loops.now text.now }
+{
+    match &text.bounds {
+        None => Section {
+            array: text.array,
+            first: 0,
+            length: u64::from(lengths.get(text.array.0 as usize).copied().unwrap_or(0)),
+        },
+        Some((first, length)) => Section {
+            array: text.array,
+            first: bound(first, loops),
+            length: bound(length, loops),
+        },
+    }
+}

@@ -1,0 +1,181 @@
+// One item.
+
+ghost use Rattle.std.specs.Prelude.{◌≡◌, ◌++◌, false, true, map, IfOk, OnOk, Some};
+ghost use Rattle.base.specs.Items.{alone_work, data_work, host_work, map_of, region_kind, target_work};
+ghost use Rattle.outline.specs.Shown.{shown};
+ghost use Rattle.outline.specs.Walk.{RegionIsAt, entries_in, implicit_of, is_named};
+
+use crate::known::Known;
+use crate::maps::{depend_items, enter_maps, exit_maps, region_maps, update_maps};
+use base::item::{Item, ItemKind, LoopValues, MapItem, MapKind, Section};
+use base::tree::{ArrayId, Directive, MapText, Place, Region, RegionKind, Target};
+use smallvec::SmallVec;
+use std::alloc::{AllocError, Global};
+
+fn loop_values(alloc: Global, loops: &[u64]) -> Result<LoopValues, AllocError>
+    ensures { IfOk result (λ l. l.values.items ≡ loops.now) }
+{
+    Ok(LoopValues {
+        values: SmallVec::from_slice(alloc, loops)?,
+    })
+}
+
+/// A run of statements on the host: the region of that number.
+pub fn host_item(known: &Known<'_, '_>, number: u32, loops: &[u64]) -> Result<Item, AllocError>
+    ensures { IfOk result (λ i. (r : Region) → RegionIsAt known.now number false r → shown (entries_in known.now) i ≡ Some (host_work r loops.now)) }
+{
+    Ok(Item {
+        kind: ItemKind::Host,
+        deferred: false,
+        maps: SmallVec::new(known.alloc),
+        depends: SmallVec::new(known.alloc),
+        region: Some(number),
+        loops: loop_values(known.alloc, loops)?,
+    })
+}
+
+fn is_named(written: &[MapText<RegionKind>], array: ArrayId) -> bool
+    ensures { result ≡ is_named written.now array.0 }
+{
+    'written: for text in written {
+        if array.0 == text.section.array.0 {
+            return true;
+        }
+    }
+    false
+}
+
+fn implicit_map(lengths: &[u32], place: Place, array: ArrayId) -> MapItem
+    ensures { result ≡ Rattle.base.specs.Items.implicit_map lengths.now place array.0 }
+{
+    MapItem {
+        kind: MapKind::ToFrom,
+        always: false,
+        section: Section {
+            array,
+            first: 0,
+            length: u64::from(lengths.get(array.0 as usize).copied().unwrap_or(0)),
+        },
+        line: place.line,
+        column: place.column,
+    }
+}
+
+// Adds the arrays that no written map item names.
+fn add_implicit(
+    maps: &mut SmallVec<MapItem, 2>,
+    lengths: &[u32],
+    place: Place,
+    written: &[MapText<RegionKind>],
+    arrays: &[ArrayId],
+) -> Result<(), AllocError>
+    ensures { OnOk result (maps.new.items ≡ maps.old.items ++ implicit_of lengths.now place written.now arrays.now) }
+{
+    'arrays: for array in arrays {
+        if !is_named(written, *array) {
+            maps.push(implicit_map(lengths, place, *array))?;
+        }
+    }
+    Ok(())
+}
+
+// The map items of a `target`: the written ones, and behind them the implicit ones.
+fn target_maps(
+    known: &Known<'_, '_>,
+    target: &Target,
+    place: Place,
+    arrays: &[ArrayId],
+    loops: &[u64],
+) -> Result<SmallVec<MapItem, 2>, AllocError>
+    ensures { IfOk result (λ maps. maps.items ≡ map (map_of region_kind known.now.lengths.now loops.now) target.now.maps.items ++ implicit_of known.now.lengths.now place target.now.maps.items arrays.now) }
+{
+    let mut maps = region_maps(known.alloc, &target.maps, known.lengths, loops)?;
+    add_implicit(&mut maps, known.lengths, place, &target.maps, arrays)?;
+    Ok(maps)
+}
+
+/// A `target`. An array that its region uses and no map item names is mapped whole (OpenMP API 5.2, section 5.8.1).
+pub fn target_item(
+    known: &Known<'_, '_>,
+    target: &Target,
+    region: &Region,
+    number: u32,
+    loops: &[u64],
+) -> Result<Item, AllocError>
+    requires { RegionIsAt known.now number true region.now }
+    ensures { IfOk result (λ i. shown (entries_in known.now) i ≡ Some (target_work known.now.lengths.now target.now region.now loops.now)) }
+{
+    let arrays = &known.regions[number as usize].arrays;
+    Ok(Item {
+        kind: ItemKind::Target,
+        deferred: target.tasking.nowait,
+        maps: target_maps(known, target, region.place, arrays, loops)?,
+        depends: depend_items(known.alloc, &target.tasking.depends, known.lengths, loops)?,
+        region: Some(number),
+        loops: loop_values(known.alloc, loops)?,
+    })
+}
+
+/// The beginning or the end of a `target data`.
+pub fn data_item(
+    known: &Known<'_, '_>,
+    kind: ItemKind,
+    maps: &[MapText<RegionKind>],
+    loops: &[u64],
+) -> Result<Item, AllocError>
+    ensures { IfOk result (λ i. shown (entries_in known.now) i ≡ Some (data_work kind known.now.lengths.now maps.now loops.now)) }
+{
+    Ok(Item {
+        kind,
+        deferred: false,
+        maps: region_maps(known.alloc, maps, known.lengths, loops)?,
+        depends: SmallVec::new(known.alloc),
+        region: None,
+        loops: loop_values(known.alloc, loops)?,
+    })
+}
+
+/// A directive that stands alone.
+pub fn alone_item(
+    known: &Known<'_, '_>,
+    directive: &Directive,
+    loops: &[u64],
+) -> Result<Item, AllocError>
+    ensures { IfOk result (λ i. shown (entries_in known.now) i ≡ Some (alone_work known.now.lengths.now directive.now loops.now)) }
+{
+    let (alloc, lengths) = (known.alloc, known.lengths);
+    match directive {
+        Directive::Enter(maps, tasking) => Ok(Item {
+            kind: ItemKind::Enter,
+            deferred: tasking.nowait,
+            maps: enter_maps(alloc, maps, lengths, loops)?,
+            depends: depend_items(alloc, &tasking.depends, lengths, loops)?,
+            region: None,
+            loops: loop_values(alloc, loops)?,
+        }),
+        Directive::Exit(maps, tasking) => Ok(Item {
+            kind: ItemKind::Exit,
+            deferred: tasking.nowait,
+            maps: exit_maps(alloc, maps, lengths, loops)?,
+            depends: depend_items(alloc, &tasking.depends, lengths, loops)?,
+            region: None,
+            loops: loop_values(alloc, loops)?,
+        }),
+        Directive::Update(sections, tasking) => Ok(Item {
+            kind: ItemKind::Update,
+            deferred: tasking.nowait,
+            maps: update_maps(alloc, sections, lengths, loops)?,
+            depends: depend_items(alloc, &tasking.depends, lengths, loops)?,
+            region: None,
+            loops: loop_values(alloc, loops)?,
+        }),
+        Directive::Wait(depends) => Ok(Item {
+            kind: ItemKind::Wait,
+            deferred: false,
+            maps: SmallVec::new(alloc),
+            depends: depend_items(alloc, depends, lengths, loops)?,
+            region: None,
+            loops: loop_values(alloc, loops)?,
+        }),
+    }
+}

@@ -1,0 +1,106 @@
+-- The lines of items, and of the works that they show.
+use Rattle.std.proofs.Common.{◌≡◌, ℕ, suc, ◌+◌, ◌<◌, List, [], ◌∷◌, ◌++◌, length, take, get_or, Option, Some, None, refl, sym, ap, ◌∙◌, arith, append_assoc, append-nil, subst, ◌≤◌, take_all}
+use Rattle.std.proofs.lemmas.List.{take_more, length-take}
+use Rattle.std.specs.Prelude.{slice_get, option_map}
+use Rattle.std.specs.Io.KnownBytes.{Appends}
+use Rattle.std.proofs.KnownBytes.{Appends-trans}
+use Rattle.base.specs.declared.item.Item.{Item}
+use Rattle.base.specs.declared.tree.Program.{Program}
+use Rattle.base.specs.Items.{Work, plan}
+use Rattle.outline.specs.Regions.{Entry, entries_of}
+use Rattle.outline.specs.Shown.{work_with, shown, all_shown, as_shown}
+use Rattle.report.specs.Listing.{line_of, work_line, lines_from, list_bytes}
+
+abbrev pub item_line : Program → ℕ → Item → List ℕ
+item_line p n it = line_of p n it.kind it.deferred it.maps.items it.depends.items
+
+abbrev pub item_lines : Program → ℕ → List Item → List ℕ
+item_lines p n [] = []
+item_lines p n (it ∷ its) = item_line p n it ++ item_lines p (n + 1) its
+
+some_same : {X : Type 0} (x y : X) → Some x ≡ Some y → x ≡ y
+some_same x y h = cc
+
+by_entry : (p : Program) (n : ℕ) (it : Item) (w : Work) (o : Option Entry) →
+    option_map (λ (e : Entry). work_with it (Some e.region)) o ≡ Some w → item_line p n it ≡ work_line p n w
+by_entry p n it w None h = cc
+by_entry p n it w (Some e) h = ap (λ v. work_line p n v) (some_same (work_with it (Some e.region)) w h)
+
+by_region : (es : List Entry) (p : Program) (n : ℕ) (it : Item) (w : Work) (o : Option ℕ) →
+    (elim o [
+      | None ↦ Some (work_with it None)
+      | Some k ↦ option_map (λ (e : Entry). work_with it (Some e.region)) (slice_get es k)
+    ]) ≡ Some w → item_line p n it ≡ work_line p n w
+by_region es p n it w None h = ap (λ v. work_line p n v) (some_same (work_with it None) w h)
+by_region es p n it w (Some k) h = by_entry p n it w (slice_get es k) h
+
+-- an item has the line of the work that it shows
+shown_line : (es : List Entry) (p : Program) (n : ℕ) (it : Item) (w : Work) → shown es it ≡ Some w →
+    item_line p n it ≡ work_line p n w
+shown_line es p n it w h = by_region es p n it w it.region h
+
+head_same : {X : Type 0} (x y : X) (xs ys : List X) → x ∷ xs ≡ y ∷ ys → x ≡ y
+head_same x y xs ys h = cc
+
+tail_same : {X : Type 0} (x y : X) (xs ys : List X) → x ∷ xs ≡ y ∷ ys → xs ≡ ys
+tail_same x y xs ys h = cc
+
+lines_same : (es : List Entry) (p : Program) (n : ℕ) (items : List Item) (works : List Work) →
+    all_shown es items ≡ as_shown works → item_lines p n items ≡ lines_from p n works
+lines_same es p n [] [] h = refl
+lines_same es p n [] (w ∷ works) h = cc
+lines_same es p n (it ∷ items) [] h = cc
+lines_same es p n (it ∷ items) (w ∷ works) h =
+    (λ i. shown_line es p n it w (head_same (shown es it) (Some w) (all_shown es items) (as_shown works) h) i
+    ++ lines_same es p (n + 1) items works (tail_same (shown es it) (Some w) (all_shown es items) (as_shown works) h) i)
+
+-- the lines of a program's items are its listing
+pub lines_are : (p : Program) (items : List Item) → all_shown (entries_of p) items ≡ as_shown (plan p).items →
+    item_lines p 0 items ≡ list_bytes p
+lines_are p items h = lines_same (entries_of p) p 0 items (plan p).items h
+
+lines_append : (p : Program) (n : ℕ) (items : List Item) (it : Item) →
+    item_lines p n (items ++ it ∷ []) ≡ item_lines p n items ++ item_line p (n + length items) it
+lines_append p n [] it =
+    append-nil (item_line p n it)
+    ∙ ap (λ m. item_line p m it) same
+  where
+    same : n ≡ n + 0
+    same = omega arith
+lines_append p n (x ∷ items) it =
+    ap (λ bs. item_line p n x ++ bs) (lines_append p (n + 1) items it)
+    ∙ sym (append_assoc (item_line p n x) (item_lines p (n + 1) items) (item_line p (n + 1 + length items) it))
+    ∙ ap (λ m. item_line p n x ++ item_lines p (n + 1) items ++ item_line p m it) same
+  where
+    same : n + 1 + length items ≡ n + suc (length items)
+    same = omega arith
+
+-- one line more
+pub lines_next : (p : Program) (items : List Item) (k : ℕ) (it : Item) → k < length items → it ≡ get_or items k it →
+    item_lines p 0 (take (k + 1) items) ≡ item_lines p 0 (take k items) ++ item_line p k it
+lines_next p items k it h is =
+    ap (λ xs. item_lines p 0 xs) (take_more items k it h)
+    ∙ ap (λ x. item_lines p 0 (take k items ++ x ∷ [])) (sym is)
+    ∙ lines_append p 0 (take k items) it
+    ∙ ap (λ m. item_lines p 0 (take k items) ++ item_line p m it) count
+  where
+    count : 0 + length (take k items) ≡ k
+    count = omega (arith, length-take k items)
+
+-- What was written.
+
+pub wrote_next : (p : Program) (a b c : Option (List ℕ)) (items : List Item) (k : ℕ) (it : Item) (bs : List ℕ) →
+    k < length items → it ≡ get_or items k it → Appends a b (item_lines p 0 (take k items)) → Appends b c bs →
+    bs ≡ item_line p k it → Appends a c (item_lines p 0 (take (k + 1) items))
+wrote_next p a b c items k it bs h is before here line =
+    subst (λ (xs : List ℕ). Appends a c xs)
+    (ap (λ xs. item_lines p 0 (take k items) ++ xs) line ∙ sym (lines_next p items k it h is))
+    (Appends-trans a b c (item_lines p 0 (take k items)) bs before here)
+
+pub wrote_all : (p q : Program) (a b : Option (List ℕ)) (items : List Item) (k : ℕ) → length items ≤ k → q ≡ p →
+    all_shown (entries_of p) items ≡ as_shown (plan p).items → Appends a b (item_lines q 0 (take k items)) →
+    Appends a b (list_bytes p)
+wrote_all p q a b items k all same shows wrote =
+    subst (λ (xs : List ℕ). Appends a b xs)
+    (ap (λ its. item_lines q 0 its) (take_all k items all) ∙ ap (λ r. item_lines r 0 items) same ∙ lines_are p items shows)
+    wrote

@@ -1,0 +1,18 @@
+use Rattle.std.proofs.Common.{◌∙◌, arith}
+use Rattle.std.proofs.KnownBytes.{Appends-nil}
+use Rattle.report.proofs.Lines.{wrote_next, wrote_all}
+use Rattle.report.proofs.listing.list_text.Goals as goal
+
+pub items-init : goal.items-init
+items-init g c = Appends-nil (g.W.Write.contents c.args.out.now)
+
+pub items-preserved : goal.items-preserved
+items-preserved g c =
+    wrote_next c.program-program.result.now _ _ _ c.items-item-items.result.now c.items.number c.item-item.result _
+    (omega arith) c.item-item.is c.items.invariant c.in_ok-write_all.ensures.bytes
+    (c.as_bytes.ensures.value ∙ c.in_ok-line.ensures)
+
+pub returns : goal.returns
+returns g c =
+    wrote_all c.args.outlined.now c.program-program.result.now _ _ c.items-item-items.result.now c.items.number
+    (omega arith) c.program-program.ensures c.items-item-items.ensures.shown c.items.invariant

@@ -1,0 +1,8 @@
+//! The texts of the program.
+#![tactic(auto)]
+
+mod listing;
+#[cfg(test)]
+mod tests;
+
+pub use listing::list_text;
