@@ -1,0 +1,16 @@
+pub mod Leasts
+pub mod SectionFaults
+pub mod Outcomes
+pub mod TurnsLeft
+pub mod Touches
+pub mod Walked
+pub mod TurnCounts
+pub mod Marks
+pub mod Noted
+pub mod SeenTests
+pub mod AllSeen
+pub mod RegionFaults
+pub mod Sets
+pub mod Runs
+pub mod Known
+pub mod ItemParts

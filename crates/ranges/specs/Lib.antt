@@ -1,0 +1,6 @@
+pub mod Faults
+pub mod Rows
+pub mod Cells
+pub mod Seen
+pub mod Found
+pub mod ItemFaults

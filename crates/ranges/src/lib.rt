@@ -1,0 +1,112 @@
+//! What the items of a program may touch: which sections leave their arrays, and which cells a region reads and writes.
+#![tactic(auto)]
+
+ghost use Rattle.std.specs.Prelude.{◌≡◌, [], Some, IfOk, OnOk, IfErr};
+ghost use Rattle.base.specs.declared.item.Cell.{Cell};
+ghost use Rattle.base.specs.Meaning.{lengths_of};
+ghost use Rattle.base.specs.Accepted.{region_faults};
+ghost use Rattle.base.specs.Footprint.{exposes, reads, surely_writes, touches_of, writes};
+ghost use Rattle.ranges.specs.Cells.{has};
+ghost use Rattle.ranges.specs.Faults.{IsFirst, section_faults};
+ghost use Rattle.ranges.specs.Found.{IsFootprintFault};
+ghost use Rattle.ranges.specs.ItemFaults.{AreByParts};
+
+pub use crate::cells::{CellSet, Footprint};
+use crate::section::{note_depends, note_maps};
+use crate::state::Walk;
+use crate::turns::turns_in_all;
+use crate::walk::walk_region;
+use base::fault::{RangeCode, RangeFault};
+use base::item::{Item, LoopValues};
+use base::tree::{Place, Program, Region};
+use std::alloc::Global;
+use thiserror::Error;
+
+mod cells;
+mod least;
+mod row;
+mod section;
+mod state;
+#[cfg(test)]
+mod tests;
+mod turns;
+mod walk;
+
+// The most turns that the loops of a region may have.
+const MOST_TURNS: u64 = 1_048_576;
+
+/// Why a region has no footprint.
+#[derive(Clone, Copy, PartialEq, Eq, Debug, Error)]
+pub enum FootprintFault {
+    #[error(transparent)]
+    Range(RangeFault),
+    #[error("F1")]
+    OutOfMemory,
+}
+
+fn fault_at(code: RangeCode, place: Place) -> RangeFault
+    ensures { result ≡ Rattle.ranges.specs.Faults.fault_at code place }
+{
+    RangeFault {
+        code,
+        line: place.line,
+        column: place.column,
+    }
+}
+
+/// Tests the sections of an item's map and depend items. The error is E302 at the least place, by line and then by
+/// column, of a section that is empty or leaves its array. A section of an array that the program does not have
+/// leaves it. It takes no memory.
+pub fn sections(program: &Program, item: &Item) -> Result<(), RangeFault>
+    ensures fine { OnOk result (section_faults (lengths_of program.now) item.now.maps.items item.now.depends.items ≡ []) }
+    ensures fault { IfErr result (IsFirst (section_faults (lengths_of program.now) item.now.maps.items item.now.depends.items)) }
+{
+    let mut least = None;
+    note_maps(program, &item.maps, &mut least);
+    note_depends(program, &item.depends, &mut least);
+    match least {
+        None => Ok(()),
+        Some(place) => Err(fault_at(RangeCode::SectionOutside, place)),
+    }
+}
+
+/// The cells that a region may touch, found instance by instance: each turn of each loop, and of an `if` whose condition
+/// is known the one branch that it takes. The loops around the region have these values, the outermost first.
+///
+/// The error is E303 at the region's first token where its loops have more than 1,048,576 turns, and then nothing is
+/// walked; else E301 at the least place, by line and then by column, of the array name of a subscript that can leave
+/// its array. An array that the program does not have is left by each subscript.
+///
+/// It takes time for each turn and each subscript, and for the cells of a subscript's interval, unless all of them lie
+/// in the one run of cells that is kept for an array. It takes memory for the cells up to the last one touched.
+pub fn footprint(
+    alloc: Global,
+    program: &Program,
+    region: &Region,
+    loops: &LoopValues,
+) -> Result<Footprint, FootprintFault>
+    ensures fine { OnOk result (region_faults (lengths_of program.now) loops.now.values.items (Some region.now) ≡ []) }
+    ensures exposed { IfOk result (λ f. (c : Cell) → has f.exposed c ≡ exposes (touches_of region.now loops.now.values.items) c) }
+    ensures read { IfOk result (λ f. (c : Cell) → has f.read c ≡ reads (touches_of region.now loops.now.values.items) c) }
+    ensures write { IfOk result (λ f. (c : Cell) → has f.write c ≡ writes (touches_of region.now loops.now.values.items) c) }
+    ensures sure { IfOk result (λ f. (c : Cell) → has f.sure c ≡ surely_writes (touches_of region.now loops.now.values.items) c) }
+    ensures fault { IfErr result (IsFootprintFault (region_faults (lengths_of program.now) loops.now.values.items (Some region.now))) }
+{
+    if turns_in_all(&region.body) > MOST_TURNS {
+        return Err(FootprintFault::Range(fault_at(RangeCode::TooManyTurns, region.place)));
+    }
+    let Ok(walk) = walk_region(alloc, program, region, loops) else {
+        return Err(FootprintFault::OutOfMemory);
+    };
+    let Walk { found, least } = walk;
+    match least {
+        None => Ok(found),
+        Some(place) => Err(FootprintFault::Range(fault_at(RangeCode::SubscriptOutside, place))),
+    }
+}
+
+/// The first fault of an item's sections is its first fault of range; where they have none, its faults are those of its
+/// region.
+pub fn item_faults()
+    ensures { AreByParts }
+{}
