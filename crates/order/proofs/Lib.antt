@@ -1,2 +1,4 @@
 pub mod Bits
 pub mod Found
+pub mod Befores
+pub mod Reached
