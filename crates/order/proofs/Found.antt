@@ -8,7 +8,7 @@ use Rattle.base.specs.declared.item.Depend.{Depend}
 use Rattle.base.specs.declared.item.Item.{Item}
 use Rattle.order.specs.Clashes.{clash_at, least_clash, least_of_all, NoneBelow}
 
-abbrev clash_in : Option Item → Option Item → Option Cell
+abbrev pub clash_in : Option Item → Option Item → Option Cell
 clash_in o p = elim o [
   | None ↦ None
   | Some earlier ↦ elim p [ None ↦ None | Some later ↦ least_clash earlier.depends.items later.depends.items ]

@@ -1,9 +1,8 @@
 -- Finding the items before one, from the latest down.
 use Rattle.std.proofs.Common.{◌≡◌, ℕ, ◌+◌, ◌-◌, ◌<◌, ◌≤◌, Bool, true, false, List, [], ◌∷◌, ◌++◌, length, length-append, get_or, Option, Some, None, refl, sym, ap, ◌∙◌, subst, inl, inr, ◌⊎◌, ⊎_elim, arith}
 use Rattle.std.specs.Prelude.{slice_get, ◌||◌, ◌==◌, ◌↔◌}
-use Rattle.std.proofs.lemmas.Bool.{or_cases, or_left, or_right, eq-eqb, eqb-true, cases_eq, cases_lt}
+use Rattle.std.proofs.lemmas.Bool.{or_cases, or_left, or_right, eq-eqb, eqb-true, cases_eq}
 use Rattle.std.proofs.lemmas.Option.{slice_get_read, slice_get_within}
-use Rattle.base.proofs.Places.{get_left, get_right}
 use Rattle.base.specs.Items.{Plan}
 use Rattle.base.specs.Order.{Before, through}
 use Rattle.order.specs.declared.set.ItemSet.{ItemSet}
@@ -92,22 +91,6 @@ pub row_read : (plan : Plan) (rows : List ItemSet) (k : ℕ) (r : ItemSet) → A
     r ≡ get_or rows k r → IsRow plan k r
 row_read plan rows k r h lt is =
     subst (λ (o : Option ItemSet). IsRowThere plan k o) (slice_get_read rows (length rows) k r refl lt is) (h k lt)
-
--- one set more
-pub one_more : (plan : Plan) (rows : List ItemSet) (row : ItemSet) → AreRows plan rows → IsRow plan (length rows) row →
-    AreRows plan (rows ++ row ∷ [])
-one_more plan rows row h r k lt = ⊎_elim before here (cases_lt k (length rows))
-  where
-    before : k < length rows → IsRowThere plan k (slice_get (rows ++ row ∷ []) k)
-    before inside = subst (λ (o : Option ItemSet). IsRowThere plan k o) (sym (get_left rows (row ∷ []) k inside)) (h k inside)
-
-    here : length rows ≤ k → IsRowThere plan k (slice_get (rows ++ row ∷ []) k)
-    here past =
-        let last : k ≡ length rows = omega (arith, past, lt, length-append rows (row ∷ [])) in
-        let first : k - length rows ≡ 0 = omega (arith, last) in
-        subst (λ (o : Option ItemSet). IsRowThere plan k o)
-        (sym (get_right rows (row ∷ []) k past ∙ ap (slice_get (row ∷ [])) first))
-        (subst (λ m. IsRow plan m row) (sym last) r)
 
 -- the sets of all items are the order
 pub are_order : (plan : Plan) (rows : List ItemSet) → AreRows plan rows → length rows ≡ length plan.items → IsOrder plan rows

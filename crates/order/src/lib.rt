@@ -68,10 +68,11 @@ impl<'p> Order<'p> {
         ensures fine { OnOk result (HasNoClash (plan outlined.now)) }
         ensures fault { IfErr result (IsBuildFault (plan outlined.now)) }
     {
-        if let Some(fault) = first_clash(outlined.items()) {
+        let items = outlined.items();
+        if let Some(fault) = first_clash(items) {
             return Err(OrderBuildFault::Clash(fault));
         }
-        match rows_of(alloc, outlined.items()) {
+        match rows_of(alloc, items) {
             Err(_) => Err(OrderBuildFault::OutOfMemory),
             Ok(rows) => Ok(Order {
                 program: outlined.program(),
