@@ -45,7 +45,7 @@ sized lengths (d ∷ ds) e = go (section_fails lengths d.section) refl e (λ f. 
 abbrev Fits : Option Work → Type 0
 Fits o = elim o [ None ↦ Unit {0} | Some w ↦ AllSized w.depends ]
 
-abbrev faults_in : List ℕ → Option Work → List RangeFault
+abbrev pub faults_in : List ℕ → Option Work → List RangeFault
 faults_in lengths o = elim o [ None ↦ [] | Some w ↦ section_faults lengths w.maps w.depends ]
 
 fits_in : (lengths : List ℕ) (o : Option Work) → faults_in lengths o ≡ [] → Fits o

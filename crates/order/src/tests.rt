@@ -34,6 +34,17 @@ struct Clause {
     length: u64,
 }
 
+// An item: what the host does, a target that is not deferred, a deferred one, and a `taskwait`.
+#[derive(Clone, Copy)]
+enum Step {
+    Host,
+    Target,
+    Task(Option<Clause>, Option<Clause>),
+    Wait(Option<Clause>),
+}
+
+const IDLE: Step = Step::Task(None, None);
+
 fn on(kind: DependKind, first: u64, length: u64) -> Clause {
     Clause {
         kind,
@@ -43,23 +54,48 @@ fn on(kind: DependKind, first: u64, length: u64) -> Clause {
     }
 }
 
+fn on_b(first: u64, length: u64) -> Clause {
+    Clause {
+        kind: DependKind::In,
+        array: B,
+        first,
+        length,
+    }
+}
+
+fn one(kind: DependKind, first: u64, length: u64) -> Step {
+    Step::Task(Some(on(kind, first, length)), None)
+}
+
+fn two(left: Clause, right: Clause) -> Step {
+    Step::Task(Some(left), Some(right))
+}
+
 fn bound(alloc: Global, number: u64) -> Result<Bound, AllocError> {
     Ok(Bound {
         terms: SmallVec::from_vec(vec![in alloc; Term::Literal(number)]?),
     })
 }
 
-fn texts(alloc: Global, depends: &[Clause]) -> Result<SmallVec<DependText, 2>, AllocError> {
+fn text(alloc: Global, clause: Clause) -> Result<DependText, AllocError> {
+    let first = bound(alloc, clause.first)?;
+    let length = bound(alloc, clause.length)?;
+    Ok(DependText {
+        kind: clause.kind,
+        section: SectionText {
+            array: clause.array,
+            bounds: Some((first, length)),
+            place: HERE,
+        },
+    })
+}
+
+fn texts(alloc: Global, clauses: &[Option<Clause>]) -> Result<SmallVec<DependText, 2>, AllocError> {
     let mut all = Vec::new(alloc);
-    for depend in depends {
-        all.push(DependText {
-            kind: depend.kind,
-            section: SectionText {
-                array: depend.array,
-                bounds: Some((bound(alloc, depend.first)?, bound(alloc, depend.length)?)),
-                place: HERE,
-            },
-        })?;
+    for clause in clauses {
+        if let Some(clause) = *clause {
+            all.push(text(alloc, clause)?)?;
+        }
     }
     Ok(SmallVec::from_vec(all))
 }
@@ -71,28 +107,30 @@ fn nothing(alloc: Global) -> Region {
     }
 }
 
-fn target(alloc: Global, nowait: bool, depends: &[Clause]) -> Result<Part, AllocError> {
+fn target(alloc: Global, nowait: bool, clauses: &[Option<Clause>]) -> Result<Part, AllocError> {
+    let depends = texts(alloc, clauses)?;
     let target = Target {
         maps: SmallVec::from_vec(Vec::new(alloc)),
-        tasking: Tasking {
-            nowait,
-            depends: texts(alloc, depends)?,
-        },
+        tasking: Tasking { nowait, depends },
     };
     Ok(Part::Target(target, nothing(alloc)))
 }
 
-// A deferred target.
-fn task(alloc: Global, depends: &[Clause]) -> Result<Part, AllocError> {
-    target(alloc, true, depends)
+fn part(alloc: Global, step: Step) -> Result<Part, AllocError> {
+    match step {
+        Step::Host => Ok(Part::Host(nothing(alloc))),
+        Step::Target => target(alloc, false, &[]),
+        Step::Task(first, second) => target(alloc, true, &[first, second]),
+        Step::Wait(clause) => Ok(Part::Alone(Directive::Wait(texts(alloc, &[clause])?))),
+    }
 }
 
-fn host(alloc: Global) -> Part {
-    Part::Host(nothing(alloc))
-}
-
-fn wait(alloc: Global, depends: &[Clause]) -> Result<Part, AllocError> {
-    Ok(Part::Alone(Directive::Wait(texts(alloc, depends)?)))
+fn parts(alloc: Global, steps: &[Step]) -> Result<Vec<Part>, AllocError> {
+    let mut all = Vec::new(alloc);
+    for step in steps {
+        all.push(part(alloc, *step)?)?;
+    }
+    Ok(all)
 }
 
 fn program(alloc: Global, body: Vec<Part>) -> Result<Program, AllocError> {
@@ -110,7 +148,8 @@ fn sections_fit(outlined: &Outlined<'_>) -> bool
     ensures { IsTrue result → SectionsFit (plan outlined.now) }
 {
     let program = outlined.program();
-    for item in outlined.items() {
+    let items = outlined.items();
+    for item in items {
         if sections(program, item).is_err() {
             return false;
         }
@@ -122,10 +161,10 @@ fn sections_fit(outlined: &Outlined<'_>) -> bool
 fn assert_order(
     rt: &impl Abort,
     alloc: Global,
-    body: Vec<Part>,
+    steps: &[Step],
     wanted: &[(u32, u32)],
 ) -> Result<(), Fail> {
-    let program = program(alloc, body)?;
+    let program = program(alloc, parts(alloc, steps)?)?;
     let outlined = outline(alloc, &program)?;
     assert!(rt; sections_fit(&outlined));
     let order = Order::build(alloc, &outlined)?;
@@ -145,10 +184,10 @@ fn assert_order(
 fn assert_clash(
     rt: &impl Abort,
     alloc: Global,
-    body: Vec<Part>,
+    steps: &[Step],
     wanted: OrderFault,
 ) -> Result<(), Fail> {
-    let program = program(alloc, body)?;
+    let program = program(alloc, parts(alloc, steps)?)?;
     let outlined = outline(alloc, &program)?;
     assert!(rt; sections_fit(&outlined));
     match Order::build(alloc, &outlined) {
@@ -162,72 +201,55 @@ fn assert_clash(
 
 #[test]
 fn readers_are_not_ordered(rt: HostRuntime) -> Result<(), Fail> {
-    let alloc = rt.alloc();
-    let body = vec![in alloc;
-        task(alloc, &[on(DependKind::In, 0, 2)])?,
-        task(alloc, &[on(DependKind::In, 0, 2)])?,
-    ]?;
-    assert_order(&rt, alloc, body, &[])
+    let steps = [one(DependKind::In, 0, 2), one(DependKind::In, 0, 2)];
+    assert_order(&rt, rt.alloc(), &steps, &[])
 }
 
 #[test]
 fn writers_and_readers_are_ordered(rt: HostRuntime) -> Result<(), Fail> {
-    let alloc = rt.alloc();
-    let body = vec![in alloc;
-        task(alloc, &[on(DependKind::Out, 0, 2)])?,
-        task(alloc, &[on(DependKind::In, 0, 2)])?,
-        task(alloc, &[on(DependKind::In, 0, 2)])?,
-        task(alloc, &[on(DependKind::InOut, 0, 2)])?,
-    ]?;
-    assert_order(&rt, alloc, body, &[(0, 1), (0, 2), (0, 3), (1, 3), (2, 3)])
+    let steps = [
+        one(DependKind::Out, 0, 2),
+        one(DependKind::In, 0, 2),
+        one(DependKind::In, 0, 2),
+        one(DependKind::InOut, 0, 2),
+    ];
+    let wanted = [(0, 1), (0, 2), (0, 3), (1, 3), (2, 3)];
+    assert_order(&rt, rt.alloc(), &steps, &wanted)
 }
 
 #[test]
 fn a_reader_is_before_the_next_writer(rt: HostRuntime) -> Result<(), Fail> {
-    let alloc = rt.alloc();
-    let body = vec![in alloc;
-        task(alloc, &[on(DependKind::In, 3, 1)])?,
-        task(alloc, &[on(DependKind::Out, 3, 1)])?,
-    ]?;
-    assert_order(&rt, alloc, body, &[(0, 1)])
+    let steps = [one(DependKind::In, 3, 1), one(DependKind::Out, 3, 1)];
+    assert_order(&rt, rt.alloc(), &steps, &[(0, 1)])
 }
 
 #[test]
 fn a_chain_of_tasks_is_ordered(rt: HostRuntime) -> Result<(), Fail> {
-    let alloc = rt.alloc();
-    let body = vec![in alloc;
-        task(alloc, &[on(DependKind::Out, 0, 1)])?,
-        task(alloc, &[on(DependKind::In, 0, 1), on(DependKind::Out, 1, 1)])?,
-        task(alloc, &[on(DependKind::In, 1, 1)])?,
-        task(alloc, &[on(DependKind::Out, 2, 1)])?,
-    ]?;
-    assert_order(&rt, alloc, body, &[(0, 1), (0, 2), (1, 2)])
+    let steps = [
+        one(DependKind::Out, 0, 1),
+        two(on(DependKind::In, 0, 1), on(DependKind::Out, 1, 1)),
+        one(DependKind::In, 1, 1),
+        one(DependKind::Out, 2, 1),
+    ];
+    assert_order(&rt, rt.alloc(), &steps, &[(0, 1), (0, 2), (1, 2)])
 }
 
 #[test]
 fn the_host_is_before_all_later_items(rt: HostRuntime) -> Result<(), Fail> {
-    let alloc = rt.alloc();
-    let body = vec![in alloc;
-        task(alloc, &[])?,
-        host(alloc),
-        task(alloc, &[])?,
-        target(alloc, false, &[])?,
-        task(alloc, &[])?,
-    ]?;
+    let steps = [IDLE, Step::Host, IDLE, Step::Target, IDLE];
     let wanted = [(1, 2), (1, 3), (1, 4), (3, 4)];
-    assert_order(&rt, alloc, body, &wanted)
+    assert_order(&rt, rt.alloc(), &steps, &wanted)
 }
 
 #[test]
 fn a_bare_wait_orders_all_tasks(rt: HostRuntime) -> Result<(), Fail> {
-    let alloc = rt.alloc();
-    let body = vec![in alloc;
-        task(alloc, &[])?,
-        task(alloc, &[on(DependKind::Out, 0, 2)])?,
-        wait(alloc, &[])?,
-        host(alloc),
-        task(alloc, &[])?,
-    ]?;
+    let steps = [
+        IDLE,
+        one(DependKind::Out, 0, 2),
+        Step::Wait(None),
+        Step::Host,
+        IDLE,
+    ];
     let wanted = [
         (0, 2),
         (0, 3),
@@ -239,58 +261,49 @@ fn a_bare_wait_orders_all_tasks(rt: HostRuntime) -> Result<(), Fail> {
         (2, 4),
         (3, 4),
     ];
-    assert_order(&rt, alloc, body, &wanted)
+    assert_order(&rt, rt.alloc(), &steps, &wanted)
 }
 
 #[test]
 fn a_wait_with_a_clause_orders_what_it_names(rt: HostRuntime) -> Result<(), Fail> {
-    let alloc = rt.alloc();
-    let body = vec![in alloc;
-        task(alloc, &[on(DependKind::Out, 0, 2)])?,
-        task(alloc, &[on(DependKind::Out, 2, 2)])?,
-        wait(alloc, &[on(DependKind::In, 0, 2)])?,
-        host(alloc),
-    ]?;
-    assert_order(&rt, alloc, body, &[(0, 2), (0, 3), (2, 3)])
+    let steps = [
+        one(DependKind::Out, 0, 2),
+        one(DependKind::Out, 2, 2),
+        Step::Wait(Some(on(DependKind::In, 0, 2))),
+        Step::Host,
+    ];
+    assert_order(&rt, rt.alloc(), &steps, &[(0, 2), (0, 3), (2, 3)])
 }
 
 #[test]
 fn the_least_pair_and_cell_are_named(rt: HostRuntime) -> Result<(), Fail> {
-    let alloc = rt.alloc();
-    let body = vec![in alloc;
-        host(alloc),
-        task(alloc, &[on(DependKind::Out, 4, 2), on(DependKind::Out, 0, 2)])?,
-        task(alloc, &[on(DependKind::In, 6, 2)])?,
-        task(alloc, &[on(DependKind::In, 5, 2), on(DependKind::In, 1, 2)])?,
-        task(alloc, &[on(DependKind::In, 0, 8)])?,
-    ]?;
+    let steps = [
+        Step::Host,
+        two(on(DependKind::Out, 4, 2), on(DependKind::Out, 0, 2)),
+        one(DependKind::In, 6, 2),
+        two(on(DependKind::In, 5, 2), on(DependKind::In, 1, 2)),
+        one(DependKind::In, 0, 8),
+    ];
     let wanted = OrderFault {
         item: 3,
         cell: Cell { array: A, index: 1 },
         other: 1,
     };
-    assert_clash(&rt, alloc, body, wanted)
+    assert_clash(&rt, rt.alloc(), &steps, wanted)
 }
 
 #[test]
 fn the_lesser_array_comes_first(rt: HostRuntime) -> Result<(), Fail> {
-    let alloc = rt.alloc();
-    let on_b = |first: u64, length: u64| Clause {
-        kind: DependKind::In,
-        array: B,
-        first,
-        length,
-    };
-    let body = vec![in alloc;
-        task(alloc, &[on_b(0, 2), on(DependKind::In, 6, 2)])?,
-        task(alloc, &[on_b(0, 1), on(DependKind::In, 7, 1)])?,
-    ]?;
+    let steps = [
+        two(on_b(0, 2), on(DependKind::In, 6, 2)),
+        two(on_b(0, 1), on(DependKind::In, 7, 1)),
+    ];
     let wanted = OrderFault {
         item: 1,
         cell: Cell { array: A, index: 7 },
         other: 0,
     };
-    assert_clash(&rt, alloc, body, wanted)
+    assert_clash(&rt, rt.alloc(), &steps, wanted)
 }
 
 // 4,096 tasks, each of which waits for the one before it.
@@ -302,7 +315,7 @@ fn a_long_chain_is_ordered(rt: HostRuntime) -> Result<(), Fail> {
         end: 4096,
         step: 1,
     };
-    let turn = vec![in alloc; task(alloc, &[on(DependKind::InOut, 0, 1)])?]?;
+    let turn = parts(alloc, &[one(DependKind::InOut, 0, 1)])?;
     let program = program(alloc, vec![in alloc; Part::Loop(bounds, turn)]?)?;
     let outlined = outline(alloc, &program)?;
     assert!(rt; sections_fit(&outlined));
