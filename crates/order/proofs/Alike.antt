@@ -1,6 +1,6 @@
 -- Plans whose items differ in their regions alone.
-use Rattle.std.proofs.Common.{◌≡◌, ℕ, ◌<◌, Bool, true, false, List, length, map, refl, sym, ap, ap₂, ◌∙◌, subst, Option, Some, None}
-use Rattle.std.specs.Prelude.{slice_get, option_map, not, ◌&&◌, nat_lt, ◌↔◌, IsTrue}
+use Rattle.std.proofs.Common.{◌≡◌, ℕ, ◌<◌, Bool, false, List, length, refl, sym, ap, ap₂, ◌∙◌, subst, Option, Some, None}
+use Rattle.std.specs.Prelude.{slice_get, option_map, not, ◌&&◌, nat_lt}
 use Rattle.std.proofs.lemmas.List.{length-map}
 use Rattle.std.proofs.lemmas.Option.{slice_get-map}
 use Rattle.base.specs.declared.item.Item.{Item}

@@ -1,11 +1,11 @@
 -- The last step to an item.
 use Rattle.std.proofs.Common.{◌≡◌, ℕ, zero, suc, ◌<◌, Bool, true, false, List, [], ◌∷◌, length, get_or, refl, sym, ap, ap₂, ◌∙◌, subst, inl, inr, ◌⊎◌, ⊎_elim, Option, Some, None, arith}
-use Rattle.std.specs.Prelude.{slice_get, option_map, not, ◌&&◌, ◌||◌, nat_lt, IsTrue}
+use Rattle.std.specs.Prelude.{slice_get, option_map, not, ◌||◌, nat_lt}
 use Rattle.std.proofs.lemmas.Bool.{and_parts, and_from, ltb-true, lt-ltb, or_right}
 use Rattle.std.proofs.lemmas.Option.{slice_get-map, slice_get_read, slice_get_within}
 use Rattle.base.specs.declared.item.Item.{Item}
 use Rattle.base.specs.Items.{Work, Plan}
-use Rattle.base.specs.Machine.{is_predecessor, on_item, precedes}
+use Rattle.base.specs.Machine.{is_predecessor}
 use Rattle.base.specs.Order.{Before, in_line, after_predecessor, through}
 use Rattle.order.specs.Bare.{bare, plan_of}
 use Rattle.order.specs.Rows.{leads_to}

@@ -13,7 +13,7 @@ use Rattle.base.specs.Items.{Work, Plan}
 use Rattle.base.specs.Accepted.{IsFault, Order, SectionsFit, depend_fault, depends_clash, fault_key, key_less, map_fault, section_fails, section_faults}
 use Rattle.order.specs.Bare.{bare, plan_of}
 use Rattle.order.specs.Built.{HasNoClash, IsFirstClash}
-use Rattle.order.specs.Clashes.{clash_at, is_less, least_clash, IsFirstFound, IsFound, NoClashBelow, NoneBelow}
+use Rattle.order.specs.Clashes.{clash_at, is_less, IsFirstFound}
 use Rattle.order.proofs.Alike.{Alike, both_alike, stripped}
 use Rattle.order.proofs.Befores.{ask, at_both}
 use Rattle.order.proofs.Found.{clash_in}

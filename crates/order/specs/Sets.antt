@@ -1,5 +1,5 @@
 -- Sets of items.
-use Rattle.std.specs.Prelude.{ℕ, ◌≡◌, ◌+◌, ◌*◌, ◌/◌, ◌%◌, Bool, false, ◌==◌, List, Option, Some, None, slice_get, length}
+use Rattle.std.specs.Prelude.{ℕ, ◌+◌, ◌*◌, ◌/◌, ◌%◌, Bool, false, ◌==◌, List, Some, None, slice_get, length}
 use Rattle.std.specs.Int.{bit_at}
 use Rattle.order.specs.declared.set.ItemSet.{ItemSet}
 

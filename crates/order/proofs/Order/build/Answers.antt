@@ -1,5 +1,5 @@
-use Rattle.std.proofs.Common.{◌≡◌, ◌∙◌, length, sym, subst, ap, Some, None}
-use Rattle.base.specs.Items.{Plan, plan}
+use Rattle.std.proofs.Common.{◌∙◌, sym, subst}
+use Rattle.base.specs.Items.{plan}
 use Rattle.outline.specs.Regions.{entries_of}
 use Rattle.std.proofs.lemmas.List.{length-map}
 use Rattle.order.specs.Bare.{bare, plan_of}

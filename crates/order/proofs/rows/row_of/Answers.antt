@@ -1,9 +1,8 @@
-use Rattle.std.proofs.Common.{◌≡◌, ◌-◌, ◌+◌, ◌<◌, true, false, not, length, map, sym, ap, ◌∙◌, subst, arith}
+use Rattle.std.proofs.Common.{◌≡◌, ◌-◌, ◌+◌, ◌<◌, true, false, length, sym, ap, ◌∙◌, subst, arith}
 use Rattle.std.proofs.lemmas.List.{length-map}
-use Rattle.order.specs.declared.set.ItemSet.{ItemSet}
 use Rattle.order.specs.Bare.{bare, plan_of}
-use Rattle.order.specs.Rows.{IsRow, leads_to}
-use Rattle.order.specs.Sets.{has, room, room_for}
+use Rattle.order.specs.Rows.{leads_to}
+use Rattle.order.specs.Sets.{room_for}
 use Rattle.order.proofs.Befores.{Leads, both_read}
 use Rattle.order.proofs.Reached.{Reached, starts, added, passed, all_looked, row_read}
 use Rattle.order.proofs.rows.row_of.Goals.{else-not-contains-via-then-not-contains+else-leads_to, else-not-contains-via-else-not-contains}
@@ -26,10 +25,10 @@ loop-earlier-preserved c =
     (λ leads. elim c.else-not-contains.branch [
       | else-not-contains-via-then-not-contains+else-leads_to w ↦
           absurd (let clash : true ≡ false =
-              sym leads.leads
-              ∙ both_read its k c.args.later w.index-items-earlier.result w.index-items-later.result leads_to k_in
-              c.requires.inside w.index-items-earlier.is w.index-items-later.is
-              ∙ sym w.leads_to.ensures ∙ w.if-leads_to.false in cc)
+          sym leads.leads
+          ∙ both_read its k c.args.later w.index-items-earlier.result w.index-items-later.result leads_to k_in
+          c.requires.inside w.index-items-earlier.is w.index-items-later.is
+          ∙ sym w.leads_to.ensures ∙ w.if-leads_to.false in cc)
       | else-not-contains-via-else-not-contains w ↦ sym c.contains.ensures ∙ w.if-not-contains.false
     ])
 
