@@ -9,8 +9,8 @@ use Rattle.base.specs.declared.item.Depend.{Depend}
 use Rattle.base.specs.declared.fault.RangeFault.{RangeFault}
 use Rattle.base.specs.Items.{Work}
 use Rattle.base.specs.Footprint.{turns_in, touches_of, leaves_array}
-use Rattle.base.specs.Accepted.{region_faults, map_fault, depend_fault, turns_fault, subscript_fault, section_fails, range_rank, key_less, most_turns}
-use Rattle.ranges.specs.Faults.{IsFirst, section_faults, range_key}
+use Rattle.base.specs.Accepted.{region_faults, section_faults, map_fault, depend_fault, turns_fault, subscript_fault, section_fails, range_rank, key_less, most_turns}
+use Rattle.ranges.specs.Faults.{IsFirst, range_key}
 use Rattle.ranges.specs.ItemFaults.{IsByParts}
 
 each_mapped : {A : Type 0} (P : RangeFault → Type 0) (fault : A → RangeFault) → ((x : A) → P (fault x)) → (xs : List A) →

@@ -7,8 +7,8 @@ use Rattle.base.specs.declared.item.MapItem.{MapItem}
 use Rattle.base.specs.declared.item.Depend.{Depend}
 use Rattle.base.specs.declared.fault.RangeCode.TheVariants.{SectionOutside}
 use Rattle.base.specs.declared.fault.RangeFault.{RangeFault}
-use Rattle.base.specs.Accepted.{section_fails, map_fault, depend_fault}
-use Rattle.ranges.specs.Faults.{IsFirst, fault_at, section_faults, least_place, least_map, least_depend, map_place, depend_place}
+use Rattle.base.specs.Accepted.{section_fails, section_faults, map_fault, depend_fault}
+use Rattle.ranges.specs.Faults.{IsFirst, fault_at, least_place, least_map, least_depend, map_place, depend_place}
 use Rattle.ranges.proofs.Leasts.{is_first, least_append, least_of_is, mapped_places, no_place}
 
 abbrev failing : List ℕ → List MapItem → List Depend → List Place

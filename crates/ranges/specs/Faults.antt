@@ -1,17 +1,11 @@
 -- The faults of range of one item, and the first of them.
-use Rattle.std.specs.Prelude.{ℕ, ◌≡◌, Bool, false, ◌||◌, ◌&&◌, ◌==◌, nat_lt, nat_le, if◌then◌else◌, List, [], ◌∷◌, ◌++◌, Option, Some, None, Contains, map, filter}
+use Rattle.std.specs.Prelude.{ℕ, ◌≡◌, Bool, false, ◌||◌, ◌&&◌, ◌==◌, nat_lt, nat_le, if◌then◌else◌, List, [], ◌∷◌, Option, Some, None, Contains}
 use Rattle.base.specs.declared.tree.Place.{Place}
 use Rattle.base.specs.declared.item.MapItem.{MapItem}
 use Rattle.base.specs.declared.item.Depend.{Depend}
 use Rattle.base.specs.declared.fault.RangeCode.{RangeCode}
 use Rattle.base.specs.declared.fault.RangeFault.{RangeFault}
-use Rattle.base.specs.Accepted.{section_fails, map_fault, depend_fault, range_rank, key_less}
-
--- the sections of an item's map items, and then of its depend items, that are empty or leave their arrays
-abbrev pub section_faults : List ℕ → List MapItem → List Depend → List RangeFault
-section_faults lengths maps depends =
-    map map_fault (filter (λ m. section_fails lengths m.section) maps)
-    ++ map depend_fault (filter (λ d. section_fails lengths d.section) depends)
+use Rattle.base.specs.Accepted.{section_fails, range_rank, key_less}
 
 -- what faults of range of one item are compared by
 abbrev pub range_key : RangeFault → List ℕ

@@ -2,8 +2,8 @@
 use Rattle.std.specs.Prelude.{ℕ, ◌≡◌, List, []}
 use Rattle.base.specs.declared.fault.RangeFault.{RangeFault}
 use Rattle.base.specs.Items.{Work}
-use Rattle.base.specs.Accepted.{range_faults, region_faults}
-use Rattle.ranges.specs.Faults.{IsFirst, section_faults}
+use Rattle.base.specs.Accepted.{range_faults, region_faults, section_faults}
+use Rattle.ranges.specs.Faults.{IsFirst}
 
 -- the first fault of its sections is its first one; and where they have none, its faults are those of its region
 pub record IsByParts (lengths : List ℕ) (w : Work) : Type 0 where

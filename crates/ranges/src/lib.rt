@@ -4,10 +4,10 @@
 ghost use Rattle.std.specs.Prelude.{◌≡◌, [], Some, IfOk, OnOk, IfErr};
 ghost use Rattle.base.specs.declared.item.Cell.{Cell};
 ghost use Rattle.base.specs.Meaning.{lengths_of};
-ghost use Rattle.base.specs.Accepted.{region_faults};
+ghost use Rattle.base.specs.Accepted.{region_faults, section_faults};
 ghost use Rattle.base.specs.Footprint.{exposes, reads, surely_writes, touches_of, writes};
 ghost use Rattle.ranges.specs.Cells.{has};
-ghost use Rattle.ranges.specs.Faults.{IsFirst, section_faults};
+ghost use Rattle.ranges.specs.Faults.{IsFirst};
 ghost use Rattle.ranges.specs.Found.{IsFootprintFault};
 ghost use Rattle.ranges.specs.ItemFaults.{AreByParts};
 

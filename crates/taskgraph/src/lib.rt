@@ -2,15 +2,13 @@
 #![tactic(auto)]
 
 ghost use Rattle.std.specs.Prelude.{◌≡◌, ◌+◌, ◌<◌, ◌≤◌, ℕ, IfOk, length, map, slice_index};
-ghost use Rattle.std.specs.List.{list_any};
-ghost use Rattle.base.specs.Machine.{match_depends, is_predecessor, writes_to};
-ghost use Rattle.base.specs.Memory.{overlaps};
+ghost use Rattle.base.specs.Machine.{is_predecessor};
 ghost use Rattle.taskgraph.specs.Board.{item_facts, task_facts, untouched, work_of};
 ghost use Rattle.taskgraph.specs.Laws.{AllowedIsEnabled};
 ghost use Rattle.taskgraph.specs.Waiting.{AreCounts, AreUntouched, begins, one_if, precedes_in, waits_for};
 
-use base::item::{Depend, Item, ItemKind, Section};
-use base::tree::DependKind;
+use base::depend::match_some;
+use base::item::{Depend, Item, ItemKind};
 use std::alloc::{AllocError, Global};
 use std::marker::Model;
 
@@ -61,54 +59,6 @@ impl Model for Graph {
     ghost view = { λ g. record { tasks = map task_facts g.tasks.items; stages = g.stages.items; place = g.place } };
 
     ghost invariant = { λ g. IsCounted (record { tasks = map task_facts g.tasks.items; stages = g.stages.items; place = g.place }) g.missing.items };
-}
-
-fn overlap(left: &Section, right: &Section) -> bool
-    ensures { result ≡ overlaps left.now right.now }
-{
-    let (first, second) = (u128::from(left.first), u128::from(right.first));
-    left.array == right.array
-        && first < second + u128::from(right.length)
-        && second < first + u128::from(left.length)
-}
-
-fn is_written(kind: DependKind) -> bool
-    ensures { result ≡ writes_to kind }
-{
-    match kind {
-        DependKind::In => false,
-        DependKind::Out | DependKind::InOut => true,
-    }
-}
-
-fn is_match(left: &Depend, right: &Depend) -> bool
-    ensures { result ≡ match_depends left.now right.now }
-{
-    overlap(&left.section, &right.section) && (is_written(left.kind) || is_written(right.kind))
-}
-
-/// Whether it matches one of them.
-fn matches_one(depend: &Depend, others: &[Depend]) -> bool
-    ensures { result ≡ list_any (match_depends depend.now) others.now }
-{
-    'others: for other in others {
-        if is_match(depend, other) {
-            return true;
-        }
-    }
-    false
-}
-
-/// Whether one of them matches one of the others.
-fn match_some(depends: &[Depend], others: &[Depend]) -> bool
-    ensures { result ≡ list_any (λ d. list_any (match_depends d) others.now) depends.now }
-{
-    'depends: for depend in depends {
-        if matches_one(depend, others) {
-            return true;
-        }
-    }
-    false
 }
 
 fn is_wait(task: &Task) -> bool

@@ -1,7 +1,8 @@
 use Rattle.std.proofs.Common.{None, sym, ◌∙◌, subst}
 use Rattle.base.specs.declared.fault.RangeFault.{RangeFault}
 use Rattle.base.specs.Meaning.{lengths_of}
-use Rattle.ranges.specs.Faults.{IsFirst, section_faults, least_map, least_depend}
+use Rattle.base.specs.Accepted.{section_faults}
+use Rattle.ranges.specs.Faults.{IsFirst, least_map, least_depend}
 use Rattle.ranges.proofs.SectionFaults.{sections_fine, section_first}
 use Rattle.ranges.proofs.sections.Goals as goal
 

@@ -1,0 +1,5 @@
+pub mod Sets
+pub mod Bare
+pub mod Rows
+pub mod Clashes
+pub mod Built
