@@ -289,9 +289,6 @@ host_part lengths (part.Loop' b shape all) h other = absurd h
 host_part lengths (part.Data' maps shape all) h other = absurd h
 host_part lengths (part.Alone d) h other = absurd h
 
--- The end.
-
-module _ (p : Program) (small : IsSmall p) (old : Standing) (past : IsPast p old) where
 -- The start.
 
 zero_length : (n : ℕ) → length (zero_row n) ≡ n
