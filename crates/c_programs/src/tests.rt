@@ -256,8 +256,40 @@ fn cuts(rt: HostRuntime) {
             b"A:4,{h@4:3{d1}m{l0,2,1{h@6:41{s0?{p}{}}t@8:5{A0}}}}"
         )
     );
-    for n in 0..WHOLE.len() {
-        assert!(rt; read_program(alloc, &WHOLE[..n]).is_err());
+    assert!(rt; are_cuts_refused(alloc, WHOLE));
+}
+
+/// Whether no part of a text that ends before it is a program.
+fn are_cuts_refused(alloc: Global, text: &[u8]) -> bool {
+    (0..text.len()).all(|n| read_program(alloc, &text[..n]).is_err())
+}
+
+// The host fills an array, the device doubles it, the host prints it.
+const DOUBLED: &[u8] =
+    b"uint64_t A[4];\nint main(void) {\nfor (uint64_t i = 0; i < 4; i += 1) { A[i] = i; }\n#pragma omp target map(tofrom: A[0:4])\nfor (uint64_t i = 0; i < 4; i += 1) { A[i] = A[i] * 2 + 1; }\nfor (uint64_t i = 0; i < 4; i += 1) { print(A[i]); }\n}";
+
+// A target and an update inside a `target data`.
+const IN_DATA: &[u8] =
+    b"uint64_t A[4];\nint main(void) {\n#pragma omp target data map(alloc: A[0:4])\n{\n#pragma omp target\nfor (uint64_t i = 0; i < 4; i += 1) { A[i] = i + 5; }\n#pragma omp target update from(A[0:2])\nprint(A[1]);\n}\n}";
+
+// Two deferred targets, a wait and an update.
+const HALVES: &[u8] =
+    b"uint64_t A[8];\nint main(void) {\n#pragma omp target enter data map(to: A)\n#pragma omp target map(tofrom: A[0:4]) nowait\nfor (uint64_t i = 0; i < 4; i += 1) { A[i] = i + 1; }\n#pragma omp target map(tofrom: A[4:4]) nowait\nfor (uint64_t i = 4; i < 8; i += 1) { A[i] = i * 10; }\n#pragma omp taskwait\n#pragma omp target update from(A)\nfor (uint64_t i = 0; i < 8; i += 1) { print(A[i]); }\n}";
+
+// A deferred target with a scalar that changes behind it.
+const CAPTURED: &[u8] =
+    b"uint64_t A[1];\nint main(void) {\nuint64_t s = 5;\n#pragma omp target map(tofrom: A) nowait\n{ A[0] = s; }\ns = 9;\n#pragma omp taskwait\nprint(A[0]);\n}";
+
+#[test]
+fn cuts_of_examples(rt: HostRuntime) {
+    let alloc = rt.alloc();
+    for text in [DOUBLED, IN_DATA, HALVES, CAPTURED] {
+        match read_program(alloc, text) {
+            Ok(program) => assert_eq!(rt; program.arrays.len(), 1),
+            Err(ReadFault::OutOfMemory) => {}
+            Err(ReadFault::Text(_)) => assert!(rt; false),
+        }
+        assert!(rt; are_cuts_refused(alloc, text));
     }
 }
 

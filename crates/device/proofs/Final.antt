@@ -206,17 +206,6 @@ module _ (p : Program) (small : IsSmall p) (fine : AreFineBefore p (length p.bod
       shows : ShowsErased p input (state_of (plan p) s)
       shows = (right p small fine).shows input (fill_from s) s.history.items (state_of (plan p) s) numbers (λ i c. h.number) h.ran h.ended
 
-  pub host_is_one : (s : Standing) → lengths_in s.host.items ≡ lengths_of p → length s.host.items ≤ 1
-  host_is_one s e = go (lengths_of p) s.host.items small.arrays e
-    where
-      go : (ls : List ℕ) (host : List (Vec ℕ Global)) → IsOneArray ls → lengths_in host ≡ ls → length host ≤ 1
-      go [] [] one e = omega arith
-      go [] (x ∷ xs) one e = absurd cc
-      go (n ∷ []) [] one e = omega arith
-      go (n ∷ []) (x ∷ []) one e = omega arith
-      go (n ∷ []) (x ∷ y ∷ rest) one e = absurd cc
-      go (n ∷ m ∷ rest) host one e = absurd one
-
 -- the output with one more number
 pub output_more : (xs : List ℕ) (k d : ℕ) → k < length xs → output_of (take (k + 1) xs) ≡ output_of (take k xs) ++ (decimal (get_or xs k d) ++ 10 ∷ [])
 output_more xs k d h = ap (λ n. output_of (take n xs)) (add-one k) ∙ go xs k h

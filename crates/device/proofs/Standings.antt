@@ -289,18 +289,6 @@ host_part lengths (part.Loop' b shape all) h other = absurd h
 host_part lengths (part.Data' maps shape all) h other = absurd h
 host_part lengths (part.Alone d) h other = absurd h
 
--- The end.
-
-module _ (p : Program) (small : IsSmall p) (old : Standing) (past : IsPast p old) where
-  pub end_done : step (plan p) (fill_from old) (state_of (plan p) old) End
-      ≡ Some (state_at (plan p) Past old.place (memories_in old) (slice_index old.scalars) old.input.now old.output.items)
-  end_done =
-      ap (λ phase. step (plan p) (fill_from old) (state_at (plan p) phase old.place (memories_in old) (slice_index old.scalars) old.input.now old.output.items) End) past.before
-
-  pub end_storage : old.table.block ≡ None
-  end_storage =
-      subst (λ phase. HasStorage phase (slice_get p.body.items old.place) (slice_index (lengths_of p) 0) old.table.block) past.before past.standing.storage
-
 -- The start.
 
 zero_length : (n : ℕ) → length (zero_row n) ≡ n

@@ -1,7 +1,7 @@
 -- What an entry creates, told by which cells have a block.
 use Rattle.std.proofs.Common.{◌≡◌, ◌⊎◌, ℕ, ◌+◌, ◌<◌, length, drop, get_or, not, Bool, true, false, ◌||◌, List, [], ◌∷◌, ◌++◌, map, Option, Some, None, refl, sym, ◌∙◌, ap, inl, inr, true≢false, subst, arith, add-one, drop-cons}
 use Rattle.std.specs.Prelude.{is_some, option_map, find}
-use Rattle.std.proofs.lemmas.Bool.{cases_Bool, cond-true, cond-false, or_left, or_right, or_from, false_from_ne_true}
+use Rattle.std.proofs.lemmas.Bool.{cases_Bool, cond-true, cond-false, or_left, or_right, or_from}
 use Rattle.base.specs.declared.item.Cell.{Cell}
 use Rattle.base.specs.declared.item.Section.{Section}
 use Rattle.base.specs.declared.item.MapItem.{MapItem}
@@ -12,7 +12,7 @@ use Rattle.present.specs.declared.block.Block.{Block}
 use Rattle.present.specs.Blocks.{IsSection, holder, present, stored_at}
 use Rattle.present.specs.Table.{Shows}
 use Rattle.present.specs.Needed.{Covers, Meets, Takes, IsMetOr, IsFreeOr, IsNumber, Needs, in_one, is_taken}
-use Rattle.present.proofs.Sections.{common, overlaps_from}
+use Rattle.present.proofs.Sections.{common}
 use Rattle.present.proofs.Finds.{find_yes, find_no}
 use Rattle.present.proofs.Blocks.{meets, judge, presence_is, absent_from, holder_absent, holder_counted, holder_some, holder_none, counted_blocks, more_blocks}
 use Rattle.present.proofs.Moves.{is_absent, entry_absent, entry_there, entry_part}
@@ -31,14 +31,6 @@ pub met_first : (first : Section) (rest : List Section) (s : Section) → IsSect
 met_first first rest s v w e =
     let x = common first s v.has_cells w.has_cells e in
     record { cell = x.0; inside = x.2; met = or_left (is_in x.0 first) (in_one rest x.0) x.1 }
-
-pub met_later : (first : Section) (rest : List Section) (s : Section) (b : Bool) → overlaps first s ≡ false →
-    IsMetOr rest s b → IsMetOr (first ∷ rest) s b
-met_later first rest s true e h =
-    record { cell = h.cell; inside = h.inside; met = or_right (is_in h.cell first) (in_one rest h.cell) h.met }
-met_later first rest s false e h =
-    λ c i. or_from (is_in c first) (in_one rest c)
-    (false_from_ne_true (is_in c first) (λ k. true≢false (sym (overlaps_from c first s k i) ∙ e))) (h c i)
 
 -- nothing is found where a section is absent
 pub absent_found : (blocks : List Present) (s : Section) → presence blocks s ≡ Absent → find (meets s) blocks ≡ None

@@ -61,7 +61,7 @@ fn deferred_word(deferred: bool) -> &'static str
     if deferred { " nowait" } else { "" }
 }
 
-fn name_of(program: &Program, array: ArrayId) -> &str
+pub fn name_of(program: &Program, array: ArrayId) -> &str
     ensures { result.now ≡ name_of program.now array.0 }
 {
     match program.arrays.get_index(array.0 as usize) {

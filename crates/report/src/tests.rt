@@ -1,6 +1,8 @@
 // Listings of programs that are built as trees.
 
-use crate::list_text;
+use crate::{list_text, refusal_text};
+use base::fault::{CheckFault, OrderFault, RangeCode, RangeFault, Refusal, RefusalCode};
+use base::item::Cell;
 use base::tree::{
     ArrayId, ArrayInfo, Bound, DependKind, DependText, Directive, EnterKind, Expr, MapText, Part,
     Place, Program, Region, RegionKind, SectionText, Stmt, Target, Tasking, Term, UpdateKind,
@@ -178,5 +180,104 @@ fn a_failing_writer_ends_the_text(rt: HostRuntime) -> Result<(), Fail> {
         assert_eq!(rt; out.taken.len(), room);
         assert!(rt; LISTING.as_bytes().starts_with(&out.taken));
     }
+    Ok(())
+}
+
+// A fault of range of item 0 at line 3, column 39.
+fn out_of_range(code: RangeCode) -> CheckFault {
+    let fault = RangeFault {
+        code,
+        line: 3,
+        column: 39,
+    };
+    CheckFault::Range { item: 0, fault }
+}
+
+// Item 3 refused at the cell of this number.
+fn refused(code: RefusalCode, index: u64, other: Option<u32>) -> CheckFault {
+    CheckFault::Refused(Refusal {
+        code,
+        item: 3,
+        cell: Cell { array: A, index },
+        other,
+    })
+}
+
+fn overlap() -> CheckFault {
+    CheckFault::Order(OrderFault {
+        item: 12,
+        cell: Cell { array: A, index: 7 },
+        other: 10,
+    })
+}
+
+#[test]
+fn a_line_for_a_refusal(rt: HostRuntime) -> Result<(), Fail> {
+    let alloc = rt.alloc();
+    let program = program(alloc)?;
+    for (fault, line) in [
+        (
+            out_of_range(RangeCode::SubscriptOutside),
+            "E301 item 0 line 3 column 39\n",
+        ),
+        (
+            out_of_range(RangeCode::SectionOutside),
+            "E302 item 0 line 3 column 39\n",
+        ),
+        (
+            out_of_range(RangeCode::TooManyTurns),
+            "E303 item 0 line 3 column 39\n",
+        ),
+        (
+            refused(RefusalCode::OverlapsInPart, 1, None),
+            "E501 item 3 A[1]\n",
+        ),
+        (
+            refused(RefusalCode::ExitOfAbsent, 0, None),
+            "E502 item 3 A[0]\n",
+        ),
+        (
+            refused(RefusalCode::UpdateOfAbsent, 0, None),
+            "E503 item 3 A[0]\n",
+        ),
+        (
+            refused(RefusalCode::Unmapped, 2, None),
+            "E504 item 3 A[2]\n",
+        ),
+        (overlap(), "E505 item 12 A[7] with item 10\n"),
+        (
+            refused(RefusalCode::HostNotCurrent, 65_535, None),
+            "E506 item 3 A[65535]\n",
+        ),
+        (
+            refused(RefusalCode::DeviceNotCurrent, 0, None),
+            "E507 item 3 A[0]\n",
+        ),
+        (
+            refused(RefusalCode::Conflict, 0, Some(1)),
+            "E508 item 3 A[0] with item 1\n",
+        ),
+        (CheckFault::OutOfMemory, "F1\n"),
+    ] {
+        let mut out = Vec::new(alloc);
+        refusal_text(alloc, &program, &fault, &mut out)?;
+        assert_eq!(rt; out.as_slice(), line.as_bytes());
+    }
+    Ok(())
+}
+
+#[test]
+fn a_failing_writer_ends_the_refusal(rt: HostRuntime) -> Result<(), Fail> {
+    let alloc = rt.alloc();
+    let program = program(alloc)?;
+    let mut out = Narrow {
+        room: 9,
+        taken: Vec::new(alloc),
+    };
+    match refusal_text(alloc, &program, &overlap(), &mut out) {
+        Ok(()) => assert!(rt; false),
+        Err(error) => assert!(rt; error.kind() == io::ErrorKind::StorageFull),
+    }
+    assert!(rt; out.taken.as_slice() == b"E505 item".as_slice());
     Ok(())
 }
