@@ -4,3 +4,4 @@ pub mod Runs
 pub mod Closing
 pub mod Places
 pub mod HostRows
+pub mod Nils

@@ -1,9 +1,10 @@
 -- The first clash of a plan.
-use Rattle.std.proofs.Common.{◌≡◌, ℕ, ◌<◌, ◌≤◌, Bool, true, false, List, [], ◌∷◌, ◌++◌, map, refl, sym, ap, ap₂, ◌∙◌, subst, ⊎_elim, Option, Some, None, arith}
-use Rattle.std.specs.Prelude.{slice_get, option_map, filter, cond, ◌&&◌, ◌||◌, ◌==◌, nat_lt}
+use Rattle.std.proofs.Common.{◌≡◌, ℕ, ◌<◌, ◌≤◌, Bool, true, false, List, [], ◌∷◌, map, refl, sym, ap, ap₂, ◌∙◌, subst, ⊎_elim, Option, Some, None, arith}
+use Rattle.std.specs.Prelude.{slice_get, option_map, filter, ◌&&◌, ◌||◌, ◌==◌, nat_lt}
 use Rattle.std.proofs.lemmas.Bool.{cases_lt, cases_eq}
 use Rattle.std.proofs.lemmas.Bool.Decides.{nat_tests}
 use Rattle.std.proofs.lemmas.Option.{slice_get-map}
+use Rattle.base.proofs.Nils.{nil_parts, nil_map, nil_filter}
 use Rattle.base.specs.declared.item.Cell.{Cell}
 use Rattle.base.specs.declared.item.Depend.{Depend}
 use Rattle.base.specs.declared.item.Item.{Item}
@@ -21,26 +22,14 @@ use Rattle.order.proofs.Least.{AllSized, IsLeast, all_is}
 
 -- ---- no section is empty
 
-after_none : {A : Type 0} (xs ys : List A) → xs ++ ys ≡ [] → ys ≡ []
-after_none [] ys e = e
-after_none (x ∷ xs) ys e = absurd cc
-
-mapped_none : {A B : Type 0} (f : A → B) (xs : List A) → map f xs ≡ [] → xs ≡ []
-mapped_none f [] e = refl
-mapped_none f (x ∷ xs) e = absurd cc
-
 sized : (lengths : List ℕ) (ds : List Depend) → filter (λ d. section_fails lengths d.section) ds ≡ [] → AllSized ds
 sized lengths [] e = tt
-sized lengths (d ∷ ds) e = go (section_fails lengths d.section) refl e (λ f. sized lengths ds f)
+sized lengths (d ∷ ds) e =
+    let parts = nil_filter (λ d. section_fails lengths d.section) d ds e in
+    (positive parts.0, sized lengths ds parts.1)
   where
     positive : section_fails lengths d.section ≡ false → 0 < d.section.length
     positive f = grind (arith, nat_tests)
-
-    go : (b : Bool) → section_fails lengths d.section ≡ b →
-        cond b (d ∷ filter (λ d. section_fails lengths d.section) ds) (filter (λ d. section_fails lengths d.section) ds) ≡ [] →
-        (filter (λ d. section_fails lengths d.section) ds ≡ [] → AllSized ds) → AllSized (d ∷ ds)
-    go true f e h = absurd cc
-    go false f e h = (positive f, h e)
 
 abbrev Fits : Option Work → Type 0
 Fits o = elim o [ None ↦ Unit {0} | Some w ↦ AllSized w.depends ]
@@ -51,9 +40,9 @@ faults_in lengths o = elim o [ None ↦ [] | Some w ↦ section_faults lengths w
 fits_in : (lengths : List ℕ) (o : Option Work) → faults_in lengths o ≡ [] → Fits o
 fits_in lengths None e = tt
 fits_in lengths (Some w) e = sized lengths w.depends
-    (mapped_none depend_fault (filter (λ d. section_fails lengths d.section) w.depends)
-    (after_none (map map_fault (filter (λ m. section_fails lengths m.section) w.maps))
-    (map depend_fault (filter (λ d. section_fails lengths d.section) w.depends)) e))
+    (nil_map depend_fault (filter (λ d. section_fails lengths d.section) w.depends)
+    (nil_parts (map map_fault (filter (λ m. section_fails lengths m.section) w.maps))
+    (map depend_fault (filter (λ d. section_fails lengths d.section) w.depends)) e).1)
 
 -- ---- clashes of the plan of items
 

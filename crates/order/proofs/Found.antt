@@ -2,6 +2,7 @@
 use Rattle.std.proofs.Common.{◌≡◌, ℕ, ◌+◌, ◌<◌, true, List, [], ◌∷◌, length, get_or, refl, sym, ap, ap₂, ◌∙◌, Option, Some, None, arith, ⊎_elim}
 use Rattle.std.specs.Prelude.{slice_get, ◌==◌}
 use Rattle.std.proofs.lemmas.Bool.{cases_eq, eqb-true}
+use Rattle.std.proofs.lemmas.List.{nil_from_length}
 use Rattle.std.proofs.lemmas.Option.{slice_get-get_or}
 use Rattle.base.specs.declared.item.Cell.{Cell}
 use Rattle.base.specs.declared.item.Depend.{Depend}
@@ -25,10 +26,6 @@ nothing_least : (ds : List Depend) → least_of_all ds [] None ≡ None
 nothing_least [] = refl
 nothing_least (d ∷ ds) = nothing_least ds
 
-no_element : {A : Type 0} (xs : List A) → length xs ≡ 0 → xs ≡ []
-no_element [] h = refl
-no_element (x ∷ xs) h = absurd (omega arith)
-
 nothing_in : (o p : Option Item) (b : Item) → p ≡ Some b → b.depends.items ≡ [] → clash_in o p ≡ None
 nothing_in None p b e f = refl
 nothing_in (Some a) p b e f =
@@ -38,7 +35,7 @@ nothing_in (Some a) p b e f =
 pub nothing_asked : (its : List Item) (j : ℕ) (b : Item) → j < length its →
     (length (get_or its j b).depends.items == 0) ≡ true → (k : ℕ) → clash_at its k j ≡ None
 nothing_asked its j b lt e k = nothing_in (slice_get its k) (slice_get its j) (get_or its j b) (slice_get-get_or its j b lt)
-    (no_element (get_or its j b).depends.items (eqb-true (length (get_or its j b).depends.items) 0 e))
+    (nil_from_length (get_or its j b).depends.items (eqb-true (length (get_or its j b).depends.items) 0 e))
 
 -- one item more
 pub none_more : (its : List Item) (i j : ℕ) → NoneBelow its i j → clash_at its i j ≡ None → NoneBelow its (i + 1) j

@@ -3,7 +3,7 @@ use Rattle.std.proofs.Common.{◌≡◌, ◌<◌, max, Bool, true, false, List, 
 use Rattle.std.specs.Prelude.{not, ◌&&◌, ◌||◌, cond}
 use Rattle.std.specs.List.{list_any}
 use Rattle.std.proofs.lemmas.Bool.{or_cases, or_left, or_right}
-use Rattle.std.proofs.Math.Bool.{or-false}
+use Rattle.std.proofs.Math.Bool.{or-false, or_assoc}
 use Rattle.std.proofs.lemmas.Bool.Decides.{nat_tests}
 use Rattle.base.specs.declared.item.Cell.{Cell}
 use Rattle.base.specs.declared.item.Section.{Section}
@@ -96,17 +96,13 @@ clash_is d e p q = go (overlaps d.section e.section && not (same_section d.secti
           (is_in c e.section) h in not_before d.section e.section c both.0 both.1,
     )
 
-or_or : (a b c : Bool) → ((a || b) || c) ≡ (a || (b || c))
-or_or true b c = refl
-or_or false b c = refl
-
 one_is : (P : Cell → Bool) (d : Depend) (es : List Depend) (least : Option Cell) → 0 < d.section.length → AllSized es →
     IsLeast P least → IsLeast (λ c. P c || list_any (clash c d) es) (least_of_one d es least)
 one_is P d [] least p q h = least_same P (λ c. P c || false) least (λ c. sym (or-false (P c))) h
 one_is P d (e ∷ es) least p q h =
     least_same (λ c. (P c || clash c d e) || list_any (clash c d) es) (λ c. P c || (clash c d e || list_any (clash c d) es))
     (least_of_one d es (lesser least (clash_of d.section e.section)))
-    (λ c. or_or (P c) (clash c d e) (list_any (clash c d) es))
+    (λ c. or_assoc (P c) (clash c d e) (list_any (clash c d) es))
     (one_is (λ c. P c || clash c d e) d es (lesser least (clash_of d.section e.section)) p q.1
     (lesser_is P (λ c. clash c d e) least (clash_of d.section e.section) h (clash_is d e p q.0)))
 
@@ -118,5 +114,5 @@ all_is P (d ∷ ds) es least p q h =
     least_same (λ c. (P c || list_any (clash c d) es) || list_any (λ d. list_any (clash c d) es) ds)
     (λ c. P c || (list_any (clash c d) es || list_any (λ d. list_any (clash c d) es) ds))
     (least_of_all ds es (least_of_one d es least))
-    (λ c. or_or (P c) (list_any (clash c d) es) (list_any (λ d. list_any (clash c d) es) ds))
+    (λ c. or_assoc (P c) (list_any (clash c d) es) (list_any (λ d. list_any (clash c d) es) ds))
     (all_is (λ c. P c || list_any (clash c d) es) ds es (least_of_one d es least) p.1 q (one_is P d es least p.0 q h))

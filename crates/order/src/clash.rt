@@ -12,19 +12,13 @@ use base::item::{Cell, Depend, Item, Section};
 fn clash_of(left: &Section, right: &Section) -> Option<Cell>
     ensures { result ≡ Rattle.order.specs.Clashes.clash_of left.now right.now }
 {
-    if !overlap(left, right) || (left.first == right.first && left.length == right.length) {
+    if !overlap(left, right) || left == right {
         return None;
     }
     Some(Cell {
         array: left.array,
         index: left.first.max(right.first),
     })
-}
-
-fn is_less(left: Cell, right: Cell) -> bool
-    ensures { result ≡ Rattle.order.specs.Clashes.is_less left right }
-{
-    left.array.0 < right.array.0 || (left.array.0 == right.array.0 && left.index < right.index)
 }
 
 // The lesser of two cells, either of which may be missing.
@@ -34,7 +28,7 @@ fn lesser(left: Option<Cell>, right: Option<Cell>) -> Option<Cell>
     match (left, right) {
         (None, right) => right,
         (left, None) => left,
-        (Some(left), Some(right)) => Some(if is_less(right, left) { right } else { left }),
+        (Some(left), Some(right)) => Some(left.min(right)),
     }
 }
 

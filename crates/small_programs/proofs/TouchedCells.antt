@@ -1,10 +1,11 @@
 -- Where no subscript is out of range, each cell that a region touches is a cell of the program.
-use Rattle.std.proofs.Common.{◌≡◌, ℕ, zero, suc, Bool, true, false, List, [], ◌∷◌, ◌++◌, Some, map, refl, sym, ap, ◌∙◌, ⊎_elim, arith}
+use Rattle.std.proofs.Common.{◌≡◌, ℕ, zero, suc, Bool, true, false, List, [], ◌∷◌, Some, map, refl, sym, ap, ◌∙◌, ⊎_elim, arith}
 use Rattle.std.specs.Prelude.{not, ◌&&◌, ◌||◌, ◌==◌, nat_lt, nat_le, slice_index, filter, Contains, if◌then◌else◌}
 use Rattle.std.specs.List.{list_any}
 use Rattle.std.proofs.lemmas.Bool.{false≢true, and_parts, or_cases, or_left, or_right}
 use Rattle.std.proofs.lemmas.Bool.Decides.{nat_tests}
 use Rattle.std.proofs.lemmas.List.Elements.{All-contains_itself, All-head}
+use Rattle.base.proofs.Nils.{nil_parts, nil_map}
 use Rattle.base.specs.declared.item.Cell.{Cell}
 use Rattle.base.specs.declared.tree.Region.{Region}
 use Rattle.base.specs.declared.tree.Part.{Part}
@@ -13,7 +14,7 @@ use Rattle.base.specs.declared.fault.RangeFault.{RangeFault}
 use Rattle.base.specs.Memory.{is_cell}
 use Rattle.base.specs.Items.{Work}
 use Rattle.base.specs.Footprint.{Touch, touches_of, turns_in, has_cell, is_sure, leaves_array, reads, writes, exposes}
-use Rattle.base.specs.Accepted.{range_faults, region_faults, map_fault, depend_fault, section_fails, turns_fault, subscript_fault, most_turns}
+use Rattle.base.specs.Accepted.{range_faults, region_faults, section_faults, turns_fault, subscript_fault, most_turns}
 use Rattle.small_programs.specs.Works.{work_of}
 use Rattle.small_programs.specs.Accepted.{HasNoRangeFault}
 
@@ -61,14 +62,6 @@ nothing_in : (xs : List RangeFault) → ((f : RangeFault) → Contains xs f → 
 nothing_in [] h = refl
 nothing_in (x ∷ xs) h = absurd (h x (All-head (Contains (x ∷ xs)) x xs (All-contains_itself (x ∷ xs))))
 
-nil_right : {A : Type 0} (xs ys : List A) → xs ++ ys ≡ [] → ys ≡ []
-nil_right [] ys h = h
-nil_right (x ∷ xs) ys h = absurd (cc h)
-
-nil_map : {A B : Type 0} (f : A → B) (xs : List A) → map f xs ≡ [] → xs ≡ []
-nil_map f [] h = refl
-nil_map f (x ∷ xs) h = absurd (cc h)
-
 -- a touch that stays in its array
 touched_is_cell : (lengths : List ℕ) (t : Touch) (c : Cell) →
     leaves_array lengths t ≡ false →
@@ -110,8 +103,8 @@ region_stays : (lengths loops : List ℕ) (r : Region) →
 region_stays lengths loops r h =
     touches_stay lengths (touches_of r loops)
     (nil_map subscript_fault (filter (leaves_array lengths) (touches_of r loops))
-    (nil_right (if nat_lt most_turns (turns_in r) then turns_fault r ∷ [] else [])
-    (map subscript_fault (filter (leaves_array lengths) (touches_of r loops))) h))
+    (nil_parts (if nat_lt most_turns (turns_in r) then turns_fault r ∷ [] else [])
+    (map subscript_fault (filter (leaves_array lengths) (touches_of r loops))) h).1)
 
 -- the region of a part touches cells of the program alone
 abbrev pub PartStays : List ℕ → Part → Type 0
@@ -129,10 +122,7 @@ work_stays : (lengths : List ℕ) (w : Work) (r : Region) →
     StaysIn lengths (touches_of r w.loops)
 work_stays lengths w r e h =
     region_stays lengths w.loops r (ap (region_faults lengths w.loops) (sym e)
-    ∙ nil_right
-    (map map_fault (filter (λ m. section_fails lengths m.section) w.maps)
-    ++ map depend_fault (filter (λ d. section_fails lengths d.section) w.depends))
-    (region_faults lengths w.loops w.region) h)
+    ∙ (nil_parts (section_faults lengths w.maps w.depends) (region_faults lengths w.loops w.region) h).1)
 
 part_stays : (lengths : List ℕ) (p : Part) → range_faults lengths (work_of lengths p) ≡ [] → PartStays lengths p
 part_stays lengths (part.Host r) h = work_stays lengths (work_of lengths (part.Host r)) r refl h
