@@ -1,0 +1,5 @@
+pub mod Rows
+pub mod Machine
+pub mod Codes
+pub mod Kept
+pub mod States
