@@ -12,3 +12,5 @@ pub mod RowStores
 pub mod Advance
 pub mod FreshRows
 pub mod RegionRuns
+pub mod SafeBodies
+pub mod SafeRuns

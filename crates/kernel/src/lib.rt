@@ -10,6 +10,8 @@ mod execute;
 mod follow;
 mod frames;
 mod op;
+#[cfg(test)]
+mod safe;
 mod state;
 mod step;
 #[cfg(test)]
