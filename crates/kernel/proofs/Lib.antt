@@ -14,3 +14,4 @@ pub mod FreshRows
 pub mod RegionRuns
 pub mod SafeBodies
 pub mod SafeRuns
+pub mod Advancing
