@@ -1,0 +1,30 @@
+-- The last number of a list.
+use Rattle.std.proofs.Common.{◌≡◌, ℕ, suc, ◌+◌, ◌-◌, ◌<◌, List, [], ◌∷◌, ◌++◌, length, Option, refl, ap, ◌∙◌, arith, length-append}
+use Rattle.std.specs.Prelude.{take, slice_index, slice_set}
+use Rattle.kernel.specs.Machine.{last_of, front_of, with_last}
+
+length_more : (xs : List ℕ) (v : ℕ) → length (xs ++ v ∷ []) - 1 ≡ length xs
+length_more xs v = omega (arith, length-append xs (v ∷ []))
+
+at_seam : (xs : List ℕ) (v : ℕ) → slice_index (xs ++ v ∷ []) (length xs) ≡ v
+at_seam [] v = refl
+at_seam (x ∷ xs) v = at_seam xs v
+
+take_seam : (xs : List ℕ) (v : ℕ) → take (length xs) (xs ++ v ∷ []) ≡ xs
+take_seam [] v = refl
+take_seam (x ∷ xs) v = ap (λ ys. x ∷ ys) (take_seam xs v)
+
+pub last_more : (xs : List ℕ) (v : ℕ) → last_of (xs ++ v ∷ []) ≡ v
+last_more xs v = ap (λ n. slice_index (xs ++ v ∷ []) n) (length_more xs v) ∙ at_seam xs v
+
+pub front_more : (xs : List ℕ) (v : ℕ) → front_of (xs ++ v ∷ []) ≡ xs
+front_more xs v = ap (λ n. take n (xs ++ v ∷ [])) (length_more xs v) ∙ take_seam xs v
+
+filled : {A : Type 0} (ys xs : List ℕ) (v : ℕ) (f : ℕ → List ℕ → Option A) → ys ≡ xs ++ v ∷ [] →
+    with_last (xs ++ v ∷ []) f ≡ f (last_of (xs ++ v ∷ [])) (front_of (xs ++ v ∷ []))
+filled {A} ys [] v f e = refl
+filled {A} ys (x ∷ xs) v f e = refl
+
+pub with_more : {A : Type 0} (xs : List ℕ) (v : ℕ) (f : ℕ → List ℕ → Option A) → with_last (xs ++ v ∷ []) f ≡ f v xs
+with_more {A} xs v f =
+    filled (xs ++ v ∷ []) xs v f refl ∙ (λ i. f (last_more xs v i) (front_more xs v i))

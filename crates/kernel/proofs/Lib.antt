@@ -1,0 +1,17 @@
+pub mod Places
+pub mod Leads
+pub mod Lasts
+pub mod ExprRuns
+pub mod Patches
+pub mod CodeBodies
+pub mod Stepping
+pub mod SeenStores
+pub mod EffectRuns
+pub mod StmtRuns
+pub mod RowStores
+pub mod Advance
+pub mod FreshRows
+pub mod RegionRuns
+pub mod SafeBodies
+pub mod SafeRuns
+pub mod Advancing

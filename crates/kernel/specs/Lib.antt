@@ -1,0 +1,6 @@
+pub mod Rows
+pub mod Machine
+pub mod Codes
+pub mod Kept
+pub mod States
+pub mod Safe

@@ -1,0 +1,18 @@
+//! The stack code of a region, and its run.
+#![tactic(auto)]
+
+pub use crate::emit::{Code, compile};
+pub use crate::execute::{Done, run};
+pub use crate::frames::{Frame, KeptRow, Row};
+
+mod emit;
+mod execute;
+mod follow;
+mod frames;
+mod op;
+#[cfg(test)]
+mod safe;
+mod state;
+mod step;
+#[cfg(test)]
+mod tests;
