@@ -5,3 +5,5 @@ pub mod Items
 pub mod Tokens
 pub mod Covered
 pub mod Copies
+pub mod Contexts
+pub mod Follows
