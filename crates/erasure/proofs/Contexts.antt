@@ -1,6 +1,6 @@
 -- What stands before a token of a text without its directives: nothing is inside a target, and no more statements.
-use Rattle.std.proofs.Common.{◌≡◌, ℕ, zero, suc, ◌+◌, ◌-◌, ◌≤◌, Bool, true, false, cond, List, [], ◌∷◌, length, map, Option, Some, None, refl, sym, ap, subst, ◌∙◌, arith}
-use Rattle.std.specs.Prelude.{◌&&◌, ◌||◌, not, nat_le}
+use Rattle.std.proofs.Common.{◌≡◌, ℕ, suc, ◌+◌, ◌≤◌, Bool, true, false, cond, List, [], ◌∷◌, length, Option, Some, None, refl, ap, ◌∙◌, arith}
+use Rattle.std.specs.Prelude.{◌&&◌, ◌||◌, nat_le}
 use Rattle.std.specs.Str.{bytes_eq}
 use Rattle.std.proofs.lemmas.Bool.Decides.{nat_tests}
 use Rattle.base.specs.declared.fault.ReadCode.{ReadCode as Code}
@@ -8,7 +8,7 @@ use Rattle.base.specs.declared.fault.ReadCode.TheVariants.{UnknownByte, Unexpect
 use Rattle.c_tokens.specs.declared.kind.Sign.TheVariants as sign
 use Rattle.c_grammar.specs.Terminal.{Terminal, Fixed, Mark, Name, Num, Line, Unknown, End, same}
 use Rattle.c_grammar.specs.Grammar.{Act, Plain, DeclaresGlobal, DeclaresLocal, DeclaresLoop, MakesArray, MakesScalar, Length, Limit, Step, Starts, StartsIf, Prints, Assigned, StartsBlock, Otherwise, Reads, Opens, Closes, Alone, Over, Operand, OpensBracket, ClosesBracket, Divisor, Count, Inner}
-use Rattle.c_grammar.specs.Rules.{Context, declared, opened, out, begun, Frame, Sort, AnArray, AScalar, ALoop, max_statements, top, below, with_name, inside, under_if, act, enter, found, sort_in, sort_of, sort_at, is_array, is_scalar, is_visible, is_loop, breaks_act, breaks_part, breaks, misuses, Rule}
+use Rattle.c_grammar.specs.Rules.{Context, declared, opened, out, begun, Frame, Sort, AnArray, AScalar, ALoop, max_statements, top, below, with_name, inside, act, found, sort_in, sort_of, sort_at, is_array, is_scalar, is_visible, is_loop, breaks_act}
 use Rattle.erasure.specs.Erased.{is_line_terminal}
 
 -- ---- nothing is inside a target
@@ -83,7 +83,7 @@ loop_same (Some AnArray) = refl
 loop_same (Some (AScalar i)) = refl
 loop_same (Some ALoop) = refl
 
-depth_same : (fs : List Frame) → length (plain_frames fs) ≡ length fs
+pub depth_same : (fs : List Frame) → length (plain_frames fs) ≡ length fs
 depth_same [] = refl
 depth_same (f ∷ fs) = ap suc (depth_same fs)
 
@@ -95,7 +95,7 @@ choice_same : (fs : List Frame) → (top (plain_frames fs)).choice ≡ (top fs).
 choice_same [] = refl
 choice_same (f ∷ fs) = refl
 
-no_more : (n m limit : ℕ) → n ≤ m → nat_le limit m ≡ false → nat_le limit n ≡ false
+pub no_more : (n m limit : ℕ) → n ≤ m → nat_le limit m ≡ false → nat_le limit n ≡ false
 no_more n m limit h e = grind (arith, nat_tests)
 
 -- ---- no other rule is broken
@@ -211,7 +211,7 @@ declared_same : (s : Sort) (n : ℕ) (c : Context) → declared (plain_sort s) (
 declared_same s n c =
     ap (λ (fs : List Frame). record c { frames = fs; fresh = None; target = false; statements = n }) (frame_declared c.fresh s c.frames)
 
-opened_same : (n : ℕ) (c : Context) → opened (plain n c) ≡ plain n (opened c)
+pub opened_same : (n : ℕ) (c : Context) → opened (plain n c) ≡ plain n (opened c)
 opened_same n c =
     ap (λ (fs : List Frame). record c { frames = fs; turn = None; target = false; choice = false; statements = n })
     (frame_opened c.turn c.choice c.frames)

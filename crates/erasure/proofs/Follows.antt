@@ -1,5 +1,5 @@
 -- Tokens that keep the rules keep them where nothing is inside a target.
-use Rattle.std.proofs.Common.{◌≡◌, ℕ, zero, suc, ◌+◌, ◌≤◌, Bool, true, false, List, [], ◌∷◌, ◌++◌, Option, Some, None, refl, sym, ap, subst, ◌∙◌, arith, append_assoc}
+use Rattle.std.proofs.Common.{◌≡◌, ℕ, zero, suc, ◌≤◌, Bool, true, false, cond, [], ◌∷◌, ◌++◌, refl, sym, ap, subst, ◌∙◌, append_assoc}
 use Rattle.std.specs.Prelude.{◌||◌}
 use Rattle.base.specs.declared.fault.ReadCode.{ReadCode as Code}
 use Rattle.base.specs.declared.fault.ReadCode.TheVariants.{UnknownByte, Unexpected, Undeclared, AlreadyDeclared, BadNumber, BadLength, LoopNameAssigned, BadOperand, TooDeep, TooMany, UnknownDirective, UnknownClause, ClauseCount, BadMapType, BadBound, ArrayTwice, DirectiveInTarget, OuterAssigned, HostOnly, NoBody, DirectiveUnderIf}
@@ -25,9 +25,10 @@ pub keeps_at : (xs front : Slots) (rest : Slots) → KeepsRules source_grammar x
     Keeps (entered begin front) rest End
 keeps_at xs front [] k e = tt
 keeps_at xs front (x ∷ rest) k e =
-    let more : xs ≡ (front ++ x ∷ []) ++ rest = e ∙ sym (append_assoc front (x ∷ []) rest) in
-    (λ r. k front x rest r e,
-    subst (λ (c : Context). Keeps c rest End) (entered_more begin front x) (keeps_at xs (front ++ x ∷ []) rest k more))
+    let more : xs ≡ (front ++ x ∷ []) ++ rest = e ∙ sym (append_assoc front (x ∷ []) rest) in (
+      λ r. k front x rest r e,
+      subst (λ (c : Context). Keeps c rest End) (entered_more begin front x) (keeps_at xs (front ++ x ∷ []) rest k more),
+    )
   where
     entered_more : (c : Context) (front : Slots) (x : Slot) → entered c (front ++ x ∷ []) ≡ enter (entered c front) x
     entered_more c [] x = refl
@@ -64,17 +65,34 @@ keeps_join c (x ∷ xs) ys n k l =
 
 -- ---- tokens of no directive
 
+abbrev has_line : Slots → Bool
+has_line [] = false
+has_line (x ∷ xs) = cond (is_line_terminal x.0) true (has_line xs)
+
 abbrev pub NoLines : Slots → Type 0
-NoLines [] = Unit {0}
-NoLines (x ∷ xs) = (is_line_terminal x.0 ≡ false) × NoLines xs
+NoLines xs = has_line xs ≡ false
+
+or_false : (a b : Bool) → cond a true b ≡ false → (a ≡ false) × (b ≡ false)
+or_false true b e = absurd cc
+or_false false b e = (refl, e)
+
+pub no_line_first : (x : Slot) (xs : Slots) → NoLines (x ∷ xs) → (is_line_terminal x.0 ≡ false) × NoLines xs
+no_line_first x xs e = or_false (is_line_terminal x.0) (has_line xs) e
 
 pub no_lines_append : (xs ys : Slots) → NoLines xs → NoLines ys → NoLines (xs ++ ys)
 no_lines_append [] ys n m = m
-no_lines_append (x ∷ xs) ys n m = (n.0, no_lines_append xs ys n.1 m)
+no_lines_append (x ∷ xs) ys n m =
+    let both = no_line_first x xs n in
+    ap (λ (b : Bool). cond b true (has_line (xs ++ ys))) both.0 ∙ no_lines_append xs ys both.1 m
 
--- what no rule asks the next token for
+-- what is in no expression, and what no rule asks the next token for
 abbrev pub IsFree : Act → Type 0
 IsFree Operand = ⊥
+IsFree OpensBracket = ⊥
+IsFree ClosesBracket = ⊥
+IsFree Divisor = ⊥
+IsFree Count = ⊥
+IsFree Inner = ⊥
 IsFree Assigned = ⊥
 IsFree DeclaresGlobal = ⊥
 IsFree _ = Unit {0}
@@ -136,10 +154,6 @@ free_next NoBody c t _ n m f = refl
 free_next DirectiveUnderIf c t Plain n m f = refl
 free_next DirectiveUnderIf c t _ n m f = refl
 
-or_false : (a b : Bool) → (a || b) ≡ false → (a ≡ false) × (b ≡ false)
-or_false true b e = absurd cc
-or_false false b e = (refl, e)
-
 from_or : (a b d : Bool) → (a || b) ≡ false → (b ≡ false → d ≡ false) → (a || d) ≡ false
 from_or true b d e h = absurd cc
 from_or false b d e h = h e
@@ -187,13 +201,62 @@ follows_slot c d x f l =
 -- some tokens, with any token behind them
 pub follows_keeps : (xs : Slots) (c d : Context) (n m : Terminal) → NoLines xs → EndsFree xs → Follows c d → Keeps c xs n → Keeps d xs m
 follows_keeps [] c d n m l e f k = tt
-follows_keeps (x ∷ []) c d n m l e f k = (plain_slot c d x m f l.0 (free_slot c x n m e k.0), tt)
+follows_keeps (x ∷ []) c d n m l e f k =
+    (plain_slot c d x m f (no_line_first x [] l).0 (free_slot c x n m e k.0), tt)
 follows_keeps (x ∷ y ∷ xs) c d n m l e f k =
-    (plain_slot c d x y.0 f l.0 k.0, follows_keeps (y ∷ xs) (enter c x) (enter d x) n m l.1 e (follows_slot c d x f l.0) k.1)
+    let both = no_line_first x (y ∷ xs) l in (
+      plain_slot c d x y.0 f both.0 k.0,
+      follows_keeps (y ∷ xs) (enter c x) (enter d x) n m both.1 e (follows_slot c d x f both.0) k.1,
+    )
 
 pub follows_all : (xs : Slots) (c d : Context) → NoLines xs → Follows c d → Follows (entered c xs) (entered d xs)
 follows_all [] c d l f = f
-follows_all (x ∷ xs) c d l f = follows_all xs (enter c x) (enter d x) l.1 (follows_slot c d x f l.0)
+follows_all (x ∷ xs) c d l f =
+    let both = no_line_first x xs l in follows_all xs (enter c x) (enter d x) both.1 (follows_slot c d x f both.0)
+
+-- ---- outside expressions
+
+abbrev pub IsOut : Context → Type 0
+IsOut c = (c.depth ≡ 0) × (c.tokens ≡ 0)
+
+free_out : (c : Context) (t : Terminal) (a : Act) → IsFree a → IsOut (act c t a)
+free_out c t Plain f = (refl, refl)
+free_out c t DeclaresLocal f = (refl, refl)
+free_out c t DeclaresLoop f = (refl, refl)
+free_out c t MakesArray f = (refl, refl)
+free_out c t MakesScalar f = (refl, refl)
+free_out c t Length f = (refl, refl)
+free_out c t Limit f = (refl, refl)
+free_out c t Step f = (refl, refl)
+free_out c t Starts f = (refl, refl)
+free_out c t StartsIf f = (refl, refl)
+free_out c t Prints f = (refl, refl)
+free_out c t StartsBlock f = (refl, refl)
+free_out c t Otherwise f = (refl, refl)
+free_out c t Reads f = (refl, refl)
+free_out c t Opens f = (refl, refl)
+free_out c t Closes f = (refl, refl)
+free_out c t Alone f = (refl, refl)
+free_out c (Fixed w) Over f = (refl, refl)
+free_out c (Mark s) Over f = (refl, refl)
+free_out c (Name x) Over f = (refl, refl)
+free_out c (Num v) Over f = (refl, refl)
+free_out c (Line ts) Over f = (refl, refl)
+free_out c Unknown Over f = (refl, refl)
+free_out c End Over f = (refl, refl)
+free_out c t Operand f = absurd f
+free_out c t OpensBracket f = absurd f
+free_out c t ClosesBracket f = absurd f
+free_out c t Divisor f = absurd f
+free_out c t Count f = absurd f
+free_out c t Inner f = absurd f
+free_out c t Assigned f = absurd f
+free_out c t DeclaresGlobal f = absurd f
+
+pub ends_out : (c : Context) (x : Slot) (xs : Slots) → EndsFree (x ∷ xs) → IsOut (entered c (x ∷ xs))
+unfolding enter
+ends_out c x [] e = free_out c x.0 x.1.1 e
+ends_out c x (y ∷ xs) e = ends_out (enter c x) y xs e
 
 -- ---- going on
 
@@ -201,13 +264,33 @@ follows_all (x ∷ xs) c d l f = follows_all xs (enter c x) (enter d x) l.1 (fol
 abbrev pub Goes : Context → Slots → Terminal → Context → Type 0
 Goes d ys m end = Keeps d ys m × Follows end (entered d ys)
 
-pub goes_join : (d : Context) (xs ys : Slots) (m : Terminal) (end : Context) → Keeps d xs (next_in ys m) → Goes (entered d xs) ys m end →
+goes_join : (d : Context) (xs ys : Slots) (m : Terminal) (end : Context) → Keeps d xs (next_in ys m) → Goes (entered d xs) ys m end →
     Goes d (xs ++ ys) m end
 goes_join d xs ys m end k g =
     (keeps_join d xs ys m k g.0, subst (λ (e : Context). Follows end e) (sym (entered_append d xs ys)) g.1)
 
--- tokens of no directive, and then others
-pub goes_on : (xs ys : Slots) (c d : Context) (n m : Terminal) (end : Context) → NoLines xs → EndsFree xs → Follows c d → Keeps c xs n →
-    ((e : Context) → Follows (entered c xs) e → Goes e ys m end) → Goes d (xs ++ ys) m end
-goes_on xs ys c d n m end l e f k go =
-    goes_join d xs ys m end (follows_keeps xs c d n (next_in ys m) l e f k) (go (entered d xs) (follows_all xs c d l f))
+-- where the first tokens keep the rules so do the second, whatever stands behind them
+abbrev pub Keeping : Slots → Slots → Type 0
+Keeping xs ys = (zs : Slots) (c d : Context) (n m : Terminal) (end : Context) → Follows c d → IsOut c → Keeps c xs n →
+    ((e : Context) → Follows (entered c xs) e → IsOut (entered c xs) → Goes e zs m end) → Goes d (ys ++ zs) m end
+
+pub keeping_none : Keeping [] []
+keeping_none zs c d n m end f o k go = go d f o
+
+-- tokens of no directive
+pub keeping_same : (x : Slot) (xs : Slots) → NoLines (x ∷ xs) → EndsFree (x ∷ xs) → Keeping (x ∷ xs) (x ∷ xs)
+keeping_same x xs l e zs c d n m end f o k go =
+    goes_join d (x ∷ xs) zs m end (follows_keeps (x ∷ xs) c d n (next_in zs m) l e f k)
+    (go (entered d (x ∷ xs)) (follows_all (x ∷ xs) c d l f) (ends_out c x xs e))
+
+pub keeping_join : (xs us ys vs : Slots) → Keeping xs us → Keeping ys vs → Keeping (xs ++ ys) (us ++ vs)
+keeping_join xs us ys vs first second zs c d n m end f o k go =
+    let parts = keeps_split c xs ys n k in
+    let behind = entered_append c xs ys in
+    subst (λ (ws : Slots). Goes d ws m end) (sym (append_assoc us vs zs))
+    (first (vs ++ zs) c d (next_in ys n) m end f o parts.0
+    (λ e g p. second zs (entered c xs) e n m end g p parts.1
+    (λ e2 g2 p2. go e2 (subst (λ (b : Context). Follows b e2) (sym behind) g2) (subst IsOut (sym behind) p2))))
+
+pub keeping_as : (xs ys us vs : Slots) → xs ≡ ys → us ≡ vs → Keeping xs us → Keeping ys vs
+keeping_as xs ys us vs p q k = subst (λ (ws : Slots). Keeping ys ws) q (subst (λ (ws : Slots). Keeping ws us) p k)

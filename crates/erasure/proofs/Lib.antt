@@ -7,3 +7,6 @@ pub mod Covered
 pub mod Copies
 pub mod Contexts
 pub mod Follows
+pub mod BareTexts
+pub mod KeptRules
+pub mod Spelled

@@ -1,6 +1,9 @@
 //! Deleting the lines of directives.
 
 ghost use Rattle.std.specs.Prelude.{◌≡◌, IfOk};
+ghost use Rattle.c_grammar.specs.Grammar.{Text};
+ghost use Rattle.c_grammar.specs.Source.{Spells};
+ghost use Rattle.erasure.specs.Plain.{plain_tree};
 ghost use Rattle.erasure.specs.Erased.{erased_text, items_in, unlined};
 
 use c_tokens::{Kind, tokens};
@@ -12,6 +15,7 @@ use std::alloc::{AllocError, Global};
 pub fn erase(alloc: Global, bytes: &[u8]) -> Result<Vec<u8>, AllocError>
     ensures erased { IfOk result (λ v. v.items ≡ erased_text bytes.now) }
     ensures tokens { IfOk result (λ v. items_in v.items ≡ unlined (items_in bytes.now)) }
+    ensures tree { IfOk result (λ v. (t : Text) → Spells bytes.now t → Spells v.items (plain_tree t)) }
 {
     let mut kept = Vec::new(alloc);
     let mut next = 0;

@@ -1,5 +1,8 @@
 use Rattle.std.proofs.Common.{rules, arith, ◌≡◌, ℕ, ◌+◌, ◌≤◌, List, length, ap, sym, subst, ◌∙◌}
 use Rattle.c_tokens.specs.Ahead.{ahead}
+use Rattle.c_grammar.specs.Source.{Spells}
+use Rattle.erasure.specs.Plain.{plain_tree}
+use Rattle.erasure.proofs.Spelled.{spells_plain}
 use Rattle.erasure.specs.Erased.{erased_text, items_in}
 use Rattle.erasure.proofs.Covered.{erased_items}
 use Rattle.erasure.proofs.Copies.{IsCopied, copy_starts, copy_line, copy_other, copy_ends, token_within}
@@ -45,4 +48,8 @@ returns c =
     let text : c.extend_from_slice-2.new.self.items ≡ erased_text c.args.bytes.now =
     c.in_ok-extend_from_slice-2.ensures.items
     ∙ copy_ends _ _ _ _ c.in-None.ensures.steps.0 c.loop-token.invariant.2 in
-    record { erased = text; tokens = ap items_in text ∙ erased_items c.args.bytes.now }
+    record {
+      erased = text;
+      tokens = ap items_in text ∙ erased_items c.args.bytes.now;
+      tree = λ t s. subst (λ (bs : List ℕ). Spells bs (plain_tree t)) (sym text) (spells_plain c.args.bytes.now t s);
+    }
