@@ -1,2 +1,4 @@
 pub mod Values
 pub mod Likeness
+pub mod Envs
+pub mod Statements
