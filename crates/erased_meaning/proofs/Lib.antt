@@ -2,3 +2,4 @@ pub mod Values
 pub mod Likeness
 pub mod Envs
 pub mod Statements
+pub mod Parts
