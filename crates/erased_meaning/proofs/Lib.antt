@@ -3,3 +3,4 @@ pub mod Likeness
 pub mod Envs
 pub mod Statements
 pub mod Parts
+pub mod Pieces

@@ -25,24 +25,24 @@ use Rattle.erased_meaning.proofs.Values.{plain_names, Agree, scalar_is, same_sca
 use Rattle.erased_meaning.proofs.Likeness.{Mode, OnHost, InTarget, IsPassed, IsOwn, Like, Both, seen_same, stored_same, both_then, both_less, both_turns, both_choose, set_like, declare_like}
 use Rattle.erased_meaning.proofs.Envs.{plain_env, plain_one, plain_then, declared_plain, behind_plain, more_plain, agree_before, IsQuietSource, IsQuiet, AreQuiet, IsPlaced, MayDo, MayDoAll, own_at, placed_behind, placed_more, placed_loop}
 
-row_runs : (n : Count) (row : Row_of-Stmt n) (view : View) (loops : List ℕ) (s : Run) →
+pub row_runs : (n : Count) (row : Row_of-Stmt n) (view : View) (loops : List ℕ) (s : Run) →
     run_row row view loops s ≡ run_list (items-the_row-Stmt n row) view loops s
 row_runs n end_of-Stmt view loops s = refl
 row_runs n (more_of-Stmt first rest) view loops s =
     ap (λ f. option_and_then f (run_stmt first view loops s)) (fun_ext (λ x. row_runs _ rest view loops x))
 
 -- bounds that one head means
-abbrev IsSameBounds : Bounds → Bounds → Type 0
+abbrev pub IsSameBounds : Bounds → Bounds → Type 0
 IsSameBounds a b = (a.first ≡ b.first) × (a.end ≡ b.end) × (a.step ≡ b.step)
 
 some_same : (a b : ℕ) → Some a ≡ Some b → a ≡ b
 some_same a b e = cc
 
-same_bounds : (h : Head) (a b : Bounds) → IsHead h a → IsHead h b → IsSameBounds a b
+pub same_bounds : (h : Head) (a b : Bounds) → IsHead h a → IsHead h b → IsSameBounds a b
 same_bounds h a b p q =
     (some_same a.first b.first (sym p.first ∙ q.first), some_same a.end b.end (sym p.limit ∙ q.limit), some_same a.step b.step (sym p.step ∙ q.step))
 
-turns_same : (a b : Bounds) → IsSameBounds a b → turns_of a ≡ turns_of b
+pub turns_same : (a b : Bounds) → IsSameBounds a b → turns_of a ≡ turns_of b
 turns_same a b e =
     ap (λ (v : ℕ). (a.end - v + (a.step - 1)) / a.step) e.0 ∙ ap (λ (v : ℕ). (v - b.first + (a.step - 1)) / a.step) e.1
     ∙ ap (λ (v : ℕ). (b.end - b.first + (v - 1)) / v) e.2
@@ -262,7 +262,7 @@ module _ (lengths : List ℕ) (m w : Memory) (mode : Mode) where
         (λ zs ks r q l g. lists_end ss (behind s env) (drop (stmt_size s) is) ks xs zs loops r q (may_rest mode env s ss may)
         (placed_behind mode s env p) l h.1 g)
 
-    one_ends : (s : Stmt) (env : Env) (is js : Items) (x y : Statement) (loops : List ℕ) (r q : Run) → MayDo mode env s →
+    pub one_ends : (s : Stmt) (env : Env) (is js : Items) (x y : Statement) (loops : List ℕ) (r q : Run) → MayDo mode env s →
         IsPlaced mode env → Alike env.names r q → IsStatement env is s x → IsStatement (plain_env env) js (plain_one s) y →
         Ends (behind s env).names (run_stmt x here loops r) (run_stmt y there loops q)
     one_ends (Declare x v) env is js (statement.Declare n a) (statement.Declare k b) loops r q may p l h g =
