@@ -4,3 +4,4 @@ pub mod Envs
 pub mod Statements
 pub mod Parts
 pub mod Pieces
+pub mod Contexts
