@@ -5,3 +5,4 @@ pub mod Statements
 pub mod Parts
 pub mod Pieces
 pub mod Contexts
+pub mod Safe
