@@ -6,3 +6,5 @@ pub mod Parts
 pub mod Pieces
 pub mod Contexts
 pub mod Safe
+pub mod Globals
+pub mod PlainTrees

@@ -92,7 +92,7 @@ outside_more n env o = record { outside = o.outside; names = outer_more env.scal
 outside_loop : (x : List ℕ) (env : Env) → IsOutside env → IsOutside (in_loop x env)
 outside_loop x env o = record { outside = o.outside; names = o.names }
 
-outside_behind : (s : Stmt) (env : Env) → IsOutside env → IsOutside (behind s env)
+pub outside_behind : (s : Stmt) (env : Env) → IsOutside env → IsOutside (behind s env)
 outside_behind (Declare x v) env o =
     record { outside = o.outside; names = (o.outside, omega arith, outer_more env.scalars (env.scalars + 1) env.names (omega arith) o.names) }
 outside_behind (Assign x v) env o = outside_more 0 env o

@@ -50,7 +50,7 @@ closes b known c env n fs e s k =
     let same = sym (entered_append c (stmts b) close) in
     (inner.0, subst (λ (d : Context). Closed d fs) same (record { frames = inner.1.0 ∙ e; target = inner.1.1; turn = inner.1.2 }))
 
-known_within : (env : Env) (b : Stmts) → KnownAll (within env false) b → KnownAll env b
+pub known_within : (env : Env) (b : Stmts) → KnownAll (within env false) b → KnownAll env b
 known_within env b k =
     subst (λ (u : Bool). KnownAll (record env { inside = u }) b) (or_none env.inside) k
 
@@ -128,11 +128,11 @@ after_still : (xs : Slots) (c : Context) (env : Env) (n : ℕ) → are_still xs 
 after_still xs c env n e s =
     let kept = kept_all xs c e in (stands_more (entered c xs) env n (stands_kept c (entered c xs) env kept s), ap below kept.frames)
 
-flat_top : (fs : List Frame) → (top fs).names ++ flat (below fs) ≡ flat fs
+pub flat_top : (fs : List Frame) → (top fs).names ++ flat (below fs) ≡ flat fs
 flat_top [] = refl
 flat_top (f ∷ fs) = refl
 
-declares : (x : List ℕ) (c d : Context) (env : Env) → Stands c env → d.frames ≡ c.frames → d.target ≡ c.target → d.turn ≡ c.turn → d.fresh ≡ Some x →
+pub declares : (x : List ℕ) (c d : Context) (env : Env) → Stands c env → d.frames ≡ c.frames → d.target ≡ c.target → d.turn ≡ c.turn → d.fresh ≡ Some x →
     Stands (act d (Mark sign.Semicolon) MakesScalar) (behind (Declare x Input) env)
 declares x c d env s f t u g =
     let in_d : inside d ≡ env.inside = ap (λ (fs : List Frame). (top fs).inside) f ∙ s.inside_is in
