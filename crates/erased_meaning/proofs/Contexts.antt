@@ -1,17 +1,15 @@
 -- The names that the rules know at a statement are those that its meaning knows.
-use Rattle.std.proofs.Common.{◌≡◌, ℕ, ◌+◌, Bool, true, false, cond, List, [], ◌∷◌, ◌++◌, Option, Some, None, refl, sym, ap, subst, ◌∙◌, append_assoc}
+use Rattle.std.proofs.Common.{◌≡◌, ℕ, Bool, true, false, cond, List, [], ◌∷◌, ◌++◌, Option, Some, None, refl, sym, ap, ◌∙◌}
 use Rattle.std.specs.Prelude.{◌||◌}
 use Rattle.std.specs.Str.{bytes_eq}
-use Rattle.c_tokens.specs.declared.kind.Sign.TheVariants as sign
-use Rattle.c_grammar.specs.Terminal.{Terminal, Fixed, Mark, Name, Num, Line, Unknown, End}
-use Rattle.c_grammar.specs.Grammar.{Act, Plain, DeclaresGlobal, DeclaresLocal, DeclaresLoop, MakesArray, MakesScalar, Length, Limit, Step, Starts, StartsIf, Prints, Assigned, StartsBlock, Otherwise, Reads, Opens, Closes, Alone, Over, Operand, OpensBracket, ClosesBracket, Divisor, Count, Inner, Slot, Slots, Term, Literal, Named, Element, Group, Prefixed, Both, By, Fraction, ShiftLeft, ShiftRight, Divide, Remainder, inner, fraction_sign, value_of, term, Source, Input, Value, source}
-use Rattle.c_grammar.specs.Rules.{Context, Frame, Sort, AnArray, AScalar, ALoop, top, below, inside, with_name, opened, act, enter, found, sort_in, sort_of}
+use Rattle.c_grammar.specs.Terminal.{Terminal}
+use Rattle.c_grammar.specs.Grammar.{Act, DeclaresGlobal, DeclaresLocal, DeclaresLoop, MakesArray, MakesScalar, StartsBlock, Opens, Closes, Over, Slots, Term, Literal, Named, Element, Group, Prefixed, Both, By, Fraction, ShiftLeft, ShiftRight, Divide, Remainder, inner, fraction_sign, value_of, term, Source, Input, Value, source}
+use Rattle.c_grammar.specs.Rules.{Context, Frame, Sort, ALoop, top, inside, with_name, opened, act, enter, found, sort_in, sort_of}
 use Rattle.c_expressions.specs.declared.scope.Meaning.{Meaning}
-use Rattle.c_expressions.specs.declared.scope.Meaning.TheVariants as meaning
 use Rattle.c_expressions.specs.Means.{Names, meaning_of}
 use Rattle.c_expressions.specs.Scopes.{sort_of_meaning}
 use Rattle.c_statements.specs.Statements.{Env, in_loop}
-use Rattle.erasure.proofs.Follows.{entered, entered_append}
+use Rattle.erasure.proofs.Follows.{entered}
 
 abbrev pub flat : List Frame → List (List ℕ × Sort)
 flat [] = []

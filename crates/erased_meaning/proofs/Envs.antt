@@ -1,18 +1,17 @@
 -- What stands before a statement of a text without its directives; what a statement in a target may do.
-use Rattle.std.proofs.Common.{◌≡◌, ℕ, ◌+◌, ◌≤◌, Bool, true, false, cond, List, [], ◌∷◌, drop, Option, Some, None, refl, sym, ap, subst, ◌∙◌, arith}
+use Rattle.std.proofs.Common.{◌≡◌, ℕ, ◌+◌, ◌≤◌, Bool, true, false, cond, List, [], ◌∷◌, Option, Some, refl, ap, subst, ◌∙◌, arith}
 use Rattle.std.specs.Str.{bytes_eq}
 use Rattle.base.specs.declared.tree.ScalarId.{ScalarId}
 use Rattle.base.specs.declared.tree.Stmt.{Stmt as Statement}
-use Rattle.base.specs.declared.tree.Stmt.TheVariants as statement
 use Rattle.base.specs.Memory.{Scalars}
 use Rattle.c_grammar.specs.Grammar.{Source, Input, Value, Stmt, Declare, Assign, Store, Repeat, Choose, ChooseElse, Show, Block, Directive, OverBlock, OverLoop, Stmts, Done, Then}
 use Rattle.c_expressions.specs.declared.scope.Meaning.{Meaning}
 use Rattle.c_expressions.specs.declared.scope.Meaning.TheVariants as meaning
 use Rattle.c_expressions.specs.Means.{Items, Names, meaning_of}
-use Rattle.c_statements.specs.Statements.{Env, declared_by, declared_in, more, with_scalar, behind, in_loop, IsStatement}
+use Rattle.c_statements.specs.Statements.{Env, declared_by, declared_in, more, behind, in_loop, IsStatement}
 use Rattle.erasure.specs.Plain.{plain_before, plain_stmts}
 use Rattle.erased_meaning.proofs.Values.{plain_names, Agree}
-use Rattle.erased_meaning.proofs.Likeness.{Mode, OnHost, InTarget, IsOwn}
+use Rattle.erased_meaning.proofs.Likeness.{Mode, OnHost, InTarget}
 
 abbrev pub plain_env : Env → Env
 plain_env env = record env { names = plain_names env.names; inside = false }

@@ -1,19 +1,18 @@
 -- What stands before the statements of main.
-use Rattle.std.proofs.Common.{◌≡◌, ℕ, ◌+◌, ◌<◌, Bool, true, false, List, [], ◌∷◌, ◌++◌, Option, Some, None, refl, sym, ap, subst, ◌∙◌, arith}
-use Rattle.c_tokens.specs.declared.kind.Sign.TheVariants as sign
+use Rattle.std.proofs.Common.{◌≡◌, ℕ, false, List, [], ◌∷◌, Option, refl, sym, ap, subst, ◌∙◌}
 use Rattle.c_grammar.specs.Lexeme.{Uint64}
-use Rattle.c_grammar.specs.Terminal.{Terminal, Fixed, Mark, Name, Num, End}
-use Rattle.c_grammar.specs.Grammar.{Plain, DeclaresGlobal, MakesArray, MakesScalar, Length, for, word, mark, end_mark, Slot, Slots, Input, Declare, body_closing, stmts, Stmts, Global, Scalar, Array, global, globals, Text, main_part, slots}
-use Rattle.c_grammar.specs.Rules.{Context, Frame, Sort, AnArray, ALoop, begin, top, below, inside, out, with_name, opened, act, enter, source_grammar}
+use Rattle.c_grammar.specs.Terminal.{Name, End}
+use Rattle.c_grammar.specs.Grammar.{Plain, DeclaresGlobal, for, word, Slots, Input, Declare, body_closing, stmts, Global, Scalar, Array, global, globals, Text, main_part, slots}
+use Rattle.c_grammar.specs.Rules.{Context, Sort, AnArray, begin, out, opened, enter, source_grammar}
 use Rattle.c_grammar.specs.Texts.{KeepsRules}
 use Rattle.c_expressions.specs.declared.scope.Meaning.TheVariants as meaning
-use Rattle.c_statements.specs.Statements.{Env, with_scalar, behind}
+use Rattle.c_statements.specs.Statements.{Env, with_scalar}
 use Rattle.c_programs.specs.Globals.{Front, no_front, with_array, with_global, behind_globals}
 use Rattle.erasure.proofs.Follows.{entered, entered_append, next_in, Keeps, keeps_at, keeps_split}
 use Rattle.erased_meaning.proofs.Envs.{plain_env}
 use Rattle.erased_meaning.proofs.Pieces.{AreSafe, IsOutside, outside_behind}
-use Rattle.erased_meaning.proofs.Contexts.{flat, sorted, Stands, within, opens_block, IsBefore}
-use Rattle.erased_meaning.proofs.Safe.{KnownAll, stmts_known, known_within, declares, flat_top}
+use Rattle.erased_meaning.proofs.Contexts.{Stands, within, opens_block}
+use Rattle.erased_meaning.proofs.Safe.{stmts_known, known_within, declares, flat_top}
 
 -- ---- the rules' context
 

@@ -8,3 +8,4 @@ pub mod Contexts
 pub mod Safe
 pub mod Globals
 pub mod PlainTrees
+pub mod ErasedRuns

@@ -1,14 +1,13 @@
 -- Two runs of the same statements, one from a later memory and one with what was stored before.
-use Rattle.std.proofs.Common.{◌≡◌, ℕ, zero, suc, ◌+◌, ◌-◌, ◌/◌, ◌<◌, ◌≤◌, Bool, true, false, cond, eqb, List, [], ◌∷◌, ◌++◌, drop, Option, Some, None, refl, sym, ap, subst, ◌∙◌, arith, append_assoc}
+use Rattle.std.proofs.Common.{◌≡◌, ℕ, zero, suc, ◌+◌, ◌<◌, ◌≤◌, Bool, true, false, cond, eqb, List, [], ◌∷◌, ◌++◌, Option, Some, None, refl, sym, ap, ◌∙◌, arith}
 use Rattle.std.specs.Prelude.{option_and_then, option_map, unwrap_or}
 use Rattle.std.proofs.lemmas.Bool.Decides.{nat_tests}
 use Rattle.base.specs.declared.item.Cell.{Cell}
 use Rattle.base.specs.declared.tree.ScalarId.{ScalarId}
-use Rattle.base.specs.Memory.{Memory, View, Scalars, Stores, is_cell, same_cell, last_stored, with_stores, view_of}
-use Rattle.base.specs.Meaning.{Run, seen, names_in, set_scalar, stored, read_next, assigned, turn, choose}
-use Rattle.c_expressions.specs.declared.scope.Meaning.{Meaning}
+use Rattle.base.specs.Memory.{Memory, Scalars, Stores, is_cell, same_cell, last_stored, with_stores, view_of}
+use Rattle.base.specs.Meaning.{Run, seen, set_scalar, stored, turn, choose}
 use Rattle.c_expressions.specs.declared.scope.Meaning.TheVariants as meaning
-use Rattle.c_expressions.specs.Means.{Names, meaning_of}
+use Rattle.c_expressions.specs.Means.{Names}
 use Rattle.erased_meaning.proofs.Values.{Agree}
 
 -- how the second run goes: with what was printed before the region; or in a target, of which its input, what it printed

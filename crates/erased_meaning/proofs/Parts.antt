@@ -1,17 +1,14 @@
 -- Parts and regions, of which a text without directives makes one region.
-use Rattle.std.proofs.Common.{◌≡◌, ℕ, zero, suc, ◌+◌, ◌<◌, ◌≤◌, Bool, true, false, List, [], ◌∷◌, ◌++◌, drop, Option, Some, None, refl, sym, ap, subst, ◌∙◌, arith}
+use Rattle.std.proofs.Common.{◌≡◌, ℕ, zero, suc, ◌+◌, ◌<◌, true, false, List, [], ◌∷◌, ◌++◌, Option, Some, None, refl, sym, ap, ◌∙◌, arith}
 use Rattle.std.specs.Prelude.{option_and_then, option_map}
 use mathlib.Core.Former.{Count}
 use mathlib.Core.Path.{fun_ext}
 use Rattle.base.specs.declared.item.Cell.{Cell}
-use Rattle.base.specs.declared.tree.Region.{Region}
 use Rattle.base.specs.declared.tree.Part.{Part, Row_of-Part, end_of-Part, more_of-Part, items-the_row-Part}
-use Rattle.base.specs.declared.tree.Part.TheVariants as part
 use Rattle.base.specs.declared.tree.Stmt.{Stmt as Statement}
-use Rattle.base.specs.Memory.{Memory, View, Scalars, view_of, with_stores}
-use Rattle.base.specs.Meaning.{Run, Plain, turn, run_list, after_region, run_plain, run_kernel, erased_part, erased_row, erased_list}
-use Rattle.c_grammar.specs.Grammar.{Stmt, Declare, Stmts}
-use Rattle.c_expressions.specs.declared.scope.Meaning.{Meaning}
+use Rattle.base.specs.Memory.{Memory, Scalars, view_of, with_stores}
+use Rattle.base.specs.Meaning.{Run, Plain, turn, run_list, after_region, erased_part, erased_row, erased_list}
+use Rattle.c_grammar.specs.Grammar.{Stmts}
 use Rattle.c_expressions.specs.declared.scope.Meaning.TheVariants as meaning
 use Rattle.c_expressions.specs.Means.{Items, Names}
 use Rattle.c_statements.specs.Statements.{Env, AreStatements}

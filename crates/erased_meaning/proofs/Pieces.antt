@@ -1,34 +1,30 @@
 -- The parts that a text means, and the one region that it means without its directives, run alike.
-use Rattle.std.proofs.Common.{◌≡◌, ℕ, zero, suc, ◌+◌, ◌-◌, ◌/◌, ◌<◌, ◌≤◌, Bool, true, false, List, [], ◌∷◌, ◌++◌, length, drop, map, Option, Some, None, refl, sym, ap, subst, ◌∙◌, arith, ◌⊎◌, inl, inr}
-use Rattle.std.specs.Prelude.{option_and_then, option_map, codes}
+use Rattle.std.proofs.Common.{◌≡◌, ℕ, ◌+◌, ◌≤◌, true, false, List, [], ◌∷◌, ◌++◌, drop, map, Option, Some, None, refl, sym, ap, subst, ◌∙◌, arith, ◌⊎◌, inl, inr}
+use Rattle.std.specs.Prelude.{option_and_then, option_map}
 use mathlib.Core.Former.{Count}
 use Rattle.base.specs.declared.tree.Bounds.{Bounds}
 use Rattle.base.specs.declared.tree.Place.{Place}
 use Rattle.base.specs.declared.tree.Region.{Region}
-use Rattle.base.specs.declared.tree.Part.{Part, Row_of-Part, end_of-Part, more_of-Part, items-the_row-Part}
+use Rattle.base.specs.declared.tree.Part.{Part, Row_of-Part, items-the_row-Part}
 use Rattle.base.specs.declared.tree.Part.TheVariants as part
-use Rattle.base.specs.declared.tree.Stmt.{Stmt as Statement, Row_of-Stmt, items-the_row-Stmt}
+use Rattle.base.specs.declared.tree.Stmt.{Stmt as Statement, items-the_row-Stmt}
 use Rattle.base.specs.declared.tree.Stmt.TheVariants as statement
-use Rattle.base.specs.Memory.{Memory, View, Scalars, view_of, with_stores}
-use Rattle.base.specs.Meaning.{Run, Plain, turn, turns_of, all_turns, run_stmt, run_row, run_list, after_region, run_plain, run_kernel, erased_part, erased_row}
+use Rattle.base.specs.Memory.{Memory, View, view_of}
+use Rattle.base.specs.Meaning.{Run, Plain, turn, turns_of, all_turns, run_stmt, run_row, run_list, after_region, run_kernel, erased_part, erased_row}
 use Rattle.c_grammar.specs.Lexeme.{Lexeme}
 use Rattle.c_grammar.specs.LineGrammar as line
 use Rattle.c_grammar.specs.LineGrammar.{LineText, line_slots, Clause, MapOf, DependOf, MotionOf, NoWait, ToDevice, FromDevice}
-use Rattle.c_grammar.specs.Lines.{kind_of, is_target, is_target_kind}
+use Rattle.c_grammar.specs.Lines.{kind_of, is_target}
 use Rattle.c_grammar.specs.Grammar.{Head, Stmt, Declare, Assign, Store, Repeat, Choose, ChooseElse, Show, Block, Directive, OverBlock, OverLoop, Stmts, Done, Then}
-use Rattle.c_expressions.specs.declared.scope.Meaning.{Meaning}
 use Rattle.c_expressions.specs.declared.scope.Meaning.TheVariants as meaning
 use Rattle.c_expressions.specs.Means.{Items, Names}
-use Rattle.c_statements.specs.Statements.{Env, stmt_size, head_size, behind, more, declared_by, declared_in, in_loop, IsHead, IsStatement, AreStatements}
+use Rattle.c_statements.specs.Statements.{Env, stmt_size, head_size, behind, more, declared_in, in_loop, IsHead, IsStatement, AreStatements}
 use Rattle.c_constructs.specs.LineMeaning.{LineOf}
-use Rattle.c_programs.specs.declared.piece.Piece.{Piece}
-use Rattle.c_programs.specs.declared.piece.Piece.TheVariants as piece
-use Rattle.c_programs.specs.Parts.{in_target, Placed, plain, pieces_in, pieces_of, ArePieces, IsPart, IsHostLoop, OneLoop, AreMixed, IsPlaceAt}
+use Rattle.c_programs.specs.Parts.{in_target, Placed, plain, pieces_in, pieces_of, ArePieces, IsPart, IsHostLoop, OneLoop, AreMixed}
 use Rattle.erasure.specs.Plain.{plain_before, plain_stmts}
-use Rattle.erased_meaning.proofs.Values.{Agree}
-use Rattle.erased_meaning.proofs.Likeness.{Mode, OnHost, InTarget, Like, Both}
+use Rattle.erased_meaning.proofs.Likeness.{OnHost, Like, Both}
 use Rattle.erased_meaning.proofs.Envs.{plain_env, plain_one, plain_then, behind_plain, more_plain, declared_plain, agree_before, AreQuiet}
-use Rattle.erased_meaning.proofs.Statements.{IsSameBounds, same_bounds, turns_same, row_runs, lists_end, one_ends}
+use Rattle.erased_meaning.proofs.Statements.{same_bounds, turns_same, row_runs, lists_end, one_ends}
 use Rattle.erased_meaning.proofs.Parts.{Ended, BothEnd, fresh, fresh_same, region_starts, region_ends, parts_run, parts_row, rest_run, region_then, ended_less, ended_then, ended_behind, ended_turns, AreOuter, kernel_end}
 
 -- ---- the kind of a line
@@ -215,8 +211,8 @@ module _ (lengths : List ℕ) (w : Memory) where
   host_loop d b env is js (part.Host r ∷ []) y loops p q h k e =
       let view : View = view_of lengths p.memory in
       let run : Both p.memory w (OnHost p.printed) env.names (run_list r.body.items view loops (fresh p)) (run_list (y ∷ []) there loops q) =
-          lists_end lengths p.memory w (OnHost p.printed) (Then (Repeat d b) Done) env is js r.body.items (y ∷ []) loops (fresh p) q tt tt
-          (region_starts w env.names p q e) h.1 (k, tt) in
+      lists_end lengths p.memory w (OnHost p.printed) (Then (Repeat d b) Done) env is js r.body.items (y ∷ []) loops (fresh p) q tt tt
+      (region_starts w env.names p q e) h.1 (k, tt) in
       subst (λ (u : Option Plain). BothEnd w env.names u (run_stmt y there loops q))
       (sym (region_then lengths [] loops p (run_list r.body.items view loops (fresh p))))
       (subst (λ (u : Option Run). BothEnd w env.names (rest_run lengths [] loops p (run_list r.body.items view loops (fresh p))) u)
@@ -349,13 +345,13 @@ module _ (lengths : List ℕ) (w : Memory) where
             let view : View = view_of lengths p.memory in
             let ks : Items = drop (stmt_size (plain_one s)) js in
             let more : AreStatements (plain_env (behind s env)) ks (plain_stmts ss) ys =
-                subst (λ (e : Env). AreStatements e ks (plain_stmts ss) ys) (behind_plain env is s x h) k.1 in
+            subst (λ (e : Env). AreStatements e ks (plain_stmts ss) ys) (behind_plain env is s x h) k.1 in
             let after : Run → Option Plain = λ r. rest_run lengths ps loops p (run_list xs view loops r) in
             let both : BothEnd w (behind s env).names (option_and_then after (run_stmt x view loops r)) (run_list (y ∷ ys) there loops q) =
-                ended_behind w (OnHost p.printed) p.memory (behind s env).names (behind s env).names after (run_list ys there loops)
-                (run_stmt x view loops r) (run_stmt y there loops q)
-                (one_ends lengths p.memory w (OnHost p.printed) s env is js x y loops r q tt tt l h k.0)
-                (λ r q l. alike (behind s env) (drop (stmt_size s) is) ks xs ps ys loops p r q safe.1 (outside_behind s env o) rest more l) in
+            ended_behind w (OnHost p.printed) p.memory (behind s env).names (behind s env).names after (run_list ys there loops)
+            (run_stmt x view loops r) (run_stmt y there loops q)
+            (one_ends lengths p.memory w (OnHost p.printed) s env is js x y loops r q tt tt l h k.0)
+            (λ r q l. alike (behind s env) (drop (stmt_size s) is) ks xs ps ys loops p r q safe.1 (outside_behind s env o) rest more l) in
             ended_less w (behind s env).names env.names (rest_run lengths ps loops p (run_list (x ∷ xs) view loops r)) (run_list (y ∷ ys) there loops q)
             (agree_before s env)
             (subst (λ (u : Option Plain). BothEnd w (behind s env).names u (run_list (y ∷ ys) there loops q))

@@ -1,5 +1,5 @@
 -- A text without directives means one region of the host, or none.
-use Rattle.std.proofs.Common.{◌≡◌, ◌≢◌, ℕ, ◌+◌, Bool, true, false, List, [], ◌∷◌, ◌++◌, drop, Option, Some, None, refl, sym, ap, subst, ◌∙◌}
+use Rattle.std.proofs.Common.{◌≡◌, Bool, true, false, List, [], ◌∷◌, ◌++◌, drop, refl}
 use Rattle.base.specs.declared.tree.Place.{Place}
 use Rattle.base.specs.declared.tree.Part.{Part, items-the_row-Part}
 use Rattle.base.specs.declared.tree.Part.TheVariants as part
@@ -7,7 +7,6 @@ use Rattle.base.specs.declared.tree.Stmt.{Stmt as Statement}
 use Rattle.c_grammar.specs.Grammar.{Stmt, Declare, Assign, Store, Repeat, Choose, ChooseElse, Show, Block, Directive, OverBlock, OverLoop, Stmts, Done, Then}
 use Rattle.c_expressions.specs.Means.{Items}
 use Rattle.c_statements.specs.Statements.{Env, AreStatements, behind, stmt_size, in_loop, head_size}
-use Rattle.c_programs.specs.declared.piece.Piece.{Piece}
 use Rattle.c_programs.specs.declared.piece.Piece.TheVariants as piece
 use Rattle.c_programs.specs.Parts.{Placed, plain, pieces_in, pieces_of, are_mixed, AreLongest, ArePieces, IsPart}
 use Rattle.erasure.specs.Plain.{plain_before, plain_stmts}

@@ -1,23 +1,21 @@
 -- A text that keeps the rules reads and prints nothing in a target, and assigns no scalar from outside there.
-use Rattle.std.proofs.Common.{◌≡◌, ℕ, ◌+◌, Bool, true, false, cond, List, [], ◌∷◌, ◌++◌, Option, Some, None, refl, sym, ap, subst, ◌∙◌, append_assoc}
+use Rattle.std.proofs.Common.{◌≡◌, ℕ, ◌+◌, Bool, true, false, List, [], ◌∷◌, ◌++◌, Option, Some, None, refl, sym, ap, subst, ◌∙◌, append_assoc}
 use Rattle.std.specs.Prelude.{◌||◌, ◌&&◌, not}
-use Rattle.base.specs.declared.fault.ReadCode.{ReadCode as Code}
 use Rattle.base.specs.declared.fault.ReadCode.TheVariants.{Undeclared, LoopNameAssigned, DirectiveInTarget, OuterAssigned, HostOnly, NoBody}
 use Rattle.c_tokens.specs.declared.kind.Sign.TheVariants as sign
-use Rattle.c_grammar.specs.Lexeme.{Lexeme, For, If, Else, Print, Uint64}
+use Rattle.c_grammar.specs.Lexeme.{Lexeme, For, If, Else, Uint64}
 use Rattle.c_grammar.specs.Lines.{is_target}
 use Rattle.c_grammar.specs.Terminal.{Terminal, Fixed, Mark, Name, Line}
-use Rattle.c_grammar.specs.Grammar.{Act, Plain, DeclaresLocal, MakesScalar, Starts, StartsIf, StartsBlock, Prints, Assigned, Otherwise, Opens, Alone, Over, for, mark, Slot, Slots, Term, term, Source, Input, Value, source, Head, head_slots, body_opening, body_closing, end_mark, Stmt, Declare, Assign, Store, Repeat, Choose, ChooseElse, Show, Block, Directive, OverBlock, OverLoop, Stmts, Done, Then, stmt, stmts}
-use Rattle.c_grammar.specs.Rules.{Context, begun, out, with_name, Frame, Rule, Sort, AnArray, AScalar, ALoop, top, below, inside, opened, declared, act, enter, breaks, sort_of, is_array, is_scalar, is_visible, is_loop, is_outer}
+use Rattle.c_grammar.specs.Grammar.{Plain, DeclaresLocal, MakesScalar, Starts, StartsIf, StartsBlock, Assigned, Otherwise, Opens, Over, for, mark, Slot, Slots, Term, term, Source, Input, Value, source, Head, head_slots, body_opening, body_closing, end_mark, Stmt, Declare, Assign, Store, Repeat, Choose, ChooseElse, Show, Block, Directive, OverBlock, OverLoop, Stmts, Done, Then, stmt, stmts}
+use Rattle.c_grammar.specs.Rules.{Context, begun, out, with_name, Frame, Rule, Sort, AScalar, top, below, inside, act, enter, breaks, sort_of, is_array, is_scalar, is_visible, is_loop, is_outer}
 use Rattle.c_expressions.specs.declared.scope.Meaning.{Meaning}
 use Rattle.c_expressions.specs.declared.scope.Meaning.TheVariants as meaning
-use Rattle.c_expressions.specs.Means.{Names, meaning_of}
+use Rattle.c_expressions.specs.Means.{meaning_of}
 use Rattle.c_statements.specs.Statements.{Env, behind, more, declared_in, in_loop}
-use Rattle.c_programs.specs.Parts.{in_target}
 use Rattle.erasure.proofs.Follows.{entered, entered_append, next_in, Keeps, keeps_split}
 use Rattle.erased_meaning.proofs.Envs.{IsQuietSource, IsInside, IsQuiet, AreQuiet}
 use Rattle.erased_meaning.proofs.Pieces.{IsSafe, AreSafe}
-use Rattle.erased_meaning.proofs.Contexts.{flat, sorted, Stands, sort_is, sort_known, are_still, Kept, kept_all, still_append, term_still, source_still, stands_kept, or_none, IsBefore, within, opens_block, opens_loop, Closed, stands_closed}
+use Rattle.erased_meaning.proofs.Contexts.{flat, Stands, sort_is, sort_known, are_still, kept_all, still_append, term_still, source_still, stands_kept, or_none, IsBefore, within, opens_block, opens_loop, Closed, stands_closed}
 
 -- what is known of statements there
 abbrev pub KnownAll : Env → Stmts → Type 0
@@ -59,7 +57,7 @@ braces : (b : Stmts) → StmtsKnown b → (c : Context) (env : Env) (n : Termina
 unfolding enter
 braces b known c env n s k =
     let inner = closes b known (enter c body_opening) (within env false) n c.frames refl
-        (opens_block (act c (Mark sign.OpenBrace) Plain) env false (record { names = s.names; inside_is = s.inside_is; target = s.target; turn = s.turn })) k.1 in
+    (opens_block (act c (Mark sign.OpenBrace) Plain) env false (record { names = s.names; inside_is = s.inside_is; target = s.target; turn = s.turn })) k.1 in
     (known_within env b inner.0, inner.1)
 
 -- from the first token of a loop's head on
@@ -111,7 +109,7 @@ quiet_name c env x s i k =
     let first = array_not (is_visible (sort_of c x)) (is_array (sort_of c x)) (is_scalar (sort_of c x)) (k (record { part = 0; code = Undeclared })) in
     let loop : is_loop (sort_of c x) ≡ false = k (record { part = 0; code = LoopNameAssigned }) in
     let outer : is_outer (sort_of c x) ≡ false =
-        both_then (inside c) (is_outer (sort_of c x)) (k (record { part = 0; code = OuterAssigned })) i in
+    both_then (inside c) (is_outer (sort_of c x)) (k (record { part = 0; code = OuterAssigned })) i in
     own_sort (meaning_of env.names x) (ap is_visible (sym same) ∙ first.0) (ap is_array (sym same) ∙ first.1)
     (ap is_loop (sym same) ∙ loop) (ap is_outer (sym same) ∙ outer)
 
@@ -154,11 +152,12 @@ declare_known x v c env n s k =
     let d : Context = entered c front in
     let parts = keeps_split d (source v) last n k.1.1.1 in
     let kept = kept_all (source v) d (source_still v) in
-    let whole : entered d (source v ++ last) ≡ entered (entered d (source v)) last = entered_append d (source v) last in
-    ((λ e. tt {0}, λ e. quiet_source v d (next_in last n) (inside_at c env s e) parts.0),
-    subst (λ (u : Context). Stands u (behind (Declare x v) env)) (sym whole)
-    (declares x c (entered d (source v)) env s kept.frames kept.target kept.turn kept.fresh),
-    ap (λ (u : Context). below u.frames) whole ∙ ap below kept.frames)
+    let whole : entered d (source v ++ last) ≡ entered (entered d (source v)) last = entered_append d (source v) last in (
+      (λ e. tt {0}, λ e. quiet_source v d (next_in last n) (inside_at c env s e) parts.0),
+      subst (λ (u : Context). Stands u (behind (Declare x v) env)) (sym whole)
+          (declares x c (entered d (source v)) env s kept.frames kept.target kept.turn kept.fresh),
+      ap (λ (u : Context). below u.frames) whole ∙ ap below kept.frames,
+    )
 
 assign_known : (x : List ℕ) (v : Source) → StmtKnown (Assign x v)
 unfolding enter
@@ -166,9 +165,11 @@ assign_known x v c env n s k =
     let last : Slots = end_mark ∷ [] in
     let d : Context = entered c ((Name x, for Assigned) ∷ mark sign.Equal ∷ []) in
     let parts = keeps_split d (source v) last n k.1.1 in
-    let after = after_still (stmt (Assign x v)) c env 0 (still_append (source v) last (source_still v) refl) s in
-    ((λ e. tt {0}, λ e. (quiet_source v d (next_in last n) (inside_at c env s e) parts.0, quiet_name c env x s (inside_at c env s e) k.0)),
-    after.0, after.1)
+    let after = after_still (stmt (Assign x v)) c env 0 (still_append (source v) last (source_still v) refl) s in (
+      (λ e. tt {0}, λ e. (quiet_source v d (next_in last n) (inside_at c env s e) parts.0, quiet_name c env x s (inside_at c env s e) k.0)),
+      after.0,
+      after.1,
+    )
 
 store_known : (x : List ℕ) (i : Term) (v : Source) → StmtKnown (Store x i v)
 unfolding enter
@@ -182,7 +183,7 @@ store_known x i v c env n s k =
     let in_d : inside d ≡ inside c = ap (λ (fs : List Frame). (top fs).inside) kept.frames in
     let more_parts = keeps_split d (source v) last n parts.1.1.1 in
     let after = after_still (stmt (Store x i v)) c env 0
-        (still_append (term i) value (term_still i) (still_append (source v) last (source_still v) refl)) s in
+    (still_append (term i) value (term_still i) (still_append (source v) last (source_still v) refl)) s in
     ((λ e. tt {0}, λ e. quiet_source v d (next_in last n) (in_d ∙ inside_at c env s e) more_parts.0), after.0, after.1)
 
 show_known : (e : Term) → StmtKnown (Show e)
@@ -207,7 +208,7 @@ unfolding enter
 block_known b known c env n s k =
     let x : Slot = (Mark sign.OpenBrace, for StartsBlock) in
     let inner = closes b known (enter c x) (within env false) n c.frames refl
-        (opens_block (begun (out c)) env false (record { names = s.names; inside_is = s.inside_is; target = s.target; turn = s.turn })) k.1 in
+    (opens_block (begun (out c)) env false (record { names = s.names; inside_is = s.inside_is; target = s.target; turn = s.turn })) k.1 in
     let after = closed_behind c (entered c (stmt (Block b))) env (declared_in b) inner.1 s in
     (known_within env b inner.0, after.0, after.1)
 
@@ -217,7 +218,7 @@ repeat_known h b known c env n s k =
     let d : Context = enter c (Fixed For, for Starts) in
     let inner = turns h b known d env false n (record { names = s.names; inside_is = s.inside_is; target = s.target; turn = s.turn }) k.1 in
     let after = closed_behind c (entered c (stmt (Repeat h b))) env (declared_in b)
-        (record { frames = inner.1.frames; target = inner.1.target; turn = inner.1.turn }) s in
+    (record { frames = inner.1.frames; target = inner.1.target; turn = inner.1.turn }) s in
     (known_within (in_loop h.name env) b inner.0, after.0, after.1)
 
 abbrev asks : Term → Slots
@@ -240,8 +241,8 @@ asked_known e ys s j more_is is next c env n st k =
     let inner = next d env n (stands_kept c d env kept st) parts.1 in
     let end : entered c (stmt s) ≡ entered d ys = ap (entered c) whole ∙ entered_append c (asks e) ys in
     let closed : Closed (entered c (stmt s)) c.frames =
-        subst (λ (u : Context). Closed u c.frames) (sym end)
-        (record { frames = inner.1.frames ∙ kept.frames; target = inner.1.target; turn = inner.1.turn }) in
+    subst (λ (u : Context). Closed u c.frames) (sym end)
+    (record { frames = inner.1.frames ∙ kept.frames; target = inner.1.target; turn = inner.1.turn }) in
     let after = closed_behind c (entered c (stmt s)) env j closed st in
     (inner.0, subst (λ (v : Env). Stands (entered c (stmt s)) v) (sym (more_is env)) after.0, after.1)
 
@@ -259,18 +260,19 @@ unfolding enter
 branches e a b first second c env n s k =
     let block : Slots = body_opening ∷ (stmts a ++ close) in
     let path : block ++ otherwise b ≡ body_opening ∷ (stmts a ++ (body_closing ∷ otherwise b)) =
-        ap (λ (zs : Slots). body_opening ∷ zs) (append_assoc (stmts a) close (otherwise b)) in
+    ap (λ (zs : Slots). body_opening ∷ zs) (append_assoc (stmts a) close (otherwise b)) in
     let parts = keeps_split c block (otherwise b) n (subst (λ (xs : Slots). Keeps c xs n) (sym path) k) in
     let one = braces a first c env (next_in (otherwise b) n) s parts.0 in
     let d : Context = entered c block in
     let st = stands_closed c d env one.1 s in
     let two = braces b second (enter d (Fixed Else, for Otherwise)) (more (declared_in a) env) n
-        (record { names = st.names; inside_is = st.inside_is; target = st.target; turn = st.turn }) parts.1.1 in
+    (record { names = st.names; inside_is = st.inside_is; target = st.target; turn = st.turn }) parts.1.1 in
     let end : entered c (body_opening ∷ (stmts a ++ (body_closing ∷ otherwise b))) ≡ entered d (otherwise b) =
-        ap (entered c) (sym path) ∙ entered_append c block (otherwise b) in
-    ((λ i. tt {0}, λ i. (one.0.1 i, two.0.1 i)),
-    subst (λ (u : Context). Closed u c.frames) (sym end)
-    (record { frames = two.1.frames ∙ one.1.frames; target = two.1.target; turn = two.1.turn }))
+    ap (entered c) (sym path) ∙ entered_append c block (otherwise b) in (
+      (λ i. tt {0}, λ i. (one.0.1 i, two.0.1 i)),
+      subst (λ (u : Context). Closed u c.frames) (sym end)
+          (record { frames = two.1.frames ∙ one.1.frames; target = two.1.target; turn = two.1.turn }),
+    )
 
 else_known : (e : Term) (a b : Stmts) → StmtsKnown a → StmtsKnown b → StmtKnown (ChooseElse e a b)
 else_known e a b first second =
@@ -284,31 +286,42 @@ inside_or env i e = ap (λ (u : Bool). u || i) e
 
 over_known : (env : Env) (b : Stmts) (i : Bool) → KnownAll (within env i) b → env.inside ≡ false →
     (i ≡ true → AreQuiet (record env { inside = true }) b) × (i ≡ false → AreSafe env b)
-over_known env b i k e =
-    (λ t. subst (λ (u : Bool). AreQuiet (record env { inside = u }) b) (inside_or env i e ∙ t) (k.1 (inside_or env i e ∙ t)),
-    λ f. subst (λ (u : Bool). AreSafe (record env { inside = u }) b) (inside_or env i e ∙ f ∙ sym e) (k.0 (inside_or env i e ∙ f)))
+over_known env b i k e = (
+  λ t. subst (λ (u : Bool). AreQuiet (record env { inside = u }) b) (inside_or env i e ∙ t) (k.1 (inside_or env i e ∙ t)),
+  λ f. subst (λ (u : Bool). AreSafe (record env { inside = u }) b) (inside_or env i e ∙ f ∙ sym e) (k.0 (inside_or env i e ∙ f)),
+)
 
 over_block_known : (l : List Lexeme) (b : Stmts) → StmtsKnown b → StmtKnown (OverBlock l b)
 unfolding enter breaks
 over_block_known l b known c env n s k =
     let d : Context = enter c (Line l, for Over) in
     let inner = closes b known (enter d (Mark sign.OpenBrace, (Some NoBody, Opens))) (within env (is_target l)) n c.frames refl
-        (opens_block (act d (Mark sign.OpenBrace) Plain) env (is_target l)
-        (record { names = s.names; inside_is = s.inside_is; target = refl; turn = s.turn })) k.1.1 in
-    let after = closed_behind c (entered c (stmt (OverBlock l b))) env (declared_in b) inner.1 s in
-    ((λ e. over_known env b (is_target l) inner.0 e,
-    λ e. true_false (inside c) (inside_at c env s e) (k.0 (record { part = 0; code = DirectiveInTarget }))), after.0, after.1)
+    (opens_block (act d (Mark sign.OpenBrace) Plain) env (is_target l)
+    (record { names = s.names; inside_is = s.inside_is; target = refl; turn = s.turn })) k.1.1 in
+    let after = closed_behind c (entered c (stmt (OverBlock l b))) env (declared_in b) inner.1 s in (
+      (
+        λ e. over_known env b (is_target l) inner.0 e,
+        λ e. true_false (inside c) (inside_at c env s e) (k.0 (record { part = 0; code = DirectiveInTarget })),
+      ),
+      after.0,
+      after.1,
+    )
 
 over_loop_known : (l : List Lexeme) (h : Head) (b : Stmts) → StmtsKnown b → StmtKnown (OverLoop l h b)
 unfolding enter breaks
 over_loop_known l h b known c env n s k =
     let d : Context = entered c ((Line l, for Over) ∷ (Fixed For, (Some NoBody, Plain)) ∷ []) in
     let inner = turns h b known d env (is_target l) n
-        (record { names = s.names; inside_is = s.inside_is; target = refl; turn = s.turn }) k.1.1 in
+    (record { names = s.names; inside_is = s.inside_is; target = refl; turn = s.turn }) k.1.1 in
     let after = closed_behind c (entered c (stmt (OverLoop l h b))) env (declared_in b)
-        (record { frames = inner.1.frames; target = inner.1.target; turn = inner.1.turn }) s in
-    ((λ e. let over = over_known (in_loop h.name env) b (is_target l) inner.0 e in (λ t. (over.0 t, tt {0}), over.1),
-    λ e. true_false (inside c) (inside_at c env s e) (k.0 (record { part = 0; code = DirectiveInTarget }))), after.0, after.1)
+    (record { frames = inner.1.frames; target = inner.1.target; turn = inner.1.turn }) s in (
+      (
+        λ e. let over = over_known (in_loop h.name env) b (is_target l) inner.0 e in (λ t. (over.0 t, tt {0}), over.1),
+        λ e. true_false (inside c) (inside_at c env s e) (k.0 (record { part = 0; code = DirectiveInTarget })),
+      ),
+      after.0,
+      after.1,
+    )
 
 -- ---- all statements
 
@@ -333,9 +346,10 @@ mutual
       let one = stmt_known t c env (next_in (stmts ss) n) s parts.0 in
       let rest = stmts_known ss (entered c (stmt t)) (behind t env) n one.1 parts.1 in
       let same = sym (entered_append c (stmt t) (stmts ss)) in
-      let kept = behind_inside t env in
-      ((λ e. (one.0.0 e, rest.0.0 (kept ∙ e)), λ e. (one.0.1 e, rest.0.1 (kept ∙ e))),
-      subst (λ (d : Context). Left c d) same (rest.1.0 ∙ one.2, rest.1.1, rest.1.2))
+      let kept = behind_inside t env in (
+        (λ e. (one.0.0 e, rest.0.0 (kept ∙ e)), λ e. (one.0.1 e, rest.0.1 (kept ∙ e))),
+        subst (λ (d : Context). Left c d) same (rest.1.0 ∙ one.2, rest.1.1, rest.1.2),
+      )
 
   stmt_known : (t : Stmt) → StmtKnown t
   stmt_known (Declare x v) = declare_known x v

@@ -1,5 +1,5 @@
 -- Two lists of statements, one that a text means and one that it means without its directives, run alike.
-use Rattle.std.proofs.Common.{◌≡◌, ℕ, ◌+◌, ◌-◌, ◌/◌, ◌≤◌, Bool, true, false, List, [], ◌∷◌, ◌++◌, length, drop, Option, Some, None, refl, sym, ap, subst, ◌∙◌, arith, append_assoc}
+use Rattle.std.proofs.Common.{◌≡◌, ℕ, ◌+◌, ◌-◌, ◌/◌, Bool, List, [], ◌∷◌, ◌++◌, length, drop, Option, Some, None, refl, sym, ap, subst, ◌∙◌, append_assoc}
 use Rattle.std.specs.Prelude.{option_and_then, option_map}
 use mathlib.Core.Former.{Count}
 use mathlib.Core.Path.{fun_ext}
@@ -12,16 +12,15 @@ use Rattle.base.specs.declared.tree.Source.{Source as Assigned}
 use Rattle.base.specs.declared.tree.Source.TheVariants as from
 use Rattle.base.specs.declared.tree.Stmt.{Stmt as Statement, Row_of-Stmt, end_of-Stmt, more_of-Stmt, items-the_row-Stmt}
 use Rattle.base.specs.declared.tree.Stmt.TheVariants as statement
-use Rattle.base.specs.Memory.{Memory, View, Scalars, view_of, with_stores}
-use Rattle.base.specs.Value.{Names as Values, value}
-use Rattle.base.specs.Meaning.{Run, seen, names_in, read_next, source_of, set_scalar, assigned, stored, printed, choose, turn, turns_of, all_turns, run_stmt, run_row, run_list}
+use Rattle.base.specs.Memory.{Memory, View, view_of}
+use Rattle.base.specs.Value.{value}
+use Rattle.base.specs.Meaning.{Run, names_in, read_next, source_of, set_scalar, assigned, stored, printed, choose, turn, turns_of, all_turns, run_stmt, run_row, run_list}
 use Rattle.c_grammar.specs.Grammar.{Source, Input, Value, Head, Term, Stmt, Declare, Assign, Store, Repeat, Choose, ChooseElse, Show, Block, Directive, OverBlock, OverLoop, Stmts, Done, Then, stmts}
-use Rattle.c_expressions.specs.declared.scope.Meaning.{Meaning}
 use Rattle.c_expressions.specs.declared.scope.Meaning.TheVariants as meaning
 use Rattle.c_expressions.specs.Means.{Items, Names, meaning_of, term_size, MeansScalar, IsExpr}
 use Rattle.c_statements.specs.Statements.{Env, stmt_size, head_size, declared_in, more, behind, in_loop, IsHead, IsSource, IsStatement, AreStatements}
 use Rattle.erasure.specs.Plain.{plain_stmts}
-use Rattle.erased_meaning.proofs.Values.{plain_names, Agree, scalar_is, same_scalar, same_array, same_value}
+use Rattle.erased_meaning.proofs.Values.{plain_names, scalar_is, same_scalar, same_array, same_value}
 use Rattle.erased_meaning.proofs.Likeness.{Mode, OnHost, InTarget, IsPassed, IsOwn, Like, Both, seen_same, stored_same, both_then, both_less, both_turns, both_choose, set_like, declare_like}
 use Rattle.erased_meaning.proofs.Envs.{plain_env, plain_one, plain_then, declared_plain, behind_plain, more_plain, agree_before, IsQuietSource, IsQuiet, AreQuiet, IsPlaced, MayDo, MayDoAll, own_at, placed_behind, placed_more, placed_loop}
 
@@ -119,17 +118,22 @@ module _ (lengths : List ℕ) (m w : Memory) (mode : Mode) where
           Given names (Some (elim input [ [] ↦ (0, r) | x ∷ rest ↦ (x, record r { input = rest }) ]))
           (Some (elim input [ [] ↦ (0, q) | x ∷ rest ↦ (x, record q { input = rest }) ]))
       read_both before e [] f g = (refl, l)
-      read_both before e (x ∷ rest) f g =
-          (refl, record { memory = l.memory; scalars = l.scalars;
+      read_both before e (x ∷ rest) f g = (
+        refl,
+        record {
+          memory = l.memory;
+          scalars = l.scalars;
           passed = subst (λ (d : Mode). IsPassed d (record r { input = rest }) (record q { input = rest })) (sym e)
-              (refl, (subst (λ (d : Mode). IsPassed d r q) e l.passed).1) })
+              (refl, (subst (λ (d : Mode). IsPassed d r q) e l.passed).1);
+        },
+      )
 
       on : (d : Mode) → mode ≡ d → MaySource d Input → Given names (Some (read_next r)) (Some (read_next q))
       on (InTarget first input printed scalars) e may = absurd may
       on (OnHost before) e may =
           let inputs = (subst (λ (d : Mode). IsPassed d r q) e l.passed).0 in
           let next : Run → List ℕ → Option (ℕ × Run) =
-              λ s input. Some (elim input [ [] ↦ (0, s) | x ∷ rest ↦ (x, record s { input = rest }) ]) in
+          λ s input. Some (elim input [ [] ↦ (0, s) | x ∷ rest ↦ (x, record s { input = rest }) ]) in
           subst (λ (input : List ℕ). Given names (Some (read_next r)) (next q input)) inputs
           (read_both before e r.input refl (sym inputs))
 
@@ -212,8 +216,8 @@ module _ (lengths : List ℕ) (m w : Memory) (mode : Mode) where
       Ends names (all_turns a f r) (all_turns b g q)
   turns_end names a b f g r q e h l =
       let same : all_turns a g q ≡ all_turns b g q =
-          ap (λ (n : ℕ). turn n a.first a.step g q) (turns_same a b e)
-          ∙ ap (λ (v : ℕ). turn (turns_of b) v a.step g q) e.0 ∙ ap (λ (v : ℕ). turn (turns_of b) b.first v g q) e.2 in
+      ap (λ (n : ℕ). turn n a.first a.step g q) (turns_same a b e)
+      ∙ ap (λ (v : ℕ). turn (turns_of b) v a.step g q) e.0 ∙ ap (λ (v : ℕ). turn (turns_of b) b.first v g q) e.2 in
       subst (λ (o : Option Run). Ends names (all_turns a f r) o) same (both_turns m w mode names f g h (turns_of a) a.first a.step r q l)
 
   choice_ends : (names : Names) (o p : Option ℕ) (f g f' g' : Run → Option Run) (r q : Run) → o ≡ p → Ends names (f r) (f' q) →
@@ -242,7 +246,7 @@ module _ (lengths : List ℕ) (m w : Memory) (mode : Mode) where
   list_end s ss env is js x xs (y ∷ ys) loops r q h k first rest =
       let ks : Items = drop (stmt_size (plain_one s)) js in
       let more : AreStatements (plain_env (behind s env)) ks (plain_stmts ss) ys =
-          subst (λ (e : Env). AreStatements e ks (plain_stmts ss) ys) (behind_plain env is s x h) k.1 in
+      subst (λ (e : Env). AreStatements e ks (plain_stmts ss) ys) (behind_plain env is s x h) k.1 in
       both_less m w mode (behind s env).names env.names (run_list (x ∷ xs) here loops r) (run_list (y ∷ ys) there loops q) (agree_before s env)
       (both_then m w mode (behind s env).names (behind s env).names (run_list xs here loops) (run_list ys there loops)
       (run_stmt x here loops r) (run_stmt y there loops q) (first y k.0) (λ r q l. rest ys ks r q l more))

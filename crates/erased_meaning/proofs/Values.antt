@@ -1,5 +1,5 @@
 -- Two expressions that one term means have the same value, where the scalars that can be named have the same values.
-use Rattle.std.proofs.Common.{◌≡◌, ℕ, zero, suc, ◌+◌, ◌%◌, Bool, true, false, cond, List, [], ◌∷◌, drop, Option, Some, None, refl, sym, ap, subst, ◌∙◌}
+use Rattle.std.proofs.Common.{◌≡◌, ℕ, ◌+◌, ◌%◌, Bool, true, false, cond, List, [], ◌∷◌, drop, Option, Some, None, refl, sym, ap, subst, ◌∙◌}
 use Rattle.std.specs.Prelude.{slice_index, option_and_then}
 use Rattle.std.specs.Str.{bytes_eq}
 use Rattle.base.specs.declared.item.Cell.{Cell}
@@ -16,7 +16,7 @@ use Rattle.base.specs.declared.tree.DivideOp.TheVariants as divide
 use Rattle.base.specs.declared.tree.Expr.{Expr}
 use Rattle.base.specs.declared.tree.Expr.TheVariants as expr
 use Rattle.base.specs.Memory.{Scalars}
-use Rattle.base.specs.Value.{Names as Values, modulus, value, on_one, on_both, and_of, or_of, unary, binary, shifted, divided}
+use Rattle.base.specs.Value.{Names as Values, modulus, value, on_one, on_both, unary, binary, shifted, divided}
 use Rattle.c_grammar.specs.Grammar as grammar
 use Rattle.c_grammar.specs.Grammar.{Term, Literal, Named, Element, Group, Prefixed, Both, By, Operator, Fraction, Prefix}
 use Rattle.c_expressions.specs.declared.scope.Meaning.{Meaning}
@@ -80,7 +80,6 @@ agree_at (m ∷ ns) f g x n i a e =
     step false e go = go e
 
 -- ---- operators
-
 
 prefix_same : (o : Prefix) (u v : UnaryOp) → o ≡ prefix_of u → o ≡ prefix_of v → u ≡ v
 prefix_same o unary_op.Not unary_op.Not p q = refl
@@ -161,7 +160,7 @@ module _ (ns : Names) (x : List ℕ) where
   same_scalar n m h k =
       let first = scalar_is (meaning_of ns x) n h in
       let other : MeansScalar (Some (meaning.Scalar n false)) m =
-          subst (λ (o : Option Meaning). MeansScalar o m) (plain_means ns x ∙ ap plain_known first.1) k in
+      subst (λ (o : Option Meaning). MeansScalar o m) (plain_means ns x ∙ ap plain_known first.1) k in
       other
 
   same_loop : (n m : ℕ) → meaning_of ns x ≡ Some (meaning.Loop n) → meaning_of (plain_names ns) x ≡ Some (meaning.Loop m) → n ≡ m
