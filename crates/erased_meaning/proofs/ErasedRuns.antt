@@ -22,7 +22,7 @@ use Rattle.c_programs.specs.Spells.{IsProgram, front_size}
 use Rattle.erasure.specs.Erased.{erased_text}
 use Rattle.erasure.specs.Plain.{plain_stmts, plain_tree}
 use Rattle.erasure.proofs.Spelled.{spells_plain}
-use Rattle.erased_meaning.specs.Laws.{SameEnd, SameRun, IsErased, ErasedTextRuns}
+use Rattle.erased_meaning.specs.Laws.{SameEnd, SameRun, IsErased, ErasedTextRuns, IsOneRegion}
 use Rattle.erased_meaning.proofs.Envs.{plain_env}
 use Rattle.erased_meaning.proofs.Parts.{Ended, BothEnd, fresh, parts_run, parts_list}
 use Rattle.erased_meaning.proofs.Pieces.{AreSafe, IsOutside, texts_alike}
@@ -105,6 +105,16 @@ same_lengths (e ∷ es) [] h = absurd cc
 
 -- ---- the law
 
+is_one : (env : Env) (is : Items) (b : Stmts) (ps : List Part) → AreOneRegion env is b ps → IsOneRegion ps
+is_one env is b [] h = tt
+is_one env is b (part.Host r ∷ []) h = tt
+is_one env is b (part.Host r ∷ x ∷ qs) h = absurd h
+is_one env is b (part.Block' c row ∷ qs) h = absurd h
+is_one env is b (part.Loop' a c row ∷ qs) h = absurd h
+is_one env is b (part.Target t r ∷ qs) h = absurd h
+is_one env is b (part.Data' m c row ∷ qs) h = absurd h
+is_one env is b (part.Alone t ∷ qs) h = absurd h
+
 erased_is : (t : Text) (is js : Items) (p q : Program) → AreSafe (behind_globals t.globals no_front).env t.body → IsProgram is t p →
     IsProgram js (plain_tree t) q → IsErased p q
 erased_is t is js p q safe m n =
@@ -114,6 +124,7 @@ erased_is t is js p q safe m n =
     let region : AreOneRegion env ks (plain_stmts t.body) q.body.items =
     one_region (plain_stmts t.body) env ks q.body.items (plain_bare t.body) n.body.pieces n.body.longest in
     record {
+      plain = is_one env ks (plain_stmts t.body) q.body.items region;
       lengths = lengths;
       runs = λ input.
           subst (λ (o : Option Plain). SameRun o (erased q input)) (sym (parts_list (lengths_of p) p.body.items (first input)))

@@ -3,9 +3,9 @@
 
 ghost use Rattle.erased_meaning.specs.Laws.{ErasedTextRuns};
 
-/// Of every source and every program that it spells: a program that its text without directive lines spells has the
-/// same arrays, and on the host alone it prints the same numbers, leaves the same memory and the same input, or names
-/// a cell that is not there as the other does.
+/// Of every source and every program that it spells: a program that its text without directive lines spells has no
+/// directive and the same arrays. On the host alone it prints the same numbers and leaves the same memory and the same
+/// input, or it names a cell that is not there, as the other does.
 pub fn erased_text_runs()
     ensures { ErasedTextRuns }
 {}
