@@ -1,0 +1,158 @@
+-- The tokens of a tree without its directives are those of the tree that are no lines.
+use Rattle.std.proofs.Common.{◌≡◌, Bool, true, false, cond, List, [], ◌∷◌, ◌++◌, refl, sym, ap, ◌∙◌}
+use Rattle.c_tokens.specs.declared.kind.Sign.TheVariants as sign
+use Rattle.c_grammar.specs.Lexeme.{For, If, Else, Int, Main, Void}
+use Rattle.c_grammar.specs.Terminal.{Terminal, Mark, Fixed, End}
+use Rattle.c_grammar.specs.Grammar.{Slots, Plain, StartsIf, Otherwise, for, mark, Term, Literal, Named, Element, Group, Prefixed, Both, By, term, Source, Input, Value, source, Head, head_slots, body_opening, body_closing, Stmt, Declare, Assign, Store, Repeat, Choose, ChooseElse, Show, Block, Directive, OverBlock, OverLoop, Stmts, Done, Then, stmt, stmts, Global, Scalar, Array, global, globals, Text, main_part, slots}
+use Rattle.c_grammar.specs.Rules.{source_grammar}
+use Rattle.c_grammar.specs.Texts.{Item, kinds, terminals}
+use Rattle.erasure.specs.Erased.{is_line_terminal, unlined}
+use Rattle.erasure.specs.Plain.{plain_before, plain_stmts, plain_tree}
+use Rattle.erasure.proofs.Follows.{NoLines, no_line_first, no_lines_append}
+
+pub term_no_lines : (e : Term) → NoLines (term e)
+term_no_lines (Literal n) = refl
+term_no_lines (Named x) = refl
+term_no_lines (Element x i) = no_lines_append (term i) _ (term_no_lines i) refl
+term_no_lines (Group e) = no_lines_append (term e) _ (term_no_lines e) refl
+term_no_lines (Prefixed op e) = term_no_lines e
+term_no_lines (Both op a b) = no_lines_append (term a) _ (term_no_lines a) (term_no_lines b)
+term_no_lines (By op a n) = no_lines_append (term a) _ (term_no_lines a) refl
+
+pub source_no_lines : (v : Source) → NoLines (source v)
+source_no_lines Input = refl
+source_no_lines (Value e) = term_no_lines e
+
+pub head_no_lines : (h : Head) (xs : Slots) → NoLines xs → NoLines (head_slots h ++ xs)
+head_no_lines h xs l = l
+
+-- ---- which tokens are left
+
+abbrev kinds_of : Slots → List Terminal
+kinds_of xs = kinds source_grammar xs
+
+-- the tokens that are no lines
+abbrev pub bare : List Terminal → List Terminal
+bare [] = []
+bare (t ∷ ts) = cond (is_line_terminal t) (bare ts) (t ∷ bare ts)
+
+pub bare_items : (is : List (Item Terminal)) → terminals source_grammar (unlined is) ≡ bare (terminals source_grammar is)
+bare_items [] = refl
+bare_items (i ∷ is) = step (is_line_terminal i.terminal) (bare_items is)
+  where
+    step : (t : Bool) → terminals source_grammar (unlined is) ≡ bare (terminals source_grammar is) →
+        terminals source_grammar (cond t (unlined is) (i ∷ unlined is))
+        ≡ cond t (bare (terminals source_grammar is)) (i.terminal ∷ bare (terminals source_grammar is))
+    step true e = e
+    step false e = ap (λ (ts : List Terminal). i.terminal ∷ ts) e
+
+pub bare_append : (ts us : List Terminal) → bare (ts ++ us) ≡ bare ts ++ bare us
+bare_append [] us = refl
+bare_append (t ∷ ts) us = step (is_line_terminal t) (bare_append ts us)
+  where
+    step : (b : Bool) → bare (ts ++ us) ≡ bare ts ++ bare us →
+        cond b (bare (ts ++ us)) (t ∷ bare (ts ++ us)) ≡ cond b (bare ts) (t ∷ bare ts) ++ bare us
+    step true e = e
+    step false e = ap (λ (vs : List Terminal). t ∷ vs) e
+
+kinds_append : (xs ys : Slots) → kinds_of (xs ++ ys) ≡ kinds_of xs ++ kinds_of ys
+kinds_append [] ys = refl
+kinds_append (x ∷ xs) ys = ap (λ (vs : List Terminal). x.0 ∷ vs) (kinds_append xs ys)
+
+-- the tokens of the first that are no lines are those of the second
+abbrev pub Bares : Slots → Slots → Type 0
+Bares xs ys = bare (kinds_of xs) ≡ kinds_of ys
+
+bares_same : (xs : Slots) → NoLines xs → Bares xs xs
+bares_same [] l = refl
+bares_same (x ∷ xs) l =
+    let both = no_line_first x xs l in
+    ap (λ (b : Bool). cond b (bare (kinds_of xs)) (x.0 ∷ bare (kinds_of xs))) both.0
+    ∙ ap (λ (vs : List Terminal). x.0 ∷ vs) (bares_same xs both.1)
+
+bares_join : (xs us ys vs : Slots) → Bares xs us → Bares ys vs → Bares (xs ++ ys) (us ++ vs)
+bares_join xs us ys vs p q =
+    ap bare (kinds_append xs ys) ∙ bare_append (kinds_of xs) (kinds_of ys)
+    ∙ ap (λ (ts : List Terminal). ts ++ bare (kinds_of ys)) p ∙ ap (λ (ts : List Terminal). kinds_of us ++ ts) q
+    ∙ sym (kinds_append us vs)
+
+abbrev close : Slots
+close = body_closing ∷ []
+
+bares_body : (b : Stmts) → Bares (stmts b) (stmts (plain_stmts b)) → Bares (stmts b ++ close) (stmts (plain_stmts b) ++ close)
+bares_body b p = bares_join (stmts b) (stmts (plain_stmts b)) close close p refl
+
+-- behind tokens of no directive
+bares_behind : (xs ys vs : Slots) → NoLines xs → Bares ys vs → Bares (xs ++ ys) (xs ++ vs)
+bares_behind xs ys vs l q = bares_join xs xs ys vs (bares_same xs l) q
+
+bares_loop : (h : Head) (b : Stmts) → Bares (stmts b) (stmts (plain_stmts b)) →
+    Bares (head_slots h ++ (body_opening ∷ (stmts b ++ close))) (head_slots h ++ (body_opening ∷ (stmts (plain_stmts b) ++ close)))
+bares_loop h b p =
+    bares_behind (head_slots h ++ body_opening ∷ []) (stmts b ++ close) (stmts (plain_stmts b) ++ close) (head_no_lines h (body_opening ∷ []) refl) (bares_body b p)
+
+bares_choice : (e : Term) (ys vs : Slots) → Bares ys vs →
+    Bares ((Fixed If, for StartsIf) ∷ mark sign.OpenParen ∷ (term e ++ (mark sign.CloseParen ∷ body_opening ∷ ys)))
+    ((Fixed If, for StartsIf) ∷ mark sign.OpenParen ∷ (term e ++ (mark sign.CloseParen ∷ body_opening ∷ vs)))
+bares_choice e ys vs p =
+    ap (λ (ts : List Terminal). Fixed If ∷ Mark sign.OpenParen ∷ ts)
+    (bares_behind (term e) (mark sign.CloseParen ∷ body_opening ∷ ys) (mark sign.CloseParen ∷ body_opening ∷ vs) (term_no_lines e) (ap (λ (ts : List Terminal). Mark sign.CloseParen ∷ Mark sign.OpenBrace ∷ ts) p))
+
+abbrev otherwise : Stmts → Slots
+otherwise b = body_closing ∷ (Fixed Else, for Otherwise) ∷ body_opening ∷ (stmts b ++ close)
+
+mutual
+  pub bares_stmts : (b : Stmts) → Bares (stmts b) (stmts (plain_stmts b))
+  bares_stmts Done = refl
+  bares_stmts (Then s ss) = bares_stmt s (stmts ss) (plain_stmts ss) (bares_stmts ss)
+
+  bares_stmt : (s : Stmt) (xs : Slots) (ss : Stmts) → Bares xs (stmts ss) → Bares (stmt s ++ xs) (stmts (plain_before s ss))
+  bares_stmt (Declare x v) xs ss p =
+      bares_join (stmt (Declare x v)) (stmt (Declare x v)) xs (stmts ss)
+      (bares_same (stmt (Declare x v)) (no_lines_append (source v) _ (source_no_lines v) refl)) p
+  bares_stmt (Assign x v) xs ss p =
+      bares_join (stmt (Assign x v)) (stmt (Assign x v)) xs (stmts ss)
+      (bares_same (stmt (Assign x v)) (no_lines_append (source v) _ (source_no_lines v) refl)) p
+  bares_stmt (Store x i v) xs ss p =
+      bares_join (stmt (Store x i v)) (stmt (Store x i v)) xs (stmts ss)
+      (bares_same (stmt (Store x i v))
+      (no_lines_append (term i) _ (term_no_lines i) (no_lines_append (source v) _ (source_no_lines v) refl))) p
+  bares_stmt (Repeat h b) xs ss p =
+      bares_join (stmt (Repeat h b)) (stmt (Repeat h (plain_stmts b))) xs (stmts ss)
+      (ap (λ (ts : List Terminal). Fixed For ∷ ts) (bares_loop h b (bares_stmts b))) p
+  bares_stmt (Choose e a) xs ss p =
+      bares_join (stmt (Choose e a)) (stmt (Choose e (plain_stmts a))) xs (stmts ss)
+      (bares_choice e (stmts a ++ close) (stmts (plain_stmts a) ++ close) (bares_body a (bares_stmts a))) p
+  bares_stmt (ChooseElse e a b) xs ss p =
+      bares_join (stmt (ChooseElse e a b)) (stmt (ChooseElse e (plain_stmts a) (plain_stmts b))) xs (stmts ss)
+      (bares_choice e (stmts a ++ otherwise b) (stmts (plain_stmts a) ++ otherwise (plain_stmts b))
+      (bares_join (stmts a) (stmts (plain_stmts a)) (otherwise b) (otherwise (plain_stmts b)) (bares_stmts a)
+      (ap (λ (ts : List Terminal). Mark sign.CloseBrace ∷ Fixed Else ∷ Mark sign.OpenBrace ∷ ts) (bares_body b (bares_stmts b))))) p
+  bares_stmt (Show e) xs ss p =
+      bares_join (stmt (Show e)) (stmt (Show e)) xs (stmts ss)
+      (bares_same (stmt (Show e)) (no_lines_append (term e) _ (term_no_lines e) refl)) p
+  bares_stmt (Block b) xs ss p =
+      bares_join (stmt (Block b)) (stmt (Block (plain_stmts b))) xs (stmts ss)
+      (ap (λ (ts : List Terminal). Mark sign.OpenBrace ∷ ts) (bares_body b (bares_stmts b))) p
+  bares_stmt (Directive l) xs ss p = p
+  bares_stmt (OverBlock l b) xs ss p =
+      bares_join (stmt (OverBlock l b)) (stmt (Block (plain_stmts b))) xs (stmts ss)
+      (ap (λ (ts : List Terminal). Mark sign.OpenBrace ∷ ts) (bares_body b (bares_stmts b))) p
+  bares_stmt (OverLoop l h b) xs ss p =
+      bares_join (stmt (OverLoop l h b)) (stmt (Repeat h (plain_stmts b))) xs (stmts ss)
+      (ap (λ (ts : List Terminal). Fixed For ∷ ts) (bares_loop h b (bares_stmts b))) p
+
+pub global_no_lines : (g : Global) → NoLines (global g)
+global_no_lines (Scalar x) = refl
+global_no_lines (Array x n) = refl
+
+globals_no_lines : (gs : List Global) → NoLines (globals gs)
+globals_no_lines [] = refl
+globals_no_lines (g ∷ gs) = no_lines_append (global g) (globals gs) (global_no_lines g) (globals_no_lines gs)
+
+pub bares_slots : (t : Text) → Bares (slots t) (slots (plain_tree t))
+bares_slots t =
+    bares_behind (globals t.globals) (main_part t.body) (main_part (plain_stmts t.body)) (globals_no_lines t.globals)
+    (ap (λ (ts : List Terminal). Fixed Int ∷ Fixed Main ∷ Mark sign.OpenParen ∷ Fixed Void ∷ Mark sign.CloseParen ∷ Mark sign.OpenBrace ∷ ts)
+    (bares_join (stmts t.body) (stmts (plain_stmts t.body)) (body_closing ∷ (End, for Plain) ∷ []) (body_closing ∷ (End, for Plain) ∷ [])
+    (bares_stmts t.body) refl))

@@ -1,0 +1,12 @@
+pub mod Pieces
+pub mod Sound
+pub mod Cuts
+pub mod Items
+pub mod Tokens
+pub mod Covered
+pub mod Copies
+pub mod Contexts
+pub mod Follows
+pub mod BareTexts
+pub mod KeptRules
+pub mod Spelled
