@@ -1,6 +1,6 @@
 -- The last number of a list.
-use Rattle.std.proofs.Common.{◌≡◌, ℕ, suc, ◌+◌, ◌-◌, ◌<◌, List, [], ◌∷◌, ◌++◌, length, Option, refl, ap, ◌∙◌, arith, length-append}
-use Rattle.std.specs.Prelude.{take, slice_index, slice_set}
+use Rattle.std.proofs.Common.{◌≡◌, ℕ, ◌-◌, List, [], ◌∷◌, ◌++◌, length, Option, refl, ap, ◌∙◌, arith, length-append}
+use Rattle.std.specs.Prelude.{take, slice_index}
 use Rattle.kernel.specs.Machine.{last_of, front_of, with_last}
 
 length_more : (xs : List ℕ) (v : ℕ) → length (xs ++ v ∷ []) - 1 ≡ length xs

@@ -1,5 +1,5 @@
 -- Safe statements come to their end.
-use Rattle.std.proofs.Common.{◌≡◌, ℕ, zero, suc, ◌+◌, ◌-◌, ◌<◌, ◌≤◌, ◌%◌, ◌==◌, ◌&&◌, Bool, true, false, List, [], ◌∷◌, ◌++◌, length, Option, Some, None, refl, sym, ap, ◌∙◌, subst, arith}
+use Rattle.std.proofs.Common.{◌≡◌, ℕ, zero, suc, ◌+◌, ◌-◌, ◌<◌, ◌≤◌, ◌%◌, ◌==◌, ◌&&◌, Bool, true, false, List, [], ◌∷◌, ◌++◌, length, Option, Some, None, refl, sym, ap, ◌∙◌, arith}
 use Rattle.std.specs.Prelude.{is_some, option_and_then, option_map, unwrap_or, nat_lt, nat_le, slice_get}
 use Rattle.std.proofs.lemmas.Bool.{and_parts}
 use Rattle.std.proofs.lemmas.Bool.Decides.{nat_tests}
@@ -18,10 +18,10 @@ use Rattle.base.specs.declared.tree.Stmt.TheVariants.{Declare, Assign, Store, Pr
 use Rattle.base.specs.declared.tree.Region.{Region}
 use Rattle.base.specs.Memory.{View, Scalars, last_stored}
 use Rattle.base.specs.Value.{Names, value, modulus, on_one, on_both, and_of, or_of, divided, unary, binary, shifted}
-use Rattle.base.specs.Meaning.{Run, names_in, seen, source_of, assigned, stored, printed, run_stmt, run_row, run_list, choose, run_region, turn, all_turns, turns_of}
+use Rattle.base.specs.Meaning.{Run, names_in, seen, source_of, assigned, stored, printed, run_stmt, run_row, run_list, choose, run_region, turn, turns_of}
 use Rattle.kernel.specs.declared.frames.Row.{Row}
 use Rattle.kernel.specs.Rows.{in_row, cells_of}
-use Rattle.kernel.specs.Safe.{is_remainder, is_below, is_cell_below, safe_expr, safe_source, safe_stmt, safe_row, safe_list}
+use Rattle.kernel.specs.Safe.{is_below, is_cell_below, safe_expr, safe_source, safe_stmt, safe_row, safe_list}
 
 -- the view has the first n cells of the first array
 abbrev pub HasCells : ℕ → View → Type 0
@@ -89,7 +89,8 @@ then_some : (o : Option ℕ) (f : ℕ → Option ℕ) → is_some o ≡ true →
 then_some None f h g = h
 then_some (Some i) f h g = g i refl
 
-expr_some : (n : ℕ) (e : Expr) (names : Names) → HasCells n names.cells → safe_expr n e ≡ true → is_some (value e names) ≡ true
+expr_some : (n : ℕ) (e : Expr) (names : Names) → HasCells n names.cells → safe_expr n e ≡ true →
+    is_some (value e names) ≡ true
 expr_some n (Number k) names has h = refl
 expr_some n (Scalar x) names has h = refl
 expr_some n (LoopName level) names has h = refl
@@ -120,7 +121,8 @@ module _ (n : ℕ) (view : View) (has : HasCells n view) where
       go None h = h
       go (Some x) h = refl
 
-  source_some : (v : Source) (loops : List ℕ) (s : Run) → safe_source n v ≡ true → is_some (source_of v view loops s) ≡ true
+  source_some : (v : Source) (loops : List ℕ) (s : Run) → safe_source n v ≡ true →
+      is_some (source_of v view loops s) ≡ true
   source_some (Value e) loops s h = go (value e (names_in view loops s)) (expr_some n e (names_in view loops s) (seen_some s) h)
     where
       go : (o : Option ℕ) → is_some o ≡ true → is_some {T = ℕ × Run} (option_map (λ (v : ℕ). (v, s)) o) ≡ true
@@ -132,7 +134,8 @@ module _ (n : ℕ) (view : View) (has : HasCells n view) where
   assigned_some x None h = h
   assigned_some x (Some r) h = refl
 
-  stored_some : (c : Cell) (o : Option (ℕ × Run)) → is_some (view c) ≡ true → is_some o ≡ true → is_some (stored view c o) ≡ true
+  stored_some : (c : Cell) (o : Option (ℕ × Run)) → is_some (view c) ≡ true → is_some o ≡ true →
+      is_some (stored view c o) ≡ true
   stored_some c None there h = h
   stored_some c (Some r) there h = go (view c) there
     where
@@ -150,7 +153,8 @@ module _ (n : ℕ) (view : View) (has : HasCells n view) where
   print_some s None h = h
   print_some s (Some v) h = refl
 
-  choose_some : (o : Option ℕ) (f g : Run → Option Run) (s : Run) → is_some o ≡ true → is_some (f s) ≡ true → is_some (g s) ≡ true →
+  choose_some : (o : Option ℕ) (f g : Run → Option Run) (s : Run) → is_some o ≡ true → is_some (f s) ≡ true →
+      is_some (g s) ≡ true →
       is_some (choose o f g s) ≡ true
   choose_some None f g s h hf hg = h
   choose_some (Some zero) f g s h hf hg = hg
@@ -195,14 +199,16 @@ module _ (n : ℕ) (view : View) (has : HasCells n view) where
         choose_some (value c (names_in view loops s)) (run_row all view loops) (run_row all' view loops) s
         (expr_some n c (names_in view loops s) (seen_some s) parts.0) (row_some _ all loops s rest.0) (row_some _ all' loops s rest.1)
 
-    row_some : (m : Count) (row : Row_of-Stmt m) (loops : List ℕ) (s : Run) → safe_row n row ≡ true → is_some (run_row row view loops s) ≡ true
+    row_some : (m : Count) (row : Row_of-Stmt m) (loops : List ℕ) (s : Run) → safe_row n row ≡ true →
+        is_some (run_row row view loops s) ≡ true
     row_some m end_of-Stmt loops s h = refl
     row_some m (more_of-Stmt first rest) loops s h =
         let parts = and_parts (safe_stmt n first) (safe_row n rest) h in
         next_some (run_stmt first view loops s) (run_row rest view loops) (stmt_some first loops s parts.0)
         (λ t. row_some _ rest loops t parts.1)
 
-  pub list_some : (all : List Stmt) (loops : List ℕ) (s : Run) → safe_list n all ≡ true → is_some (run_list all view loops s) ≡ true
+  pub list_some : (all : List Stmt) (loops : List ℕ) (s : Run) → safe_list n all ≡ true →
+      is_some (run_list all view loops s) ≡ true
   list_some [] loops s h = refl
   list_some (first ∷ rest) loops s h =
       let parts = and_parts (safe_stmt n first) (safe_list n rest) h in

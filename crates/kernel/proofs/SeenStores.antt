@@ -1,5 +1,5 @@
 -- One more store.
-use Rattle.std.proofs.Common.{◌≡◌, ℕ, ◌+◌, ◌==◌, ◌&&◌, Bool, true, false, List, [], ◌∷◌, ◌++◌, Option, Some, None, refl, sym, ap, ◌∙◌, arith, if◌then◌else◌}
+use Rattle.std.proofs.Common.{◌≡◌, ℕ, ◌==◌, Bool, true, false, [], ◌∷◌, ◌++◌, Some, None, refl, sym, ap, ◌∙◌, arith, if◌then◌else◌}
 use Rattle.std.specs.Prelude.{option_map, unwrap_or}
 use Rattle.std.proofs.lemmas.Bool.{and_parts}
 use Rattle.std.proofs.lemmas.Bool.Decides.{nat_tests}
@@ -33,7 +33,8 @@ last_appended (s ∷ later) c v d =
     go false = refl
 
 -- what was stored last
-pub stored_more : (stores : Stores) (c : Cell) (v : ℕ) → with_cell (last_stored stores) c v ≡ last_stored (stores ++ (c, v) ∷ [])
+pub stored_more : (stores : Stores) (c : Cell) (v : ℕ) →
+    with_cell (last_stored stores) c v ≡ last_stored (stores ++ (c, v) ∷ [])
 stored_more stores c v = fun_ext (λ (d : Cell). sym (last_appended stores c v d))
 
 -- what is seen of a view that has the cell

@@ -1,4 +1,5 @@
--- Statements whose cells are surely there, by their text alone: of the first array, with a subscript that is a literal or a
+-- Statements whose cells are surely there, by their text alone: of the first array, with a subscript that is a
+-- literal or a
 -- remainder.
 use Rattle.std.specs.Prelude.{ℕ, ◌%◌, Bool, true, false, ◌&&◌, ◌==◌, nat_lt, nat_le, List, [], ◌∷◌}
 use Rattle.base.specs.declared.tree.ArrayId.{ArrayId}
