@@ -5,3 +5,4 @@ pub mod Closing
 pub mod Places
 pub mod HostRows
 pub mod Nils
+pub mod Leasts

@@ -1,4 +1,5 @@
 pub mod Memory
+pub mod Least
 pub mod Arrays
 pub mod Value
 pub mod Meaning

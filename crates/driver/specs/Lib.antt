@@ -1,2 +1,3 @@
 pub mod Source
+pub mod Checking
 pub mod Listing

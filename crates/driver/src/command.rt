@@ -13,6 +13,8 @@ const MAX_CAPACITY: i64 = 4_294_967_296;
 #[derive(Clone, Copy)]
 pub enum Request<'a> {
     Step(Step<'a>),
+    /// Whether the program in the file is accepted.
+    Check(&'a str),
     /// The items of the program in the file.
     List(&'a str),
 }
@@ -47,9 +49,16 @@ fn step_command<'a>(alloc: Global) -> Result<Command<'a>, Error> {
     Ok(step)
 }
 
+fn check_command<'a>(alloc: Global) -> Result<Command<'a>, Error> {
+    let check = Command::new(alloc, "check")
+        .about("says whether a program is accepted, and which arrays are current at its end")
+        .arg(file(alloc))?;
+    Ok(check)
+}
+
 fn list_command<'a>(alloc: Global) -> Result<Command<'a>, Error> {
     let list = Command::new(alloc, "list")
-        .about("prints the items of a program, a line each")
+        .about("prints the items of an accepted program, a line each")
         .arg(file(alloc))?;
     Ok(list)
 }
@@ -57,11 +66,13 @@ fn list_command<'a>(alloc: Global) -> Result<Command<'a>, Error> {
 fn commands<'a>(alloc: Global) -> Result<Command<'a>, Error> {
     let step = step_command(alloc)?;
     let list = list_command(alloc)?;
+    let check = check_command(alloc)?;
     let program = Command::new(alloc, "ompc")
         .about("checks and runs C programs with OpenMP target directives")
         .subcommand_required(true)
         .arg_required_else_help(true)
         .no_binary_name(true)
+        .subcommand(check)?
         .subcommand(list)?
         .subcommand(step)?;
     Ok(program)
@@ -92,6 +103,7 @@ pub fn parse<'a>(alloc: Global, words: &'a [&'a str]) -> Result<Request<'a>, Err
     let command = commands(alloc)?;
     let matches = command.try_get_matches_from(words)?;
     match matches.subcommand() {
+        Some(("check", given)) => Ok(Request::Check(text_of(given, "FILE"))),
         Some(("list", given)) => Ok(Request::List(text_of(given, "FILE"))),
         Some((_, given)) => Ok(Request::Step(step_of(given))),
         None => Ok(Request::List("")),

@@ -1,6 +1,7 @@
 //! The commands of `ompc`: from the words of a command line to what it prints and its status.
 #![tactic(auto)]
 
+mod checking;
 mod command;
 mod listing;
 mod numbers;
@@ -8,9 +9,12 @@ mod perform;
 mod source;
 mod texts;
 
+pub use checking::check_source;
 pub use listing::list_source;
 pub use perform::{SourceError, Sources, drive};
 pub use source::run_source;
 
+#[cfg(test)]
+mod check_tests;
 #[cfg(test)]
 mod tests;

@@ -2,6 +2,7 @@
 
 ghost use Rattle.std.specs.Prelude.{◌≡◌, ◌≤◌, ◌⊎◌, IfOk, OnErr};
 
+use crate::checking::check_source;
 use crate::command::{Request, Step, parse};
 use crate::listing::list_source;
 use crate::numbers::{NumbersFault, choice_list, input_numbers};
@@ -47,6 +48,8 @@ enum Ending<'a> {
     BadChoices,
     Unreadable(&'a str),
     Source(SourceFault),
+    /// The program is not accepted, and the line that says why is written.
+    Refused,
     BadInput,
     OutOfMemory,
 }
@@ -70,6 +73,7 @@ impl Ending<'_> {
             },
             Ending::BadChoices | Ending::Unreadable(_) | Ending::BadInput => MISUSED,
             Ending::Source(fault) => status_of(*fault),
+            Ending::Refused => REFUSED,
             Ending::OutOfMemory => FAILED,
         }
     }
@@ -83,6 +87,7 @@ impl Ending<'_> {
             Ending::BadChoices => writeln!(err, "bad choices"),
             Ending::Unreadable(name) => writeln!(err, "cannot read {name}"),
             Ending::Source(fault) => writeln!(err, "{fault}"),
+            Ending::Refused => Ok(()),
             Ending::BadInput => writeln!(err, "bad input"),
             Ending::OutOfMemory => writeln!(err, "F1"),
         }
@@ -98,6 +103,17 @@ fn status_of(fault: SourceFault) -> u8
         | SourceFault::Check(CheckFault::OutOfMemory)
         | SourceFault::Run(_) => FAILED,
         SourceFault::Read(_) | SourceFault::Outline(_) | SourceFault::Check(_) => REFUSED,
+    }
+}
+
+/// What a fault of a source that is checked ends with: of the checker only want of memory is still to be said.
+fn ending_of<'a>(fault: SourceFault) -> Ending<'a> {
+    match fault {
+        SourceFault::Check(CheckFault::OutOfMemory) => Ending::OutOfMemory,
+        SourceFault::Check(_) => Ending::Refused,
+        SourceFault::Read(_) | SourceFault::Outline(_) | SourceFault::Run(_) => Ending::Source(
+            fault,
+        ),
     }
 }
 
@@ -181,36 +197,59 @@ fn do_step<'a, S: Sources, R: Read, W: Write>(
     }
 }
 
-/// Prints the items of a program.
-fn do_list<'a, S: Sources, W: Write>(
+/// Says whether a program is accepted.
+fn do_check<'a, S: Sources, W: Write, E: Write>(
     alloc: Global,
     name: &'a str,
     sources: &mut S,
     out: &mut W,
+    err: &mut E,
 ) -> Result<u8, Ending<'a>>
     ensures status { IfOk result (λ s. (s ≡ 0) ⊎ (s ≡ 3)) }
     ensures quiet { OnErr result (W.contents out.new ≡ W.contents out.old) }
 {
     let bytes = bytes_of(sources, name)?;
-    match list_source(alloc, &bytes, out)? {
-        Ok(()) => Ok(DONE),
-        Err(_) => Ok(FAILED),
+    match check_source(alloc, &bytes, out, err) {
+        Ok(Ok(())) => Ok(DONE),
+        Ok(Err(_)) => Ok(FAILED),
+        Err(fault) => Err(ending_of(fault)),
     }
 }
 
-fn perform<'a, S: Sources, R: Read, W: Write>(
+/// Prints the items of an accepted program.
+fn do_list<'a, S: Sources, W: Write, E: Write>(
+    alloc: Global,
+    name: &'a str,
+    sources: &mut S,
+    out: &mut W,
+    err: &mut E,
+) -> Result<u8, Ending<'a>>
+    ensures status { IfOk result (λ s. (s ≡ 0) ⊎ (s ≡ 3)) }
+    ensures quiet { OnErr result (W.contents out.new ≡ W.contents out.old) }
+{
+    let bytes = bytes_of(sources, name)?;
+    match list_source(alloc, &bytes, out, err) {
+        Ok(Ok(())) => Ok(DONE),
+        Ok(Err(_)) => Ok(FAILED),
+        Err(fault) => Err(ending_of(fault)),
+    }
+}
+
+fn perform<'a, S: Sources, R: Read, W: Write, E: Write>(
     alloc: Global,
     words: &'a [&'a str],
     sources: &mut S,
     input: &mut R,
     out: &mut W,
+    err: &mut E,
 ) -> Result<u8, Ending<'a>>
     ensures status { IfOk result (λ s. (s ≡ 0) ⊎ (s ≡ 3)) }
     ensures quiet { OnErr result (W.contents out.new ≡ W.contents out.old) }
 {
     match parse(alloc, words) {
         Ok(Request::Step(step)) => do_step(alloc, step, sources, input, out),
-        Ok(Request::List(name)) => do_list(alloc, name, sources, out),
+        Ok(Request::Check(name)) => do_check(alloc, name, sources, out, err),
+        Ok(Request::List(name)) => do_list(alloc, name, sources, out, err),
         Err(error) => Err(Ending::Usage(error)),
     }
 }
@@ -231,7 +270,7 @@ pub fn drive<S: Sources, R: Read, W: Write, E: Write>(
     ensures status { result ≤ 3 }
     ensures quiet { (result ≡ 1) ⊎ (result ≡ 2) → W.contents out.new ≡ W.contents out.old }
 {
-    match perform(alloc, words, sources, input, out) {
+    match perform(alloc, words, sources, input, out, err) {
         Ok(status) => status,
         Err(ending) => {
             // A status is answered even where its text cannot be written.

@@ -24,13 +24,13 @@ impl Sources for One<'_> {
 
 /// What a command left.
 #[derive(Drop)]
-struct Outcome {
+pub struct Outcome {
     status: u8,
     out: Vec<u8>,
     err: Vec<u8>,
 }
 
-fn run(alloc: Global, words: &[&str], text: &str, input: &str) -> Outcome {
+pub fn run(alloc: Global, words: &[&str], text: &str, input: &str) -> Outcome {
     let mut sources = One { alloc, text };
     let mut reader = input.as_bytes();
     let mut out = Vec::new(alloc);
@@ -40,7 +40,7 @@ fn run(alloc: Global, words: &[&str], text: &str, input: &str) -> Outcome {
 }
 
 /// Whether the command fails with this status and this text, and prints nothing to standard output.
-fn fails(outcome: &Outcome, status: u8, text: &str) -> bool {
+pub fn fails(outcome: &Outcome, status: u8, text: &str) -> bool {
     outcome.status == status && outcome.out.is_empty() && outcome.err.as_slice() == text.as_bytes()
 }
 
@@ -49,7 +49,7 @@ fn is_usage(outcome: &Outcome) -> bool {
     outcome.status == 2 && outcome.out.is_empty() && !outcome.err.is_empty()
 }
 
-fn prints(outcome: &Outcome, text: &str) -> bool {
+pub fn prints(outcome: &Outcome, text: &str) -> bool {
     outcome.status == 0 && outcome.err.is_empty() && outcome.out.as_slice() == text.as_bytes()
 }
 
@@ -295,7 +295,7 @@ fn answers_a_source(rt: HostRuntime) -> Result<(), Fail> {
 }
 
 const ROW_LISTED: &str =
-    "uint64_t A[4];\nint main(void) {\nfor (uint64_t k = 0; k < 2; k += 1) {\n#pragma omp target update to(A[2*k:1])\nA[0] = k;\n}\n}\n";
+    "uint64_t A[4];\nint main(void) {\n#pragma omp target enter data map(to: A)\nfor (uint64_t k = 0; k < 2; k += 1) {\n#pragma omp target update to(A[2*k:1])\nA[0] = k;\n}\n}\n";
 
 #[test]
 fn lists_the_items_of_loops(rt: HostRuntime) {
@@ -303,7 +303,7 @@ fn lists_the_items_of_loops(rt: HostRuntime) {
     assert!(rt;
         prints(
             &outcome,
-            "0 update to A[0:1]\n1 host\n2 update to A[2:1]\n3 host\n",
+            "0 enter to A[0:4]\n1 update to A[0:1]\n2 host\n3 update to A[2:1]\n4 host\n",
         )
     );
 }

@@ -11,14 +11,15 @@ use Rattle.base.specs.declared.item.Item.{Item}
 use Rattle.base.specs.declared.fault.OrderFault.{OrderFault}
 use Rattle.base.specs.declared.fault.RangeFault.{RangeFault}
 use Rattle.base.specs.Items.{Work, Plan}
+use Rattle.base.specs.Least.{IsLeast, is_less}
 use Rattle.base.specs.Accepted.{IsFault, Order, SectionsFit, depend_fault, depends_clash, fault_key, key_less, map_fault, section_fails, section_faults}
 use Rattle.order.specs.Bare.{bare, plan_of}
 use Rattle.order.specs.Built.{HasNoClash, IsFirstClash}
-use Rattle.order.specs.Clashes.{clash_at, is_less, IsFirstFound}
+use Rattle.order.specs.Clashes.{clash_at, IsFirstFound}
 use Rattle.order.proofs.Alike.{Alike, both_alike, stripped}
 use Rattle.order.proofs.Befores.{ask, at_both}
 use Rattle.order.proofs.Found.{clash_in}
-use Rattle.order.proofs.Least.{AllSized, IsLeast, all_is}
+use Rattle.order.proofs.Least.{AllSized, all_is}
 
 -- ---- no section is empty
 

@@ -1,50 +1,17 @@
 -- The least cell of a clash.
-use Rattle.std.proofs.Common.{◌≡◌, ◌<◌, max, Bool, true, false, List, [], ◌∷◌, refl, sym, ap, ◌∙◌, ⊎_elim, Option, Some, None, arith}
+use Rattle.std.proofs.Common.{◌≡◌, ◌<◌, max, Bool, true, false, List, [], ◌∷◌, refl, sym, ap, ◌∙◌, Option, Some, None, arith}
 use Rattle.std.specs.Prelude.{not, ◌&&◌, ◌||◌, cond}
 use Rattle.std.specs.List.{list_any}
-use Rattle.std.proofs.lemmas.Bool.{or_cases, or_left, or_right}
 use Rattle.std.proofs.Math.Bool.{or-false, or_assoc}
 use Rattle.std.proofs.lemmas.Bool.Decides.{nat_tests}
 use Rattle.base.specs.declared.item.Cell.{Cell}
 use Rattle.base.specs.declared.item.Section.{Section}
 use Rattle.base.specs.declared.item.Depend.{Depend}
+use Rattle.base.specs.Least.{IsLeast, is_less, lesser}
+use Rattle.base.proofs.Leasts.{least_same, lesser_is}
 use Rattle.base.specs.Memory.{is_in, overlaps, same_section}
 use Rattle.base.specs.Accepted.{clash}
-use Rattle.order.specs.Clashes.{clash_of, is_less, least_of_all, least_of_one, lesser}
-
--- the least cell at which a test holds, if it does at any
-abbrev pub IsLeast : (Cell → Bool) → Option Cell → Type 0
-IsLeast P None = (c : Cell) → P c ≡ false
-IsLeast P (Some c) = (P c ≡ true) × ((d : Cell) → P d ≡ true → is_less d c ≡ false)
-
-least_same : (P Q : Cell → Bool) (o : Option Cell) → ((c : Cell) → P c ≡ Q c) → IsLeast P o → IsLeast Q o
-least_same P Q None e h = λ c. sym (e c) ∙ h c
-least_same P Q (Some c) e h = (sym (e c) ∙ h.0, λ d q. h.1 d (e d ∙ q))
-
-not_less_first : (x c d : Cell) → is_less x c ≡ false → is_less d c ≡ true → is_less x d ≡ false
-not_less_first x c d p q = grind (arith, nat_tests)
-
-not_less_second : (x c d : Cell) → is_less x d ≡ false → is_less d c ≡ false → is_less x c ≡ false
-not_less_second x c d p q = grind (arith, nat_tests)
-
--- of two tests, either of which may hold
-lesser_is : (P Q : Cell → Bool) (a b : Option Cell) → IsLeast P a → IsLeast Q b → IsLeast (λ c. P c || Q c) (lesser a b)
-lesser_is P Q None b h k = least_same Q (λ c. P c || Q c) b (λ c. sym (ap (λ t. t || Q c) (h c))) k
-lesser_is P Q (Some c) None h k =
-    least_same P (λ c. P c || Q c) (Some c) (λ c. sym (ap (λ t. P c || t) (k c) ∙ or-false (P c))) h
-lesser_is P Q (Some c) (Some d) h k = go (is_less d c) refl
-  where
-    go : (b : Bool) → is_less d c ≡ b → IsLeast (λ c. P c || Q c) (Some (cond b d c))
-    go true e = (
-      or_right (P d) (Q d) k.0,
-      λ x p. ⊎_elim (λ (first : P x ≡ true). not_less_first x c d (h.1 x first) e) (λ (second : Q x ≡ true). k.1 x second)
-          (or_cases (P x) (Q x) p),
-    )
-    go false e = (
-      or_left (P c) (Q c) h.0,
-      λ x p. ⊎_elim (λ (first : P x ≡ true). h.1 x first) (λ (second : Q x ≡ true). not_less_second x c d (k.1 x second) e)
-          (or_cases (P x) (Q x) p),
-    )
+use Rattle.order.specs.Clashes.{clash_of, least_of_all, least_of_one}
 
 abbrev pub AllSized : List Depend → Type 0
 AllSized [] = Unit {0}

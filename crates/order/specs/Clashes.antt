@@ -1,26 +1,17 @@
 -- Where sections of two items overlap without being identical.
-use Rattle.std.specs.Prelude.{ℕ, ◌≡◌, ◌<◌, Bool, not, ◌&&◌, ◌||◌, ◌==◌, nat_lt, max, if◌then◌else◌, List, [], ◌∷◌, Option, Some, None, slice_get}
+use Rattle.std.specs.Prelude.{ℕ, ◌≡◌, ◌<◌, not, ◌&&◌, max, if◌then◌else◌, List, [], ◌∷◌, Option, Some, None, slice_get}
 use Rattle.base.specs.declared.item.Cell.{Cell}
 use Rattle.base.specs.declared.item.Section.{Section}
 use Rattle.base.specs.declared.item.Depend.{Depend}
 use Rattle.base.specs.declared.item.Item.{Item}
 use Rattle.base.specs.declared.fault.OrderFault.{OrderFault}
+use Rattle.base.specs.Least.{lesser}
 use Rattle.base.specs.Memory.{overlaps, same_section}
 
 -- the first cell of both, where they overlap without being identical
 abbrev pub clash_of : Section → Section → Option Cell
 clash_of s t =
     if overlaps s t && not (same_section s t) then Some (record { array = s.array; index = max s.first t.first }) else None
-
--- by array, and then by index
-abbrev pub is_less : Cell → Cell → Bool
-is_less c d = nat_lt c.array.0 d.array.0 || ((c.array.0 == d.array.0) && nat_lt c.index d.index)
-
--- the lesser of two cells, either of which may be missing
-abbrev pub lesser : Option Cell → Option Cell → Option Cell
-lesser None b = b
-lesser (Some c) None = Some c
-lesser (Some c) (Some d) = Some (if is_less d c then d else c)
 
 -- the least clash of a depend item with others, and of what was found before
 abbrev pub least_of_one : Depend → List Depend → Option Cell → Option Cell

@@ -7,6 +7,7 @@ ghost use Rattle.order.specs.Clashes.{IsClashOf, IsFirstFound, least_of_all, lea
 use base::depend::overlap;
 use base::fault::OrderFault;
 use base::item::{Cell, Depend, Item, Section};
+use base::least::lesser;
 
 // The first cell of two sections that overlap without being identical.
 fn clash_of(left: &Section, right: &Section) -> Option<Cell>
@@ -19,17 +20,6 @@ fn clash_of(left: &Section, right: &Section) -> Option<Cell>
         array: left.array,
         index: left.first.max(right.first),
     })
-}
-
-// The lesser of two cells, either of which may be missing.
-fn lesser(left: Option<Cell>, right: Option<Cell>) -> Option<Cell>
-    ensures { result ≡ Rattle.order.specs.Clashes.lesser left right }
-{
-    match (left, right) {
-        (None, right) => right,
-        (left, None) => left,
-        (Some(left), Some(right)) => Some(left.min(right)),
-    }
 }
 
 // The least clash of a depend item with others, and of what was found before.

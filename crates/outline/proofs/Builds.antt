@@ -1,5 +1,5 @@
 -- An outline keeps what it was built from.
-use Rattle.std.proofs.Common.{◌≡◌, ℕ, ◌≤◌, min, List, [], map, length, Some, sym, ap, ◌∙◌, arith, append-nil}
+use Rattle.std.proofs.Common.{◌≡◌, ℕ, ◌<◌, ◌≤◌, ◌^◌, min, List, [], map, length, Some, sym, ap, ◌∙◌, arith, append-nil}
 use Rattle.std.proofs.lemmas.List.{length-map}
 use Rattle.base.specs.declared.item.Item.{Item}
 use Rattle.base.specs.declared.tree.Part.{Part}
@@ -33,16 +33,18 @@ as_many es items works e =
 
 pub built : (p : Program) (lengths : List ℕ) (regions held : List RegionEntry) (items : List Item) (s a : ℕ)
     (parts body : List Part) (kept : List ℕ) → length (plan p).items ≤ most_items → lengths ≡ lengths_of p →
+    length lengths < 2 ^ 32 →
     map entry_of regions ≡ list_entries s a parts → s ≡ min p.scalars 256 → a ≡ length lengths →
     parts ≡ p.body.items → held ≡ regions → kept ≡ lengths → body ≡ p.body.items →
     all_shown (map entry_of held) items ≡ as_shown (parts_items body kept []) → IsOutline p lengths regions items
-built p lengths regions held items s a parts body kept few lengths_is regions_are s_is a_is parts_is held_is kept_is
+built p lengths regions held items s a parts body kept few lengths_is few_lengths regions_are s_is a_is parts_is held_is kept_is
     body_is items_are =
     record {
       lengths_kept = lengths_is;
       regions_kept = whole;
       items_kept = all;
       few = let same = as_many (entries_of p) items (plan p).items all in omega (arith, same, few);
+      few_arrays = few_lengths;
     }
   where
     whole : map entry_of regions ≡ entries_of p

@@ -1,5 +1,5 @@
 -- What an outline keeps of its program.
-use Rattle.std.specs.Prelude.{ℕ, ◌≡◌, ◌≤◌, List, length, map}
+use Rattle.std.specs.Prelude.{ℕ, ◌≡◌, ◌<◌, ◌≤◌, ◌^◌, List, length, map}
 use Rattle.base.specs.declared.tree.Program.{Program}
 use Rattle.base.specs.declared.item.Item.{Item}
 use Rattle.base.specs.Meaning.{lengths_of}
@@ -14,3 +14,4 @@ pub record IsOutline (p : Program) (lengths : List ℕ) (regions : List RegionEn
   pub regions_kept : map entry_of regions ≡ entries_of p
   pub items_kept : all_shown (entries_of p) items ≡ as_shown (plan p).items
   pub few : length items ≤ most_items
+  pub few_arrays : length lengths < 2 ^ 32

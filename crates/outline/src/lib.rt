@@ -78,9 +78,10 @@ impl<'p> Outlined<'p> {
         self.program
     }
 
-    /// Each array's length, in order of declaration.
+    /// Each array's length, in order of declaration; fewer than 2^32.
     pub fn lengths(&self) -> &[u32]
-        ensures { result.now ≡ lengths_of self.now }
+        ensures lengths { result.now ≡ lengths_of self.now }
+        ensures few { length result.now < 2 ^ 32 }
     {
         &self.lengths
     }

@@ -23,6 +23,7 @@ use std::alloc::Global;
 use thiserror::Error;
 
 mod cells;
+mod contents;
 mod least;
 mod row;
 mod section;

@@ -1,0 +1,10 @@
+pub mod Collisions
+pub mod Decided
+pub mod Accepting
+pub mod Pairs
+pub mod Firsts
+pub mod ItemFaults
+pub mod FirstFaults
+pub mod Building
+pub mod Stages
+pub mod ThirdFaults

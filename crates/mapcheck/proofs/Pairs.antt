@@ -1,0 +1,36 @@
+-- Conflicts of two items whose accesses are known.
+use Rattle.std.proofs.Common.{◌≡◌, ℕ, ◌<◌, Bool, true, false, List, length, get_or, refl, sym, ◌∙◌, Option, Some, None}
+use Rattle.std.specs.Prelude.{slice_get}
+use Rattle.std.proofs.lemmas.Option.{slice_get_read}
+use Rattle.base.specs.declared.item.Cell.{Cell}
+use Rattle.base.specs.Items.{Plan}
+use Rattle.base.specs.Order.{Before}
+use Rattle.base.specs.Actions.{Stage, conflict, stages}
+use Rattle.base.specs.Least.{IsLeast}
+use Rattle.mapcheck.specs.declared.accesses.Accesses.{Accesses}
+use Rattle.mapcheck.specs.Collisions.{IsLeastConflict}
+use Rattle.mapcheck.specs.Unordered.{AreAccessesOf, AreOfItems, IsLeastUnordered}
+
+abbrev asked : Option Stage → Option Stage → Cell → Bool
+asked o p c = elim o [ None ↦ false | Some s ↦ elim p [ None ↦ false | Some t ↦ conflict s t c ] ]
+
+least_asked : (x y : Option Stage) (a b : Accesses) (o : Option Cell) → AreAccessesOf x a → AreAccessesOf y b →
+    IsLeastConflict a b o → IsLeast (asked x y) o
+least_asked None y a b o p q h = absurd p
+least_asked (Some s) None a b o p q h = absurd q
+least_asked (Some s) (Some t) a b o p q h = h s t p q
+
+unordered : (plan : Plan) (i j : ℕ) (o : Option Cell) → i < j → (Before plan i j → ⊥) →
+    IsLeast (asked (slice_get (stages plan) i) (slice_get (stages plan) j)) o → IsLeastUnordered plan i j o
+unordered plan i j None lt after h = λ c u. let bad : true ≡ false = sym u.1 ∙ h c in absurd cc
+unordered plan i j (Some c) lt after h = ((lt, h.0, after), λ d u. h.1 d u.1)
+
+-- of two items whose accesses are read
+pub least_unordered : (plan : Plan) (list : List Accesses) (i j : ℕ) (a b : Accesses) (o : Option Cell) →
+    AreOfItems plan list → i < j → i < length list → j < length list → a ≡ get_or list i a → b ≡ get_or list j b →
+    (Before plan i j → ⊥) → IsLeastConflict a b o → IsLeastUnordered plan i j o
+least_unordered plan list i j a b o h lt p q a_is b_is after least =
+    unordered plan i j o lt after
+    (least_asked (slice_get (stages plan) i) (slice_get (stages plan) j) a b o
+    (h i a (slice_get_read list (length list) i a refl p a_is)) (h j b (slice_get_read list (length list) j b refl q b_is))
+    least)

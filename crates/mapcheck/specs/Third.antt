@@ -1,0 +1,57 @@
+-- What the third pass finds.
+use Rattle.std.specs.Prelude.{ℕ, ◌≡◌, ◌<◌, List, [], Option, Some, None, Vec, map, filter, take, length}
+use Rattle.std.specs.List.{range_with_len}
+use Rattle.std.specs.declared.alloc.Global.{Global}
+use Rattle.base.specs.declared.fault.Refusal.{Refusal}
+use Rattle.base.specs.declared.fault.RefusalCode.TheVariants.{Conflict}
+use Rattle.base.specs.declared.tree.ArrayId.{ArrayId}
+use Rattle.base.specs.declared.item.Cell.{Cell}
+use Rattle.base.specs.Items.{Plan}
+use Rattle.base.specs.Current.{is_marked}
+use Rattle.base.specs.Accepted.{Conflicts, IsAccepted, IsFault, Refused}
+use Rattle.base.specs.Order.{Before}
+use Rattle.mapwalk.specs.declared.rows.Acts.{Acts}
+use Rattle.mapwalk.specs.Acts.{acts_rows}
+use Rattle.mapwalk.specs.Walk.{array_number, row_items}
+use Rattle.mapcheck.specs.declared.accesses.Accesses.{Accesses}
+use Rattle.mapcheck.specs.Unordered.{AreOfItems, IsConflictOf, IsFirstConflict}
+
+-- these are the rows of the first items
+abbrev pub AreFirstRows : Plan → List (Vec Acts Global) → Type 0
+AreFirstRows plan rows = map row_items rows ≡ take (length rows) (acts_rows plan.items [])
+
+-- none of the first items is refused by itself
+abbrev pub NoneAlone : Plan → ℕ → Type 0
+NoneAlone plan n = (g : Refusal) → g.item < n → g.other ≡ None → IsFault plan (Refused g) → ⊥
+
+-- the accesses of the first items
+pub record AreOfFirst (plan : Plan) (n : ℕ) (list : List Accesses) : Type 0 where
+  pub count : length list ≡ n
+  pub are : AreOfItems plan list
+
+-- none of the first items is refused for a conflict
+abbrev pub NoConflictBelow : Plan → ℕ → Type 0
+NoConflictBelow plan n = (j : ℕ) → j < n → IsConflictOf plan j None
+
+-- of the first items the first conflict
+pub record IsFirstIn (plan : Plan) (n : ℕ) (r : Refusal) : Type 0 where
+  pub inside : r.item < n
+  pub below : NoConflictBelow plan r.item
+  pub first : IsFirstConflict plan r.item r
+
+abbrev pub IsConflictIn : Plan → ℕ → Option Refusal → Type 0
+IsConflictIn plan n None = NoConflictBelow plan n
+IsConflictIn plan n (Some r) = IsFirstIn plan n r
+
+-- the arrays of which each cell is current on the host at the end, in ascending order
+abbrev pub AreMarked : Plan → List ArrayId → Type 0
+AreMarked plan arrays = map array_number arrays ≡ filter (is_marked plan) (range_with_len 0 (length plan.lengths))
+
+-- the program is accepted, and these are the arrays marked current
+pub record IsPassed (plan : Plan) (arrays : List ArrayId) : Type 0 where
+  pub accepted : IsAccepted plan
+  pub marked : AreMarked plan arrays
+
+-- of every two items that conflict the earlier is before the later
+abbrev pub AreOrdered : Plan → Type 0
+AreOrdered plan = (i j : ℕ) (c : Cell) → i < j → Conflicts plan i j c → Before plan i j

@@ -1,0 +1,105 @@
+//! Which programs are accepted: the three passes of the checker, and its answer.
+#![tactic(auto)]
+
+ghost use Rattle.std.specs.Prelude.{◌≡◌, IfOk, IfErr};
+ghost use Rattle.base.specs.Accepted.{IsAccepted};
+ghost use Rattle.base.specs.Items.{plan};
+ghost use Rattle.mapcheck.specs.Accepting.{FaultlessIsAccepted};
+ghost use Rattle.mapcheck.specs.Passes.{IsCheckFault};
+ghost use Rattle.mapcheck.specs.Third.{AreMarked, AreOrdered};
+
+use crate::passes::{footprints_of, order_of};
+use crate::third::third_pass;
+use base::fault::CheckFault;
+use base::tree::ArrayId;
+use outline::Outlined;
+use std::alloc::{AllocError, Global};
+use std::marker::Model;
+
+pub mod accesses;
+pub mod conflict;
+mod items;
+mod marks;
+mod passes;
+#[cfg(test)]
+mod tests;
+mod third;
+pub mod unordered;
+
+/// An accepted program: no fault of range, no two depend items that overlap without being identical, no item that is
+/// refused, and of each two items that conflict the earlier is before the later.
+#[derive(Drop)]
+pub struct Accepted<'a> {
+    outlined: &'a Outlined<'a>,
+    current: Vec<ArrayId>,
+}
+
+impl<'a> Model for Accepted<'a> {
+    ghost use Rattle.base.specs.declared.tree.Program.{Program};
+    ghost use Rattle.base.specs.contracts.tree.Program as code;
+    ghost use Rattle.base.specs.Items.{plan};
+    ghost use Rattle.mapcheck.specs.Third.{IsPassed};
+
+    ghost Value = { Program };
+
+    ghost coded = { code.the_row.coded };
+
+    ghost view = { λ a. a.outlined.now };
+
+    ghost invariant = { λ a. IsPassed (plan a.outlined.now) a.current.items };
+}
+
+impl<'a> Accepted<'a> {
+    /// The program with its regions and its items.
+    pub fn outlined(&self) -> &'a Outlined<'a>
+        ensures { result.now ≡ self.now }
+    {
+        self.outlined
+    }
+
+    /// The arrays marked current, in ascending order: each of their cells is current on the host at the end.
+    pub fn current(&self) -> &[ArrayId]
+        ensures { AreMarked (plan self.now) result.now }
+    {
+        &self.current
+    }
+
+    /// The program is accepted.
+    pub fn is_accepted(&self)
+        ensures accepted { IsAccepted (plan self.now) }
+        ensures ordered { AreOrdered (plan self.now) }
+    {
+        let _ = &self.outlined;
+    }
+}
+
+/// Decides in three passes whether a program is accepted. The fault is the first one: of the first pass the range fault
+/// of the least item (E302, E303, E301); of the second the least pair of depend items that overlap in part (E505); of
+/// the third the refusal of the least item, by its code, its cell and the other item (E501 to E504, E506 to E508).
+/// `OutOfMemory` is answered where an allocation fails.
+///
+/// It takes time for each turn of a region and each cell that one touches, and for each pair of items; memory for the
+/// cells that each region touches.
+pub fn check<'a>(alloc: Global, outlined: &'a Outlined<'a>) -> Result<Accepted<'a>, CheckFault>
+    ensures accepted { IfOk result (λ a. a ≡ outlined.now) }
+    ensures fault { IfErr result (IsCheckFault (plan outlined.now)) }
+{
+    let found = footprints_of(alloc, outlined)?;
+    let order = order_of(alloc, outlined)?;
+    let current = third_pass(alloc, outlined, &found, &order)?;
+    Ok(Accepted { outlined, current })
+}
+
+/// The arrays all of whose cells are current on the host at the end, in ascending order. The error comes where an
+/// allocation fails.
+pub fn current_at_end(alloc: Global, accepted: &Accepted<'_>) -> Result<Vec<ArrayId>, AllocError>
+    ensures { IfOk result (λ arrays. AreMarked (plan accepted.now) arrays.items) }
+{
+    Vec::from_slice(alloc, accepted.current())
+}
+
+/// A program with no fault of any of the three passes is accepted: of each two items that conflict, the earlier is before
+/// the later.
+pub fn faultless_is_accepted()
+    ensures { FaultlessIsAccepted }
+{}

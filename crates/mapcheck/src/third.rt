@@ -1,0 +1,110 @@
+// The third pass: the items one after the other, and the conflicts of items of which neither is before the other.
+
+ghost use Rattle.std.specs.Prelude.{◌≡◌, ◌≤◌, IfOk, IfErr, OnOk, length};
+ghost use Rattle.base.specs.Items.{plan};
+ghost use Rattle.base.specs.Small.{most_items};
+ghost use Rattle.mapcheck.specs.Passes.{IsCheckFault};
+ghost use Rattle.mapcheck.specs.Third.{AreFirstRows, AreOfFirst, IsConflictIn, IsPassed, NoneAlone};
+ghost use Rattle.mapcheck.specs.Unordered.{AreOfItems};
+ghost use Rattle.mapwalk.specs.Footprints.{AreFootprints};
+ghost use Rattle.mapwalk.specs.Walk.{HasNoRangeFault};
+ghost use Rattle.order.specs.Built.{HasNoClash};
+
+use crate::accesses::Accesses;
+use crate::unordered::first_conflict;
+use base::fault::{CheckFault, Refusal};
+use base::tree::ArrayId;
+use mapwalk::{Acts, Walked, walk_with};
+use order::Order;
+use outline::Outlined;
+use ranges::Footprint;
+use std::alloc::{AllocError, Global};
+
+// The accesses of the items that are not refused by themselves.
+fn accesses_of<'f>(
+    alloc: Global,
+    outlined: &Outlined<'_>,
+    acts: &[Vec<Acts>],
+    found: &'f [Option<Footprint>],
+) -> Result<Vec<Accesses<'f>>, AllocError>
+    requires fine { HasNoRangeFault (plan outlined.now) }
+    requires found { AreFootprints (plan outlined.now) found.now }
+    requires rows { AreFirstRows (plan outlined.now) acts.now }
+    requires alone { NoneAlone (plan outlined.now) (length acts.now) }
+    ensures accesses { IfOk result (λ list. AreOfFirst (plan outlined.now) (length acts.now) list.items) }
+    ensures few { OnOk result (length acts.now ≤ most_items) }
+{
+    let items = outlined.items();
+    let mut list = Vec::new(alloc);
+    'rows: for (number, row) in acts.iter().enumerate() {
+        list.push(Accesses::of_item(alloc, &items[number], row, &found[number])?)?;
+    }
+    Ok(list)
+}
+
+// The conflict of the first of the items that is refused for one.
+fn first_of_all(order: &Order<'_>, accesses: &[Accesses<'_>]) -> Option<Refusal>
+    requires few { length accesses.now ≤ most_items }
+    requires accesses { AreOfItems (plan order.now) accesses.now }
+    ensures { IsConflictIn (plan order.now) (length accesses.now) result }
+{
+    'items: for item in 0..accesses.len() as u32 {
+        let conflict = first_conflict(order, accesses, item);
+        if conflict.is_some() {
+            return conflict;
+        }
+    }
+    None
+}
+
+// The first conflict of the items that are not refused by themselves, or want of memory.
+fn conflict_among(
+    alloc: Global,
+    outlined: &Outlined<'_>,
+    acts: &[Vec<Acts>],
+    found: &[Option<Footprint>],
+    order: &Order<'_>,
+) -> Result<Option<Refusal>, AllocError>
+    requires order { order.now ≡ outlined.now }
+    requires fine { HasNoRangeFault (plan outlined.now) }
+    requires found { AreFootprints (plan outlined.now) found.now }
+    requires rows { AreFirstRows (plan outlined.now) acts.now }
+    requires alone { NoneAlone (plan outlined.now) (length acts.now) }
+    ensures { IfOk result (IsConflictIn (plan outlined.now) (length acts.now)) }
+{
+    let accesses = accesses_of(alloc, outlined, acts, found)?;
+    Ok(first_of_all(order, &accesses))
+}
+
+/// The arrays marked current, where no item is refused. The error is the first refusal, which is by an item alone or for
+/// a conflict with an earlier item; or `OutOfMemory` where an allocation fails.
+pub fn third_pass(
+    alloc: Global,
+    outlined: &Outlined<'_>,
+    found: &[Option<Footprint>],
+    order: &Order<'_>,
+) -> Result<Vec<ArrayId>, CheckFault>
+    requires order { order.now ≡ outlined.now }
+    requires fine { HasNoRangeFault (plan outlined.now) }
+    requires clashes { HasNoClash (plan outlined.now) }
+    requires found { AreFootprints (plan outlined.now) found.now }
+    ensures passed { IfOk result (λ current. IsPassed (plan outlined.now) current.items) }
+    ensures fault { IfErr result (IsCheckFault (plan outlined.now)) }
+{
+    let Ok(walked) = walk_with(alloc, outlined, found) else {
+        return Err(CheckFault::OutOfMemory);
+    };
+    let Walked {
+        acts,
+        current,
+        fault,
+    } = walked;
+    let Ok(conflict) = conflict_among(alloc, outlined, &acts, found, order) else {
+        return Err(CheckFault::OutOfMemory);
+    };
+    match (conflict, fault) {
+        (Some(refusal), _) => Err(CheckFault::Refused(refusal)),
+        (None, Some(refusal)) => Err(CheckFault::Refused(refusal)),
+        (None, None) => Ok(current),
+    }
+}

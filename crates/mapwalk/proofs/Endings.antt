@@ -1,0 +1,71 @@
+-- What is current after the last item.
+use Rattle.std.proofs.Common.{◌≡◌, ℕ, zero, suc, ◌+◌, ◌<◌, ◌≤◌, Bool, true, false, List, [], ◌∷◌, length, take, drop, Vec, Global, refl, sym, ap, ◌∙◌, subst, arith, map}
+use Rattle.std.specs.Prelude.{filter, slice_index, nat_lt, ◌&&◌}
+use Rattle.std.specs.List.{list_all, range_with_len}
+use Rattle.std.proofs.lemmas.Bool.Decides.{nat_tests}
+use Rattle.std.proofs.lemmas.List.{take_all}
+use mathlib.Core.Path.{fun_ext}
+use Rattle.base.specs.declared.item.Cell.{Cell}
+use Rattle.base.specs.Items.{Plan}
+use Rattle.base.specs.Map.{Block}
+use Rattle.base.specs.Memory.{is_cell}
+use Rattle.base.specs.Actions.{Stage, stages, stages_from}
+use Rattle.base.specs.Current.{Current, after_stages, at_start, current_at_end, is_marked}
+use Rattle.base.specs.Accepted.{current_before}
+use Rattle.mapwalk.specs.declared.rows.Acts.{Acts}
+use Rattle.mapwalk.specs.declared.current.Sides.{Sides}
+use Rattle.mapwalk.specs.Acts.{acts_rows}
+use Rattle.mapwalk.specs.Current.{IsStart, is_full_in, marks_in, row_in, row_lengths}
+use Rattle.mapwalk.specs.Sides.{lengths_in, shown_by}
+use Rattle.mapwalk.proofs.Agreeing.{Agree}
+use Rattle.mapwalk.proofs.Refusals.{stages_end}
+use Rattle.mapwalk.proofs.SideRows.{length_row, lengths_count}
+use Rattle.mapwalk.proofs.Walking.{Reached}
+
+-- before the first item
+pub begins : (plan : Plan) (blocks : List Block) (s : Sides) → blocks ≡ [] → IsStart plan.lengths true s.host.items →
+    IsStart plan.lengths false s.device.items → Reached plan 0 blocks (shown_by s) []
+begins plan blocks s e host device =
+    record {
+      stages_left = ap (stages_from plan.items) (sym e);
+      rows_left = ap (acts_rows plan.items) e;
+      count = refl;
+      agree = record { host = host; device = device };
+      clean = λ j h. absurd (omega arith);
+    }
+
+take_whole : {X : Type 0} (xs : List X) (i : ℕ) → drop i xs ≡ [] → take i xs ≡ xs
+take_whole [] zero e = refl
+take_whole [] (suc i) e = refl
+take_whole (x ∷ xs) zero e = absurd cc
+take_whole (x ∷ xs) (suc i) e = ap (λ ys. x ∷ ys) (take_whole xs i e)
+
+all_same : (p q : ℕ → Bool) (a n : ℕ) → ((j : ℕ) → j < a + n → p j ≡ q j) → list_all p (range_with_len a n) ≡ list_all q (range_with_len a n)
+all_same p q a zero h = refl
+all_same p q a (suc n) h =
+    (λ i. h a (omega arith) i && all_same p q (a + 1) n (λ j x. h j (omega arith)) i)
+
+cell_there : (lengths : List ℕ) (a j : ℕ) → j < slice_index lengths a → nat_lt j (slice_index lengths a) ≡ true
+cell_there lengths a j h = grind (arith, nat_tests)
+
+-- an array is marked where each of its marks is set
+full_is : (plan : Plan) (s : Sides) → lengths_in s ≡ plan.lengths → Agree plan.lengths (shown_by s) (current_at_end plan) →
+    (a : ℕ) → is_full_in s.host.items a ≡ is_marked plan a
+full_is plan s e h a =
+    let long : length (row_in s.host.items a) ≡ slice_index plan.lengths a = sym (length_row s.host.items a) ∙ ap
+    (λ ls. slice_index ls a) e in
+    ap (λ n. list_all (λ j. marks_in s.host.items (record { array = record { 0 = a }; index = j })) (range_with_len 0 n)) long
+    ∙ all_same (λ j. marks_in s.host.items (record { array = record { 0 = a }; index = j }))
+    (λ j. (current_at_end plan).host (record { array = record { 0 = a }; index = j })) 0 (slice_index plan.lengths a)
+    (λ j x. h.host (record { array = record { 0 = a }; index = j }) (cell_there plan.lengths a j (omega arith)))
+
+pub marked_at_end : (plan : Plan) (i : ℕ) (blocks : List Block) (s : Sides) (rows : List (List Acts)) → lengths_in s ≡ plan.lengths →
+    length plan.items ≤ i → Reached plan i blocks (shown_by s) rows →
+    filter (is_full_in s.host.items) (range_with_len 0 (length s.host.items))
+    ≡ filter (is_marked plan) (range_with_len 0 (length plan.lengths))
+marked_at_end plan i blocks s rows e h r =
+    let end : current_before plan i ≡ current_at_end plan = ap (λ ss. after_stages ss at_start)
+    (take_whole (stages plan) i (stages_end plan i blocks (shown_by s) rows h r)) in
+    let agree = subst (Agree plan.lengths (shown_by s)) end r.agree in
+    let many : length s.host.items ≡ length plan.lengths = sym (lengths_count s.host.items) ∙ ap (λ ls. length ls) e in
+    (λ t. filter (fun_ext (λ (a : ℕ). full_is plan s e agree a) t) (range_with_len 0 (many t)))

@@ -1,0 +1,173 @@
+-- The least of some cells.
+use Rattle.std.proofs.Common.{◌≡◌, ℕ, ◌<◌, ◌≤◌, ◌==◌, Bool, true, false, List, [], ◌∷◌, Option, Some, None, refl, sym, ap, ◌∙◌, arith}
+use Rattle.std.specs.Prelude.{nat_lt, nat_le, max, ◌&&◌, ◌||◌, if◌then◌else◌}
+use Rattle.std.specs.List.{list_any}
+use Rattle.std.proofs.lemmas.Bool.Decides.{nat_tests}
+use Rattle.base.specs.declared.item.Cell.{Cell}
+use Rattle.base.specs.declared.item.Section.{Section}
+use Rattle.base.specs.Memory.{end_of, is_in, same_cell}
+use Rattle.base.specs.Map.{Block, Presence, Absent, Inside, InPart, presence}
+use Rattle.base.specs.Actions.{Met}
+use Rattle.base.specs.Accepted.{first_cell, in_part, is_absent, met_at}
+use Rattle.mapwalk.specs.declared.seen.Seen.{Seen}
+use Rattle.mapwalk.specs.Seen.{also, is_before, least_shared, lesser, nothing, seen_all, seen_at, shared}
+use Rattle.mapwalk.specs.Firsts.{IsLeast}
+use Rattle.mapwalk.specs.Causes.{is_absent_cell, is_part_cell}
+
+pub least_same : (p q : Cell → Bool) (o : Option Cell) → ((c : Cell) → p c ≡ q c) → IsLeast p o → IsLeast q o
+least_same p q None e h = λ c. sym (e c) ∙ h c
+least_same p q (Some x) e h = (sym (e x) ∙ h.0, λ d t. h.1 d (e d ∙ t))
+
+-- none is before the lesser of two that is before neither
+before_less : (c d e : Cell) → is_before c d ≡ true → is_before e d ≡ false → is_before e c ≡ true → is_before e d ≡ true
+before_less c d e a b x = grind (arith, nat_tests)
+
+after_both : (c d e : Cell) → is_before c d ≡ true → is_before e d ≡ false → is_before e c ≡ false
+after_both c d e a b = go (is_before e c) refl
+  where
+    go : (t : Bool) → is_before e c ≡ t → t ≡ false
+    go false x = refl
+    go true x = sym (before_less c d e a b x) ∙ b
+
+later_still : (c d e : Cell) → is_before c d ≡ false → is_before e c ≡ false → is_before e d ≡ false
+later_still c d e a b = grind (arith, nat_tests)
+
+or_true : (a b : Bool) → a ≡ true → (a || b) ≡ true
+or_true true b e = refl
+or_true false b e = absurd cc
+
+or_last : (a b : Bool) → b ≡ true → (a || b) ≡ true
+or_last true b e = refl
+or_last false b e = e
+
+or_cases : {P : Type 0} (a b : Bool) → (a || b) ≡ true → (a ≡ true → P) → (b ≡ true → P) → P
+or_cases true b e f g = f refl
+or_cases false b e f g = g e
+
+or_none : (a b : Bool) → a ≡ false → b ≡ false → (a || b) ≡ false
+or_none false b e f = f
+or_none true b e f = absurd cc
+
+-- the least of two kinds of cells
+pub least_also : (p q : Cell → Bool) (found o : Option Cell) → IsLeast p found → IsLeast q o → IsLeast
+    (λ c. p c || q c) (also o found)
+least_also p q None None h k = λ c. or_none (p c) (q c) (h c) (k c)
+least_also p q (Some x) None h k =
+    (or_true (p x) (q x) h.0, λ d t. or_cases (p d) (q d) t (h.1 d) (λ u. absurd (let n = k d in cc)))
+least_also p q None (Some y) h k =
+    (or_last (p y) (q y) k.0, λ d t. or_cases (p d) (q d) t (λ u. absurd (let n = h d in cc)) (k.1 d))
+least_also p q (Some x) (Some y) h k = go (is_before y x) refl
+  where
+    go : (t : Bool) → is_before y x ≡ t → IsLeast (λ c. p c || q c) (Some (if t then y else x))
+    go true e =
+        (or_last (p y) (q y) k.0, λ d t. or_cases (p d) (q d) t (λ u. after_both y x d e (h.1 d u)) (k.1 d))
+    go false e =
+        (or_true (p x) (q x) h.0, λ d t. or_cases (p d) (q d) t (h.1 d) (λ u. later_still y x d e (k.1 d u)))
+
+abbrev first_of : Section → Section → Cell
+first_of s t = record { array = s.array; index = max s.first t.first }
+
+is_shared : (s t : Section) → ((s.array.0 == t.array.0) && (nat_lt (max s.first t.first) (end_of s)
+    && nat_lt (max s.first t.first) (end_of t))) ≡ true → (is_in (first_of s t) s && is_in (first_of s t) t) ≡ true
+is_shared s t e = grind (arith, nat_tests)
+
+not_earlier : (s t : Section) (d : Cell) → (is_in d s && is_in d t) ≡ true → is_before d (first_of s t) ≡ false
+not_earlier s t d e = grind (arith, nat_tests)
+
+none_shared : (s t : Section) (d : Cell) → ((s.array.0 == t.array.0) && (nat_lt (max s.first t.first) (end_of s)
+    && nat_lt (max s.first t.first) (end_of t))) ≡ false → (is_in d s && is_in d t) ≡ false
+none_shared s t d e = grind (arith, nat_tests)
+
+-- the first cell that two sections share
+pub least_of_two : (s t : Section) → IsLeast (λ c. is_in c s && is_in c t) (shared s t)
+least_of_two s t = go ((s.array.0 == t.array.0) && (nat_lt (max s.first t.first) (end_of s)
+    && nat_lt (max s.first t.first) (end_of t))) refl
+  where
+    go : (b : Bool) → ((s.array.0 == t.array.0) && (nat_lt (max s.first t.first) (end_of s)
+        && nat_lt (max s.first t.first) (end_of t))) ≡ b →
+        IsLeast (λ c. is_in c s && is_in c t) (if b then Some (first_of s t) else None)
+    go true e = (is_shared s t e, not_earlier s t)
+    go false e = λ d. none_shared s t d e
+
+regroup : (p a b c : Bool) → ((p || (a && b)) || (a && c)) ≡ (p || (a && (b || c)))
+regroup true a b c = refl
+regroup false false b c = refl
+regroup false true b c = refl
+
+and_none : (a p : Bool) → p ≡ (p || (a && false))
+and_none true true = refl
+and_none true false = refl
+and_none false true = refl
+and_none false false = refl
+
+pub least_of_blocks : (s : Section) (blocks : List Block) (p : Cell → Bool) (found : Option Cell) → IsLeast p found →
+    IsLeast (λ c. p c || (is_in c s && list_any (λ b. is_in c b.section) blocks)) (least_shared s blocks found)
+least_of_blocks s [] p found h = least_same p _ found (λ c. and_none (is_in c s) (p c)) h
+least_of_blocks s (b ∷ blocks) p found h =
+    least_same _ _ (least_shared s blocks (also (shared s b.section) found))
+    (λ c. regroup (p c) (is_in c s) (is_in c b.section) (list_any (λ x. is_in c x.section) blocks))
+    (least_of_blocks s blocks (λ c. p c || (is_in c s && is_in c b.section)) (also (shared s b.section) found)
+    (least_also p (λ c. is_in c s && is_in c b.section) found (shared s b.section) h (least_of_two s b.section)))
+
+itself : (c : Cell) → same_cell c c ≡ true
+itself c = grind (arith, nat_tests)
+
+no_earlier : (c d : Cell) → same_cell d c ≡ true → is_before d c ≡ false
+no_earlier c d e = grind (arith, nat_tests)
+
+least_of_one : (x : Cell) → IsLeast (λ c. same_cell c x) (Some x)
+least_of_one x = (itself x, no_earlier x)
+
+-- what is noted of met map items, beside what was noted before
+pub record AreNoted (p q : Cell → Bool) (mets : List Met) (s : Seen) : Type 0 where
+  pub part_cells : IsLeast (λ c. p c || list_any (is_part_cell c) mets) s.in_part
+  pub absent_cells : IsLeast (λ c. q c || list_any (is_absent_cell c) mets) s.absent
+
+or_rest : (p a b : Bool) → ((p || a) || b) ≡ (p || (a || b))
+or_rest true a b = refl
+or_rest false a b = refl
+
+or_false : (p : Bool) → p ≡ (p || false)
+or_false true = refl
+or_false false = refl
+
+abbrev seen_of : Section → List Block → Seen → Presence → Seen
+seen_of s blocks seen Absent = record seen { absent = Some (lesser (first_cell s) seen.absent) }
+seen_of s blocks seen (Inside b) = seen
+seen_of s blocks seen InPart = record seen { in_part = least_shared s blocks seen.in_part }
+
+pub all_noted : (mets : List Met) (p q : Cell → Bool) (s : Seen) → IsLeast p s.in_part → IsLeast q s.absent →
+    AreNoted p q mets (seen_all mets s)
+all_noted [] p q s h k =
+    record {
+      part_cells = least_same p _ s.in_part (λ c. or_false (p c)) h;
+      absent_cells = least_same q _ s.absent (λ c. or_false (q c)) k;
+    }
+all_noted (m ∷ mets) p q s h k =
+    let rest = all_noted mets (λ c. p c || is_part_cell c m) (λ c. q c || is_absent_cell c m)
+    (seen_at m.item.section m.blocks s)
+    (one (met_at m) refl).0 (one (met_at m) refl).1 in
+    record {
+      part_cells = least_same _ _ (seen_all mets (seen_at m.item.section m.blocks s)).in_part
+          (λ c. or_rest (p c) (is_part_cell c m) (list_any (is_part_cell c) mets)) rest.part_cells;
+      absent_cells = least_same _ _ (seen_all mets (seen_at m.item.section m.blocks s)).absent
+          (λ c. or_rest (q c) (is_absent_cell c m) (list_any (is_absent_cell c) mets)) rest.absent_cells;
+    }
+  where
+    one : (at : Presence) → met_at m ≡ at →
+        IsLeast (λ c. p c || (in_part (met_at m) && (is_in c m.item.section && list_any (λ b. is_in c b.section) m.blocks)))
+        (seen_of m.item.section m.blocks s (met_at m)).in_part
+        × IsLeast (λ c. q c || (is_absent (met_at m) && same_cell c (first_cell m.item.section)))
+        (seen_of m.item.section m.blocks s (met_at m)).absent
+    one Absent e =
+        rw e (
+          least_same p _ s.in_part (λ c. or_false (p c)) h,
+          least_also q (λ c. same_cell c (first_cell m.item.section)) s.absent (Some (first_cell m.item.section)) k
+              (least_of_one (first_cell m.item.section)),
+        )
+    one (Inside b) e =
+        rw e
+        (least_same p _ s.in_part (λ c. or_false (p c)) h, least_same q _ s.absent (λ c. or_false (q c)) k)
+    one InPart e =
+        rw e
+        (least_of_blocks m.item.section m.blocks p s.in_part h, least_same q _ s.absent (λ c. or_false (q c)) k)

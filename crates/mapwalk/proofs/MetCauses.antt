@@ -1,0 +1,130 @@
+-- The first cause that map items make.
+use Rattle.std.proofs.Common.{◌≡◌, Bool, true, false, List, [], ◌∷◌, Option, Some, None, refl, sym, ap, ◌∙◌, subst}
+use Rattle.std.specs.Prelude.{◌&&◌}
+use Rattle.std.specs.List.{list_any}
+use Rattle.base.specs.declared.item.Cell.{Cell}
+use Rattle.base.specs.declared.item.ItemKind.{ItemKind}
+use Rattle.base.specs.declared.fault.RefusalCode.{RefusalCode}
+use Rattle.base.specs.declared.fault.RefusalCode.TheVariants.{OverlapsInPart, ExitOfAbsent, UpdateOfAbsent, Unmapped, HostNotCurrent, DeviceNotCurrent, Conflict}
+use Rattle.base.specs.Actions.{Met}
+use Rattle.base.specs.Accepted.{is_exit, is_update}
+use Rattle.mapwalk.specs.declared.seen.Seen.{Seen}
+use Rattle.mapwalk.specs.Seen.{nothing, seen_all}
+use Rattle.mapwalk.specs.Firsts.{IsLeast}
+use Rattle.mapwalk.specs.Causes.{IsFirstOf, is_absent_cell, is_less, is_part_cell, met_causes}
+use Rattle.mapwalk.proofs.Leasts.{AreNoted, all_noted}
+
+pub record Noted (mets : List Met) (s : Seen) : Type 0 where
+  pub part_cells : IsLeast (λ c. list_any (is_part_cell c) mets) s.in_part
+  pub absent_cells : IsLeast (λ c. list_any (is_absent_cell c) mets) s.absent
+
+pub noted : (mets : List Met) (s : Seen) → s ≡ seen_all mets nothing → Noted mets s
+noted mets s e =
+    let all = all_noted mets (λ c. false) (λ c. false) nothing (λ c. refl) (λ c. refl) in
+    subst (Noted mets) (sym e) (record { part_cells = all.part_cells; absent_cells = all.absent_cells })
+
+and_false : (a b : Bool) → b ≡ false → (a && b) ≡ false
+and_false true b e = e
+and_false false b e = refl
+
+and_both : (a b : Bool) → a ≡ true → b ≡ true → (a && b) ≡ true
+and_both true b e f = f
+and_both false b e f = absurd cc
+
+not_first : (a b : Bool) → a ≡ false → (a && b) ≡ false
+not_first false b e = refl
+not_first true b e = absurd cc
+
+second_of : (a b : Bool) → (a && b) ≡ true → b ≡ true
+second_of true b e = e
+second_of false b e = absurd cc
+
+contrary : {P : Type 0} (b : Bool) → b ≡ false → b ≡ true → P
+contrary b e f = absurd (let x : true ≡ false = sym f ∙ e in cc)
+
+part_none : (mets : List Met) (s : Seen) → Noted mets s → s.in_part ≡ None → (c : Cell) → list_any (is_part_cell c) mets ≡ false
+part_none mets s n e = subst (IsLeast (λ c. list_any (is_part_cell c) mets)) e n.part_cells
+
+pub part_first : (kind : ItemKind) (mets : List Met) (s : Seen) (cell : Cell) → Noted mets s → s.in_part ≡ Some cell →
+    IsFirstOf (met_causes kind mets) (Some (record { code = OverlapsInPart; cell = cell }))
+part_first kind mets s cell n e = (least.0, order)
+  where
+    least : IsLeast (λ c. list_any (is_part_cell c) mets) (Some cell)
+    least = subst (IsLeast (λ c. list_any (is_part_cell c) mets)) e n.part_cells
+
+    order : (code : RefusalCode) (c : Cell) → met_causes kind mets code c ≡ true →
+        is_less code c (record { code = OverlapsInPart; cell = cell }) ≡ false
+    order OverlapsInPart c h = least.1 c h
+    order ExitOfAbsent c h = refl
+    order UpdateOfAbsent c h = refl
+    order Unmapped c h = refl
+    order HostNotCurrent c h = refl
+    order DeviceNotCurrent c h = refl
+    order Conflict c h = refl
+
+pub absent_none : (kind : ItemKind) (mets : List Met) (s : Seen) → Noted mets s → s.in_part ≡ None → s.absent ≡ None →
+    IsFirstOf (met_causes kind mets) None
+absent_none kind mets s n e f = all
+  where
+    least : (c : Cell) → list_any (is_absent_cell c) mets ≡ false
+    least = subst (IsLeast (λ c. list_any (is_absent_cell c) mets)) f n.absent_cells
+
+    all : (code : RefusalCode) (c : Cell) → met_causes kind mets code c ≡ false
+    all OverlapsInPart c = part_none mets s n e c
+    all ExitOfAbsent c = and_false (is_exit kind) (list_any (is_absent_cell c) mets) (least c)
+    all UpdateOfAbsent c = and_false (is_update kind) (list_any (is_absent_cell c) mets) (least c)
+    all Unmapped c = refl
+    all HostNotCurrent c = refl
+    all DeviceNotCurrent c = refl
+    all Conflict c = refl
+
+-- an item that is neither an exit nor an update
+pub other_none : (kind : ItemKind) (mets : List Met) (s : Seen) → Noted mets s → s.in_part ≡ None → is_exit kind ≡ false →
+    is_update kind ≡ false → IsFirstOf (met_causes kind mets) None
+other_none kind mets s n e x u = all
+  where
+    all : (code : RefusalCode) (c : Cell) → met_causes kind mets code c ≡ false
+    all OverlapsInPart c = part_none mets s n e c
+    all ExitOfAbsent c = not_first (is_exit kind) (list_any (is_absent_cell c) mets) x
+    all UpdateOfAbsent c = not_first (is_update kind) (list_any (is_absent_cell c) mets) u
+    all Unmapped c = refl
+    all HostNotCurrent c = refl
+    all DeviceNotCurrent c = refl
+    all Conflict c = refl
+
+pub exit_first : (kind : ItemKind) (mets : List Met) (s : Seen) (cell : Cell) → Noted mets s → s.in_part ≡ None →
+    s.absent ≡ Some cell → is_exit kind ≡ true →
+    IsFirstOf (met_causes kind mets) (Some (record { code = ExitOfAbsent; cell = cell }))
+exit_first kind mets s cell n e f x = (and_both (is_exit kind) (list_any (is_absent_cell cell) mets) x least.0, order)
+  where
+    least : IsLeast (λ c. list_any (is_absent_cell c) mets) (Some cell)
+    least = subst (IsLeast (λ c. list_any (is_absent_cell c) mets)) f n.absent_cells
+
+    order : (code : RefusalCode) (c : Cell) → met_causes kind mets code c ≡ true →
+        is_less code c (record { code = ExitOfAbsent; cell = cell }) ≡ false
+    order OverlapsInPart c h = contrary (list_any (is_part_cell c) mets) (part_none mets s n e c) h
+    order ExitOfAbsent c h = least.1 c (second_of (is_exit kind) (list_any (is_absent_cell c) mets) h)
+    order UpdateOfAbsent c h = refl
+    order Unmapped c h = refl
+    order HostNotCurrent c h = refl
+    order DeviceNotCurrent c h = refl
+    order Conflict c h = refl
+
+pub update_first : (kind : ItemKind) (mets : List Met) (s : Seen) (cell : Cell) → Noted mets s → s.in_part ≡ None →
+    s.absent ≡ Some cell → is_exit kind ≡ false → is_update kind ≡ true →
+    IsFirstOf (met_causes kind mets) (Some (record { code = UpdateOfAbsent; cell = cell }))
+update_first kind mets s cell n e f x u = (and_both (is_update kind) (list_any (is_absent_cell cell) mets) u least.0, order)
+  where
+    least : IsLeast (λ c. list_any (is_absent_cell c) mets) (Some cell)
+    least = subst (IsLeast (λ c. list_any (is_absent_cell c) mets)) f n.absent_cells
+
+    order : (code : RefusalCode) (c : Cell) → met_causes kind mets code c ≡ true →
+        is_less code c (record { code = UpdateOfAbsent; cell = cell }) ≡ false
+    order OverlapsInPart c h = contrary (list_any (is_part_cell c) mets) (part_none mets s n e c) h
+    order ExitOfAbsent c h =
+        contrary (is_exit kind && list_any (is_absent_cell c) mets) (not_first (is_exit kind) (list_any (is_absent_cell c) mets) x) h
+    order UpdateOfAbsent c h = least.1 c (second_of (is_update kind) (list_any (is_absent_cell c) mets) h)
+    order Unmapped c h = refl
+    order HostNotCurrent c h = refl
+    order DeviceNotCurrent c h = refl
+    order Conflict c h = refl

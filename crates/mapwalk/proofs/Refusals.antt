@@ -1,0 +1,154 @@
+-- The first item that is refused by itself.
+use Rattle.std.proofs.Common.{◌≡◌, ◌≢◌, ℕ, zero, suc, ◌+◌, ◌<◌, ◌≤◌, ◌==◌, Bool, true, false, List, [], ◌∷◌, ◌++◌, length, take, drop, Option, Some, None, refl, sym, ap, ◌∙◌, subst, arith, map, append-nil}
+use Rattle.std.specs.Prelude.{slice_get, nat_lt, unwrap_or, IsTrue, ◌&&◌, ◌||◌}
+use Rattle.std.proofs.lemmas.Bool.Decides.{nat_tests}
+use Rattle.std.proofs.lemmas.List.{drop_all}
+use Rattle.base.specs.declared.item.Cell.{Cell}
+use Rattle.base.specs.declared.fault.Refusal.{Refusal}
+use Rattle.base.specs.declared.fault.RefusalCode.{RefusalCode}
+use Rattle.base.specs.declared.fault.RefusalCode.TheVariants.{OverlapsInPart, ExitOfAbsent, UpdateOfAbsent, Unmapped, HostNotCurrent, DeviceNotCurrent, Conflict}
+use Rattle.base.specs.Items.{Plan, Work}
+use Rattle.base.specs.Map.{Block}
+use Rattle.base.specs.Actions.{Stage, stages, stages_from}
+use Rattle.base.specs.Current.{Current}
+use Rattle.base.specs.Accepted.{IsFault, IsRefusal, Refused, cause, current_before, fault_key, key_less, on_stage, refusal_rank}
+use Rattle.mapwalk.specs.declared.rows.Acts.{Acts}
+use Rattle.mapwalk.specs.declared.causes.Cause.{Cause}
+use Rattle.mapwalk.specs.Acts.{acts_rows}
+use Rattle.mapwalk.specs.Causes.{IsFirstOf, is_less, refusal_of}
+use Rattle.mapwalk.specs.Steps.{stage_of}
+use Rattle.mapwalk.specs.Walk.{HasNoRangeFault, IsFirstAlone}
+use Rattle.mapwalk.proofs.Agreeing.{cause_agree}
+use Rattle.mapwalk.proofs.Walking.{IsClean, Reached, no_fault_at, on_stage_is, stage_at}
+use Rattle.mapwalk.proofs.Written.{same_number, other_number}
+
+nowhere_true : (o : Option Stage) → (elim o as (λ z. Bool) [ None ↦ false | Some s ↦ false ]) ≡ true → ⊥
+nowhere_true None e = cc
+nowhere_true (Some s) e = cc
+
+refusal_from : (plan : Plan) (code : RefusalCode) (j : ℕ) (c : Cell) →
+    on_stage plan j false (λ s. cause code s (current_before plan j) c) ≡ true → IsRefusal plan code j c None
+refusal_from plan OverlapsInPart j c h = h
+refusal_from plan ExitOfAbsent j c h = h
+refusal_from plan UpdateOfAbsent j c h = h
+refusal_from plan Unmapped j c h = h
+refusal_from plan HostNotCurrent j c h = h
+refusal_from plan DeviceNotCurrent j c h = h
+refusal_from plan Conflict j c h = nowhere_true (slice_get (stages plan) j) h
+
+refusal_to : (plan : Plan) (code : RefusalCode) (j : ℕ) (c : Cell) → IsRefusal plan code j c None →
+    on_stage plan j false (λ s. cause code s (current_before plan j) c) ≡ true
+refusal_to plan OverlapsInPart j c h = h
+refusal_to plan ExitOfAbsent j c h = h
+refusal_to plan UpdateOfAbsent j c h = h
+refusal_to plan Unmapped j c h = h
+refusal_to plan HostNotCurrent j c h = h
+refusal_to plan DeviceNotCurrent j c h = h
+refusal_to plan Conflict j c h = absurd h
+
+-- a refusal of an item by itself is a cause of its stage
+caused : (plan : Plan) (g : Refusal) → g.other ≡ None → IsFault plan (Refused g) →
+    on_stage plan g.item false (λ s. cause g.code s (current_before plan g.item) g.cell) ≡ true
+caused plan g e h = refusal_to plan g.code g.item g.cell (subst (IsRefusal plan g.code g.item g.cell) e h)
+
+no_conflict : (code : RefusalCode) (s : Stage) (k : Current) (c : Cell) → cause code s k c ≡ true → code ≢ Conflict
+no_conflict OverlapsInPart s k c h e = cc
+no_conflict ExitOfAbsent s k c h e = cc
+no_conflict UpdateOfAbsent s k c h e = cc
+no_conflict Unmapped s k c h e = cc
+no_conflict HostNotCurrent s k c h e = cc
+no_conflict DeviceNotCurrent s k c h e = cc
+no_conflict Conflict s k c h e = cc
+
+contrary : {P : Type 0} (b : Bool) → b ≡ false → b ≡ true → P
+contrary b e f = absurd (let x : true ≡ false = sym f ∙ e in cc)
+
+-- keys of the third pass
+abbrev key : ℕ → ℕ → ℕ → ℕ → ℕ → List ℕ
+key i r a n o = 3 ∷ i ∷ r ∷ a ∷ n ∷ o ∷ []
+
+later_item : (gi gr ga gn go i r a n : ℕ) → i < gi → key_less (key gi gr ga gn go) (key i r a n 0) ≡ false
+later_item gi gr ga gn go i r a n h = grind (arith, nat_tests)
+
+same_item : (gi gr ga gn go i r a n : ℕ) → gi ≡ i →
+    (nat_lt gr r || ((gr == r) && (nat_lt ga a || ((ga == a) && nat_lt gn n)))) ≡ false →
+    key_less (key gi gr ga gn go) (key i r a n 0) ≡ false
+same_item gi gr ga gn go i r a n e h = grind (arith, nat_tests)
+
+below : (a b : ℕ) → nat_lt a b ≡ true → a < b
+below a b e = grind (arith, nat_tests)
+
+above : (a b : ℕ) → nat_lt a b ≡ false → (a == b) ≡ false → b < a
+above a b e f = grind (arith, nat_tests)
+
+pub first_alone : (plan : Plan) (i : ℕ) (blocks : List Block) (k : Current) (rows : List (List Acts)) (w : Work) (x : Cause) →
+    HasNoRangeFault plan → slice_get plan.items i ≡ Some w → Reached plan i blocks k rows →
+    IsFirstOf (λ code. cause code (stage_of w blocks) k) (Some x) → IsFirstAlone plan (refusal_of x i)
+first_alone plan i blocks k rows w x none e r h =
+    record {
+      holds = refusal_from plan x.code i x.cell (here x.code x.cell ∙ h.0);
+      alone = refl;
+      no_conflict = no_conflict x.code (stage_of w blocks) k x.cell h.0;
+      first = λ g o f. go g (caused plan g o f) (nat_lt g.item i) refl (g.item == i) refl;
+    }
+  where
+    here : (code : RefusalCode) (c : Cell) → on_stage plan i false (λ s. cause code s (current_before plan i) c)
+        ≡ cause code (stage_of w blocks) k c
+    here code c =
+        on_stage_is plan i (stage_of w blocks) (λ s. cause code s (current_before plan i) c)
+        (stage_at plan i blocks k rows w r e)
+        ∙ sym (cause_agree plan.lengths w blocks k (current_before plan i) (no_fault_at plan i w none e) r.agree code c)
+
+    go : (g : Refusal) → on_stage plan g.item false (λ s. cause g.code s (current_before plan g.item) g.cell) ≡ true →
+        (a : Bool) → nat_lt g.item i ≡ a → (b : Bool) → (g.item == i) ≡ b →
+        key_less (fault_key (Refused g)) (fault_key (Refused (refusal_of x i))) ≡ false
+    go g t true p b q = contrary _ (r.clean g.item (below g.item i p) g.code g.cell) t
+    go g t false p true q =
+        let same : g.item ≡ i = same_number g.item i q in
+        same_item g.item (refusal_rank g.code) g.cell.array.0 g.cell.index (unwrap_or g.other 0) i (refusal_rank x.code)
+        x.cell.array.0 x.cell.index same
+        (h.1 g.code g.cell
+        (sym (here g.code g.cell)
+        ∙ ap (λ j. on_stage plan j false (λ s. cause g.code s (current_before plan j) g.cell)) (sym same) ∙ t))
+    go g t false p false q =
+        later_item g.item (refusal_rank g.code) g.cell.array.0 g.cell.index (unwrap_or g.other 0) i (refusal_rank x.code)
+        x.cell.array.0 x.cell.index (above g.item i p q)
+
+past : {X : Type 0} (xs : List X) (i j : ℕ) → drop i xs ≡ [] → i ≤ j → slice_get xs j ≡ None
+past [] i j e h = refl
+past (x ∷ xs) zero j e h = absurd cc
+past (x ∷ xs) (suc i) zero e h = absurd (omega arith)
+past (x ∷ xs) (suc i) (suc j) e h = past xs i j e (omega arith)
+
+-- after the last item nothing is left
+pub stages_end : (plan : Plan) (i : ℕ) (blocks : List Block) (k : Current) (rows : List (List Acts)) → length plan.items ≤ i →
+    Reached plan i blocks k rows → drop i (stages plan) ≡ []
+stages_end plan i blocks k rows h r = r.stages_left ∙ ap (λ ws. stages_from ws blocks) (drop_all i plan.items h)
+
+pub none_refused : (plan : Plan) (i : ℕ) (blocks : List Block) (k : Current) (rows : List (List Acts)) → length plan.items ≤ i →
+    Reached plan i blocks k rows → (g : Refusal) → g.other ≡ None → IsFault plan (Refused g) → ⊥
+none_refused plan i blocks k rows h r g o f = go (nat_lt g.item i) refl
+  where
+    t : on_stage plan g.item false (λ s. cause g.code s (current_before plan g.item) g.cell) ≡ true
+    t = caused plan g o f
+
+    not_below : (a b : ℕ) → nat_lt a b ≡ false → b ≤ a
+    not_below a b e = grind (arith, nat_tests)
+
+    go : (a : Bool) → nat_lt g.item i ≡ a → ⊥
+    go true p = contrary _ (r.clean g.item (below g.item i p) g.code g.cell) t
+    go false p =
+        contrary _
+        (ap (λ (s : Option Stage). elim s as (λ z. Bool) [ None ↦ false | Some v ↦ cause g.code v (current_before plan g.item) g.cell ])
+        (past (stages plan) i g.item (stages_end plan i blocks k rows h r) (not_below g.item i p))) t
+
+take_front : {X : Type 0} (xs ys : List X) → take (length xs) (xs ++ ys) ≡ xs
+take_front [] ys = refl
+take_front (x ∷ xs) ys = ap (λ zs. x ∷ zs) (take_front xs ys)
+
+-- the rows so far are those of the items so far
+pub rows_before : (plan : Plan) (i : ℕ) (blocks : List Block) (k : Current) (rows : List (List Acts)) →
+    Reached plan i blocks k rows → rows ≡ take i (acts_rows plan.items [])
+rows_before plan i blocks k rows r =
+    sym (take_front rows (acts_rows (drop i plan.items) blocks))
+    ∙ (λ t. take (r.count t) (r.rows_left t))

@@ -1,0 +1,106 @@
+use Rattle.std.proofs.Common.{rules, ◌≡◌, ℕ, ◌+◌, ◌*◌, ◌^◌, ◌<◌, ◌≤◌, ◌++◌, ◌∷◌, [], List, length, map, refl, sym, ap, ◌∙◌, subst, arith}
+use Rattle.std.proofs.lemmas.List.{length-map, map-append, places}
+use Rattle.base.specs.Items.{Work, plan}
+use Rattle.base.specs.Accepted.{range_faults}
+use Rattle.base.specs.Meaning.{lengths_of}
+use Rattle.outline.specs.Regions.{entries_of}
+use Rattle.outline.specs.Shown.{shown}
+use Rattle.mapwalk.specs.declared.steps.Step.{Step}
+use Rattle.mapwalk.specs.Causes.{refusal_of}
+use Rattle.mapwalk.specs.Sides.{shown_by}
+use Rattle.mapwalk.specs.Steps.{StepIs}
+use Rattle.mapwalk.specs.Table.{blocks_of}
+use Rattle.mapwalk.specs.Walk.{IsFirstAlone, row_items}
+use Rattle.std.specs.Prelude.{IfSome}
+use Rattle.mapwalk.specs.Regions.{IsWithin}
+use Rattle.mapwalk.proofs.Prints.{at_inside, found_at}
+use Rattle.mapwalk.proofs.Endings.{marked_at_end}
+use Rattle.mapwalk.proofs.Refusals.{first_alone, none_refused}
+use Rattle.mapwalk.proofs.SideRows.{lengths_count}
+use Rattle.mapwalk.proofs.Touched.{same_work}
+use Rattle.mapwalk.proofs.Walking.{Reached, as_many, next, no_fault_at, work_at}
+use Rattle.mapwalk.proofs.walk_with.Goals as goal
+
+pub step-requires-clause-within : goal.step-requires-clause-within
+step-requires-clause-within c =
+    let p = c.args.outlined.now in
+    let i = c.items.item-index in
+    let at = work_at (entries_of p) c.items-item-items.result.now (plan p).items i c.item-item.result
+    c.items-item-items.ensures.shown c.items-test.true c.item-item.is in
+    let many : c.len.result ≡ length c.items.acts.items = search (rules, places) in
+    let place : c.len.result ≡ i = many ∙ sym (length-map c.items.acts.items row_items) ∙ c.items.invariant.reached.count in
+    let count = c.requires.found.count in
+    let inside : c.len.result < length c.args.found.now = at_inside (plan p) i at.work c.args.found.now c.len.result
+    c.requires.found at.there place in
+    let found = found_at (plan p) c.args.found.now i c.len.result at.work c.index-found-len.result c.requires.found at.there place
+    inside c.index-found-len.is in
+    subst (λ ls. IfSome c.index-found-len.result (IsWithin ls)) (sym c.items.invariant.lengths) found.within
+
+pub returns-in-Refused-clause-fault : goal.returns-in-Refused-clause-fault
+returns-in-Refused-clause-fault c =
+    let p = c.args.outlined.now in
+    let i = c.items.item-index in
+    let at = work_at (entries_of p) c.items-item-items.result.now (plan p).items i c.item-item.result
+    c.items-item-items.ensures.shown c.items-test.true c.item-item.is in
+    let rows = map row_items c.items.acts.items in
+    let many : c.len.result ≡ length c.items.acts.items = search (rules, places) in
+    let place : c.len.result ≡ i = many ∙ sym (length-map c.items.acts.items row_items) ∙ c.items.invariant.reached.count in
+    let inside : c.len.result < length c.args.found.now = at_inside (plan p) i at.work c.args.found.now c.len.result
+    c.requires.found at.there place in
+    let found = found_at (plan p) c.args.found.now i c.len.result at.work c.index-found-len.result c.requires.found at.there place
+    inside c.index-found-len.is in
+    let again : c.len-in-Refused.result ≡ length c.items.acts.items = search (rules, places) in
+    subst (IsFirstAlone (plan p)) (sym (c.refusal-fault.ensures ∙ ap (refusal_of c.in-Refused.cause) (again ∙ sym many ∙ place)))
+    (first_alone (plan p) i (blocks_of c.items.state.blocks) (shown_by c.items.state.sides) rows at.work c.in-Refused.cause
+    c.requires.fine at.there c.items.invariant.reached
+    (subst (λ (s : Step). StepIs at.work c.items.state c.step.new.self s) c.in-Refused.is (c.in_ok-row.ensures.step (entries_of p) at.work at.is found.touches)))
+
+pub items-preserved : goal.items-preserved
+items-preserved c =
+    let p = c.args.outlined.now in
+    let i = c.items.item-index in
+    let at = work_at (entries_of p) c.items-item-items.result.now (plan p).items i c.item-item.result
+    c.items-item-items.ensures.shown c.items-test.true c.item-item.is in
+    let rows = map row_items c.items.acts.items in
+    let many : c.len.result ≡ length c.items.acts.items = search (rules, places) in
+    let place : c.len.result ≡ i = many ∙ sym (length-map c.items.acts.items row_items) ∙ c.items.invariant.reached.count in
+    let inside : c.len.result < length c.args.found.now = at_inside (plan p) i at.work c.args.found.now c.len.result
+    c.requires.found at.there place in
+    let found = found_at (plan p) c.args.found.now i c.len.result at.work c.index-found-len.result c.requires.found at.there place
+    inside c.index-found-len.is in
+    let done = subst (λ (s : Step). StepIs at.work c.items.state c.step.new.self s) c.in-Done.is
+    (c.in_ok-row.ensures.step (entries_of p) at.work at.is found.touches) in
+    let same = c.in_ok-row.ensures.lengths in
+    let many : length c.step.new.self.sides.host.items ≡ length c.items.state.sides.host.items =
+    sym (lengths_count c.step.new.self.sides.host.items) ∙ ap (λ ls. length ls) same
+    ∙ lengths_count c.items.state.sides.host.items in
+    let few = c.items.invariant.few in
+    let before = c.items.invariant.entries in
+    let more = c.in_ok-row.ensures.entries in
+    record {
+      reached =
+          subst (Reached (plan p) (i + 1) (blocks_of c.step.new.self.blocks) (shown_by c.step.new.self.sides))
+          (sym (ap (map row_items) c.in_ok-push-in-Done.ensures.items ∙ map-append row_items c.items.acts.items (c.in-Done.row ∷ [])))
+          (next (plan p) i (blocks_of c.items.state.blocks) (blocks_of c.step.new.self.blocks) (shown_by c.items.state.sides)
+          (shown_by c.step.new.self.sides) rows c.in-Done.row.items at.work c.requires.fine at.there c.items.invariant.reached done);
+      entries = omega arith;
+      few = omega arith;
+      lengths = same ∙ c.items.invariant.lengths;
+    }
+
+pub returns-clause-sound : goal.returns-clause-sound
+returns-clause-sound c =
+    let p = c.args.outlined.now in
+    let same = as_many (entries_of p) c.items-item-items.result.now (plan p).items c.items-item-items.ensures.shown in
+    let last : length (plan p).items ≤ c.items.item-index = omega (arith, same, c.items-test.false) in
+    none_refused (plan p) c.items.item-index (blocks_of c.items.state.blocks) (shown_by c.items.state.sides)
+    (map row_items c.items.acts.items) last c.items.invariant.reached
+
+pub returns-clause-current : goal.returns-clause-current
+returns-clause-current c =
+    let p = c.args.outlined.now in
+    let same = as_many (entries_of p) c.items-item-items.result.now (plan p).items c.items-item-items.ensures.shown in
+    let last : length (plan p).items ≤ c.items.item-index = omega (arith, same, c.items-test.false) in
+    c.in_ok-current.ensures
+    ∙ marked_at_end (plan p) c.items.item-index (blocks_of c.items.state.blocks) c.items.state.sides
+    (map row_items c.items.acts.items) c.items.invariant.lengths last c.items.invariant.reached

@@ -1,0 +1,16 @@
+pub mod Counts
+pub mod Blocks
+pub mod Table
+pub mod Acts
+pub mod Seen
+pub mod Kinds
+pub mod Marks
+pub mod Current
+pub mod Sides
+pub mod Firsts
+pub mod Causes
+pub mod Regions
+pub mod Steps
+pub mod Walk
+pub mod Footprints
+pub mod Laws

@@ -1,0 +1,150 @@
+// Why an item is refused by itself: the least cells.
+
+ghost use Rattle.std.specs.Prelude.{◌≡◌, ◌<◌, ◌^◌, ◌&&◌, ◌||◌, not, List, length};
+ghost use Rattle.std.specs.List.{list_any};
+ghost use Rattle.base.specs.Memory.{is_in};
+ghost use Rattle.base.specs.Actions.{Met};
+ghost use Rattle.ranges.specs.Cells.{has};
+ghost use Rattle.ranges.specs.Rows.{is_marked};
+ghost use Rattle.mapwalk.specs.Current.{AreInside, marks_in, row_lengths};
+ghost use Rattle.mapwalk.specs.Firsts.{IsFirstAt, IsLeast};
+ghost use Rattle.mapwalk.specs.Causes.{AreBelow, IsFirstOf, met_causes};
+ghost use Rattle.mapwalk.specs.Seen.{nothing, seen_all};
+
+use crate::blocks::end;
+use crate::seen::Seen;
+use base::fault::RefusalCode;
+use base::item::{Cell, ItemKind, MapItem, Section};
+use base::tree::ArrayId;
+use ranges::{CellSet, Footprint};
+
+/// Why an item is refused by itself, and at which cell.
+#[derive(Clone, Copy)]
+pub struct Cause {
+    pub code: RefusalCode,
+    pub cell: Cell,
+}
+
+// Whether a place of a row is marked.
+fn is_set(row: &[bool], i: usize) -> bool
+    ensures { result ≡ is_marked row.now i }
+{
+    row.get(i).copied().unwrap_or(false)
+}
+
+// The first place that one row marks and the other does not.
+fn first_stale(exposed: &[bool], side: &[bool]) -> Option<usize>
+    ensures { IsFirstAt (λ i. is_marked exposed.now i && not (is_marked side.now i)) result }
+{
+    'cells: for i in 0..exposed.len() {
+        if exposed[i] && !is_set(side, i) {
+            return Some(i);
+        }
+    }
+    None
+}
+
+/// The least cell of a set that is not marked.
+pub fn least_stale(exposed: &CellSet, side: &[Vec<bool>]) -> Option<Cell>
+    requires few { length side.now < 2 ^ 32 }
+    requires inside { AreInside (row_lengths side.now) (has exposed.now) }
+    ensures { IsLeast (λ c. has exposed.now c && not (marks_in side.now c)) result }
+{
+    'arrays: for a in 0..side.len() {
+        let array = ArrayId(a as u32);
+        if let Some(i) = first_stale(exposed.row(array), &side[a]) {
+            return Some(Cell {
+                array,
+                index: i as u64,
+            });
+        }
+    }
+    None
+}
+
+// Whether a section has a cell.
+fn has_cell(section: &Section, cell: Cell) -> bool
+    ensures { result ≡ is_in cell section.now }
+{
+    cell.array == section.array
+        && section.first <= cell.index
+        && u128::from(cell.index) < end(section)
+}
+
+// Whether a map item has a cell.
+fn is_mapped(maps: &[MapItem], cell: Cell) -> bool
+    ensures { result ≡ list_any (λ m. is_in cell m.section) maps.now }
+{
+    'maps: for item in maps {
+        if has_cell(&item.section, cell) {
+            return true;
+        }
+    }
+    false
+}
+
+// The first cell of an array that is read or written and that no map item has.
+fn first_unmapped(read: &[bool], write: &[bool], maps: &[MapItem], array: ArrayId) -> Option<usize>
+    ensures { IsFirstAt (λ i. (is_marked read.now i || is_marked write.now i) && not (list_any (λ m. is_in (record { array = array; index = i }) m.section) maps.now)) result }
+{
+    'cells: for i in 0..read.len().max(write.len()) {
+        let touched = is_set(read, i) || is_set(write, i);
+        if touched
+            && !is_mapped(
+                maps,
+                Cell {
+                    array,
+                    index: i as u64,
+                },
+            )
+        {
+            return Some(i);
+        }
+    }
+    None
+}
+
+/// Of this many arrays, the least cell that is read or written and that no map item has.
+pub fn least_unmapped(f: &Footprint, maps: &[MapItem], arrays: usize) -> Option<Cell>
+    requires few { arrays < 2 ^ 32 }
+    requires inside { AreBelow arrays (λ c. has f.now.read c || has f.now.write c) }
+    ensures { IsLeast (λ c. (has f.now.read c || has f.now.write c) && not (list_any (λ m. is_in c m.section) maps.now)) result }
+{
+    'arrays: for a in 0..arrays {
+        let array = ArrayId(a as u32);
+        if let Some(i) = first_unmapped(f.read.row(array), f.write.row(array), maps, array) {
+            return Some(Cell {
+                array,
+                index: i as u64,
+            });
+        }
+    }
+    None
+}
+
+/// Why an item is refused for what its map items meet.
+pub fn met_cause(kind: ItemKind, seen: &Seen) -> Option<Cause>
+    ensures { (mets : List Met) → seen.now ≡ seen_all mets nothing → IsFirstOf (met_causes kind mets) result }
+{
+    if let Some(cell) = seen.in_part {
+        return Some(Cause {
+            code: RefusalCode::OverlapsInPart,
+            cell,
+        });
+    }
+    let Some(cell) = seen.absent else {
+        return None;
+    };
+    match kind {
+        ItemKind::End | ItemKind::Exit => Some(Cause {
+            code: RefusalCode::ExitOfAbsent,
+            cell,
+        }),
+        ItemKind::Update => Some(Cause {
+            code: RefusalCode::UpdateOfAbsent,
+            cell,
+        }),
+        ItemKind::Host | ItemKind::Target | ItemKind::Begin | ItemKind::Enter | ItemKind::Wait =>
+            None,
+    }
+}

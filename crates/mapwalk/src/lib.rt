@@ -1,0 +1,122 @@
+//! The walk over the items of a program in program order: what each map item does on the present table (OpenMP API 5.2,
+//! sections 5.8.3 and 1.2.6), which cells are current, and the first item that is refused by itself.
+#![tactic(auto)]
+
+ghost use Rattle.std.specs.Prelude.{◌≡◌, [], IfOk};
+ghost use Rattle.base.specs.Items.{plan};
+ghost use Rattle.mapwalk.specs.Causes.{refusal_of};
+ghost use Rattle.mapwalk.specs.Footprints.{AreFootprints};
+ghost use Rattle.mapwalk.specs.Laws.{ActsAreActions, StagesAreSpelled, TargetsKeepBlocks};
+ghost use Rattle.mapwalk.specs.Walk.{AreActs, AreCurrent, HasNoRangeFault, IsFirstRefusal, IsSound};
+
+use crate::causes::Cause;
+pub use crate::footprints::footprint_of;
+use crate::footprints::footprints;
+pub use crate::rows::Acts;
+use crate::steps::{State, Step};
+use base::fault::Refusal;
+use base::tree::ArrayId;
+use outline::Outlined;
+use ranges::Footprint;
+use std::alloc::{AllocError, Global};
+
+mod blocks;
+mod causes;
+mod current;
+mod footprints;
+mod marks;
+mod region;
+mod rows;
+mod seen;
+mod steps;
+mod table;
+#[cfg(test)]
+mod tests;
+
+/// What the walk finds.
+#[derive(Drop)]
+pub struct Walked {
+    /// A row for each item before the one that is refused, or for each item: what each of its map items does, in order.
+    pub acts: Vec<Vec<Acts>>,
+    /// Where no item is refused, the arrays of which each cell is current on the host at the end, in ascending order.
+    pub current: Vec<ArrayId>,
+    /// The first refusal of an item by itself, which is no conflict. Its item counts from 0.
+    pub fault: Option<Refusal>,
+}
+
+/// Does the items of a program one after the other on an abstract present table. The error comes where an allocation
+/// fails.
+pub fn walk(alloc: Global, outlined: &Outlined<'_>) -> Result<Walked, AllocError>
+    requires { HasNoRangeFault (plan outlined.now) }
+    ensures acts { IfOk result (λ w. AreActs (plan outlined.now) w) }
+    ensures fault { IfOk result (λ w. IsFirstRefusal (plan outlined.now) w.fault) }
+    ensures sound { IfOk result (λ w. IsSound (plan outlined.now) w.fault) }
+    ensures current { IfOk result (λ w. AreCurrent (plan outlined.now) w) }
+{
+    let found = footprints(alloc, outlined)?;
+    walk_with(alloc, outlined, &found)
+}
+
+/// The same, with the footprint of each item's region.
+pub fn walk_with(
+    alloc: Global,
+    outlined: &Outlined<'_>,
+    found: &[Option<Footprint>],
+) -> Result<Walked, AllocError>
+    requires fine { HasNoRangeFault (plan outlined.now) }
+    requires found { AreFootprints (plan outlined.now) found.now }
+    ensures acts { IfOk result (λ w. AreActs (plan outlined.now) w) }
+    ensures fault { IfOk result (λ w. IsFirstRefusal (plan outlined.now) w.fault) }
+    ensures sound { IfOk result (λ w. IsSound (plan outlined.now) w.fault) }
+    ensures current { IfOk result (λ w. AreCurrent (plan outlined.now) w) }
+{
+    let mut state = State::new(alloc, outlined)?;
+    let mut acts = Vec::new(alloc);
+    'items: for item in outlined.items() {
+        match state.step(item, &found[acts.len()])? {
+            Step::Done(row) => acts.push(row)?,
+            Step::Refused(cause) => {
+                let fault = refusal(cause, acts.len() as u32);
+                return Ok(Walked {
+                    acts,
+                    current: Vec::new(alloc),
+                    fault: Some(fault),
+                });
+            }
+        }
+    }
+    let current = state.current()?;
+    Ok(Walked {
+        acts,
+        current,
+        fault: None,
+    })
+}
+
+// The refusal of an item by itself.
+fn refusal(cause: Cause, item: u32) -> Refusal
+    ensures { result ≡ refusal_of cause item }
+{
+    Refusal {
+        code: cause.code,
+        item,
+        cell: cause.cell,
+        other: None,
+    }
+}
+
+/// What an item does is spelled out by the row of its map items, where none of these meets a block in part.
+pub fn acts_are_actions()
+    ensures { ActsAreActions }
+{}
+
+/// A target's exits are of the blocks of its entries, where none of these meets a block in part.
+pub fn targets_keep_blocks()
+    ensures { TargetsKeepBlocks }
+{}
+
+/// What an item of a program without a fault of range does is spelled out by the row of its map items, where it is not
+/// refused with E501.
+pub fn stages_are_spelled()
+    ensures { StagesAreSpelled }
+{}
