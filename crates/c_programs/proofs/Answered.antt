@@ -7,7 +7,8 @@ use Rattle.base.specs.declared.fault.TextFault.{TextFault}
 use Rattle.base.specs.declared.fault.ReadCode.TheVariants.{TooMany}
 use Rattle.c_grammar.specs.Program.{start}
 use Rattle.c_grammar.specs.Rules.{begin}
-use Rattle.c_grammar.specs.Source.{items_of, max_source, answer, fault_in, IsFirstFault}
+use Rattle.c_grammar.specs.Grammar.{Text}
+use Rattle.c_grammar.specs.Source.{items_of, max_source, answer, fault_in, IsFirstFault, Spells as SpellsText}
 use Rattle.c_grammar.proofs.Sources.{fault_first, text_spelled, text_not_spelled}
 use Rattle.c_expressions.specs.Reading.{run}
 use Rattle.c_programs.specs.Spells.{Spells, IsTextRead}
@@ -39,12 +40,19 @@ pub is_first : (bytes : List ℕ) (f : TextFault) → length bytes ≤ max_sourc
     IsFirstFault bytes f
 is_first bytes f h e = fault_first bytes f (answer_short bytes h ∙ e)
 
+pub no_text : (bytes : List ℕ) (f : TextFault) → length bytes ≤ max_source → run begin start (items_of bytes) ≡ Some f →
+    (t : Text) → SpellsText bytes t → ⊥
+no_text bytes f h e t s = text_not_spelled bytes f t (answer_short bytes h ∙ e) s
+
 pub is_none : (bytes : List ℕ) (f : TextFault) → length bytes ≤ max_source → run begin start (items_of bytes) ≡ Some f →
     (p : Program) → Spells bytes p → ⊥
-is_none bytes f h e p s = text_not_spelled bytes f s.text (answer_short bytes h ∙ e) s.spelled
+is_none bytes f h e p s = no_text bytes f h e s.text s.spelled
 
 pub too_long_first : (bytes : List ℕ) → max_source < length bytes → IsFirstFault bytes too_long
 too_long_first bytes h = fault_first bytes too_long (answer_long bytes h)
 
+pub too_long_no_text : (bytes : List ℕ) → max_source < length bytes → (t : Text) → SpellsText bytes t → ⊥
+too_long_no_text bytes h t s = text_not_spelled bytes too_long t (answer_long bytes h) s
+
 pub too_long_none : (bytes : List ℕ) → max_source < length bytes → (p : Program) → Spells bytes p → ⊥
-too_long_none bytes h p s = text_not_spelled bytes too_long s.text (answer_long bytes h) s.spelled
+too_long_none bytes h p s = too_long_no_text bytes h s.text s.spelled

@@ -7,7 +7,8 @@ ghost use Rattle.c_grammar.specs.Grammar.{Plain, for};
 ghost use Rattle.c_grammar.specs.Lexeme.{Uint64};
 ghost use Rattle.c_grammar.specs.Program.{Stack, Body, Globals, Want, start};
 ghost use Rattle.c_grammar.specs.Rules.{begin};
-ghost use Rattle.c_grammar.specs.Source.{items_of, IsFirstFault};
+ghost use Rattle.c_grammar.specs.Grammar.{Text};
+ghost use Rattle.c_grammar.specs.Source.{items_of, IsFirstFault, Spells as SpellsText};
 ghost use Rattle.c_grammar.specs.Terminal.{End, Fixed, same};
 ghost use Rattle.c_expressions.specs.Cursor.{items, first_item};
 ghost use Rattle.c_expressions.specs.Reading.{run, terminals, Outcome};
@@ -110,11 +111,12 @@ fn read_short(alloc: Global, bytes: &[u8]) -> Result<Program, ReadError>
 /// Reads a source of the language. Places count bytes from 1. A fault is the first in the source, the lowest code at
 /// its token; a source of more than 1,048,576 bytes has `TooMany` at its first byte. Want of memory comes in place of
 /// any answer.
-#[tactic(auto, using(crate::proofs::Answered::spells, crate::proofs::Answered::is_first, crate::proofs::Answered::is_none, crate::proofs::Answered::too_long_first, crate::proofs::Answered::too_long_none))]
+#[tactic(auto, using(crate::proofs::Answered::spells, crate::proofs::Answered::is_first, crate::proofs::Answered::is_none, crate::proofs::Answered::no_text, crate::proofs::Answered::too_long_first, crate::proofs::Answered::too_long_none, crate::proofs::Answered::too_long_no_text))]
 pub fn read_program(alloc: Global, bytes: &[u8]) -> Result<Program, ReadFault>
     ensures found { IfOk result (λ p. Spells bytes.now p) }
     ensures fault { IfErr result (OnText (λ f. IsFirstFault bytes.now f)) }
     ensures refused { IfErr result (OnText (λ _. (p : Program) → Spells bytes.now p → ⊥)) }
+    ensures unspelled { IfErr result (OnText (λ _. (t : Text) → SpellsText bytes.now t → ⊥)) }
 {
     if bytes.len() > MAX_SOURCE {
         return Err(ReadFault::Text(TextFault {

@@ -9,3 +9,4 @@ pub mod Safe
 pub mod Globals
 pub mod PlainTrees
 pub mod ErasedRuns
+pub mod Reading
