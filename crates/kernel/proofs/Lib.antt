@@ -15,3 +15,4 @@ pub mod RegionRuns
 pub mod SafeBodies
 pub mod SafeRuns
 pub mod Advancing
+pub mod Runnables

@@ -4,3 +4,4 @@ pub mod Codes
 pub mod Kept
 pub mod States
 pub mod Safe
+pub mod Runnable

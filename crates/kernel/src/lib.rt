@@ -4,12 +4,14 @@
 pub use crate::emit::{Code, compile};
 pub use crate::execute::{Done, run};
 pub use crate::frames::{Frame, KeptRow, Row};
+pub use crate::runnable::frame_runs;
 
 mod emit;
 mod execute;
 mod follow;
 mod frames;
 mod op;
+mod runnable;
 #[cfg(test)]
 mod safe;
 mod state;

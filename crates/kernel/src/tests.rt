@@ -53,7 +53,7 @@ struct Left {
     scalar: u64,
 }
 
-// What the run of safe statements leaves.
+// What safe statements leave where they are run for the second time on one frame.
 fn run_safe(
     alloc: Global,
     body: Vec<Stmt>,
@@ -79,6 +79,7 @@ fn run_safe(
         input,
     };
     let code = compile(alloc, &region)?;
+    let _first = run(alloc, &code, &frame)?;
     let done = run(alloc, &code, &frame)?;
     let Some(row) = done.rows.first() else {
         return Ok(None);

@@ -10,6 +10,8 @@ pub mod BlockReads
 pub mod Storing
 pub mod Entries
 pub mod Copies
+pub mod RowParts
+pub mod BlockRows
 pub mod Rules
 pub mod NeededCells
 pub mod Turns

@@ -3,3 +3,4 @@ pub mod Found
 pub mod Table
 pub mod Change
 pub mod Needed
+pub mod Rows

@@ -13,6 +13,9 @@ mod entry;
 mod exit;
 mod find;
 mod needed;
+#[cfg(test)]
+mod row_tests;
+mod rows;
 mod several;
 #[cfg(test)]
 mod tests;

@@ -15,7 +15,7 @@ use std::test::Fail;
 
 const CREATED: u64 = 0xa5a5_a5a5_a5a5_a5a5;
 
-fn section(array: u32, first: u64, length: u64) -> Section {
+pub(crate) fn section(array: u32, first: u64, length: u64) -> Section {
     Section {
         array: ArrayId(array),
         first,
@@ -23,7 +23,7 @@ fn section(array: u32, first: u64, length: u64) -> Section {
     }
 }
 
-fn item(kind: MapKind, section: Section) -> MapItem {
+pub(crate) fn item(kind: MapKind, section: Section) -> MapItem {
     MapItem {
         kind,
         always: false,
@@ -43,7 +43,7 @@ fn always(kind: MapKind, section: Section) -> MapItem {
     }
 }
 
-fn cell(array: u32, index: u64) -> Cell {
+pub(crate) fn cell(array: u32, index: u64) -> Cell {
     Cell {
         array: ArrayId(array),
         index,
@@ -106,7 +106,7 @@ fn may_enter_all(table: &Table, host: &Memory, items: &[MapItem]) -> bool
     true
 }
 
-fn enter(
+pub(crate) fn enter(
     rt: &impl Abort,
     table: &mut Table,
     item: &MapItem,
@@ -129,7 +129,7 @@ fn exit(
     table.exit(item, host)
 }
 
-fn set(rt: &impl Abort, host: &mut Memory, section: &Section, numbers: &[u64]) {
+pub(crate) fn set(rt: &impl Abort, host: &mut Memory, section: &Section, numbers: &[u64]) {
     assert!(rt; is_within(host, section));
     assert!(rt; numbers.len() as u64 == section.length);
     host.set_section(section, numbers);

@@ -1,0 +1,9 @@
+pub mod RowViews
+pub mod LoadedRows
+pub mod LeastRuns
+pub mod Stores
+pub mod StoredRows
+pub mod TouchedCells
+pub mod Storage
+pub mod AcceptedWorks
+pub mod KeptRuns

@@ -1,0 +1,102 @@
+-- Rows that take the numbers of a view.
+use Rattle.std.proofs.Common.{◌≡◌, ◌≢◌, ℕ, ◌+◌, ◌-◌, ◌<◌, ◌≤◌, ◌==◌, Bool, true, false, List, length, Option, Some, None, refl, sym, ap, ◌∙◌, true≢false, subst, arith}
+use Rattle.std.specs.Prelude.{nat_le, option_map, unwrap_or, slice_get, slice_set}
+use Rattle.std.proofs.lemmas.Bool.{leb-true, leb-false, eqb-true, eq-eqb}
+use Rattle.std.proofs.lemmas.Option.{slice_get_within}
+use mathlib.Core.Path.{fun_ext}
+use Rattle.base.specs.declared.item.Cell.{Cell}
+use Rattle.base.specs.declared.tree.ArrayId.{ArrayId}
+use Rattle.base.specs.Memory.{View}
+use Rattle.base.proofs.Places.{get_set_same, get_set_other}
+use Rattle.kernel.specs.declared.frames.Row.{Row}
+use Rattle.kernel.specs.Rows.{cells_of, in_row}
+use Rattle.present.specs.Rows.{IsLoaded, cell_at, over}
+use Rattle.present.proofs.Founds.{one_block}
+use Rattle.present.proofs.RowParts.{at_index_from, at_index_before}
+use Rattle.regions.specs.Footprints.{BoundedView}
+use Rattle.frames.specs.Rows.{AreNumbers, IsLoadedRow}
+use Rattle.frames.proofs.RowViews.{by_row, cells_bounded, past_end}
+
+pub loaded_row : (view : View) (a : ArrayId) (first : ℕ) (old new : List ℕ) → IsLoaded view a first old new →
+    (i : ℕ) → in_row first new i ≡ option_map (λ n. unwrap_or (view (record { array = a; index = i })) n) (in_row first old i)
+loaded_row view a first old new h i = go (nat_le first i) refl
+  where
+    go : (b : Bool) → nat_le first i ≡ b →
+        in_row first new i ≡ option_map (λ n. unwrap_or (view (record { array = a; index = i })) n) (in_row first old i)
+    go true e =
+        let l = leb-true first i e in
+        let at : first + (i - first) ≡ i = omega arith in
+        at_index_from first new i l ∙ h (i - first)
+        ∙ ap (λ j. option_map (λ n. unwrap_or (view (cell_at a j)) n) (slice_get old (i - first))) at
+        ∙ ap (option_map (λ n. unwrap_or (view (cell_at a i)) n)) (sym (at_index_from first old i l))
+    go false e =
+        let l = leb-false first i e in
+        at_index_before first new i l
+        ∙ ap (option_map (λ n. unwrap_or (view (cell_at a i)) n)) (sym (at_index_before first old i l))
+
+module _ (view : View) where
+  -- those before place n took the numbers, and the others are as they were
+  pub record LoadedUpTo (n : ℕ) (old now : List Row) : Type 0 where
+    pub done : (k : ℕ) (x y : Row) → k < n → slice_get old k ≡ Some x → slice_get now k ≡ Some y →
+        IsLoadedRow view (record { 0 = k }) x y
+    pub rest : (k : ℕ) → n ≤ k → slice_get now k ≡ slice_get old k
+
+  pub loaded_more : (n : ℕ) (old now : List Row) (x y : Row) → slice_get now n ≡ Some x →
+      IsLoadedRow view (record { 0 = n }) x y →
+      LoadedUpTo n old now → LoadedUpTo (n + 1) old (slice_set now n y)
+  loaded_more n old now x y e one h = record {
+    done = λ k p q l f g. at k p q l f g (k == n) refl;
+    rest = λ k l. get_set_other now n y k (λ s. omega arith) ∙ h.rest k (omega arith);
+  }
+    where
+      at : (k : ℕ) (p q : Row) → k < n + 1 → slice_get old k ≡ Some p → slice_get (slice_set now n y) k ≡ Some q →
+          (t : Bool) → (k == n) ≡ t → IsLoadedRow view (record { 0 = k }) p q
+      at k p q l f g true t =
+          let is : k ≡ n = eqb-true k n t in
+          let here : slice_get (slice_set now n y) k ≡ Some y =
+          ap (slice_get (slice_set now n y)) is ∙ get_set_same now n y (slice_get_within now n x e) in
+          let old_one : slice_get old k ≡ Some x = sym (h.rest k (omega arith)) ∙ ap (slice_get now) is ∙ e in
+          let first : x ≡ p = one_block (slice_get old k) x p old_one f in
+          let second : y ≡ q = one_block (slice_get (slice_set now n y) k) y q here g in
+          subst (λ (m : ℕ). IsLoadedRow view (record { 0 = m }) p q) (sym is)
+          (subst (λ z. IsLoadedRow view (record { 0 = n }) p z) second
+          (subst (λ z. IsLoadedRow view (record { 0 = n }) z y) first one))
+      at k p q l f g false t =
+          let other : k ≢ n = λ same. true≢false (sym (eq-eqb k n same) ∙ t) in
+          h.done k p q (omega arith) f (sym (get_set_other now n y k (λ s. other (sym s))) ∙ g)
+
+  pub loaded_cells : (n : ℕ) (old now : List Row) → length now ≡ length old → length old ≤ n → LoadedUpTo n old now →
+      cells_of now ≡ over view (cells_of old)
+  loaded_cells n old now long past h =
+      fun_ext (λ (c : Cell). at c (slice_get old c.array.0) refl (slice_get now c.array.0) refl)
+    where
+      at : (c : Cell) (o : Option Row) → slice_get old c.array.0 ≡ o → (p : Option Row) → slice_get now c.array.0 ≡ p →
+          cells_of now c ≡ over view (cells_of old) c
+      at c None e None f = ap (by_row c.index) f
+          ∙ sym (ap (λ o. option_map (λ m. unwrap_or (view c) m) (by_row c.index o)) e)
+      at c None e (Some r) f =
+          let l = past_end old c.array.0 e in
+          let m = slice_get_within now c.array.0 r f in
+          absurd (omega arith)
+      at c (Some s) e None f =
+          let l = past_end now c.array.0 f in
+          let m = slice_get_within old c.array.0 s e in
+          absurd (omega arith)
+      at c (Some s) e (Some r) f =
+          ap (by_row c.index) f
+          ∙ (h.done c.array.0 s r (let m = slice_get_within old c.array.0 s e in omega arith) e f).cells c.index
+          ∙ sym (ap (λ o. option_map (λ m. unwrap_or (view c) m) (by_row c.index o)) e)
+
+  pub loaded_bounded : (n : ℕ) (old now : List Row) → length now ≡ length old → length old ≤ n → LoadedUpTo n old now →
+      BoundedView (cells_of now)
+  loaded_bounded n old now long past h = cells_bounded now small
+    where
+      small : (a : ℕ) (r : Row) → slice_get now a ≡ Some r → AreNumbers r.cells.items
+      small a r f = go (slice_get old a) refl
+        where
+          go : (o : Option Row) → slice_get old a ≡ o → AreNumbers r.cells.items
+          go None e =
+              let l = past_end old a e in
+              let m = slice_get_within now a r f in
+              absurd (omega arith)
+          go (Some s) e = (h.done a s r (let m = slice_get_within old a s e in omega arith) e f).bounded

@@ -1,0 +1,241 @@
+-- Rows that have the cells of a view, as the cells of a frame.
+use Rattle.std.proofs.Common.{◌≡◌, ◌⊎◌, ℕ, zero, suc, ◌+◌, ◌-◌, ◌<◌, ◌≤◌, ◌^◌, Bool, true, false, List, [], ◌∷◌, ◌++◌, length, get_or, map, Option, Some, None, refl, sym, ap, ◌∙◌, inl, inr, true≢false, subst, length-append, arith, Vec, Global}
+use Rattle.std.specs.Prelude.{nat_le, nat_lt, slice_get, slice_index, slice_range, replicate, if◌then◌else◌}
+use Rattle.std.proofs.lemmas.Bool.{cases_Bool, leb-true, leb-false, ltb-true, ltb-false, lt-ltb}
+use Rattle.std.proofs.lemmas.List.{length-replicate}
+use Rattle.std.proofs.lemmas.Option.{slice_get-get_or, slice_get_within}
+use mathlib.Core.Path.{fun_ext}
+use Rattle.base.specs.declared.item.Cell.{Cell}
+use Rattle.base.specs.declared.item.Section.{Section}
+use Rattle.base.specs.declared.memory.Memory.{Memory as Arrays}
+use Rattle.base.specs.Memory.{View, end_of, is_in, view_of}
+use Rattle.base.specs.Arrays.{IsWithin, items_of, length_of, lengths_of, memory_of, row_of}
+use Rattle.base.proofs.Places.{get_left, get_right}
+use Rattle.kernel.specs.declared.frames.Row.{Row}
+use Rattle.kernel.specs.Rows.{cells_of, in_row}
+use Rattle.present.proofs.Sections.{in_parts, in_from}
+use Rattle.present.proofs.Founds.{one_block}
+use Rattle.present.proofs.Copies.{host_number, section_length}
+use Rattle.present.proofs.RowParts.{at_index_from, at_index_before, at_index_past}
+use Rattle.regions.specs.Footprints.{BoundedView}
+use Rattle.frames.specs.Reach.{AreOfArrays, cell_of, in_reach}
+use Rattle.frames.specs.Rows.{AreEach, AreNumbers, AreRows, IsRow, in_run}
+use Rattle.frames.specs.Views.{every}
+
+-- One row.
+
+-- numbers that stand for a run of cells
+pub row_from : (view : View) (s : Section) (xs : List ℕ) → length xs ≡ s.length →
+    ((i : ℕ) → is_in (cell_of s.array.0 i) s ≡ true → slice_get xs (i - s.first) ≡ view (cell_of s.array.0 i)) →
+    (i : ℕ) → in_row s.first xs i ≡ in_run view s i
+row_from view s xs long here i = go (cases_Bool (is_in (cell_of s.array.0 i) s))
+  where
+    chosen : (b : Bool) → is_in (cell_of s.array.0 i) s ≡ b →
+        (if b then view (cell_of s.array.0 i) else None) ≡ in_run view s i
+    chosen b e = ap (λ (t : Bool). if t then view (cell_of s.array.0 i) else None) (sym e)
+
+    outside : is_in (cell_of s.array.0 i) s ≡ false → (b : Bool) → nat_le s.first i ≡ b → in_row s.first xs i ≡ None
+    outside e false f = at_index_before s.first xs i (leb-false s.first i f)
+    outside e true f =
+        let l = leb-true s.first i f in
+        at_index_past s.first xs i (past (nat_lt i (s.first + s.length)) refl)
+      where
+        past : (b : Bool) → nat_lt i (s.first + s.length) ≡ b → s.first + length xs ≤ i
+        past true g =
+            absurd (true≢false (sym (in_from (cell_of s.array.0 i) s
+            (record { array = refl; above = leb-true s.first i f; below = ltb-true i (s.first + s.length) g })) ∙ e))
+        past false g = let m = ltb-false i (s.first + s.length) g in omega arith
+
+    go : (is_in (cell_of s.array.0 i) s ≡ true) ⊎ (is_in (cell_of s.array.0 i) s ≡ false) →
+        in_row s.first xs i ≡ in_run view s i
+    go (inl e) =
+        let p = in_parts (cell_of s.array.0 i) s e in
+        at_index_from s.first xs i p.above ∙ here i e ∙ chosen true e
+    go (inr e) = outside e (nat_le s.first i) refl ∙ chosen false e
+
+-- no cell
+pub row_none : (view : View) (s : Section) → s.length ≡ 0 → (i : ℕ) → in_row s.first [] i ≡ in_run view s i
+row_none view s none =
+    row_from view s [] (sym none) (λ i e. (let p = in_parts (cell_of s.array.0 i) s e in
+    let a = p.above in let b = p.below in absurd (omega arith)))
+
+-- cells of the host
+pub length_at : (m : Arrays) (a : ℕ) → slice_index (lengths_of m) a ≡ length (row_of m a)
+length_at m a = go m.arrays.items a
+  where
+    go : (rows : List (Vec ℕ Global)) (a : ℕ) → slice_index (map length_of rows) a ≡ length (items_of (slice_get rows a))
+    go [] a = refl
+    go (x ∷ rows) zero = refl
+    go (x ∷ rows) (suc a) = go rows a
+
+pub host_view : (m : Arrays) (c : Cell) → c.index < length (row_of m c.array.0) →
+    view_of (lengths_of m) (memory_of m) c ≡ Some (memory_of m c)
+host_view m c h =
+    ap (λ (t : Bool). if t then Some (memory_of m c) else None)
+    (lt-ltb c.index (slice_index (lengths_of m) c.array.0) (let l = length_at m c.array.0 in omega arith))
+
+pub row_of_host : (m : Arrays) (s : Section) → IsWithin m s → (i : ℕ) →
+    in_row s.first (slice_range (row_of m s.array.0) s.first (end_of s)) i
+    ≡ in_run (view_of (lengths_of m) (memory_of m)) s i
+row_of_host m s w =
+    row_from (view_of (lengths_of m) (memory_of m)) s (slice_range (row_of m s.array.0) s.first (end_of s))
+    (section_length m s w)
+    (λ i e. host_number m s w (cell_of s.array.0 i) e
+    ∙ sym (host_view m (cell_of s.array.0 i) (let p = in_parts (cell_of s.array.0 i) s e in
+    let b = p.below in let l = w.end in omega arith)))
+
+pub within_host : (m : Arrays) (s : Section) → 1 ≤ s.length →
+    (1 ≤ s.length → end_of s ≤ slice_index (lengths_of m) s.array.0) → IsWithin m s
+within_host m s some h =
+    record { has_cells = some; end = subst (λ n. end_of s ≤ n) (length_at m s.array.0) (h some) }
+
+pub empty_row : (view : View) (s : Section) (xs : List ℕ) → s.length ≡ 0 → xs ≡ [] → (r : Row) →
+    r.cells.items ≡ xs → r.first ≡ s.first → IsRow view s r
+empty_row view s xs none e r f g = record {
+  cells = λ i. (λ j. in_row (g j) ((f ∙ e) j) i) ∙ row_none view s none i;
+  bounded = subst AreNumbers (sym (f ∙ e)) (λ k n h. absurd (cc h));
+}
+
+pub filled_row : (m : Arrays) (s : Section) (xs : List ℕ) (r : Row) → IsWithin m s →
+    xs ≡ slice_range (row_of m s.array.0) s.first (end_of s) → AreNumbers xs →
+    r.cells.items ≡ xs → r.first ≡ s.first → IsRow (view_of (lengths_of m) (memory_of m)) s r
+filled_row m s xs r w e b f g = record {
+  cells = λ i. (λ j. in_row (g j) ((f ∙ e) j) i) ∙ row_of_host m s w i;
+  bounded = subst AreNumbers (sym f) b;
+}
+
+-- zeros
+get_replicate : (n k x : ℕ) → k < n → slice_get (replicate n x) k ≡ Some x
+get_replicate zero k x h = absurd (omega arith)
+get_replicate (suc n) zero x h = refl
+get_replicate (suc n) (suc k) x h = get_replicate n k x (omega arith)
+
+pub row_of_zeros : (s : Section) (xs : List ℕ) → xs ≡ replicate s.length 0 → (i : ℕ) →
+    in_row s.first xs i ≡ in_run (every 0) s i
+row_of_zeros s xs e =
+    row_from (every 0) s xs (ap length e ∙ length-replicate s.length 0)
+    (λ i h. ap (λ ys. slice_get ys (i - s.first)) e
+    ∙ get_replicate s.length (i - s.first) 0 (let p = in_parts (cell_of s.array.0 i) s h in
+    let a = p.above in let b = p.below in omega arith))
+
+pub zeros_small : (n : ℕ) (xs : List ℕ) → xs ≡ replicate n 0 → AreNumbers xs
+zeros_small n xs e k m f = go n k (ap (λ ys. slice_get ys k) (sym e) ∙ f)
+  where
+    go : (n k : ℕ) → slice_get (replicate n 0) k ≡ Some m → m < 2 ^ 64
+    go zero k g = absurd (cc g)
+    go (suc n) zero g = let z : 0 ≡ m = cc in omega arith
+    go (suc n) (suc k) g = go n k g
+
+-- Several rows.
+
+-- one row more
+pub each_more : (view : View) (reach : List Section) (rows : List Row) (s : Section) (r : Row) →
+    slice_get reach (length rows) ≡ Some s → IsRow view s r → AreEach view reach rows →
+    AreEach view reach (rows ++ r ∷ [])
+each_more view reach rows s r e one h a t q f g = go (nat_lt a (length rows)) refl
+  where
+    go : (b : Bool) → nat_lt a (length rows) ≡ b → IsRow view t q
+    go true l = h a t q f (sym (get_left rows (r ∷ []) a (ltb-true a (length rows) l)) ∙ g)
+    go false l =
+        let past = ltb-false a (length rows) l in
+        let bound = slice_get_within (rows ++ r ∷ []) a q g in
+        let long = length-append rows (r ∷ []) in
+        let is : a ≡ length rows = omega arith in
+        let same : s ≡ t = one_block (slice_get reach a) s t (ap (slice_get reach) is ∙ e) f in
+        let none : length rows - length rows ≡ 0 = omega arith in
+        let last : slice_get (rows ++ r ∷ []) a ≡ Some r =
+        ap (slice_get (rows ++ r ∷ [])) is ∙ get_right rows (r ∷ []) (length rows) (omega arith)
+        ∙ ap (slice_get (r ∷ [])) none in
+        let row : r ≡ q = one_block (slice_get (rows ++ r ∷ []) a) r q last g in
+        subst (λ x. IsRow view x q) same (subst (IsRow view s) row one)
+
+-- the same after a push
+pub record Grown (view : View) (reach : List Section) (n : ℕ) (rows : List Row) : Type 0 where
+  pub count : length rows ≡ n
+  pub each : AreEach view reach rows
+
+pub grown_more : (view : View) (reach : List Section) (n : ℕ) (rows after : List Row) (r : Row) (d : Section) →
+    n < length reach → IsRow view (get_or reach n d) r → after ≡ rows ++ r ∷ [] → Grown view reach n rows →
+    Grown view reach (n + 1) after
+grown_more view reach n rows after r d within one e h =
+    let count = h.count in
+    let long = length-append rows (r ∷ []) in
+    let at : slice_get reach (length rows) ≡ Some (get_or reach n d) =
+    ap (slice_get reach) count ∙ slice_get-get_or reach n d within in
+    record {
+      count = ap length e ∙ (let l : length (rows ++ r ∷ []) ≡ n + 1 = omega arith in l);
+      each = subst (AreEach view reach) (sym e) (each_more view reach rows (get_or reach n d) r at one h.each);
+    }
+
+pub each_none : (view : View) (reach : List Section) → AreEach view reach []
+each_none view reach a s r e f = absurd (cc f)
+
+-- a place where nothing stands is past the end
+pub past_end : {A : Type 0} (xs : List A) (i : ℕ) → slice_get xs i ≡ None → length xs ≤ i
+past_end [] i e = omega arith
+past_end (x ∷ xs) zero e = absurd (cc e)
+past_end (x ∷ xs) (suc i) e = let l = past_end xs i e in omega arith
+
+-- the cells of a frame
+abbrev pub by_row : ℕ → Option Row → Option ℕ
+by_row i o = elim o [ None ↦ None | Some r ↦ in_row r.first r.cells.items i ]
+
+abbrev by_run : View → Cell → Option Section → Option ℕ
+by_run view c o = if (elim o [ None ↦ false | Some s ↦ is_in c s ]) then view c else None
+
+pub cells_in_reach : (view : View) (reach : List Section) (rows : List Row) → AreOfArrays reach →
+    AreRows view reach rows → cells_of rows ≡ in_reach reach view
+cells_in_reach view reach rows of h =
+    fun_ext (λ (c : Cell). at c (slice_get reach c.array.0) refl (slice_get rows c.array.0) refl)
+  where
+    at : (c : Cell) (o : Option Section) → slice_get reach c.array.0 ≡ o →
+        (p : Option Row) → slice_get rows c.array.0 ≡ p →
+        cells_of rows c ≡ in_reach reach view c
+    at c None e None f = ap (by_row c.index) f ∙ sym (ap (by_run view c) e)
+    at c None e (Some r) f =
+        let l = past_end reach c.array.0 e in
+        let m = slice_get_within rows c.array.0 r f in
+        let n = h.count in
+        absurd (omega arith)
+    at c (Some s) e None f =
+        let l = past_end rows c.array.0 f in
+        let m = slice_get_within reach c.array.0 s e in
+        let n = h.count in
+        absurd (omega arith)
+    at c (Some s) e (Some r) f =
+        ap (by_row c.index) f
+        ∙ (h.each c.array.0 s r e f).cells c.index
+        ∙ ap (λ n. if is_in (cell_of n c.index) s then view (cell_of n c.index) else None) (of c.array.0 s e)
+        ∙ sym (ap (by_run view c) e)
+
+pub cells_bounded : (rows : List Row) → ((a : ℕ) (r : Row) → slice_get rows a ≡ Some r → AreNumbers r.cells.items) →
+    BoundedView (cells_of rows)
+cells_bounded rows h c n e = go (slice_get rows c.array.0) refl
+  where
+    go : (o : Option Row) → slice_get rows c.array.0 ≡ o → n < 2 ^ 64
+    go None f = absurd (cc (sym (ap (by_row c.index) f) ∙ e))
+    go (Some r) f = from (nat_le r.first c.index) refl
+      where
+        from : (b : Bool) → nat_le r.first c.index ≡ b → n < 2 ^ 64
+        from true g =
+            h c.array.0 r f (c.index - r.first) n
+            (sym (at_index_from r.first r.cells.items c.index (leb-true r.first c.index g))
+            ∙ sym (ap (by_row c.index) f) ∙ e)
+        from false g =
+            absurd (cc (sym (at_index_before r.first r.cells.items c.index (leb-false r.first c.index g))
+            ∙ sym (ap (by_row c.index) f) ∙ e))
+
+pub rows_bounded : (view : View) (reach : List Section) (rows : List Row) → AreRows view reach rows →
+    BoundedView (cells_of rows)
+rows_bounded view reach rows h = cells_bounded rows small
+  where
+    small : (a : ℕ) (r : Row) → slice_get rows a ≡ Some r → AreNumbers r.cells.items
+    small a r f = go (slice_get reach a) refl
+      where
+        go : (o : Option Section) → slice_get reach a ≡ o → AreNumbers r.cells.items
+        go None e =
+            let l = past_end reach a e in
+            let m = slice_get_within rows a r f in
+            let n = h.count in
+            absurd (omega arith)
+        go (Some s) e = (h.each a s r e f).bounded

@@ -1,0 +1,134 @@
+// The host memory's part of a frame, and what a run leaves in it.
+
+ghost use Rattle.std.specs.Prelude.{◌≡◌, ◌<◌, ◌≤◌, ◌^◌, All, ℕ, true, Some, IfOk, length, slice_get, slice_index};
+ghost use Rattle.base.specs.Arrays.{lengths_of, memory_of, row_of};
+ghost use Rattle.base.specs.Memory.{end_of, view_of};
+ghost use Rattle.frames.specs.Reach.{AreRuns, in_reach};
+ghost use Rattle.frames.specs.Rows.{AreNumbers, AreRows, IsRow};
+ghost use Rattle.frames.specs.Views.{AreCells, with_stored};
+ghost use Rattle.kernel.specs.Rows.{cells_of, cells_stored};
+ghost use Rattle.present.specs.Rows.{marked_in};
+ghost use Rattle.regions.specs.Footprints.{BoundedScalars, BoundedView};
+
+use base::item::{LoopValues, Section};
+use base::memory::Memory;
+use base::tree::ArrayId;
+use kernel::{Frame, KeptRow, Row};
+use std::alloc::{AllocError, Global};
+
+// These numbers, each of which is below 2^64.
+fn copied(alloc: Global, numbers: &[u64]) -> Result<Vec<u64>, AllocError>
+    ensures items { IfOk result (λ cells. cells.items ≡ numbers.now) }
+    ensures bounded { AreNumbers numbers.now }
+{
+    Vec::from_slice(alloc, numbers)
+}
+
+// The cells of a run.
+fn host_row(alloc: Global, section: &Section, host: &Memory) -> Result<Row, AllocError>
+    requires { 1 ≤ section.now.length → end_of section.now ≤ slice_index (lengths_of host.now) section.now.array.0 }
+    ensures row { IfOk result (IsRow (view_of (lengths_of host.now) (memory_of host.now)) section.now) }
+{
+    let first = section.first;
+    if section.length == 0 {
+        return Ok(Row {
+            first,
+            cells: Vec::new(alloc),
+        });
+    }
+    let cells = copied(alloc, host.section(section))?;
+    Ok(Row { first, cells })
+}
+
+fn host_rows(alloc: Global, reach: &[Section], host: &Memory) -> Result<Vec<Row>, AllocError>
+    requires { AreRuns (lengths_of host.now) reach.now }
+    ensures { IfOk result (λ rows. AreRows (view_of (lengths_of host.now) (memory_of host.now)) reach.now rows.items) }
+{
+    let mut rows = Vec::new(alloc);
+    'runs: for section in reach {
+        rows.push(host_row(alloc, section, host)?)?;
+    }
+    Ok(rows)
+}
+
+/// The frame of a region that runs on the host memory: of each array the cells in `reach`, with their numbers. Cells out
+/// of reach are not there.
+pub fn host_frame<'i>(
+    alloc: Global,
+    item: u32,
+    loops: &'i LoopValues,
+    scalars: &[u64; 256],
+    input: &'i [u64],
+    reach: &[Section],
+    host: &Memory,
+) -> Result<Frame<'i>, AllocError>
+    requires { AreRuns (lengths_of host.now) reach.now }
+    ensures item { IfOk result (λ f. f.item ≡ item) }
+    ensures loops { IfOk result (λ f. f.loops.now ≡ loops.now) }
+    ensures scalars { IfOk result (λ f. f.scalars ≡ scalars.now) }
+    ensures input { IfOk result (λ f. f.input.now ≡ input.now) }
+    ensures cells { IfOk result (λ f. cells_of f.rows.items ≡ in_reach reach.now (view_of (lengths_of host.now) (memory_of host.now))) }
+    ensures bounded { IfOk result (λ f. BoundedView (cells_of f.rows.items)) }
+    ensures small_scalars { BoundedScalars (slice_index scalars.now) }
+    ensures small_input { All (λ n. n < 2 ^ 64) input.now }
+{
+    Ok(Frame {
+        item,
+        loops,
+        scalars: *scalars,
+        rows: host_rows(alloc, reach, host)?,
+        input,
+    })
+}
+
+// The end of the marked places that stand one after another from a marked one on.
+fn marked_end(marks: &[bool], first: usize) -> usize
+    requires { slice_get marks.now first ≡ Some true }
+    ensures from { first < result }
+    ensures bound { result ≤ length marks.now }
+    ensures marked { (k : ℕ) → first ≤ k → k < result → slice_get marks.now k ≡ Some true }
+{
+    let mut end = first + 1;
+    'places: while end < marks.len() && marks[end] {
+        end += 1;
+    }
+    end
+}
+
+// Stores the marked numbers of a row.
+fn store_row(host: &mut Memory, array: ArrayId, row: &KeptRow)
+    requires { AreCells (lengths_of host.old) (marked_in array row.now.first row.now.cells.items row.now.stored.items) }
+    ensures stored { memory_of host.new ≡ with_stored (marked_in array row.now.first row.now.cells.items row.now.stored.items) (memory_of host.old) }
+    ensures lengths { lengths_of host.new ≡ lengths_of host.old }
+{
+    let mut i = 0;
+    'places: while i < row.stored.len() {
+        if row.stored[i] {
+            let end = marked_end(&row.stored, i);
+            let section = Section {
+                array,
+                first: row.first + i as u64,
+                length: (end - i) as u64,
+            };
+            host.set_section(&section, &row.cells[i..end]);
+            i = end;
+        } else {
+            i += 1;
+        }
+    }
+}
+
+/// Stores what a region stored in the host memory. It takes no memory.
+pub fn store_host(host: &mut Memory, rows: &[KeptRow])
+    requires few { length (lengths_of host.old) ≤ 2 ^ 32 }
+    requires cells { AreCells (lengths_of host.old) (cells_stored rows.now) }
+    ensures stored { memory_of host.new ≡ with_stored (cells_stored rows.now) (memory_of host.old) }
+    ensures lengths { lengths_of host.new ≡ lengths_of host.old }
+{
+    'each: for (a, row) in rows.iter().enumerate() {
+        let Ok(array) = u32::try_from(a) else {
+            return;
+        };
+        store_row(host, ArrayId(array), row);
+    }
+}

@@ -1,0 +1,37 @@
+// On which frames a region may be run.
+
+ghost use Rattle.std.specs.Prelude.{slice_index};
+ghost use Rattle.kernel.specs.Rows.{cells_of};
+ghost use Rattle.kernel.specs.Runnable.{AreNumbers, HaveNumbers, RunsOn};
+
+use crate::frames::{Frame, Row};
+use regions::region_runs;
+
+// What every slice of numbers is.
+fn are_numbers(numbers: &[u64])
+    ensures { AreNumbers numbers.now }
+{
+    let _numbers = numbers;
+}
+
+// What the cells of all rows are.
+fn have_numbers(rows: &[Row])
+    ensures { HaveNumbers rows.now }
+{
+    if let [first, rest @ ..] = rows {
+        are_numbers(&first.cells);
+        have_numbers(rest);
+    }
+}
+
+/// A region without a fault of range has a meaning on the frame, and so may be run on it, if the frame has each cell of
+/// which the region exposes a read and each that it may write.
+pub fn frame_runs(frame: &Frame<'_>)
+    ensures { RunsOn frame.now.loops.now.values.items (cells_of frame.now.rows.items) (slice_index frame.now.scalars) frame.now.input.now }
+{
+    region_runs();
+    have_numbers(&frame.rows);
+    are_numbers(frame.loops.values.as_slice());
+    are_numbers(&frame.scalars);
+    are_numbers(frame.input);
+}
