@@ -19,6 +19,8 @@ use std::marker::Model;
 pub mod accesses;
 pub mod conflict;
 mod items;
+#[cfg(test)]
+mod loop_tests;
 mod marks;
 mod passes;
 #[cfg(test)]

@@ -1,39 +1,42 @@
 // The passes, one after the other.
 
-ghost use Rattle.std.specs.Prelude.{◌≡◌, [], Some, IfOk, OnOk, IfErr};
+ghost use Rattle.std.specs.Prelude.{◌≡◌, ◌<◌, [], Some, IfOk, OnOk, IfErr, length, slice_get};
 ghost use Rattle.base.specs.Accepted.{range_faults};
 ghost use Rattle.base.specs.Items.{Work, plan};
 ghost use Rattle.base.specs.Meaning.{lengths_of};
 ghost use Rattle.mapcheck.specs.Passes.{IsCheckFault};
-ghost use Rattle.mapwalk.specs.Footprints.{AreFootprints};
+ghost use Rattle.mapwalk.specs.Footprints.{AreFirstFootprints, AreFootprints};
 ghost use Rattle.mapwalk.specs.Regions.{IsFoundFor};
+ghost use Rattle.mapwalk.specs.Repeats.{AreRepeats};
 ghost use Rattle.mapwalk.specs.Walk.{HasNoRangeFault};
 ghost use Rattle.order.specs.Built.{HasNoClash};
-ghost use Rattle.outline.specs.Regions.{entries_of};
-ghost use Rattle.outline.specs.Shown.{shown};
 ghost use Rattle.ranges.specs.Found.{IsFootprintFault};
 
 use base::fault::CheckFault;
-use base::item::Item;
-use mapwalk::footprint_of;
+use mapwalk::{next_footprint, repeats};
 use order::{Order, OrderBuildFault};
 use outline::Outlined;
 use ranges::{Footprint, FootprintFault, sections};
 use std::alloc::Global;
 
-// The footprint of an item's region, or the item's first fault of range.
+// The footprint of the region of the first item without one, or the item's first fault of range.
 fn item_footprint(
     alloc: Global,
     outlined: &Outlined<'_>,
-    item: &Item,
+    repeats: &[Option<usize>],
+    found: &[Option<Footprint>],
 ) -> Result<Option<Footprint>, FootprintFault>
-    ensures found { (w : Work) → shown (entries_of outlined.now) item.now ≡ Some w → IfOk result (IsFoundFor (lengths_of outlined.now) w) }
-    ensures fine { (w : Work) → shown (entries_of outlined.now) item.now ≡ Some w → OnOk result (range_faults (lengths_of outlined.now) w ≡ []) }
-    ensures fault { (w : Work) → shown (entries_of outlined.now) item.now ≡ Some w → IfErr result (IsFootprintFault (range_faults (lengths_of outlined.now) w)) }
+    requires repeats { AreRepeats (plan outlined.now) repeats.now }
+    requires before { AreFirstFootprints (plan outlined.now) (length found.now) found.now }
+    requires inside { length found.now < length (plan outlined.now).items }
+    ensures found { (w : Work) → slice_get (plan outlined.now).items (length found.now) ≡ Some w → IfOk result (IsFoundFor (lengths_of outlined.now) w) }
+    ensures fine { (w : Work) → slice_get (plan outlined.now).items (length found.now) ≡ Some w → OnOk result (range_faults (lengths_of outlined.now) w ≡ []) }
+    ensures fault { (w : Work) → slice_get (plan outlined.now).items (length found.now) ≡ Some w → IfErr result (IsFootprintFault (range_faults (lengths_of outlined.now) w)) }
 {
+    let item = &outlined.items()[found.len()];
     match sections(outlined.program(), item) {
         Err(fault) => Err(FootprintFault::Range(fault)),
-        Ok(()) => footprint_of(alloc, outlined, item),
+        Ok(()) => next_footprint(alloc, outlined, repeats, found),
     }
 }
 
@@ -57,10 +60,12 @@ pub fn footprints_of(
     ensures fine { OnOk result (HasNoRangeFault (plan outlined.now)) }
     ensures fault { IfErr result (IsCheckFault (plan outlined.now)) }
 {
-    let items = outlined.items();
+    let Ok(repeats) = repeats(alloc, outlined) else {
+        return Err(CheckFault::OutOfMemory);
+    };
     let mut found = Vec::new(alloc);
-    'items: for (number, item) in items.iter().enumerate() {
-        match item_footprint(alloc, outlined, item) {
+    'items: for number in 0..outlined.items().len() {
+        match item_footprint(alloc, outlined, &repeats, &found) {
             Err(fault) => return Err(range_fault(number as u32, fault)),
             Ok(footprint) => {
                 let Ok(()) = found.push(footprint) else {

@@ -2,7 +2,7 @@
 
 ghost use Rattle.std.specs.Prelude.{◌≡◌, ◌≤◌, IfOk, IfErr, OnOk, length};
 ghost use Rattle.base.specs.Items.{plan};
-ghost use Rattle.base.specs.Small.{most_items};
+ghost use Rattle.base.specs.Limits.{most_items};
 ghost use Rattle.mapcheck.specs.Passes.{IsCheckFault};
 ghost use Rattle.mapcheck.specs.Third.{AreFirstRows, AreOfFirst, IsConflictIn, IsPassed, NoneAlone};
 ghost use Rattle.mapcheck.specs.Unordered.{AreOfItems};

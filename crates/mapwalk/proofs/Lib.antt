@@ -16,6 +16,8 @@ pub mod Refusals
 pub mod Endings
 pub mod RowActions
 pub mod Prints
+pub mod OneRegion
+pub mod Copies
 pub mod HeldBlocks
 pub mod CountedEntries
 pub mod KeptBlocks

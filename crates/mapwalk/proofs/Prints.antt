@@ -4,19 +4,19 @@ use Rattle.std.specs.Prelude.{slice_get}
 use Rattle.std.proofs.lemmas.Bool.{cases_eq}
 use Rattle.std.proofs.lemmas.Option.{same_Some, slice_get-get_or, slice_get_within}
 use Rattle.base.specs.Items.{Plan, Work}
+use Rattle.base.specs.Accepted.{region_faults}
 use Rattle.ranges.specs.declared.cells.Footprint.{Footprint}
-use Rattle.mapwalk.specs.Footprints.{AreFootprints}
+use Rattle.mapwalk.specs.Footprints.{AreFirstFootprints, AreFootprints}
 use Rattle.mapwalk.specs.Regions.{IsFoundFor}
 
-pub record ArePrintsTo (plan : Plan) (n : ℕ) (found : List (Option Footprint)) : Type 0 where
-  pub count : length found ≡ n
-  pub each : (i : ℕ) (w : Work) (o : Option Footprint) → slice_get plan.items i ≡ Some w → slice_get found i ≡ Some o →
-      IsFoundFor plan.lengths w o
+pub no_prints : (plan : Plan) → AreFirstFootprints plan 0 []
+no_prints plan = record {
+  count = refl;
+  each = λ i w o there e. absurd (let lt : i < 0 = slice_get_within [] i o e in omega arith);
+  fine = λ i w lt there. absurd (omega arith);
+}
 
-pub no_prints : (plan : Plan) → ArePrintsTo plan 0 []
-no_prints plan = record { count = refl; each = λ i w o there e. absurd (let lt : i < 0 = slice_get_within [] i o e in omega arith) }
-
-pub all_prints : (plan : Plan) (n : ℕ) (found : List (Option Footprint)) → ArePrintsTo plan n found → n ≡ length plan.items →
+pub all_prints : (plan : Plan) (n : ℕ) (found : List (Option Footprint)) → AreFirstFootprints plan n found → n ≡ length plan.items →
     AreFootprints plan found
 all_prints plan n found h e = record { count = h.count ∙ e; each = h.each }
 
@@ -33,14 +33,22 @@ get_before (x ∷ found) o p zero lt h = h
 get_before (x ∷ found) o p (suc i) lt h = get_before found o p i (omega arith) h
 
 pub one_print : (plan : Plan) (n : ℕ) (found : List (Option Footprint)) (w : Work) (o : Option Footprint) →
-    ArePrintsTo plan n found → slice_get plan.items n ≡ Some w → IsFoundFor plan.lengths w o →
-    ArePrintsTo plan (n + 1) (found ++ o ∷ [])
-one_print plan n found w o h there is = record {
+    AreFirstFootprints plan n found → slice_get plan.items n ≡ Some w → IsFoundFor plan.lengths w o →
+    region_faults plan.lengths w.loops w.region ≡ [] → AreFirstFootprints plan (n + 1) (found ++ o ∷ [])
+one_print plan n found w o h there is none = record {
   count = let c = h.count in length-append found (o ∷ []) ∙ ap (λ k. k + 1) c;
   each = λ i v p e f. ⊎_elim (λ (same : i ≡ n). last i v p e f same)
       (λ (other : i ≡ n → ⊥). h.each i v p e (get_before found o p i (below i p f other) f)) (cases_eq i n);
+  fine = λ i v lt e. ⊎_elim (λ (same : i ≡ n). fine_here i v e same)
+      (λ (other : i ≡ n → ⊥). h.fine i v (omega (arith, lt, other)) e) (cases_eq i n);
 }
   where
+    fine_here : (i : ℕ) (v : Work) → slice_get plan.items i ≡ Some v → i ≡ n →
+        region_faults plan.lengths v.loops v.region ≡ []
+    fine_here i v e same =
+        subst (λ (x : Work). region_faults plan.lengths x.loops x.region ≡ [])
+        (same_Some w v (sym there ∙ ap (slice_get plan.items) (sym same) ∙ e)) none
+
     last : (i : ℕ) (v : Work) (p : Option Footprint) → slice_get plan.items i ≡ Some v →
         slice_get (found ++ o ∷ []) i ≡ Some p → i ≡ n → IsFoundFor plan.lengths v p
     last i v p e f same =

@@ -13,4 +13,5 @@ pub mod Regions
 pub mod Steps
 pub mod Walk
 pub mod Footprints
+pub mod Repeats
 pub mod Laws

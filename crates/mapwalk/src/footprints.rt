@@ -1,16 +1,18 @@
 // The footprints of the regions of a program's items.
 
-ghost use Rattle.std.specs.Prelude.{◌≡◌, [], Some, IfOk, IfErr, OnOk};
+ghost use Rattle.std.specs.Prelude.{◌≡◌, ◌<◌, [], Some, IfOk, IfErr, OnOk, length, slice_get};
 ghost use Rattle.base.specs.Accepted.{region_faults};
 ghost use Rattle.base.specs.Items.{Work, plan};
 ghost use Rattle.base.specs.Meaning.{lengths_of};
-ghost use Rattle.mapwalk.specs.Footprints.{AreFootprints};
-ghost use Rattle.mapwalk.specs.Regions.{HasNoFault, IsFoundFor};
+ghost use Rattle.mapwalk.specs.Footprints.{AreFirstFootprints, AreFootprints, AreSameCells};
+ghost use Rattle.mapwalk.specs.Regions.{IsFoundFor};
+ghost use Rattle.mapwalk.specs.Repeats.{AreRepeats};
 ghost use Rattle.mapwalk.specs.Walk.{HasNoRangeFault};
 ghost use Rattle.outline.specs.Regions.{entries_of};
 ghost use Rattle.outline.specs.Shown.{shown};
 ghost use Rattle.ranges.specs.Found.{IsFootprintFault};
 
+use crate::alike::repeats;
 use base::item::Item;
 use outline::Outlined;
 use ranges::{Footprint, FootprintFault, footprint};
@@ -39,16 +41,57 @@ pub fn footprint_of(
     }
 }
 
-// The footprint of the region of an item that has no fault of range.
+// The footprint of an earlier item.
+fn copied(found: &Option<Footprint>) -> Result<Option<Footprint>, FootprintFault>
+    ensures same { IfOk result (AreSameCells found.now) }
+    ensures fault { IfErr result (λ f. f ≡ FootprintFault.OutOfMemory) }
+{
+    let Some(footprint) = found else {
+        return Ok(None);
+    };
+    match footprint.clone() {
+        Ok(same) => Ok(Some(same)),
+        Err(_) => Err(FootprintFault::OutOfMemory),
+    }
+}
+
+/// The footprint of the region of the first item without one, where these are the footprints of the items before. It is
+/// copied where the item repeats an earlier one. The error is the region's fault of range, or `OutOfMemory` where an
+/// allocation fails.
+pub fn next_footprint(
+    alloc: Global,
+    outlined: &Outlined<'_>,
+    repeats: &[Option<usize>],
+    found: &[Option<Footprint>],
+) -> Result<Option<Footprint>, FootprintFault>
+    requires repeats { AreRepeats (plan outlined.now) repeats.now }
+    requires before { AreFirstFootprints (plan outlined.now) (length found.now) found.now }
+    requires inside { length found.now < length (plan outlined.now).items }
+    ensures found { (w : Work) → slice_get (plan outlined.now).items (length found.now) ≡ Some w → IfOk result (IsFoundFor (lengths_of outlined.now) w) }
+    ensures fine { (w : Work) → slice_get (plan outlined.now).items (length found.now) ≡ Some w → OnOk result (region_faults (lengths_of outlined.now) w.loops w.region ≡ []) }
+    ensures fault { (w : Work) → slice_get (plan outlined.now).items (length found.now) ≡ Some w → IfErr result (IsFootprintFault (region_faults (lengths_of outlined.now) w.loops w.region)) }
+{
+    let number = found.len();
+    match repeats[number] {
+        Some(earlier) => copied(&found[earlier]),
+        None => footprint_of(alloc, outlined, &outlined.items()[number]),
+    }
+}
+
+// The footprint of the region of the first item without one, where no item has a fault of range.
 fn fine_footprint(
     alloc: Global,
     outlined: &Outlined<'_>,
-    item: &Item,
+    repeats: &[Option<usize>],
+    found: &[Option<Footprint>],
 ) -> Result<Option<Footprint>, AllocError>
-    requires { HasNoFault outlined.now item.now }
-    ensures { (w : Work) → shown (entries_of outlined.now) item.now ≡ Some w → IfOk result (IsFoundFor (lengths_of outlined.now) w) }
+    requires fine { HasNoRangeFault (plan outlined.now) }
+    requires repeats { AreRepeats (plan outlined.now) repeats.now }
+    requires before { AreFirstFootprints (plan outlined.now) (length found.now) found.now }
+    requires inside { length found.now < length (plan outlined.now).items }
+    ensures { (w : Work) → slice_get (plan outlined.now).items (length found.now) ≡ Some w → IfOk result (IsFoundFor (lengths_of outlined.now) w) }
 {
-    match footprint_of(alloc, outlined, item) {
+    match next_footprint(alloc, outlined, repeats, found) {
         Ok(found) => Ok(found),
         Err(_) => Err(AllocError),
     }
@@ -62,9 +105,10 @@ pub fn footprints(
     requires { HasNoRangeFault (plan outlined.now) }
     ensures { IfOk result (λ found. AreFootprints (plan outlined.now) found.items) }
 {
+    let repeats = repeats(alloc, outlined)?;
     let mut found = Vec::new(alloc);
-    'items: for item in outlined.items() {
-        found.push(fine_footprint(alloc, outlined, item)?)?;
+    'items: for _ in 0..outlined.items().len() {
+        found.push(fine_footprint(alloc, outlined, &repeats, &found)?)?;
     }
     Ok(found)
 }

@@ -9,9 +9,10 @@ ghost use Rattle.mapwalk.specs.Footprints.{AreFootprints};
 ghost use Rattle.mapwalk.specs.Laws.{ActsAreActions, StagesAreSpelled, TargetsKeepBlocks};
 ghost use Rattle.mapwalk.specs.Walk.{AreActs, AreCurrent, HasNoRangeFault, IsFirstRefusal, IsSound};
 
+pub use crate::alike::repeats;
 use crate::causes::Cause;
-pub use crate::footprints::footprint_of;
 use crate::footprints::footprints;
+pub use crate::footprints::{footprint_of, next_footprint};
 pub use crate::rows::Acts;
 use crate::steps::{State, Step};
 use base::fault::Refusal;
@@ -20,6 +21,7 @@ use outline::Outlined;
 use ranges::Footprint;
 use std::alloc::{AllocError, Global};
 
+mod alike;
 mod blocks;
 mod causes;
 mod current;

@@ -5,6 +5,7 @@ use Rattle.base.specs.declared.item.Cell.{Cell}
 use Rattle.base.specs.declared.fault.Interval.{Interval}
 use Rattle.ranges.specs.declared.row.Row.{Row}
 use Rattle.ranges.specs.declared.cells.CellSet.{CellSet}
+use Rattle.ranges.specs.declared.cells.Footprint.{Footprint}
 use Rattle.ranges.specs.Rows.{is_marked, is_within}
 
 abbrev pub marks_of : Option Row → List Bool
@@ -32,3 +33,10 @@ HasAll s a cells = (c : Cell) → is_among a cells c ≡ true → has s c ≡ tr
 -- each cell that was read is exposed or was surely written
 abbrev pub AreKnown : (Cell → Bool) → (Cell → Bool) → (Cell → Bool) → Type 0
 AreKnown exposed read sure = (c : Cell) → read c ≡ true → (exposed c || sure c) ≡ true
+
+-- the second has in each of its sets the cells that the first has there
+pub record HasSameCells (f g : Footprint) : Type 0 where
+  pub exposed : has g.exposed ≡ has f.exposed
+  pub read : has g.read ≡ has f.read
+  pub write : has g.write ≡ has f.write
+  pub sure : has g.sure ≡ has f.sure

@@ -23,6 +23,7 @@ use std::alloc::Global;
 use thiserror::Error;
 
 mod cells;
+mod clones;
 mod contents;
 mod least;
 mod row;

@@ -50,6 +50,18 @@ fn mark(row: &mut Vec<bool>, cells: Interval, excluded: &[bool]) -> Result<(), A
     Ok(())
 }
 
+impl Clone for Row {
+    ghost is_clone = { λ r s. s.marks.items ≡ r.marks.items };
+
+    fn clone(&self) -> Result<Row, AllocError> {
+        Ok(Row {
+            marks: Vec::from_slice(*self.marks.allocator(), &self.marks)?,
+            first: self.first,
+            end: self.end,
+        })
+    }
+}
+
 impl Row {
     pub fn new(alloc: Global) -> Row
         ensures { result.marks.items ≡ [] }

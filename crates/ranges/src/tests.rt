@@ -341,3 +341,19 @@ fn sections_inside_and_outside(rt: HostRuntime) -> Result<(), Fail> {
     assert_eq!(rt; sections(&program, &before), Err(fault));
     Ok(())
 }
+
+// A copy of the footprint of `A[1] = A[0];`.
+#[test]
+fn copy_has_the_same_cells(rt: HostRuntime) -> Result<(), Fail> {
+    let alloc = rt.alloc();
+    let program = arrays(alloc)?;
+    let moved = store(Expr::Number(1), cell(alloc, HERE, Expr::Number(0))?);
+    let region = region(vec![in alloc; moved]?);
+    let found = footprint(alloc, &program, &region, &around(alloc, &[])?)?;
+    let copy = found.clone()?;
+    let read = row(alloc, &copy.read, A)?;
+    assert_eq!(rt; read.as_slice(), [1, 0, 0, 0, 0, 0, 0, 0].as_slice());
+    let sure = row(alloc, &copy.sure, A)?;
+    assert_eq!(rt; sure.as_slice(), [0, 1, 0, 0, 0, 0, 0, 0].as_slice());
+    Ok(())
+}

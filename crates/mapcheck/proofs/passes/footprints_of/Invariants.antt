@@ -1,11 +1,11 @@
 use Rattle.std.proofs.Common.{◌≡◌}
 use Rattle.base.specs.Items.{plan}
-use Rattle.mapwalk.proofs.Prints.{ArePrintsTo}
+use Rattle.mapwalk.specs.Footprints.{AreFirstFootprints}
 use Rattle.mapcheck.proofs.FirstFaults.{NoneBelow}
 use Rattle.mapcheck.proofs.passes.footprints_of.Given as goal
 
 abbrev pub invariant-items : goal.invariant-items
 invariant-items l = record {
   none : NoneBelow (plan l.outlined) l.number;
-  found : ArePrintsTo (plan l.outlined) l.number l.found.items;
+  found : AreFirstFootprints (plan l.outlined) l.number l.found.items;
 }

@@ -1,7 +1,6 @@
-use Rattle.std.proofs.Common.{◌≡◌, length}
 use Rattle.base.specs.Items.{plan}
-use Rattle.mapwalk.proofs.Prints.{ArePrintsTo}
+use Rattle.mapwalk.specs.Footprints.{AreFirstFootprints}
 use Rattle.mapwalk.proofs.footprints.footprints.Given as goal
 
 abbrev pub invariant-items : goal.invariant-items
-invariant-items l = ArePrintsTo (plan l.outlined) l.item-index l.found.items
+invariant-items l = AreFirstFootprints (plan l.outlined) l.counter l.found.items
