@@ -1,17 +1,15 @@
 -- Rows that take the numbers of a view.
-use Rattle.std.proofs.Common.{◌≡◌, ◌≢◌, ℕ, ◌+◌, ◌-◌, ◌<◌, ◌≤◌, ◌==◌, Bool, true, false, List, length, Option, Some, None, refl, sym, ap, ◌∙◌, true≢false, subst, arith}
-use Rattle.std.specs.Prelude.{nat_le, option_map, unwrap_or, slice_get, slice_set}
-use Rattle.std.proofs.lemmas.Bool.{leb-true, leb-false, eqb-true, eq-eqb}
+use Rattle.std.proofs.Common.{◌≡◌, ℕ, ◌+◌, ◌-◌, ◌<◌, ◌≤◌, Bool, true, false, List, length, Option, Some, None, refl, sym, ap, ◌∙◌, arith}
+use Rattle.std.specs.Prelude.{nat_le, option_map, unwrap_or, slice_get}
+use Rattle.std.proofs.lemmas.Bool.{leb-true, leb-false}
 use Rattle.std.proofs.lemmas.Option.{slice_get_within}
 use mathlib.Core.Path.{fun_ext}
 use Rattle.base.specs.declared.item.Cell.{Cell}
 use Rattle.base.specs.declared.tree.ArrayId.{ArrayId}
 use Rattle.base.specs.Memory.{View}
-use Rattle.base.proofs.Places.{get_set_same, get_set_other}
 use Rattle.kernel.specs.declared.frames.Row.{Row}
 use Rattle.kernel.specs.Rows.{cells_of, in_row}
 use Rattle.present.specs.Rows.{IsLoaded, cell_at, over}
-use Rattle.present.proofs.Founds.{one_block}
 use Rattle.present.proofs.RowParts.{at_index_from, at_index_before}
 use Rattle.regions.specs.Footprints.{BoundedView}
 use Rattle.frames.specs.Rows.{AreNumbers, IsLoadedRow}
@@ -40,30 +38,6 @@ module _ (view : View) where
     pub done : (k : ℕ) (x y : Row) → k < n → slice_get old k ≡ Some x → slice_get now k ≡ Some y →
         IsLoadedRow view (record { 0 = k }) x y
     pub rest : (k : ℕ) → n ≤ k → slice_get now k ≡ slice_get old k
-
-  pub loaded_more : (n : ℕ) (old now : List Row) (x y : Row) → slice_get now n ≡ Some x →
-      IsLoadedRow view (record { 0 = n }) x y →
-      LoadedUpTo n old now → LoadedUpTo (n + 1) old (slice_set now n y)
-  loaded_more n old now x y e one h = record {
-    done = λ k p q l f g. at k p q l f g (k == n) refl;
-    rest = λ k l. get_set_other now n y k (λ s. omega arith) ∙ h.rest k (omega arith);
-  }
-    where
-      at : (k : ℕ) (p q : Row) → k < n + 1 → slice_get old k ≡ Some p → slice_get (slice_set now n y) k ≡ Some q →
-          (t : Bool) → (k == n) ≡ t → IsLoadedRow view (record { 0 = k }) p q
-      at k p q l f g true t =
-          let is : k ≡ n = eqb-true k n t in
-          let here : slice_get (slice_set now n y) k ≡ Some y =
-          ap (slice_get (slice_set now n y)) is ∙ get_set_same now n y (slice_get_within now n x e) in
-          let old_one : slice_get old k ≡ Some x = sym (h.rest k (omega arith)) ∙ ap (slice_get now) is ∙ e in
-          let first : x ≡ p = one_block (slice_get old k) x p old_one f in
-          let second : y ≡ q = one_block (slice_get (slice_set now n y) k) y q here g in
-          subst (λ (m : ℕ). IsLoadedRow view (record { 0 = m }) p q) (sym is)
-          (subst (λ z. IsLoadedRow view (record { 0 = n }) p z) second
-          (subst (λ z. IsLoadedRow view (record { 0 = n }) z y) first one))
-      at k p q l f g false t =
-          let other : k ≢ n = λ same. true≢false (sym (eq-eqb k n same) ∙ t) in
-          h.done k p q (omega arith) f (sym (get_set_other now n y k (λ s. other (sym s))) ∙ g)
 
   pub loaded_cells : (n : ℕ) (old now : List Row) → length now ≡ length old → length old ≤ n → LoadedUpTo n old now →
       cells_of now ≡ over view (cells_of old)

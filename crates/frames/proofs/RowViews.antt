@@ -167,9 +167,6 @@ grown_more view reach n rows after r d within one e h =
       each = subst (AreEach view reach) (sym e) (each_more view reach rows (get_or reach n d) r at one h.each);
     }
 
-pub each_none : (view : View) (reach : List Section) → AreEach view reach []
-each_none view reach a s r e f = absurd (cc f)
-
 -- a place where nothing stands is past the end
 pub past_end : {A : Type 0} (xs : List A) (i : ℕ) → slice_get xs i ≡ None → length xs ≤ i
 past_end [] i e = omega arith

@@ -37,9 +37,6 @@ module _ (rows : List KeptRow) where
   upto_no n c l = ap (λ (t : Bool). elim t [ true ↦ cells_stored rows c | false ↦ None ])
       (false_from_ne_true (nat_lt c.array.0 n) (λ t. (let m = ltb-true c.array.0 n t in omega arith)))
 
-  pub upto_none : (c : Cell) → stored_upto 0 c ≡ None
-  upto_none c = upto_no 0 c (omega arith)
-
   by_row : Cell → Option KeptRow → Option ℕ
   by_row c o = elim o [
     | None ↦ None
@@ -154,10 +151,3 @@ module _ (rows : List KeptRow) where
           ≡ option_map (λ old. unwrap_or (stored_upto (n + 1) c) old) o
       at c None = refl
       at c (Some old) = ap Some (upto_more n r e c old)
-
-  pub device_none : (d : Device) → d ≡ with_numbers (stored_upto 0) d
-  device_none d i = record { blocks = d.blocks; cells = fun_ext (λ (c : Cell). at c (d.cells c)) i }
-    where
-      at : (c : Cell) (o : Option ℕ) → o ≡ option_map (λ old. unwrap_or (stored_upto 0 c) old) o
-      at c None = refl
-      at c (Some old) = ap (λ v. Some (unwrap_or v old)) (sym (upto_none c))

@@ -38,9 +38,6 @@ module _ (a : ArrayId) (first : ℕ) (numbers : List ℕ) (marks : List Bool) wh
   abbrev pub stored_below : ℕ → View
   stored_below i c = elim (nat_lt c.index (first + i)) [ true ↦ marked_in a first numbers marks c | false ↦ None ]
 
-  by_array : Bool → Cell → Option ℕ
-  by_array t c = elim t [ true ↦ marked_at first numbers marks c.index | false ↦ None ]
-
   none_before : (c : Cell) → c.index < first → marked_in a first numbers marks c ≡ None
   none_before c l = go (a.0 == c.array.0) refl
     where
@@ -89,18 +86,6 @@ module _ (a : ArrayId) (first : ℕ) (numbers : List ℕ) (marks : List Bool) wh
   below_no : (i : ℕ) (c : Cell) → first + i ≤ c.index → stored_below i c ≡ None
   below_no i c l = ap (λ (t : Bool). elim t [ true ↦ marked_in a first numbers marks c | false ↦ None ])
       (false_from_ne_true (nat_lt c.index (first + i)) (λ t. (let m = ltb-true c.index (first + i) t in omega arith)))
-
-  -- nothing is stored below place 0
-  pub below_none : (m : Memory) → m ≡ with_stored (stored_below 0) m
-  below_none m = fun_ext (λ (c : Cell). at c (nat_lt c.index (first + 0)) refl)
-    where
-      at : (c : Cell) (t : Bool) → nat_lt c.index (first + 0) ≡ t → m c ≡ with_stored (stored_below 0) m c
-      at c true e =
-          let l = ltb-true c.index (first + 0) e in
-          ap (λ o. unwrap_or o (m c)) (sym (below_yes 0 c l ∙ none_before c (omega arith)))
-      at c false e =
-          let l = ltb-false c.index (first + 0) e in
-          ap (λ o. unwrap_or o (m c)) (sym (below_no 0 c l))
 
   -- a place that is not marked
   pub below_skip : (i : ℕ) → slice_get marks i ≡ Some false → (c : Cell) → stored_below i c ≡ stored_below (i + 1) c

@@ -4,9 +4,10 @@ use Rattle.std.proofs.lemmas.List.{length-map}
 use Rattle.base.specs.declared.item.Item.{Item}
 use Rattle.base.specs.declared.tree.Part.{Part}
 use Rattle.base.specs.declared.tree.Program.{Program}
+use Rattle.base.specs.declared.tree.Region.{Region}
 use Rattle.base.specs.Meaning.{lengths_of}
 use Rattle.base.specs.Items.{Work, plan}
-use Rattle.base.specs.Small.{most_items}
+use Rattle.base.specs.Limits.{most_items}
 use Rattle.outline.specs.declared.RegionEntry.{RegionEntry}
 use Rattle.outline.specs.Regions.{Entry, StandAt, entry_of, list_entries, entries_of}
 use Rattle.outline.specs.Outline.{IsOutline}
@@ -32,12 +33,13 @@ as_many es items works e =
     sym (length-map items (shown es)) ∙ ap (λ xs. length xs) e ∙ length-map works (λ w. Some w)
 
 pub built : (p : Program) (lengths : List ℕ) (regions held : List RegionEntry) (items : List Item) (s a : ℕ)
-    (parts body : List Part) (kept : List ℕ) → length (plan p).items ≤ most_items → lengths ≡ lengths_of p →
+    (parts body : List Part) (kept : List ℕ) (none : Region) → none.body.items ≡ [] → length (plan p).items ≤ most_items → lengths ≡ lengths_of p →
     length lengths < 2 ^ 32 →
     map entry_of regions ≡ list_entries s a parts → s ≡ min p.scalars 256 → a ≡ length lengths →
     parts ≡ p.body.items → held ≡ regions → kept ≡ lengths → body ≡ p.body.items →
-    all_shown (map entry_of held) items ≡ as_shown (parts_items body kept []) → IsOutline p lengths regions items
-built p lengths regions held items s a parts body kept few lengths_is few_lengths regions_are s_is a_is parts_is held_is kept_is
+    all_shown (map entry_of held) items ≡ as_shown (parts_items body kept []) →
+    IsOutline p lengths regions items none
+built p lengths regions held items s a parts body kept none empty few lengths_is few_lengths regions_are s_is a_is parts_is held_is kept_is
     body_is items_are =
     record {
       lengths_kept = lengths_is;
@@ -45,6 +47,7 @@ built p lengths regions held items s a parts body kept few lengths_is few_length
       items_kept = all;
       few = let same = as_many (entries_of p) items (plan p).items all in omega (arith, same, few);
       few_arrays = few_lengths;
+      no_statement = empty;
     }
   where
     whole : map entry_of regions ≡ entries_of p

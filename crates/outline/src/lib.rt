@@ -4,7 +4,7 @@
 ghost use Rattle.std.specs.Prelude.{◌≡◌, ◌≤◌, ◌<◌, ◌^◌, ◌↔◌, [], length, map, IfOk, IfErr, OnOk};
 ghost use Rattle.base.specs.Meaning.{lengths_of};
 ghost use Rattle.base.specs.Items.{plan};
-ghost use Rattle.base.specs.Small.{most_items};
+ghost use Rattle.base.specs.Limits.{most_items};
 ghost use Rattle.outline.specs.Regions.{entries_of, entry_of, list_entries};
 ghost use Rattle.outline.specs.Parts.{parts_items};
 ghost use Rattle.outline.specs.Shown.{all_shown, as_shown};
@@ -16,7 +16,7 @@ use crate::known::Known;
 use crate::walk::add_all;
 use base::fault::OutlineFault;
 use base::item::Item;
-use base::tree::{ArrayId, Part, Program, Region, ScalarId};
+use base::tree::{ArrayId, Part, Place, Program, Region, ScalarId};
 use std::alloc::{AllocError, Global};
 use std::marker::Model;
 
@@ -54,6 +54,7 @@ pub struct Outlined<'p> {
     lengths: Vec<u32>,
     regions: Vec<RegionEntry<'p>>,
     items: Vec<Item>,
+    no_region: Region,
 }
 
 impl<'p> Model for Outlined<'p> {
@@ -67,7 +68,7 @@ impl<'p> Model for Outlined<'p> {
 
     ghost view = { λ o. o.program.now };
 
-    ghost invariant = { λ o. IsOutline o.program.now o.lengths.items o.regions.items o.items.items };
+    ghost invariant = { λ o. IsOutline o.program.now o.lengths.items o.regions.items o.items.items o.no_region };
 }
 
 impl<'p> Outlined<'p> {
@@ -99,6 +100,13 @@ impl<'p> Outlined<'p> {
         ensures few { length result.now ≤ most_items }
     {
         &self.items
+    }
+
+    /// A region without statements, for the items that have none of their own.
+    pub fn no_region(&self) -> &Region
+        ensures { result.now.body.items ≡ [] }
+    {
+        &self.no_region
     }
 }
 
@@ -141,6 +149,10 @@ fn build<'p>(alloc: Global, program: &'p Program) -> Result<Outlined<'p>, AllocE
         lengths,
         regions,
         items,
+        no_region: Region {
+            place: Place::default(),
+            body: Vec::new(alloc),
+        },
     })
 }
 

@@ -12,6 +12,7 @@ mod cells;
 mod entry;
 mod exit;
 mod find;
+mod fresh;
 mod needed;
 #[cfg(test)]
 mod row_tests;
