@@ -14,4 +14,4 @@ pub mod Current
 pub mod Accepted
 pub mod Headline
 pub mod Answer
-pub mod Small
+pub mod Limits

@@ -5,14 +5,13 @@ use Rattle.std.proofs.lemmas.Bool.{eq-eqb}
 use Rattle.std.proofs.lemmas.Bool.Decides.{nat_tests}
 use Rattle.base.specs.declared.fault.ReadCode.{ReadCode as Code}
 use Rattle.base.specs.declared.fault.ReadCode.TheVariants.{UnknownByte, BadNumber, TooMany, UnknownDirective}
-use Rattle.c_grammar.specs.Code.{code_number, is_code}
+use Rattle.c_grammar.specs.Code.{code_number, is_code, lower_code}
 use Rattle.c_grammar.specs.Lexeme.{Lexeme, Placed, same}
 use Rattle.c_grammar.specs.LineRules.{max_name, line_breaks, line_wrong, line_enter}
 use Rattle.c_grammar.specs.LineMachine.{line_advance, line_place, line_first_broken, line_first_wrong}
 use Rattle.c_grammar.specs.Machine.{run as machine_run}
 use Rattle.c_grammar.specs.Terminal.{Terminal, Fixed, Mark, Name, Num, Line, Unknown, End}
 use Rattle.c_grammar.specs.Texts.{Item}
-use Rattle.c_grammar.specs.SmallLines.{lower_code}
 use Rattle.c_grammar.specs.Lines.{is_omp, line_fault, Use, uses_of}
 use Rattle.c_grammar.specs.Rules.{Rule, rule_number, rule_here, foreign, wrong}
 use Rattle.c_grammar.specs.Program.{first_rule, first_wrong, fault_rules, use_rules, joined}

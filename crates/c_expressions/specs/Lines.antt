@@ -4,7 +4,7 @@ use Rattle.base.specs.declared.fault.ReadCode.{ReadCode as Code}
 use Rattle.base.specs.declared.fault.ReadCode.TheVariants.{UnknownDirective}
 use Rattle.c_grammar.specs.Lexeme.{Lexeme, Worded, Placed, same}
 use Rattle.c_grammar.specs.LineMachine.{line_first_wrong}
-use Rattle.c_grammar.specs.SmallLines.{lower_code}
+use Rattle.c_grammar.specs.Code.{lower_code}
 use Rattle.c_expressions.specs.declared.line.Misfit.{Misfit}
 
 abbrev pub seen_misfit : Misfit → ℕ × Code

@@ -1,49 +1,75 @@
 -- From what the reader found to what is promised of the source.
-use Rattle.std.proofs.Common.{◌≡◌, ℕ, ◌<◌, ◌≤◌, true, false, List, length, Option, Some, None, [], ◌∷◌, refl, sym, ap, ◌∙◌, arith}
-use Rattle.std.specs.Prelude.{nat_lt, cond}
+use Rattle.std.proofs.Common.{◌≡◌, ℕ, zero, suc, ◌<◌, ◌≤◌, true, false, cond, List, [], ◌∷◌, length, map, Option, Some, None, refl, sym, ap, subst, ◌∙◌, arith}
+use Rattle.std.specs.Prelude.{nat_lt, slice_index}
+use Rattle.std.specs.declared.string.String.{String}
 use Rattle.std.proofs.lemmas.Bool.Decides.{nat_tests}
+use Rattle.base.specs.declared.tree.ArrayInfo.{ArrayInfo}
 use Rattle.base.specs.declared.tree.Program.{Program}
 use Rattle.base.specs.declared.fault.TextFault.{TextFault}
-use Rattle.base.specs.Small.{IsSmall}
-use Rattle.c_read.proofs.Spelled.{spelled_is_small}
+use Rattle.base.specs.declared.fault.ReadCode.TheVariants.{TooMany}
+use Rattle.base.specs.Limits.{AreShort}
+use Rattle.c_grammar.specs.Program.{start}
 use Rattle.c_grammar.specs.Rules.{begin}
-use Rattle.c_grammar.specs.Source.{items_of, max_source}
-use Rattle.c_grammar.specs.SmallMachine.{Begin}
-use Rattle.c_grammar.specs.SmallSource.{small_answer, small_fault_in, too_long, IsFirstSmallFault}
-use Rattle.c_grammar.proofs.SmallSources.{fault_first, text_spelled, text_not_spelled}
-use Rattle.c_read.specs.Reading.{run}
-use Rattle.c_read.specs.Spells.{Spells}
-use Rattle.c_read.specs.Sources.{IsTextRead}
+use Rattle.c_grammar.specs.Grammar.{Text}
+use Rattle.c_grammar.specs.Source.{items_of, max_source, answer, fault_in, IsFirstFault, Spells as SpellsText}
+use Rattle.c_grammar.proofs.Sources.{fault_first, text_spelled, text_not_spelled}
+use Rattle.c_expressions.specs.Means.{Items}
+use Rattle.c_expressions.specs.Reading.{run}
+use Rattle.c_read.specs.Globals.{AreShortArrays, entry_of}
+use Rattle.c_read.specs.Spells.{Spells, IsTextRead}
 
-answer_short : (bytes : List ℕ) → length bytes ≤ max_source → small_answer bytes ≡ run begin (Begin ∷ []) (items_of bytes)
-unfolding small_answer run
-answer_short bytes h = ap (λ b. cond b (Some too_long) (small_fault_in bytes)) short
-  where
-    short : nat_lt max_source (length bytes) ≡ false
-    short = grind (arith, nat_tests)
+abbrev too_long : TextFault
+too_long = record { code = TooMany; line = 1; column = 1 }
 
-answer_long : (bytes : List ℕ) → max_source < length bytes → small_answer bytes ≡ Some too_long
-unfolding small_answer
-answer_long bytes h = ap (λ b. cond b (Some too_long) (small_fault_in bytes)) long
-  where
-    long : nat_lt max_source (length bytes) ≡ true
-    long = grind (arith, nat_tests)
+answer_short : (bytes : List ℕ) → length bytes ≤ max_source → answer bytes ≡ run begin start (items_of bytes)
+unfolding answer run
+answer_short bytes h =
+    let short : nat_lt max_source (length bytes) ≡ false = grind (arith, nat_tests) in
+    ap (λ b. cond b (Some too_long) (fault_in bytes)) short
 
-pub spells : (bytes : List ℕ) (p : Program) → length bytes ≤ max_source → run begin (Begin ∷ []) (items_of bytes) ≡ None → IsTextRead (items_of bytes) p → Spells bytes p
-spells bytes p h none r =
-    record { text = r.text; spelled = text_spelled bytes r.text (answer_short bytes h ∙ none) r.tokens r.small_text; means = r.means }
+answer_long : (bytes : List ℕ) → max_source < length bytes → answer bytes ≡ Some too_long
+unfolding answer
+answer_long bytes h =
+    let long : nat_lt max_source (length bytes) ≡ true = grind (arith, nat_tests) in
+    ap (λ b. cond b (Some too_long) (fault_in bytes)) long
 
-pub is_first : (bytes : List ℕ) (f : TextFault) → length bytes ≤ max_source → run begin (Begin ∷ []) (items_of bytes) ≡ Some f → IsFirstSmallFault bytes f
+pub spells : (bytes : List ℕ) (p : Program) → length bytes ≤ max_source → run begin start (items_of bytes) ≡ None →
+    IsTextRead (items_of bytes) p → Spells bytes p
+spells bytes p h none r = record {
+  text = r.text;
+  spelled = text_spelled bytes r.text (answer_short bytes h ∙ none) r.tokens r.is_text;
+  means = r.means;
+}
+
+module _ {Z : Type 0} where
+  short_lengths : (es : List (String Z × ArrayInfo)) → AreShortArrays (map entry_of es) →
+      (a : ℕ) → slice_index (map (λ (i : ArrayInfo). i.length) (map (λ (e : String Z × ArrayInfo). e.1) es)) a ≤ 65536
+  short_lengths [] h a = omega arith
+  short_lengths (e ∷ es) h zero = h.0
+  short_lengths (e ∷ es) h (suc a) = short_lengths es h.1 a
+
+-- no array has more cells than a source may give it
+pub is_short : (is : Items) (p : Program) → IsTextRead is p → AreShort p
+is_short is p r = short_lengths p.arrays.entries
+    (subst (λ (arrays : List (List ℕ × Option ℕ)). AreShortArrays arrays) (sym r.means.arrays) r.short)
+
+pub is_first : (bytes : List ℕ) (f : TextFault) → length bytes ≤ max_source → run begin start (items_of bytes) ≡ Some f →
+    IsFirstFault bytes f
 is_first bytes f h e = fault_first bytes f (answer_short bytes h ∙ e)
 
-pub is_none : (bytes : List ℕ) (f : TextFault) → length bytes ≤ max_source → run begin (Begin ∷ []) (items_of bytes) ≡ Some f → (p : Program) → Spells bytes p → ⊥
-is_none bytes f h e p s = text_not_spelled bytes f s.text (answer_short bytes h ∙ e) s.spelled
+pub no_text : (bytes : List ℕ) (f : TextFault) → length bytes ≤ max_source → run begin start (items_of bytes) ≡ Some f →
+    (t : Text) → SpellsText bytes t → ⊥
+no_text bytes f h e t s = text_not_spelled bytes f t (answer_short bytes h ∙ e) s
 
-pub too_long_first : (bytes : List ℕ) → max_source < length bytes → IsFirstSmallFault bytes too_long
+pub is_none : (bytes : List ℕ) (f : TextFault) → length bytes ≤ max_source → run begin start (items_of bytes) ≡ Some f →
+    (p : Program) → Spells bytes p → ⊥
+is_none bytes f h e p s = no_text bytes f h e s.text s.spelled
+
+pub too_long_first : (bytes : List ℕ) → max_source < length bytes → IsFirstFault bytes too_long
 too_long_first bytes h = fault_first bytes too_long (answer_long bytes h)
 
-pub too_long_none : (bytes : List ℕ) → max_source < length bytes → (p : Program) → Spells bytes p → ⊥
-too_long_none bytes h p s = text_not_spelled bytes too_long s.text (answer_long bytes h) s.spelled
+pub too_long_no_text : (bytes : List ℕ) → max_source < length bytes → (t : Text) → SpellsText bytes t → ⊥
+too_long_no_text bytes h t s = text_not_spelled bytes too_long t (answer_long bytes h) s
 
-pub is_small : (bytes : List ℕ) (p : Program) → length bytes ≤ max_source → run begin (Begin ∷ []) (items_of bytes) ≡ None → IsTextRead (items_of bytes) p → IsSmall p
-is_small bytes p h none r = spelled_is_small bytes p (spells bytes p h none r)
+pub too_long_none : (bytes : List ℕ) → max_source < length bytes → (p : Program) → Spells bytes p → ⊥
+too_long_none bytes h p s = too_long_no_text bytes h s.text s.spelled

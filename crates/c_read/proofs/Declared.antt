@@ -1,66 +1,237 @@
--- Whether an array is declared, and its name.
-use Rattle.std.proofs.Common.{◌≡◌, ℕ, ◌+◌, ◌<◌, ◌≤◌, Bool, true, false, cond, List, [], ◌∷◌, ◌++◌, length, drop, map, Option, Some, None, refl, sym, ap, ◌∙◌}
-use Rattle.std.specs.Str.{IsAscii}
+-- One global that was read.
+use Rattle.std.proofs.Common.{◌≡◌, ℕ, ◌+◌, ◌<◌, ◌≤◌, Bool, true, false, cond, List, [], ◌∷◌, ◌++◌, length, drop, map, Option, Some, None, refl, sym, ap, subst, ◌∙◌, append_assoc, arith, length-append}
+use Rattle.std.specs.Prelude.{nat_lt, nat_le, ◌||◌, ◌&&◌, is_some, string_bytes}
+use Rattle.std.specs.Str.{bytes_eq, IsAscii}
+use Rattle.std.proofs.lemmas.Slice.Eq.{bytes_eq-Decides}
 use Rattle.std.specs.Str.Lossy.{utf8_lossy}
-use Rattle.std.proofs.lemmas.Str.{IsUtf8-from_ascii, utf8_lossy-IsUtf8}
+use Rattle.std.specs.String.{string_eq}
+use Rattle.std.proofs.lemmas.Bool.Decides.{nat_tests}
+use Rattle.std.proofs.lemmas.List.{append-nil, length-map}
+use Rattle.std.specs.declared.string.String.{String}
+use Rattle.indexmap.specs.IndexMap.{insert_entry}
 use Rattle.c_tokens.specs.declared.kind.Sign.TheVariants as sign
-use Rattle.c_grammar.specs.Lexeme.{Int, Uint64}
+use Rattle.base.specs.declared.fault.ReadCode.{ReadCode as Code}
+use Rattle.base.specs.declared.fault.ReadCode.TheVariants.{Unexpected, AlreadyDeclared, TooMany}
+use Rattle.base.specs.declared.tree.ArrayInfo.{ArrayInfo}
+use Rattle.c_grammar.specs.AsciiNames.{AreAscii}
+use Rattle.c_grammar.specs.Lexeme.{Uint64}
+use Rattle.c_grammar.specs.LineRules.{max_name}
 use Rattle.c_grammar.specs.Terminal.{Terminal, Fixed, Mark, Name, Num, same}
 use Rattle.c_grammar.specs.Texts.{Item}
 use Rattle.c_grammar.specs.Machine.{run as machine_run}
-use Rattle.c_grammar.specs.Rules.{begin, enter}
-use Rattle.c_grammar.specs.SmallRules.{small_breaks}
-use Rattle.c_grammar.specs.SmallMachine.{Stack, Begin, w, array_rest, main_rest, advance, place_code, first_broken}
-use Rattle.c_read.specs.declared.cursor.Cursor.{Cursor}
-use Rattle.c_read.specs.declared.scope.Array.{Array}
-use Rattle.c_read.specs.Means.{Items}
-use Rattle.c_read.specs.Cursor.{items, first_item, behind}
-use Rattle.c_read.specs.Reading.{run, terminals}
-use Rattle.c_read.specs.Arrays.{AreGlobals, IsTextArray, globals_of}
-use Rattle.c_grammar.specs.AsciiNames.{AreAscii}
-use Rattle.c_grammar.specs.Grammar.{globals}
-use Rattle.c_read.specs.Reading.{kinds}
-use Rattle.c_read.proofs.Going.{put, put_same}
-use Rattle.c_read.proofs.Terminals.{same-true}
+use Rattle.c_grammar.specs.Grammar.{Global, Scalar, Array, DeclaresGlobal, global, globals}
+use Rattle.c_grammar.specs.Rules.{Context, breaks, enter, inside, is_visible, sort_of, max_arrays, max_scalars, rule_here}
+use Rattle.c_grammar.specs.Program.{Stack, AfterGlobal, Globals, WantName, advance, place_code, first_broken}
+use Rattle.c_expressions.specs.declared.cursor.Cursor.{Cursor}
+use Rattle.c_expressions.specs.declared.scope.Meaning.TheVariants as meaning
+use Rattle.c_expressions.specs.declared.scope.Scope.{Scope}
+use Rattle.c_expressions.specs.Means.{Items, Names, meaning_of}
+use Rattle.c_expressions.specs.Cursor.{items, first_item, behind}
+use Rattle.c_expressions.specs.Reading.{run, misfit_at, terminals, kinds}
+use Rattle.c_expressions.specs.Scopes.{context_of, names_of}
+use Rattle.c_expressions.proofs.Going.{put, put_is, stop, was_mark}
+use Rattle.c_expressions.proofs.Expressions.{behind_less}
+use Rattle.c_statements.specs.Loops.{IsGone}
+use Rattle.c_statements.specs.Simple.{loops_in}
+use Rattle.c_statements.proofs.Heads.{gone_one, gone_then}
+use Rattle.c_read.specs.Globals.{Front, naming, global_code, is_over, front_of, behind_globals, entry_of, AreGlobalsRead, AreKnown, IsArrayNamed, IsArrayRead, IsNamedAt, IsScalarNamed}
+use Rattle.c_read.proofs.Entries.{entries_last, insert_last, known_last, known_more, name_kept}
 
-item_type : (s : Stack) (i : Item Terminal) (is : Items) → run begin (Begin ∷ s) (put i (Fixed Uint64) ∷ is) ≡ run begin (array_rest s) is
-unfolding run machine_run advance first_broken small_breaks enter
-item_type s i is = refl
+-- ---- the word
 
-pub go_type : (s : Stack) (t t' : Cursor) → same (Fixed Uint64) (first_item t).terminal ≡ true → behind t ≡ items t' → run begin (Begin ∷ s) (items t) ≡ run begin (array_rest s) (items t')
-go_type s t t' e b = ap (λ (i : Item Terminal). run begin (Begin ∷ s) (i ∷ behind t)) (put_same (Fixed Uint64) (first_item t) e) ∙ item_type s (first_item t) (behind t) ∙ ap (run begin (array_rest s)) b
+item_word : (c : Context) (s : Stack) (i : Item Terminal) (is : Items) → c.depth ≡ 0 → c.tokens ≡ 0 →
+    run c (Globals ∷ s) (put i (Fixed Uint64) ∷ is) ≡ run c (WantName DeclaresGlobal ∷ AfterGlobal ∷ Globals ∷ s) is
+unfolding run machine_run advance first_broken breaks enter
+item_word c s i is d n = rw (d, n) refl
 
--- where no array is declared, main must come
-item_none : (s : Stack) (i : Item Terminal) (is : Items) → same (Fixed Uint64) i.terminal ≡ false → run begin (Begin ∷ s) (i ∷ is) ≡ run begin (w Int ∷ main_rest s) (i ∷ is)
-unfolding run machine_run advance place_code
-item_none s i is e = rw e refl
+pub go_word : (sc : Scope) (s : Stack) (t t' : Cursor) → (first_item t).terminal ≡ Fixed Uint64 → behind t ≡ items t' →
+    run (context_of sc 0 0) (Globals ∷ s) (items t) ≡
+    run (context_of sc 0 0) (WantName DeclaresGlobal ∷ AfterGlobal ∷ Globals ∷ s) (items t')
+go_word sc s t t' e b =
+    ap (λ (i : Item Terminal). run (context_of sc 0 0) (Globals ∷ s) (i ∷ behind t)) (put_is (first_item t) (Fixed Uint64) e)
+    ∙ item_word (context_of sc 0 0) s (first_item t) (behind t) refl refl
+    ∙ ap (run (context_of sc 0 0) (WantName DeclaresGlobal ∷ AfterGlobal ∷ Globals ∷ s)) b
 
-pub no_array : (s : Stack) (t : Cursor) → same (Fixed Uint64) (first_item t).terminal ≡ false → run begin (Begin ∷ s) (items t) ≡ run begin (w Int ∷ main_rest s) (items t)
-no_array s t e = item_none s (first_item t) (behind t) e
-
-pub none_read : (is : Items) (a : Option Array) → a ≡ None → AreGlobals is is a
-none_read is a e = rw e (record { tokens = refl; rest = refl })
-
-pub one_read : (t t' t'' : Cursor) (a : Array) → same (Fixed Uint64) (first_item t).terminal ≡ true → behind t ≡ items t'
-    → terminals (items t') ≡ Name a.name.now ∷ Mark sign.OpenBracket ∷ Num (Some a.cells) ∷ Mark sign.CloseBracket ∷ Mark sign.Semicolon ∷ terminals (items t'')
-    → items t'' ≡ drop 5 (items t') → AreGlobals (items t) (items t'') (Some a)
-one_read t t' t'' a e b g d =
+pub named_at : (x : List ℕ) (t0 t1 t2 : Cursor) → (first_item t0).terminal ≡ Fixed Uint64 → behind t0 ≡ items t1 →
+    (first_item t1).terminal ≡ Name x → behind t1 ≡ items t2 → IsNamedAt x (items t0) (items t2)
+named_at x t0 t1 t2 e b f d =
     record {
-      tokens = ap (λ (x : Terminal). x ∷ terminals (behind t)) (sym (same-true (Fixed Uint64) (first_item t).terminal e)) ∙ ap (λ (is : Items). Fixed Uint64 ∷ terminals is) b ∙ ap (λ (ts : List Terminal). Fixed Uint64 ∷ ts) g;
-      rest = d ∙ ap (drop 5) (sym b);
+      gone =
+          gone_then (Fixed Uint64 ∷ []) (Name x ∷ []) (items t0) (items t1) (items t2) (gone_one (Fixed Uint64) t0 t1 e b)
+          (gone_one (Name x) t1 t2 f d);
     }
 
--- a name of ASCII bytes is kept
-pub name_kept : (x : List ℕ) → IsAscii x → utf8_lossy x ≡ x
-name_kept x h = utf8_lossy-IsUtf8 x (IsUtf8-from_ascii x h)
+-- ---- behind the name
 
--- the array's name is one of the names of the source
-pub name_is_text : (a : Option Array) (before after : Items) → AreAscii (terminals before) → AreGlobals before after a → IsTextArray a
-name_is_text a before after h g = go a (subst_text g.tokens h)
+next_none : (s : Stack) (t : Terminal) → same (Mark sign.OpenBracket) t ≡ false → same (Mark sign.Semicolon) t ≡ false →
+    advance (AfterGlobal ∷ s) t ≡ None
+unfolding advance
+next_none s t e f = rw (e, f) refl
+
+pub stop_global : (c : Context) (s : Stack) (t : Cursor) → same (Mark sign.OpenBracket) (first_item t).terminal ≡ false →
+    same (Mark sign.Semicolon) (first_item t).terminal ≡ false →
+    run c (AfterGlobal ∷ s) (items t) ≡ Some (misfit_at (Some (rule_here Unexpected)) (first_item t))
+unfolding place_code
+stop_global c s t e f = stop c (AfterGlobal ∷ s) (first_item t) (behind t) (next_none s (first_item t).terminal e f) refl
+
+not_over : (v o : Bool) (code code' : Code) → cond v (Some code) (cond o (Some code') None) ≡ None → o ≡ false
+not_over true o code code' e = absurd cc
+not_over false true code code' e = absurd cc
+not_over false false code code' e = refl
+
+or_left : (a b : Bool) → (a || b) ≡ false → a ≡ false
+or_left true b e = absurd cc
+or_left false b e = refl
+
+or_right : (a b : Bool) → (a || b) ≡ false → b ≡ false
+or_right true b e = absurd cc
+or_right false b e = e
+
+and_right : (a b : Bool) → a ≡ true → (a && b) ≡ false → b ≡ false
+and_right true b h e = e
+and_right false b h e = absurd cc
+
+within : (sc : Scope) (x : List ℕ) (next : Terminal) → global_code sc x next ≡ None → is_over sc x next ≡ false
+within sc x next e =
+    not_over (is_visible (sort_of (context_of sc 0 0) x)) (is_over sc x next) AlreadyDeclared TooMany e
+
+pub few_arrays : (sc : Scope) (x : List ℕ) (next : Terminal) → global_code sc x next ≡ None →
+    same (Mark sign.OpenBracket) next ≡ true → sc.arrays < 64
+few_arrays sc x next e h =
+    let p = same (Mark sign.OpenBracket) next in
+    let q = same (Mark sign.Semicolon) next && nat_le max_scalars sc.scalars in
+    let few : nat_le max_arrays sc.arrays ≡ false =
+    and_right p (nat_le max_arrays sc.arrays) h
+    (or_left (p && nat_le max_arrays sc.arrays) q (or_right (nat_lt max_name (length x)) ((p && nat_le max_arrays sc.arrays) || q) (within sc x next e))) in
+    grind (arith, nat_tests)
+
+pub few_scalars : (sc : Scope) (x : List ℕ) (next : Terminal) → global_code sc x next ≡ None →
+    same (Mark sign.Semicolon) next ≡ true → sc.scalars < 256
+few_scalars sc x next e h =
+    let p = same (Mark sign.OpenBracket) next && nat_le max_arrays sc.arrays in
+    let q = same (Mark sign.Semicolon) next in
+    let few : nat_le max_scalars sc.scalars ≡ false =
+    and_right q (nat_le max_scalars sc.scalars) h
+    (or_right p (q && nat_le max_scalars sc.scalars) (or_right (nat_lt max_name (length x)) (p || (q && nat_le max_scalars sc.scalars)) (within sc x next e))) in
+    grind (arith, nat_tests)
+
+pub name_ascii : (x : List ℕ) (before after : Items) → AreAscii (terminals before) → IsNamedAt x before after → IsAscii x
+name_ascii x before after h n = go (subst_ascii n.gone.tokens h)
   where
-    subst_text : {ts us : List Terminal} → ts ≡ us → AreAscii ts → AreAscii us
-    subst_text e x = rw (sym e) x
+    subst_ascii : {ts us : List Terminal} → ts ≡ us → AreAscii ts → AreAscii us
+    subst_ascii e a = rw (sym e) a
 
-    go : (b : Option Array) → AreAscii (kinds (globals (globals_of b)) ++ terminals after) → IsTextArray b
-    go None x = tt
-    go (Some b) x = x.1.0
+    go : AreAscii (Fixed Uint64 ∷ Name x ∷ terminals after) → IsAscii x
+    go a = a.1.0
+
+-- ---- what was read
+
+front_by : (a : ℕ) (ns : Names) (n : ℕ) (b : Bool) → Front
+front_by a ns n b = record { arrays = a; env = record { names = ns; scalars = n; loops = loops_in ns; inside = b } }
+
+array_front : (old new : Scope) (x : List ℕ) → IsArrayNamed x old new →
+    front_of new ≡ behind_globals (Array x None ∷ []) (front_of old)
+unfolding front_by
+array_front old new x r =
+    ap (λ (a : ℕ). front_by a (names_of new) new.next_scalar (inside (context_of new 0 0))) r.arrays
+    ∙ ap (λ (ns : Names). front_by (old.arrays + 1) ns new.next_scalar (inside (context_of new 0 0))) r.names
+    ∙ ap (λ (n : ℕ). front_by (old.arrays + 1) ((x, meaning.Array (record { 0 = old.arrays })) ∷ names_of old) n (inside (context_of new 0 0))) r.next
+    ∙ ap (λ (b : Bool). front_by (old.arrays + 1) ((x, meaning.Array (record { 0 = old.arrays })) ∷ names_of old) old.next_scalar b) r.inside_is
+
+scalar_front : (old new : Scope) (x : List ℕ) → IsScalarNamed x old new →
+    front_of new ≡ behind_globals (Scalar x ∷ []) (front_of old)
+unfolding front_by
+scalar_front old new x r =
+    let ns : Names = (x, meaning.Scalar (record { 0 = old.next_scalar }) (inside (context_of old 0 0))) ∷ names_of old in
+    ap (λ (a : ℕ). front_by a (names_of new) new.next_scalar (inside (context_of new 0 0))) r.arrays
+    ∙ ap (λ (ms : Names). front_by old.arrays ms new.next_scalar (inside (context_of new 0 0))) r.names
+    ∙ ap (λ (n : ℕ). front_by old.arrays ns n (inside (context_of new 0 0))) r.next
+    ∙ ap (λ (b : Bool). front_by old.arrays ns (old.next_scalar + 1) b) r.inside_is
+
+bytes_eq-same : (x : List ℕ) → bytes_eq x x ≡ true
+bytes_eq-same x = (bytes_eq-Decides x x).1 refl
+
+gone_fewer : (u : Terminal) (us : List Terminal) (before after : Items) → IsGone (u ∷ us) before after →
+    length after < length before
+gone_fewer u us before after g =
+    let all : length (terminals before) ≡ length (u ∷ us) + length (terminals after) =
+    ap (λ (ts : List Terminal). length ts) g.tokens ∙ length-append (u ∷ us) (terminals after) in
+    omega (arith, all, length-map before (λ (i : Item Terminal). i.terminal), length-map after (λ (i : Item Terminal). i.terminal))
+
+pub fewer_scalar : (x : List ℕ) (i0 : Items) (t1 t2 : Cursor) → IsNamedAt x i0 (items t1) → behind t1 ≡ items t2 →
+    length (items t2) < length i0
+fewer_scalar x i0 t1 t2 n b =
+    let a = gone_fewer (Fixed Uint64) (Name x ∷ []) i0 (items t1) n.gone in
+    omega (arith, a, behind_less t1 t2 b)
+
+module _ {Z : Type 0} where
+  pub fewer_array : (x : List ℕ) (old new : Scope) (es fs : List (String Z × ArrayInfo)) (i0 i1 i2 : Items) →
+      IsNamedAt x i0 i1 → IsArrayRead x old new es fs i1 i2 → length i2 < length i0
+  fewer_array x old new es fs i0 i1 i2 n r =
+      let a = gone_fewer (Fixed Uint64) (Name x ∷ []) i0 i1 n.gone in
+      let b = gone_fewer (Mark sign.OpenBracket) (Num (Some r.cells) ∷ Mark sign.CloseBracket ∷ Mark sign.Semicolon ∷ []) i1 i2 r.gone in
+      omega (arith, a, b)
+
+  pub array_added : (x : List ℕ) (k : String Z) (v : ArrayInfo) (old new : Scope) (es fs : List (String Z × ArrayInfo)) (before after : Items) →
+      IsAscii x → meaning_of (names_of old) x ≡ None → AreKnown (names_of old) es → string_bytes k ≡ utf8_lossy x →
+      fs ≡ insert_entry string_eq es k v → IsArrayNamed x old new →
+      IsGone (Mark sign.OpenBracket ∷ Num (Some v.length) ∷ Mark sign.CloseBracket ∷ Mark sign.Semicolon ∷ []) before after →
+      (1 ≤ v.length) × (v.length ≤ 65536) → IsArrayRead x old new es fs before after
+  array_added x k v old new es fs before after a m h b e named gone few =
+      let same_bytes : string_bytes k ≡ x = b ∙ name_kept x a in
+      let last : fs ≡ es ++ (k, v) ∷ [] =
+      e ∙ insert_last k v (names_of old) es h (ap (meaning_of (names_of old)) same_bytes ∙ m) in
+      record {
+        cells = v.length;
+        few = few.1;
+        gone = gone;
+        named = named;
+        entries =
+            ap (λ (us : List (String Z × ArrayInfo)). map entry_of us) last ∙ entries_last es (k, v)
+            ∙ ap (λ (y : List ℕ). map entry_of es ++ (y, Some v.length) ∷ []) same_bytes;
+        known =
+            subst (λ (us : List (String Z × ArrayInfo)). AreKnown (names_of new) us) (sym last)
+            (known_last (names_of new) es (k, v)
+            (subst (λ (ns : Names). AreKnown ns es) (sym named.names)
+            (known_more x (meaning.Array (record { 0 = old.arrays })) (names_of old) es h))
+            (ap (λ (ns : Names). is_some (meaning_of ns (string_bytes k))) named.names ∙ found k same_bytes));
+      }
+    where
+      found : (j : String Z) → string_bytes j ≡ x →
+          is_some (meaning_of ((x, meaning.Array (record { 0 = old.arrays })) ∷ names_of old) (string_bytes j)) ≡ true
+      found j e = rw (e, bytes_eq-same x) refl
+
+  pub read_array : (x : List ℕ) (old new : Scope) (es fs : List (String Z × ArrayInfo)) (i0 i1 i2 : Items) →
+      IsNamedAt x i0 i1 → IsArrayRead x old new es fs i1 i2 → AreGlobalsRead old new es fs i0 i2
+  read_array x old new es fs i0 i1 i2 n r =
+      let both = gone_then (Fixed Uint64 ∷ Name x ∷ [])
+      (Mark sign.OpenBracket ∷ Num (Some r.cells) ∷ Mark sign.CloseBracket ∷ Mark sign.Semicolon ∷ []) i0 i1 i2 n.gone r.gone in
+      record {
+        text = Array x (Some r.cells) ∷ [];
+        tokens = both.tokens;
+        rest = both.rest;
+        front = array_front old new x r.named;
+        still = r.named.still;
+        entries = r.entries;
+        short = (r.few, tt);
+        known = r.known;
+      }
+
+  pub read_scalar : (x : List ℕ) (old new : Scope) (es : List (String Z × ArrayInfo)) (i0 : Items) (t1 t2 : Cursor) →
+      IsNamedAt x i0 (items t1) → AreKnown (names_of old) es → same (Mark sign.Semicolon) (first_item t1).terminal ≡ true →
+      behind t1 ≡ items t2 → IsScalarNamed x old new → AreGlobalsRead old new es es i0 (items t2)
+  read_scalar x old new es i0 t1 t2 n h e b s =
+      let both = gone_then (Fixed Uint64 ∷ Name x ∷ []) (Mark sign.Semicolon ∷ []) i0 (items t1) (items t2) n.gone
+      (gone_one (Mark sign.Semicolon) t1 t2 (was_mark sign.Semicolon t1 e) b) in
+      record {
+        text = Scalar x ∷ [];
+        tokens = both.tokens;
+        rest = both.rest;
+        front = scalar_front old new x s;
+        still = s.still;
+        entries = sym (append-nil (map entry_of es));
+        short = tt;
+        known =
+            subst (λ (ns : Names). AreKnown ns es) (sym s.names)
+            (known_more x (meaning.Scalar (record { 0 = old.next_scalar }) (inside (context_of old 0 0))) (names_of old) es h);
+      }

@@ -1,60 +1,83 @@
--- The machine and the reader before the statements of main.
-use Rattle.std.proofs.Common.{◌≡◌, ℕ, ◌+◌, Bool, true, false, List, [], ◌∷◌, ◌++◌, length, drop, Option, Some, None, refl, sym, ap, subst, ◌∙◌}
-use Rattle.c_tokens.specs.declared.kind.Sign.TheVariants as sign
-use Rattle.base.specs.declared.fault.ReadCode.TheVariants.{Unexpected}
-use Rattle.base.specs.declared.tree.Part.{Part}
-use Rattle.c_grammar.specs.Terminal.{Terminal, Mark, same}
-use Rattle.c_grammar.specs.Texts.{Item}
-use Rattle.c_grammar.specs.Machine.{run as machine_run}
-use Rattle.c_grammar.specs.Grammar.{Opens, for}
-use Rattle.c_grammar.specs.Rules.{Context, enter, rule_here}
-use Rattle.c_grammar.specs.SmallRules.{small_breaks}
-use Rattle.c_grammar.specs.SmallMachine.{Stack, Want, advance, place_code, first_broken}
-use Rattle.c_read.specs.declared.cursor.Cursor.{Cursor}
-use Rattle.c_read.specs.declared.scope.Scope.{Scope}
-use Rattle.c_read.specs.declared.scope.Array.{Array}
-use Rattle.c_read.specs.Means.{Items, Names, AreParts as PartsMean}
-use Rattle.c_read.specs.Cursor.{items, first_item, behind}
-use Rattle.c_read.specs.Reading.{run, misfit_at, terminals}
-use Rattle.c_read.specs.Scopes.{context_of, outside_of, main_frame, global_frame, cells_of, count_of}
-use Rattle.c_read.specs.Loops.{IsGone}
-use Rattle.c_read.specs.Mains.{main_tokens, IsFresh, IsOutside, IsMainRead, IsMainPartRead}
-use Rattle.c_read.proofs.Going.{put, put_same, stop}
-use Rattle.c_read.proofs.Heads.{gone_one, gone_then, gone_four}
+-- The globals of a source, one after another.
+use Rattle.std.proofs.Common.{◌≡◌, ℕ, ◌+◌, List, [], ◌∷◌, ◌++◌, length, drop, map, Option, refl, sym, ap, subst, ◌∙◌, append_assoc, arith, length-append}
+use Rattle.std.proofs.lemmas.List.{append-nil}
+use Rattle.std.specs.declared.string.String.{String}
+use Rattle.base.specs.declared.tree.ArrayInfo.{ArrayInfo}
+use Rattle.c_grammar.specs.AsciiNames.{AreAscii}
+use Rattle.c_grammar.specs.Terminal.{Terminal}
+use Rattle.c_grammar.specs.Grammar.{Global, Scalar, Array, Slots, global, globals}
+use Rattle.c_expressions.specs.declared.scope.Scope.{Scope}
+use Rattle.c_expressions.specs.Means.{Items}
+use Rattle.c_expressions.specs.Reading.{terminals, kinds}
+use Rattle.c_expressions.specs.Scopes.{names_of}
+use Rattle.c_expressions.proofs.Expressions.{kinds_append, drops, drop_by}
+use Rattle.c_read.specs.Globals.{Front, front_of, behind_globals, with_global, arrays_in, entry_of, AreGlobalsRead, AreKnown, AreShortArrays}
 
--- where the first statement of main stands
-abbrev main_context : Option Array → Context
-main_context a =
-    record { frames = main_frame ∷ global_frame a ∷ []; fresh = None; turn = None; target = false; choice = false; limit = 0; cells = cells_of a; arrays = count_of a; scalars = 0; statements = 0; depth = 0; tokens = 0 }
+globals_append : (gs hs : List Global) → globals (gs ++ hs) ≡ globals gs ++ globals hs
+globals_append [] hs = refl
+globals_append (g ∷ gs) hs = ap (λ (xs : Slots). global g ++ xs) (globals_append gs hs)
+    ∙ sym (append_assoc (global g) (globals gs) (globals hs))
 
-item_main : (sc : Scope) (s : Stack) (i : Item Terminal) (is : Items) → run (outside_of sc) (Want (Mark sign.OpenBrace) (for Opens) ∷ s) (put i (Mark sign.OpenBrace) ∷ is) ≡ run (main_context sc.array) s is
-unfolding run machine_run advance first_broken small_breaks enter
-item_main sc s i is = refl
+arrays_append : (gs hs : List Global) → arrays_in (gs ++ hs) ≡ arrays_in gs ++ arrays_in hs
+arrays_append [] hs = refl
+arrays_append (Scalar x ∷ gs) hs = arrays_append gs hs
+arrays_append (Array x n ∷ gs) hs = ap (λ (xs : List (List ℕ × Option ℕ)). (x, n) ∷ xs) (arrays_append gs hs)
 
-main_is : (sc : Scope) → IsFresh sc → main_context sc.array ≡ context_of sc 0 0
-main_is sc f = rw (f.body, f.target, f.statements, f.scalars, f.limit) refl
+short_append : (xs ys : List (List ℕ × Option ℕ)) → AreShortArrays xs → AreShortArrays ys → AreShortArrays (xs ++ ys)
+short_append [] ys h k = k
+short_append (x ∷ xs) ys h k = (h.0, short_append xs ys h.1 k)
 
-pub go_main : (sc : Scope) (s : Stack) (t t' : Cursor) → IsFresh sc → same (Mark sign.OpenBrace) (first_item t).terminal ≡ true → behind t ≡ items t' → run (outside_of sc) (Want (Mark sign.OpenBrace) (for Opens) ∷ s) (items t) ≡ run (context_of sc 0 0) s (items t')
-go_main sc s t t' f e b =
-    ap (λ (i : Item Terminal). run (outside_of sc) (Want (Mark sign.OpenBrace) (for Opens) ∷ s) (i ∷ behind t)) (put_same (Mark sign.OpenBrace) (first_item t) e) ∙ item_main sc s (first_item t) (behind t)
-    ∙ ap (λ (c : Context). run c s (behind t)) (main_is sc f) ∙ ap (run (context_of sc 0 0) s) b
+behind_append : (gs hs : List Global) (f : Front) → behind_globals (gs ++ hs) f ≡ behind_globals hs (behind_globals gs f)
+behind_append [] hs f = refl
+behind_append (g ∷ gs) hs f = behind_append gs hs (with_global g f)
 
-pub stop_main : (c : Context) (s : Stack) (t : Cursor) → same (Mark sign.OpenBrace) (first_item t).terminal ≡ false → run c (Want (Mark sign.OpenBrace) (for Opens) ∷ s) (items t) ≡ Some (misfit_at (Some (rule_here Unexpected)) (first_item t))
-unfolding advance place_code
-stop_main c s t e = stop c (Want (Mark sign.OpenBrace) (for Opens) ∷ s) (first_item t) (behind t) (rw e refl) refl
+-- the tokens that follow some
+ascii_rest : (ts us : List Terminal) → AreAscii (ts ++ us) → AreAscii us
+ascii_rest [] us h = h
+ascii_rest (t ∷ ts) us h = ascii_rest ts us h.1
 
-pub gone_five : (u0 u1 u2 u3 u4 : Terminal) (t0 t1 t2 t3 t4 t5 : Cursor) → (first_item t0).terminal ≡ u0 → behind t0 ≡ items t1 → (first_item t1).terminal ≡ u1 → behind t1 ≡ items t2 → (first_item t2).terminal ≡ u2 → behind t2 ≡ items t3 → (first_item t3).terminal ≡ u3 → behind t3 ≡ items t4 → (first_item t4).terminal ≡ u4 → behind t4 ≡ items t5 → IsGone (u0 ∷ u1 ∷ u2 ∷ u3 ∷ u4 ∷ []) (items t0) (items t5)
-gone_five u0 u1 u2 u3 u4 t0 t1 t2 t3 t4 t5 e0 b0 e1 b1 e2 b2 e3 b3 e4 b4 =
-    gone_then (u0 ∷ []) (u1 ∷ u2 ∷ u3 ∷ u4 ∷ []) (items t0) (items t1) (items t5) (gone_one u0 t0 t1 e0 b0) (gone_four u1 u2 u3 u4 t1 t2 t3 t4 t5 e1 b1 e2 b2 e3 b3 e4 b4)
+module _ {Z : Type 0} where
+  pub no_globals : (s : Scope) (es : List (String Z × ArrayInfo)) (is : Items) → es ≡ [] → AreGlobalsRead s s [] es is is
+  no_globals s es is e = rw e (record { text = []; tokens = refl; rest = refl; front = refl; still = record { target = refl; choice = refl; always = refl }; entries = refl; short = tt; known = tt })
 
-pub fresh_outside : (sc : Scope) → IsFresh sc → IsOutside sc
-fresh_outside sc f = record { body = f.body; target = f.target }
+  pub ascii_behind : (old new : Scope) (es fs : List (String Z × ArrayInfo)) (before after : Items) →
+      AreAscii (terminals before) → AreGlobalsRead old new es fs before after → AreAscii (terminals after)
+  ascii_behind old new es fs before after h r =
+      ascii_rest (kinds (globals r.text)) (terminals after) (subst (λ (ts : List Terminal). AreAscii ts) r.tokens h)
 
-pub read_main : (names : Names) (before mid after : Items) (ps : List Part) → IsGone main_tokens before mid → IsMainRead names mid after ps → IsMainPartRead names before after ps
-read_main names before mid after ps g r =
-    record {
-      texts = r.texts;
-      tokens = g.tokens ∙ ap (λ (ts : List Terminal). main_tokens ++ ts) r.tokens;
-      parts = r.parts;
-      means = subst (λ (is : Items). PartsMean names is None r.texts ps) g.rest r.means;
-    }
+  pub known_so_far : (old new : Scope) (es fs : List (String Z × ArrayInfo)) (before after : Items) →
+      AreGlobalsRead old new es fs before after → AreKnown (names_of new) fs
+  known_so_far old new es fs before after r = r.known
+
+  pub globals_then : (s0 s1 s2 : Scope) (e0 e1 e2 : List (String Z × ArrayInfo)) (i0 i1 i2 : Items) →
+      AreGlobalsRead s0 s1 e0 e1 i0 i1 → AreGlobalsRead s1 s2 e1 e2 i1 i2 → AreGlobalsRead s0 s2 e0 e2 i0 i2
+  globals_then s0 s1 s2 e0 e1 e2 i0 i1 i2 a b =
+      let gs = a.text in
+      let hs = b.text in
+      record {
+        text = gs ++ hs;
+        tokens =
+            a.tokens ∙ ap (λ (ts : List Terminal). kinds (globals gs) ++ ts) b.tokens
+            ∙ sym (append_assoc (kinds (globals gs)) (kinds (globals hs)) (terminals i2))
+            ∙ ap (λ (ts : List Terminal). ts ++ terminals i2)
+            (sym (ap (λ (xs : Slots). kinds xs) (globals_append gs hs) ∙ kinds_append (globals gs) (globals hs)));
+        rest =
+            drop_by (length (globals gs) + length (globals hs)) (length (globals (gs ++ hs))) i0 i2
+            (sym (ap (λ (xs : Slots). length xs) (globals_append gs hs) ∙ length-append (globals gs) (globals hs)))
+            (drops (length (globals gs)) (length (globals hs)) i0 i1 i2 a.rest b.rest);
+        front =
+            b.front ∙ ap (λ (f : Front). behind_globals hs f) a.front ∙ sym (behind_append gs hs (front_of s0));
+        still = record {
+          target = b.still.target ∙ a.still.target;
+          choice = b.still.choice ∙ a.still.choice;
+          always = b.still.always ∙ a.still.always;
+        };
+        entries =
+            b.entries ∙ ap (λ (xs : List (List ℕ × Option ℕ)). xs ++ arrays_in hs) a.entries
+            ∙ append_assoc (map entry_of e0) (arrays_in gs) (arrays_in hs)
+            ∙ ap (λ (xs : List (List ℕ × Option ℕ)). map entry_of e0 ++ xs) (sym (arrays_append gs hs));
+        short =
+            subst (λ (xs : List (List ℕ × Option ℕ)). AreShortArrays xs) (sym (arrays_append gs hs))
+            (short_append (arrays_in gs) (arrays_in hs) a.short b.short);
+        known = b.known;
+      }

@@ -1,67 +1,76 @@
--- The targets that were read.
-use Rattle.std.proofs.Common.{◌≡◌, ℕ, Bool, true, false, cond, List, [], ◌∷◌, map, Option, Some, None, refl, sym, ap, subst, ◌∙◌}
-use Rattle.base.specs.declared.tree.Place.{Place}
-use Rattle.base.specs.declared.tree.Bound.{Bound}
-use Rattle.base.specs.declared.tree.Target.{Target}
-use Rattle.base.specs.declared.tree.RegionKind.TheVariants.{ToFrom}
-use Rattle.base.specs.declared.fault.ReadCode.TheVariants.{Undeclared}
-use Rattle.c_grammar.specs.Lexeme.{Placed}
-use Rattle.c_grammar.specs.SmallLines.{SmallLine, Faulty, Maps, small_line}
-use Rattle.c_grammar.specs.Source.{nth}
-use Rattle.c_grammar.proofs.Ways.{some_of, same_some, no_some}
-use Rattle.c_read.specs.declared.cursor.Cursor.{Cursor}
-use Rattle.c_read.specs.declared.scope.Scope.{Scope}
-use Rattle.c_read.specs.declared.line.Length.{Length}
-use Rattle.c_read.specs.declared.line.Mapped.{Mapped}
-use Rattle.c_read.specs.Means.{Items, Names, place_of, place_on, index_of, IsLiteral, AreBounds, IsTarget}
-use Rattle.c_read.specs.Cursor.{items, first_item}
-use Rattle.c_read.specs.Seen.{kinds_on, columns_on}
-use Rattle.c_read.specs.Lines.{SaidAt, FaultyAt, MapsAt, with_columns, with_column, seen_length, said_on}
-use Rattle.c_read.specs.Scopes.{names_of, array_names, is_array_name}
-use Rattle.c_read.specs.Targets.{HasLength, line_fault, length_fault, seen_mapped, IsTargetMade}
-use Rattle.c_read.proofs.Columns.{said_is}
-use Rattle.c_read.proofs.Contexts.{index_first}
+-- The region of a target that was read.
+use Rattle.std.proofs.Common.{◌≡◌, ℕ, ◌+◌, ◌≤◌, Bool, true, false, List, [], ◌∷◌, ◌++◌, Option, Some, None, Vec, Global, refl, sym, ap, subst, ◌∙◌, inl, inr, arith}
+use Rattle.std.specs.Prelude.{◌||◌}
+use Rattle.std.specs.Borrow.{Bor}
+use Rattle.base.specs.declared.tree.Bounds.{Bounds}
+use Rattle.base.specs.declared.tree.Stmt.{Stmt as Statement, Loop as LoopOf}
+use Rattle.c_grammar.specs.Lexeme.{For, Uint64}
+use Rattle.c_grammar.specs.Terminal.{Fixed, Mark, Name}
+use Rattle.c_grammar.specs.Rules.{Context, inside}
+use Rattle.c_tokens.specs.declared.kind.Sign.TheVariants as sign
+use Rattle.c_expressions.specs.declared.changes.Turn.{Turn}
+use Rattle.c_expressions.specs.declared.cursor.Cursor.{Cursor}
+use Rattle.c_expressions.specs.declared.scope.Scope.{Scope}
+use Rattle.c_expressions.specs.declared.scope.Meaning.TheVariants as meaning
+use Rattle.c_expressions.specs.Means.{Items}
+use Rattle.c_expressions.specs.Cursor.{items, first_item, behind}
+use Rattle.c_expressions.specs.Scopes.{context_of, names_of}
+use Rattle.c_statements.specs.Bodies.{inner_env, IsBodyRead, IsSameBlock}
+use Rattle.c_statements.specs.Loops.{IsGone, IsNamedMore, bounds_tokens, with_limit}
+use Rattle.c_statements.specs.Simple.{env_of, loops_in, IsStmtRead}
+use Rattle.c_statements.specs.Statements.{Env, in_loop, more, declared_in}
+use Rattle.c_statements.proofs.Nesting.{env_named}
+use Rattle.c_statements.proofs.Wholes.{read_loop}
+use Rattle.c_read.specs.Parts.{in_target}
+use Rattle.c_read.specs.Read.{IsLoop, IsRegionRead}
 
--- the array of a line without fault is declared
-array_declared : (sc : Scope) (m : Mapped) → line_fault sc (seen_mapped m) ≡ None → is_array_name sc m.name.now ≡ true
-array_declared sc m e = go (is_array_name sc m.name.now) refl
-  where
-    go : (b : Bool) → is_array_name sc m.name.now ≡ b → is_array_name sc m.name.now ≡ true
-    go true h = h
-    go false h = absurd (no_some (record { code = Undeclared; column = m.column }) (sym (rw h at e)))
+or_yes : (a b : Bool) → b ≡ true → (a || b) ≡ true
+or_yes true b e = refl
+or_yes false b e = e
 
-bounds_are : (l : Option Length) (columns : List ℕ) (u : Option (ℕ × ℕ)) (b : Option (Bound × Bound)) → seen_length l ≡ with_column columns u → HasLength l b → AreBounds u b
-bounds_are None columns None None e h = tt
-bounds_are None columns None (Some b) e h = absurd h
-bounds_are None columns (Some p) b e h = absurd cc
-bounds_are (Some l) columns None b e h = absurd cc
-bounds_are (Some l) columns (Some p) None e h = absurd h
-bounds_are (Some l) columns (Some p) (Some b) e h = (h.0, subst (λ (n : ℕ). IsLiteral n b.1) (length_is (l.column, l.cells) (nth columns p.0, p.1) e) h.1)
-  where
-    length_is : (a c : ℕ × ℕ) → some_of a ≡ some_of c → a.1 ≡ c.1
-    length_is a c e = ap (λ (q : ℕ × ℕ). q.1) (same_some a c e)
+-- in the block of a target
+target_inner : (s : Scope) → s.target ≡ true → inner_env None s ≡ in_target (env_of s)
+target_inner s e = ap (λ (i : Bool). (let v : Env = record (env_of s) { inside = i } in v)) (or_yes (inside (context_of s 0 0)) s.target e)
 
-target_is : (names : Names) (is : Items) (columns : List ℕ) (line : ℕ) (m : Mapped) (l : SmallLine) (t : Target) → index_of m.name.now names.arrays ≡ Some 0 → ((j : ℕ) → place_on is j ≡ record { line = line; column = nth columns j }) → seen_mapped m ≡ with_columns columns l → IsTargetMade m line t → IsTarget names is l t
-target_is names is columns line m (Faulty k code) t a p e r = absurd cc
-target_is names is columns line m (Maps j x u) t a p e r =
-    let name : m.name.now ≡ x = cc in
-    let column : m.column ≡ nth columns j = cc in
-    let bounds : seen_length m.length ≡ with_column columns u = cc in (
-      r.is_target.waits,
-      r.is_target.alone,
-      record { kind = ToFrom; always = false; section = r.section },
-      r.is_target.maps,
-      refl,
-      refl,
-      ap (λ (y : List ℕ). index_of y names.arrays) (sym name) ∙ a ∙ ap (λ (n : ℕ). Some n) (sym r.is_section.array),
-      r.is_section.place ∙ ap (λ (c : ℕ). record { line = line; column = c }) column ∙ sym (p j),
-      bounds_are m.length columns u r.section.bounds bounds r.is_section.bounds,
-    )
+target_turn : (s : Scope) (t : Turn) → s.target ≡ true → t.level ≡ loops_in (names_of s) →
+    inner_env (Some t) s ≡ in_loop t.name.now (in_target (env_of s))
+target_turn s t e h =
+    let n = loops_in (names_of s) in
+    ap (λ (i : Bool). (let v : Env = record (inner_env (Some t) s) { inside = i } in v)) (or_yes (inside (context_of s 0 0)) s.target e)
+    ∙ ap (λ (l : ℕ). (let v : Env = record { names = (t.name.now, meaning.Loop l) ∷ names_of s; scalars = s.next_scalar; loops = n + 1; inside = true } in v)) h
 
-pub read_line : (sc : Scope) (ps : List Placed) (place : Place) (m : Mapped) (tokens : Cursor) (t : Target) → place ≡ place_of (items tokens) → (first_item tokens).columns ≡ columns_on ps → line_fault sc (said_on ps) ≡ None → seen_mapped m ≡ said_on ps → IsTargetMade m place.line t → IsTarget (names_of sc) (items tokens) (small_line (kinds_on ps)) t
-read_line sc ps place m tokens t w cs f e r =
-    let sound : line_fault sc (seen_mapped m) ≡ None = ap (line_fault sc) e ∙ f in
-    let named : index_of m.name.now (array_names sc.array) ≡ Some 0 = index_first m.name.now (array_names sc.array) (array_declared sc m sound) in
-    target_is (names_of sc) (items tokens) (columns_on ps) place.line m (small_line (kinds_on ps)) t named
-    (λ j. ap (λ (cols : List ℕ). record { line = (first_item tokens).line; column = nth cols j }) cs ∙ ap (λ (q : Place). record { line = q.line; column = nth (columns_on ps) j }) (sym w))
-    (e ∙ said_is ps) r
+pub region_block : (s0 s1 : Scope) (before after : Items) (xs : List Statement) → s0.target ≡ true →
+    IsBodyRead (env_of s0) (inner_env None s0) (env_of s1) before after xs →
+    IsRegionRead (env_of s0) (env_of s1) before after xs
+region_block s0 s1 before after xs e r =
+    inl (subst (λ (v : Env). IsBodyRead (env_of s0) v (env_of s1) before after xs) (target_inner s0 e) r)
+
+pub region_loop : (env next : Env) (before after : Items) (x : Statement) (xs : List Statement) → xs ≡ x ∷ [] → IsLoop x →
+    IsStmtRead (in_target env) (in_target next) before after x → IsRegionRead env next before after xs
+region_loop env next before after x xs e l r = inr (x, e, l, r)
+
+in_body : (env inner next : Env) (before after : Items) (xs : List Statement) → IsBodyRead env inner next before after xs →
+    IsBodyRead (in_target env) inner (in_target next) before after xs
+in_body env inner next before after xs r = record {
+  texts = r.texts;
+  tokens = r.tokens;
+  rest = r.rest;
+  are_texts = r.are_texts;
+  fewer = r.fewer;
+  means = r.means;
+  next_is = ap in_target r.next_is;
+}
+
+pub target_loop_tree : (s0 s2 s3 s4 : Scope) (x : Bor (List ℕ)) (level : ℕ) (b : Bounds) (u u' : Cursor) (i2 i3 after : Items) (all : Vec Statement Global) →
+    s0.target ≡ true → IsNamedMore s0 s2 → s3 ≡ with_limit s2 b.end → level ≡ loops_in (names_of s3) →
+    (first_item u).terminal ≡ Fixed For → behind u ≡ items u' →
+    IsGone (Mark sign.OpenParen ∷ Fixed Uint64 ∷ Name x.now ∷ []) (items u') i2 → IsGone (bounds_tokens x.now b) i2 i3 →
+    IsBodyRead (env_of s3) (inner_env (Some (record { name = x; level = level })) s3) (env_of s4) i3 after all.items →
+    IsStmtRead (in_target (env_of s0)) (in_target (env_of s4)) (items u) after (LoopOf b all)
+target_loop_tree s0 s2 s3 s4 x level b u u' i2 i3 after all g e2 e3 l f d g1 g2 r =
+    let same : env_of s3 ≡ env_of s0 = ap env_of e3 ∙ env_named s0 s2 e2 in
+    let on : s3.target ≡ true = ap (λ (s : Scope). s.target) e3 ∙ ap (λ (c : Context). c.target) e2.context ∙ g in
+    let turn : Turn = record { name = x; level = level } in
+    read_loop (in_target (env_of s0)) (in_target (env_of s3)) (inner_env (Some turn) s3) (in_target (env_of s4)) x.now b u u' i2 i3 after all f d g1 g2
+    (ap in_target same) (target_turn s3 turn on l ∙ ap (λ (v : Env). in_loop x.now (in_target v)) same)
+    (in_body (env_of s3) (inner_env (Some turn) s3) (env_of s4) i3 after all.items r)

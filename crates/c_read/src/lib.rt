@@ -2,20 +2,18 @@
 #![tactic(auto)]
 
 mod array;
-mod cursor;
-mod expr;
-mod fault;
-mod line;
-mod number;
+#[cfg(test)]
+mod fault_tests;
+mod gathered;
+mod globals;
+mod limits;
+mod parts;
+mod piece;
+mod plain;
 mod program;
-mod scope;
-mod stmt;
-mod target;
-mod terminal;
-mod turns;
-
-pub use c_programs::read_program;
-pub use program::read_small;
-
+mod region;
 #[cfg(test)]
 mod tests;
+mod wrap;
+
+pub use program::read_program;

@@ -1,216 +1,124 @@
 //! Whole programs.
-ghost use Rattle.std.specs.Prelude.{IfOk, IfErr, OnOk, None, [], ◌∷◌};
-ghost use Rattle.base.specs.declared.tree.Program.{Program};
-ghost use Rattle.base.specs.Small.{IsSmall};
-ghost use Rattle.c_grammar.specs.Rules.{begin};
-ghost use Rattle.c_grammar.specs.SmallMachine.{Begin};
-ghost use Rattle.c_grammar.specs.SmallSource.{IsFirstSmallFault};
-ghost use Rattle.c_grammar.specs.Source.{items_of};
-ghost use Rattle.c_read.specs.Reading.{run, Outcome};
-ghost use Rattle.c_read.specs.Spells.{Spells, OnText};
-ghost use Rattle.c_read.specs.Sources.{IsTextRead};
 
-use crate::cursor::Cursor;
-use crate::fault::ReadError;
-use crate::scope::{MAX_SOURCE, Scope};
-use crate::terminal::Terminal;
+ghost use Rattle.std.specs.Prelude.{◌≡◌, [], ◌∷◌, OnOk, IfOk, IfErr, None, false};
+ghost use Rattle.base.specs.declared.tree.Program.{Program};
+ghost use Rattle.base.specs.Limits.{AreShort};
+ghost use Rattle.c_grammar.specs.AsciiNames.{AreAscii};
+ghost use Rattle.c_grammar.specs.Grammar.{Plain, for};
+ghost use Rattle.c_grammar.specs.Lexeme.{Uint64};
+ghost use Rattle.c_grammar.specs.Program.{Stack, Body, Globals, Want, start};
+ghost use Rattle.c_grammar.specs.Rules.{begin};
+ghost use Rattle.c_grammar.specs.Grammar.{Text};
+ghost use Rattle.c_grammar.specs.Source.{items_of, IsFirstFault, Spells as SpellsText};
+ghost use Rattle.c_grammar.specs.Terminal.{End, Fixed, same};
+ghost use Rattle.c_expressions.specs.Cursor.{items, first_item};
+ghost use Rattle.c_expressions.specs.Reading.{run, terminals, Outcome};
+ghost use Rattle.c_expressions.specs.Scopes.{context_of, names_of};
+ghost use Rattle.c_statements.specs.Blocks.{turned};
+ghost use Rattle.c_statements.specs.Loops.{IsGone};
+ghost use Rattle.c_grammar.specs.Rules.{opened};
+ghost use Rattle.c_read.specs.Spells.{main_tokens, IsTextRead, Spells, OnText};
+ghost use Rattle.c_read.specs.Starts.{IsStart};
+
+use crate::globals::globals;
+use crate::limits::MAX_SOURCE;
+use crate::parts::gather;
 use base::fault::{ReadCode, ReadFault, TextFault};
-use base::tree::{Part, Program, Region, Stmt};
+use base::tree::Program;
+use c_expressions::{Cursor, Frame, ReadError, Scope};
+use c_statements::open_body;
 use c_tokens::Sign;
 use directives::Word;
-use std::alloc::Global;
+use std::alloc::{AllocError, Global};
 
-impl<'a> Scope<'a> {
-    ghost use Rattle.std.specs.Prelude.{◌≡◌, ◌∷◌, [], None, OnOk, IfOk, true, false};
-    ghost use Rattle.c_tokens.specs.declared.kind.Sign.TheVariants as sign;
-    ghost use Rattle.base.specs.declared.tree.Part.TheVariants as part;
-    ghost use Rattle.c_grammar.specs.Terminal.{End, Mark, same};
-    ghost use Rattle.c_grammar.specs.SmallMachine.{Stack, Parts, Want, m, main_rest, w};
-    ghost use Rattle.c_grammar.specs.Lexeme.{Main, Void};
-    ghost use Rattle.c_grammar.specs.Grammar.{Opens, Plain, for};
-    ghost use Rattle.c_grammar.specs.Rules.{begin};
-    ghost use Rattle.c_grammar.specs.SmallMachine.{Begin};
-    ghost use Rattle.c_grammar.specs.AsciiNames.{AreAscii};
-    ghost use Rattle.c_read.specs.Sources.{IsTextRead};
-    ghost use Rattle.c_read.specs.Loops.{IsGone};
-    ghost use Rattle.c_read.specs.Cursor.{items, first_item, behind};
-    ghost use Rattle.c_read.specs.Reading.{run, terminals, Outcome, stops};
-    ghost use Rattle.c_read.specs.Scopes.{context_of, outside_of};
-    ghost use Rattle.c_read.specs.Targets.{IsPartRead};
-    ghost use Rattle.c_read.specs.Mains.{EndsWell, IsFresh, IsHostRead, IsMainPartRead, IsMainRead, IsOutside, IsStill, closing_of, main_tokens, names_at};
+/// The words of `main`, up to its brace, behind the globals.
+#[tactic(auto, using(c_expressions::proofs::Outcomes::on_from, crate::proofs::Programs::main_comes, crate::proofs::Programs::gone_six))]
+fn main_head<'a>(scope: &mut Scope<'a>, tokens: &mut Cursor<'a>) -> Result<(), ReadError>
+    requires { same (Fixed Uint64) (first_item tokens.old).terminal ≡ false }
+    ensures read { (s : Stack) → Outcome result (run (context_of scope.old 0 0) (Globals ∷ s) (items tokens.old))
+        (run (context_of scope.new 0 0) (Body ∷ Want End (for Plain) ∷ s) (items tokens.new)) }
+    ensures opened { OnOk result (context_of scope.new 0 0 ≡ opened (turned None scope.old)) }
+    ensures names { OnOk result (names_of scope.new ≡ names_of scope.old) }
+    ensures next { OnOk result (scope.new.next_scalar ≡ scope.old.next_scalar) }
+    ensures gone { OnOk result (IsGone main_tokens (items tokens.old) (items tokens.new)) }
+{
+    tokens.expect_word(Word::Int)?;
+    tokens.expect_word(Word::Main)?;
+    tokens.expect(Sign::OpenParen)?;
+    tokens.expect_word(Word::Void)?;
+    tokens.expect(Sign::CloseParen)?;
+    open_body(scope, tokens, None)?;
+    Ok(())
+}
 
-    /// A loop or a statement outside loops.
-    #[tactic(auto, using(crate::proofs::Outcomes::on_from, crate::proofs::Hosts::at_for, crate::proofs::Hosts::for_first, crate::proofs::Hosts::at_parts, crate::proofs::Hosts::read_host_loop, crate::proofs::Hosts::read_host_simple, crate::proofs::Hosts::still_left, crate::proofs::Hosts::still_counted))]
-    fn host_stmt(&mut self, tokens: &mut Cursor<'a>) -> Result<Stmt, ReadError>
-        requires outside { IsOutside self.old }
-        requires begins { stops (first_item tokens.old).terminal ≡ false }
-        ensures read { (s : Stack) → Outcome result (run (context_of self.old 0 0) (Parts ∷ s) (items tokens.old)) (run (context_of self.new 0 0) (Parts ∷ s) (items tokens.new)) }
-        ensures scope { OnOk result (IsStill self.old self.new) }
-        ensures tree { IfOk result (λ x. IsHostRead (names_at self.old.array) (items tokens.old) (items tokens.new) x) }
-    {
-        if tokens.at_word(Word::For) {
-            let turns = self.repeated(tokens)?;
-            return Ok(turns);
-        }
-        let stmt = self.simple(tokens)?;
-        Ok(stmt)
-    }
+/// The whole source.
+#[tactic(auto, using(c_expressions::proofs::Outcomes::on_from, crate::proofs::Programs::main_outside, crate::proofs::Programs::read_text))]
+fn program<'a>(scope: &mut Scope<'a>, tokens: &mut Cursor<'a>) -> Result<Program, ReadError>
+    requires fresh { IsStart scope.old }
+    requires text { AreAscii (terminals (items tokens.old)) }
+    ensures read { Outcome result (run begin start (items tokens.old)) None }
+    ensures tree { IfOk result (λ p. IsTextRead (items tokens.old) p) }
+{
+    let arrays = globals(scope, tokens)?;
+    main_head(scope, tokens)?;
+    let gathered = gather(scope, tokens)?;
+    tokens.end()?;
+    let body = gathered.parts()?;
+    Ok(Program {
+        arrays,
+        scalars: scope.next_scalar,
+        body,
+    })
+}
 
-    /// The longest run of statements that begins here.
-    #[tactic(auto, using(crate::proofs::Outcomes::on_from, crate::proofs::Hosts::run_one, crate::proofs::Hosts::run_ends))]
-    fn host_region(&mut self, tokens: &mut Cursor<'a>) -> Result<Region, ReadError>
-        requires outside { IsOutside self.old }
-        requires begins { stops (first_item tokens.old).terminal ≡ false }
-        ensures read { (s : Stack) → Outcome result (run (context_of self.old 0 0) (Parts ∷ s) (items tokens.old)) (run (context_of self.new 0 0) (Parts ∷ s) (items tokens.new)) }
-        ensures scope { OnOk result (IsStill self.old self.new) }
-        ensures tree { IfOk result (λ r. IsPartRead (names_at self.old.array) (items tokens.old) (items tokens.new) (part.Host r)) }
-        ensures ends { OnOk result (stops (first_item tokens.new).terminal ≡ true) }
-    {
-        let place = tokens.place();
-        let first = self.host_stmt(tokens)?;
-        let mut body = Vec::new(self.alloc);
-        body.push(first)?;
-        'run: while !tokens.stops() {
-            let stmt = self.host_stmt(tokens)?;
-            body.push(stmt)?;
-        }
-        Ok(Region { place, body })
-    }
-
-    /// A target or a run of statements.
-    #[tactic(auto, using(crate::proofs::Outcomes::on_from, crate::proofs::Hosts::still_left, crate::proofs::Hosts::read_outside))]
-    fn part(&mut self, tokens: &mut Cursor<'a>) -> Result<Part, ReadError>
-        requires outside { IsOutside self.old }
-        requires goes_on { same (Mark sign.CloseBrace) (first_item tokens.old).terminal ≡ false }
-        ensures read { (s : Stack) → Outcome result (run (context_of self.old 0 0) (Parts ∷ s) (items tokens.old)) (run (context_of self.new 0 0) (Parts ∷ s) (items tokens.new)) }
-        ensures scope { OnOk result (IsStill self.old self.new) }
-        ensures tree { IfOk result (λ p. IsPartRead (names_at self.old.array) (items tokens.old) (items tokens.new) p) }
-        ensures ends { IfOk result (λ p. EndsWell p (first_item tokens.new).terminal) }
-    {
-        match tokens.peek() {
-            Terminal::Line(line, column) => {
-                let target = self.target(tokens, line, column)?;
-                Ok(target)
-            }
-            _ => {
-                let region = self.host_region(tokens)?;
-                Ok(Part::Host(region))
-            }
-        }
-    }
-
-    /// The parts of `main` and the brace that ends it.
-    #[tactic(auto, using(crate::proofs::Outcomes::on_from, crate::proofs::Mains::main_none, crate::proofs::Mains::go_end))]
-    fn parts(&mut self, tokens: &mut Cursor<'a>) -> Result<Vec<Part>, ReadError>
-        requires outside { IsOutside self.old }
-        ensures read { (s : Stack) → Outcome result (run (context_of self.old 0 0) (Parts ∷ s) (items tokens.old)) (run (closing_of self.old.array self.new) s (items tokens.new)) }
-        ensures array { OnOk result (self.new.array ≡ self.old.array) }
-        ensures tree { IfOk result (λ ps. IsMainRead (names_at self.old.array) (items tokens.old) (items tokens.new) ps.items) }
-    {
-        let mut parts = Vec::new(self.alloc);
-        'parts: while !tokens.at(Sign::CloseBrace) {
-            let part = self.part(tokens)?;
-            parts.push(part)?;
-        }
-        tokens.take();
-        Ok(parts)
-    }
-
-    /// The brace with which `main` begins.
-    #[tactic(auto, using(crate::proofs::Fronts::stop_main, crate::proofs::Fronts::go_main, crate::proofs::Going::was_mark))]
-    fn main_brace(&self, tokens: &mut Cursor<'a>) -> Result<(), ReadError>
-        requires { IsFresh self.now }
-        ensures read { (s : Stack) → Outcome result (run (outside_of self.now) (Want (Mark sign.OpenBrace) (for Opens) ∷ s) (items tokens.old)) (run (context_of self.now 0 0) s (items tokens.new)) }
-        ensures first { OnOk result ((first_item tokens.old).terminal ≡ Mark sign.OpenBrace) }
-        ensures taken { OnOk result (behind tokens.old ≡ items tokens.new) }
-    {
-        if !tokens.at(Sign::OpenBrace) {
-            return Err(ReadError::Fault(tokens.refuse()));
-        }
-        tokens.take();
-        Ok(())
-    }
-
-    /// `main` behind its first word, up to its brace.
-    #[tactic(auto, using(crate::proofs::Outcomes::on_from, crate::proofs::Fronts::gone_five))]
-    fn main_head(&self, tokens: &mut Cursor<'a>) -> Result<(), ReadError>
-        requires { IsFresh self.now }
-        ensures read { (s : Stack) → Outcome result (run (outside_of self.now) (w Main ∷ m sign.OpenParen ∷ w Void ∷ m sign.CloseParen ∷ Want (Mark sign.OpenBrace) (for Opens) ∷ s) (items tokens.old)) (run (context_of self.now 0 0) s (items tokens.new)) }
-        ensures gone { OnOk result (IsGone main_tokens (items tokens.old) (items tokens.new)) }
-    {
-        tokens.expect_word(Word::Main)?;
-        tokens.expect(Sign::OpenParen)?;
-        tokens.expect_word(Word::Void)?;
-        tokens.expect(Sign::CloseParen)?;
-        self.main_brace(tokens)?;
-        Ok(())
-    }
-
-    /// `main` behind its first word.
-    #[tactic(auto, using(crate::proofs::Outcomes::on_from, crate::proofs::Fronts::fresh_outside, crate::proofs::Fronts::read_main))]
-    fn main_part(&mut self, tokens: &mut Cursor<'a>) -> Result<Vec<Part>, ReadError>
-        requires { IsFresh self.old }
-        ensures read { (s : Stack) → Outcome result (run (outside_of self.old) (main_rest s) (items tokens.old)) (run (closing_of self.old.array self.new) (Want End (for Plain) ∷ s) (items tokens.new)) }
-        ensures array { OnOk result (self.new.array ≡ self.old.array) }
-        ensures tree { IfOk result (λ ps. IsMainPartRead (names_at self.old.array) (items tokens.old) (items tokens.new) ps.items) }
-    {
-        self.main_head(tokens)?;
-        let parts = self.parts(tokens)?;
-        Ok(parts)
-    }
-
-    /// The whole source.
-    #[tactic(auto, using(crate::proofs::Outcomes::on_from, crate::proofs::Declared::name_is_text, crate::proofs::Sources::still_fresh, crate::proofs::Sources::read_text))]
-    fn program(&mut self, tokens: &mut Cursor<'a>) -> Result<Program, ReadError>
-        requires fresh { IsFresh self.old }
-        requires none { self.old.array ≡ None }
-        requires text { AreAscii (terminals (items tokens.old)) }
-        ensures read { Outcome result (run begin (Begin ∷ []) (items tokens.old)) None }
-        ensures tree { IfOk result (λ p. IsTextRead (items tokens.old) p) }
-    {
-        self.array(tokens)?;
-        tokens.expect_word(Word::Int)?;
-        let body = self.main_part(tokens)?;
-        tokens.end()?;
-        let arrays = self.arrays()?;
-        Ok(Program {
-            arrays,
-            scalars: 0,
-            body,
-        })
-    }
+/// What is known before the first token.
+#[tactic(auto, using(crate::proofs::Programs::start_is))]
+fn new_scope<'a>(alloc: Global) -> Result<Scope<'a>, AllocError>
+    ensures { IfOk result (λ s. IsStart s) }
+{
+    let mut frames = Vec::new(alloc);
+    frames.push(Frame {
+        names: Vec::new(alloc),
+        inside: false,
+        choice: false,
+    })?;
+    Ok(Scope {
+        alloc,
+        frames,
+        fresh: None,
+        target: false,
+        choice: false,
+        limit: 0,
+        cells: 0,
+        arrays: 0,
+        scalars: 0,
+        next_scalar: 0,
+        statements: 0,
+    })
 }
 
 /// The program of a source that is not too long.
 #[tactic(auto, using(c_grammar::proofs::AsciiNames::names_are_ascii))]
 fn read_short(alloc: Global, bytes: &[u8]) -> Result<Program, ReadError>
-    ensures read { Outcome result (run begin (Begin ∷ []) (items_of bytes.now)) None }
+    ensures read { Outcome result (run begin start (items_of bytes.now)) None }
     ensures tree { IfOk result (λ p. IsTextRead (items_of bytes.now) p) }
 {
     let mut tokens = Cursor::new(bytes);
-    let mut scope = Scope {
-        alloc,
-        array: None,
-        body: None,
-        target: false,
-        statements: 0,
-        scalars: 0,
-        limit: 0,
-    };
-    let program = scope.program(&mut tokens)?;
+    let mut scope = new_scope(alloc)?;
+    let program = program(&mut scope, &mut tokens)?;
     Ok(program)
 }
 
-/// Reads a source of the small language: at most one array, and `main` with stores, prints, loops of such, and targets
-/// that map the array whole, over a block or a loop of stores. Places count bytes from 1. A fault is the first in the
-/// source, the lowest code at its token; a source of more than 1,048,576 bytes has `TooMany` at its first byte.
-/// Want of memory comes in place of any answer.
-#[tactic(auto, using(crate::proofs::Answered::spells, crate::proofs::Answered::is_small, crate::proofs::Answered::is_first, crate::proofs::Answered::is_none, crate::proofs::Answered::too_long_first, crate::proofs::Answered::too_long_none))]
-pub fn read_small(alloc: Global, bytes: &[u8]) -> Result<Program, ReadFault>
+/// Reads a source of the language. Places count bytes from 1. A fault is the first in the source, the lowest code at
+/// its token; a source of more than 1,048,576 bytes has `TooMany` at its first byte. Want of memory comes in place of
+/// any answer. No array of the program has more than 65,536 cells.
+#[tactic(auto, using(crate::proofs::Answered::spells, crate::proofs::Answered::is_short, crate::proofs::Answered::is_first, crate::proofs::Answered::is_none, crate::proofs::Answered::no_text, crate::proofs::Answered::too_long_first, crate::proofs::Answered::too_long_none, crate::proofs::Answered::too_long_no_text))]
+pub fn read_program(alloc: Global, bytes: &[u8]) -> Result<Program, ReadFault>
     ensures found { IfOk result (λ p. Spells bytes.now p) }
-    ensures small { IfOk result IsSmall }
-    ensures fault { IfErr result (OnText (λ f. IsFirstSmallFault bytes.now f)) }
+    ensures short { IfOk result AreShort }
+    ensures fault { IfErr result (OnText (λ f. IsFirstFault bytes.now f)) }
     ensures refused { IfErr result (OnText (λ _. (p : Program) → Spells bytes.now p → ⊥)) }
+    ensures unspelled { IfErr result (OnText (λ _. (t : Text) → SpellsText bytes.now t → ⊥)) }
 {
     if bytes.len() > MAX_SOURCE {
         return Err(ReadFault::Text(TextFault {

@@ -4,7 +4,7 @@ use Rattle.c_tokens.specs.declared.kind.Sign.{Sign}
 use Rattle.base.specs.declared.fault.ReadCode.{ReadCode as Code}
 use Rattle.base.specs.declared.fault.ReadCode.TheVariants.{Unexpected, UnknownDirective}
 use Rattle.c_grammar.specs.Lexeme.{Lexeme, Reserved, Signed, Worded, Numbered, Strange, Ended, same}
-use Rattle.c_grammar.specs.SmallLines.{lower_code}
+use Rattle.c_grammar.specs.Code.{lower_code}
 use Rattle.c_grammar.specs.Texts.{Item, next_of}
 use Rattle.c_grammar.specs.Machine.{lower, own_rule, run as machine_run}
 use Rattle.c_grammar.specs.LineGrammar.{LineAct, of}

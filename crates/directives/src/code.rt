@@ -1,8 +1,7 @@
 //! The order of codes.
 
 ghost use Rattle.std.specs.Prelude.{◌≡◌};
-ghost use Rattle.c_grammar.specs.Code.{code_number};
-ghost use Rattle.c_grammar.specs.SmallLines.{lower_code};
+ghost use Rattle.c_grammar.specs.Code.{code_number, lower_code};
 
 use base::fault::ReadCode;
 

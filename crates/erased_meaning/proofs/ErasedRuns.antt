@@ -16,9 +16,9 @@ use Rattle.c_grammar.proofs.SourceOne.{one_text}
 use Rattle.c_expressions.specs.declared.scope.Meaning.TheVariants as meaning
 use Rattle.c_expressions.specs.Means.{Items, Names}
 use Rattle.c_statements.specs.Statements.{Env, AreStatements}
-use Rattle.c_programs.specs.Globals.{no_front, behind_globals, entry_of}
-use Rattle.c_programs.specs.Parts.{ArePieces, pieces_of}
-use Rattle.c_programs.specs.Spells.{IsProgram, front_size}
+use Rattle.c_read.specs.Globals.{no_front, behind_globals, entry_of}
+use Rattle.c_read.specs.Parts.{ArePieces, pieces_of}
+use Rattle.c_read.specs.Spells.{IsProgram, front_size}
 use Rattle.erasure.specs.Erased.{erased_text}
 use Rattle.erasure.specs.Plain.{plain_stmts, plain_tree}
 use Rattle.erasure.proofs.Spelled.{spells_plain}

@@ -7,7 +7,7 @@ use Rattle.c_grammar.specs.Rules.{Context, Sort, AnArray, begin, out, opened, en
 use Rattle.c_grammar.specs.Texts.{KeepsRules}
 use Rattle.c_expressions.specs.declared.scope.Meaning.TheVariants as meaning
 use Rattle.c_statements.specs.Statements.{Env, with_scalar}
-use Rattle.c_programs.specs.Globals.{Front, no_front, with_array, with_global, behind_globals}
+use Rattle.c_read.specs.Globals.{Front, no_front, with_array, with_global, behind_globals}
 use Rattle.erasure.proofs.Follows.{entered, entered_append, next_in, Keeps, keeps_at, keeps_split}
 use Rattle.erased_meaning.proofs.Envs.{plain_env}
 use Rattle.erased_meaning.proofs.Pieces.{AreSafe, IsOutside, outside_behind}

@@ -12,7 +12,7 @@ use Rattle.c_grammar.specs.Grammar.{Stmts}
 use Rattle.c_expressions.specs.declared.scope.Meaning.TheVariants as meaning
 use Rattle.c_expressions.specs.Means.{Items, Names}
 use Rattle.c_statements.specs.Statements.{Env, AreStatements}
-use Rattle.c_programs.specs.Parts.{in_target}
+use Rattle.c_read.specs.Parts.{in_target}
 use Rattle.erasure.specs.Plain.{plain_stmts}
 use Rattle.erased_meaning.proofs.Values.{Agree}
 use Rattle.erased_meaning.proofs.Likeness.{Mode, OnHost, InTarget, Like, Both}

@@ -20,7 +20,7 @@ use Rattle.c_expressions.specs.declared.scope.Meaning.TheVariants as meaning
 use Rattle.c_expressions.specs.Means.{Items, Names}
 use Rattle.c_statements.specs.Statements.{Env, stmt_size, head_size, behind, more, declared_in, in_loop, IsHead, IsStatement, AreStatements}
 use Rattle.c_constructs.specs.LineMeaning.{LineOf}
-use Rattle.c_programs.specs.Parts.{in_target, Placed, plain, pieces_in, pieces_of, ArePieces, IsPart, IsHostLoop, OneLoop, AreMixed}
+use Rattle.c_read.specs.Parts.{in_target, Placed, plain, pieces_in, pieces_of, ArePieces, IsPart, IsHostLoop, OneLoop, AreMixed}
 use Rattle.erasure.specs.Plain.{plain_before, plain_stmts}
 use Rattle.erased_meaning.proofs.Likeness.{OnHost, Like, Both}
 use Rattle.erased_meaning.proofs.Envs.{plain_env, plain_one, plain_then, behind_plain, more_plain, declared_plain, agree_before, AreQuiet}

@@ -7,8 +7,8 @@ use Rattle.base.specs.declared.tree.Stmt.{Stmt as Statement}
 use Rattle.c_grammar.specs.Grammar.{Stmt, Declare, Assign, Store, Repeat, Choose, ChooseElse, Show, Block, Directive, OverBlock, OverLoop, Stmts, Done, Then}
 use Rattle.c_expressions.specs.Means.{Items}
 use Rattle.c_statements.specs.Statements.{Env, AreStatements, behind, stmt_size, in_loop, head_size}
-use Rattle.c_programs.specs.declared.piece.Piece.TheVariants as piece
-use Rattle.c_programs.specs.Parts.{Placed, plain, pieces_in, pieces_of, are_mixed, AreLongest, ArePieces, IsPart}
+use Rattle.c_read.specs.declared.piece.Piece.TheVariants as piece
+use Rattle.c_read.specs.Parts.{Placed, plain, pieces_in, pieces_of, are_mixed, AreLongest, ArePieces, IsPart}
 use Rattle.erasure.specs.Plain.{plain_before, plain_stmts}
 
 abbrev mutual

@@ -4,7 +4,7 @@ use Rattle.base.specs.declared.tree.Part.{Part}
 use Rattle.base.specs.declared.tree.Part.TheVariants as part
 use Rattle.base.specs.declared.tree.Program.{Program}
 use Rattle.base.specs.Meaning.{Plain, erased, lengths_of}
-use Rattle.c_programs.specs.Spells.{Spells}
+use Rattle.c_read.specs.Spells.{Spells}
 use Rattle.erasure.specs.Erased.{erased_text}
 
 -- the same numbers printed, the same memory and the same input left. What locals hold is left out: a target's are not

@@ -3,13 +3,13 @@
 ghost use Rattle.std.specs.Prelude.{◌≡◌, IfOk, IfErr};
 ghost use Rattle.base.specs.declared.tree.Program.{Program};
 ghost use Rattle.c_grammar.specs.Source.{IsFirstFault};
-ghost use Rattle.c_programs.specs.Spells.{OnText, Spells};
+ghost use Rattle.c_read.specs.Spells.{OnText, Spells};
 ghost use Rattle.erased_meaning.specs.Laws.{IsErased};
 ghost use Rattle.erasure.specs.Erased.{erased_text};
 
 use base::fault::ReadFault;
 use base::tree::Program;
-use c_programs::read_program;
+use c_read::read_program;
 use erasure::erase;
 use std::alloc::Global;
 

@@ -1,7 +1,7 @@
 // Depend items of two items whose sections overlap without being identical.
 
 ghost use Rattle.std.specs.Prelude.{◌≡◌, ◌<◌, ◌≤◌, length};
-ghost use Rattle.base.specs.Small.{most_items};
+ghost use Rattle.base.specs.Limits.{most_items};
 ghost use Rattle.order.specs.Clashes.{IsClashOf, IsFirstFound, least_of_all, least_of_one};
 
 use base::depend::overlap;

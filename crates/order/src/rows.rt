@@ -2,7 +2,7 @@
 
 ghost use Rattle.std.specs.Prelude.{◌≡◌, ◌<◌, ◌≤◌, ◌&&◌, length, IfOk};
 ghost use Rattle.base.specs.Machine.{is_empty, is_wait};
-ghost use Rattle.base.specs.Small.{most_items};
+ghost use Rattle.base.specs.Limits.{most_items};
 ghost use Rattle.order.specs.Bare.{bare, plan_of};
 ghost use Rattle.order.specs.Rows.{AreRows, IsRow, leads_to};
 

@@ -1,5 +1,0 @@
-use Rattle.c_grammar.proofs.SmallSources.{text_not_spelled}
-use Rattle.c_grammar.proofs.faulty_small_text_is_not_spelled.Goals as goal
-
-pub returns : goal.returns
-returns c = text_not_spelled

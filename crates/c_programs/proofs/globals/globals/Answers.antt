@@ -1,9 +1,0 @@
-use Rattle.std.proofs.Common.{[]}
-use Rattle.c_expressions.specs.Cursor.{items}
-use Rattle.c_programs.proofs.Fronts.{ascii_behind}
-use Rattle.c_programs.proofs.globals.globals.Goals as goal
-
-pub global-requires-clause-text : goal.global-requires-clause-text
-global-requires-clause-text c =
-    ascii_behind c.args.scope.now c.globals.scope [] c.globals.arrays.entries (items c.args.tokens.now)
-    (items c.globals.tokens) c.requires c.globals.invariant.tree

@@ -1,6 +1,0 @@
-pub mod Globals
-pub mod Parts
-pub mod Gathering
-pub mod Read
-pub mod Spells
-pub mod Starts

@@ -1,0 +1,261 @@
+-- The directives of main that were read.
+use Rattle.std.proofs.Common.{◌≡◌, ℕ, ◌+◌, ◌<◌, ◌≤◌, Bool, true, false, List, [], ◌∷◌, ◌++◌, length, drop, Option, Some, None, Vec, Global, refl, sym, ap, subst, ◌∙◌, append_assoc, arith, length-append, inl, inr, ◌⊎◌}
+use Rattle.c_tokens.specs.declared.kind.Sign.TheVariants as sign
+use Rattle.base.specs.declared.tree.Bounds.{Bounds}
+use Rattle.base.specs.declared.tree.Place.{Place}
+use Rattle.base.specs.declared.tree.Region.{Region}
+use Rattle.base.specs.declared.tree.RegionKind.{RegionKind}
+use Rattle.base.specs.declared.tree.MapText.{MapText}
+use Rattle.base.specs.declared.tree.Directive.{Directive as Alone}
+use Rattle.base.specs.declared.tree.Target.{Target}
+use Rattle.base.specs.declared.tree.Stmt.{Stmt as Statement}
+use Rattle.base.specs.declared.tree.Stmt.TheVariants as statement
+use Rattle.base.specs.declared.tree.Part.{Part, Data as DataOf, items_hidden-the_row-Part-0}
+use Rattle.base.specs.declared.tree.Part.TheVariants as part
+use Rattle.c_grammar.specs.Lexeme.{Lexeme, For}
+use Rattle.c_grammar.specs.Lines.{is_omp, holds}
+use Rattle.c_grammar.specs.Texts.{Item}
+use Rattle.c_grammar.specs.Terminal.{Terminal, Fixed, Mark, Name, Num, Line, Unknown, End}
+use Rattle.c_grammar.specs.Rules.{Context, inside}
+use Rattle.c_grammar.specs.Grammar.{Slots, Head, Stmt, Stmts, Done, Then, Declare, Assign, Store, Repeat, Choose, ChooseElse, Show, Block, Directive, OverBlock, OverLoop, stmt, stmts, IsStmt as IsText}
+use Rattle.c_expressions.specs.declared.cursor.Cursor.{Cursor}
+use Rattle.c_expressions.specs.declared.scope.Scope.{Scope}
+use Rattle.c_expressions.specs.Means.{Items, place_of}
+use Rattle.c_expressions.specs.Cursor.{items, first_item, behind}
+use Rattle.c_expressions.specs.Reading.{terminals, kinds, is_directive}
+use Rattle.c_expressions.specs.Scopes.{context_of}
+use Rattle.c_expressions.proofs.Expressions.{first_then, behind_less, drops, drop_by, drop_one}
+use Rattle.c_statements.specs.Bodies.{IsBodyRead}
+use Rattle.c_statements.specs.Simple.{env_of, IsStmtRead}
+use Rattle.c_statements.specs.Statements.{Env, stmt_size, head_size, declared_in, more, in_loop, IsHead, IsStatement, AreStatements, behind as behind_of}
+use Rattle.c_statements.proofs.Wholes.{kinds_ended, size_ended}
+use Rattle.c_constructs.specs.declared.resolved.Construct.{Construct}
+use Rattle.c_constructs.specs.declared.resolved.Construct.TheVariants as construct
+use Rattle.c_constructs.specs.declared.resolved.Resolved.TheVariants as resolved
+use Rattle.c_constructs.specs.LineMeaning.{IsRead, lexemes_on, scope_behind}
+use Rattle.c_read.specs.declared.piece.Piece.{Piece}
+use Rattle.c_read.specs.declared.piece.Piece.TheVariants as piece
+use Rattle.c_read.specs.Parts.{Placed, in_target, pieces_of, AreLongest, AreMixed, ArePieces, IsHostLoop, IsPart, IsPiece, OneLoop}
+use Rattle.c_read.specs.Read.{loop_slots, AreAlone, AreDataRead, IsBlockRead, IsLoop, IsLoopRead, IsOverRead, IsPieceRead, IsRegionRead}
+
+line_is : (t : Terminal) → is_directive t ≡ true → t ≡ Line (lexemes_on t)
+line_is (Line ts) d = refl
+line_is (Fixed w) d = absurd cc
+line_is (Mark x) d = absurd cc
+line_is (Name x) d = absurd cc
+line_is (Num n) d = absurd cc
+line_is Unknown d = absurd cc
+line_is End d = absurd cc
+
+more_none : (env : Env) → env ≡ more 0 env
+more_none env = ap (λ (n : ℕ). (let v : Env = record env { scalars = n } in v)) (omega arith)
+
+-- ---- a directive that stands alone
+
+pub read_alone : (old new : Scope) (u u' : Cursor) (d : Alone) → is_directive (first_item u).terminal ≡ true →
+    behind u ≡ items u' → new ≡ scope_behind (resolved.Alone d) old →
+    IsRead (env_of old).names (first_item u) (behind u) (resolved.Alone d) →
+    IsPieceRead (env_of old) (env_of new) (items u) (items u') (piece.Part (part.Alone d))
+read_alone old new u u' d e b s r =
+    let l = lexemes_on (first_item u).terminal in
+    record {
+      text = Directive l;
+      tokens = first_then (Line l) u u' (line_is (first_item u).terminal e) b;
+      rest = drop_one u u' b;
+      is_text = (r.words, r.over);
+      fewer = behind_less u u' b;
+      means = (r.line, r.means);
+      next_is = ap env_of s ∙ more_none (env_of old);
+    }
+
+-- ---- a loop in a target
+
+abbrev Repeats : Stmt → Type 0
+Repeats s = (h : Head) × (b : Stmts) × (s ≡ Repeat h b)
+
+looped_text : (env : Env) (is : Items) (s : Stmt) (bounds : Bounds) (shape : _) (row : _) →
+    IsStatement env is s (statement.Loop' bounds shape row) → Repeats s
+looped_text env is (Repeat h b) bounds shape row m = (h, b, refl)
+looped_text env is (Declare y v) bounds shape row m = absurd m
+looped_text env is (Assign y v) bounds shape row m = absurd m
+looped_text env is (Store y i v) bounds shape row m = absurd m
+looped_text env is (Choose e a) bounds shape row m = absurd m
+looped_text env is (ChooseElse e a c) bounds shape row m = absurd m
+looped_text env is (Show e) bounds shape row m = absurd m
+looped_text env is (Block c) bounds shape row m = absurd m
+looped_text env is (Directive k) bounds shape row m = absurd m
+looped_text env is (OverBlock k c) bounds shape row m = absurd m
+looped_text env is (OverLoop k h c) bounds shape row m = absurd m
+
+loop_text : (env : Env) (is : Items) (s : Stmt) (x : Statement) → IsLoop x → IsStatement env is s x → Repeats s
+loop_text env is s (statement.Loop' bounds shape row) l m = looped_text env is s bounds shape row m
+loop_text env is s (statement.Declare y v) l m = absurd l
+loop_text env is s (statement.Assign y v) l m = absurd l
+loop_text env is s (statement.Store y place i v) l m = absurd l
+loop_text env is s (statement.Print e) l m = absurd l
+loop_text env is s (statement.Block' shape row) l m = absurd l
+loop_text env is s (statement.If' e shape row shape' row') l m = absurd l
+
+-- ---- a directive over a block
+
+-- behind the line of a directive: these tokens and then the block in braces
+block_tokens : (l : List Lexeme) (u u' : Cursor) (b : Stmts) (after : Items) → (first_item u).terminal ≡ Line l →
+    behind u ≡ items u' → terminals (items u') ≡ Mark sign.OpenBrace ∷ (kinds (stmts b) ++ (Mark sign.CloseBrace ∷ terminals after)) →
+    terminals (items u) ≡ kinds (stmt (OverBlock l b)) ++ terminals after
+block_tokens l u u' b after e d f = first_then (Line l) u u' e d
+    ∙ ap (λ (ts : List Terminal). Line l ∷ ts) (f ∙ ap (λ (ts : List Terminal). Mark sign.OpenBrace ∷ ts) (sym (kinds_ended b (terminals after))))
+
+block_rest : (l : List Lexeme) (u u' : Cursor) (b : Stmts) (after : Items) → behind u ≡ items u' →
+    after ≡ drop (length (stmts b) + 2) (items u') → after ≡ drop (stmt_size (OverBlock l b)) (items u)
+block_rest l u u' b after d r = drop_by (1 + (length (stmts b) + 2)) (stmt_size (OverBlock l b)) (items u) after
+    (omega (arith, size_ended b)) (drops 1 (length (stmts b) + 2) (items u) (items u') after (drop_one u u' d) r)
+
+loop_rest : (l : List Lexeme) (u u' : Cursor) (n : ℕ) (after : Items) → behind u ≡ items u' → after ≡ drop n (items u') →
+    after ≡ drop (1 + n) (items u)
+loop_rest l u u' n after d r = drops 1 n (items u) (items u') after (drop_one u u' d) r
+
+-- ---- a target
+
+pub read_region_block : (old mid new : Scope) (u u' : Cursor) (after : Items) (g : Target) (r : Region) →
+    is_directive (first_item u).terminal ≡ true → behind u ≡ items u' → env_of mid ≡ env_of old →
+    IsRead (env_of old).names (first_item u) (behind u) (resolved.Over (construct.Target g)) → r.place ≡ place_of (items u') →
+    IsBodyRead (env_of mid) (in_target (env_of mid)) (env_of new) (items u') after r.body.items →
+    IsPieceRead (env_of old) (env_of new) (items u) after (piece.Part (part.Target g r))
+read_region_block old mid new u u' after g r e d same line place q0 =
+    let l = lexemes_on (first_item u).terminal in
+    let q : IsBodyRead (env_of old) (in_target (env_of old)) (env_of new) (items u') after r.body.items =
+    subst (λ (v : Env). IsBodyRead v (in_target v) (env_of new) (items u') after r.body.items) same q0 in
+    record {
+      text = OverBlock l q.texts;
+      tokens = block_tokens l u u' q.texts after (line_is (first_item u).terminal e) d q.tokens;
+      rest = block_rest l u u' q.texts after d q.rest;
+      is_text = (line.words, line.over, q.are_texts);
+      fewer = omega (arith, behind_less u u' d, q.fewer);
+      means = (
+        line.line,
+        line.means,
+        place ∙ ap place_of (sym d),
+        subst (λ (is : Items). AreStatements (in_target (env_of old)) (drop 1 is) q.texts r.body.items) (sym d) q.means,
+      );
+      next_is = q.next_is;
+    }
+
+more_of : (n : ℕ) (env next : Env) → in_target next ≡ more n (in_target env) → next.inside ≡ env.inside → next ≡ more n env
+more_of n env next e i = ap (λ (v : Env). (let w : Env = record v { inside = next.inside } in w)) e
+    ∙ ap (λ (b : Bool). (let w : Env = record (more n env) { inside = b } in w)) i
+
+pub read_region_loop : (old mid new : Scope) (u u' : Cursor) (after : Items) (g : Target) (r : Region) (x : Statement) →
+    is_directive (first_item u).terminal ≡ true → behind u ≡ items u' → env_of mid ≡ env_of old →
+    IsRead (env_of old).names (first_item u) (behind u) (resolved.Over (construct.Target g)) → r.place ≡ place_of (items u') →
+    r.body.items ≡ x ∷ [] → IsLoop x → inside (context_of new 0 0) ≡ inside (context_of mid 0 0) →
+    IsStmtRead (in_target (env_of mid)) (in_target (env_of new)) (items u') after x →
+    IsPieceRead (env_of old) (env_of new) (items u) after (piece.Part (part.Target g r))
+read_region_loop old mid new u u' after g r x e d same line place one loops within q0 =
+    let l = lexemes_on (first_item u).terminal in
+    let q : IsStmtRead (in_target (env_of old)) (in_target (env_of new)) (items u') after x =
+    subst (λ (v : Env). IsStmtRead (in_target v) (in_target (env_of new)) (items u') after x) same q0 in
+    let t = loop_text (in_target (env_of old)) (items u') q.text x loops q.means in
+    let is_loop : q.text ≡ Repeat t.0 t.1 = t.2 in
+    let text : Stmt = Repeat t.0 t.1 in
+    record {
+      text = OverLoop l t.0 t.1;
+      tokens = first_then (Line l) u u' (line_is (first_item u).terminal e) d
+          ∙ ap (λ (ts : List Terminal). Line l ∷ ts) (q.tokens ∙ ap (λ (s : Stmt). kinds (stmt s) ++ terminals after) is_loop);
+      rest = drop_by (1 + stmt_size text) (stmt_size (OverLoop l t.0 t.1)) (items u) after (omega arith) (loop_rest l u u' (stmt_size text) after d (q.rest ∙ ap (λ (s : Stmt). drop (stmt_size s) (items u')) is_loop));
+      is_text = (line.words, line.over, subst (λ (s : Stmt). IsText s) is_loop q.is_text);
+      fewer = omega (arith, behind_less u u' d, q.fewer);
+      means = (
+        line.line,
+        line.means,
+        place ∙ ap place_of (sym d),
+        subst (λ (xs : List Statement). AreStatements (in_target (env_of old)) (behind u) (Then text Done) xs) (sym one) (
+          subst (λ (is : Items). IsStatement (in_target (env_of old)) is text x) (sym d)
+              (subst (λ (s : Stmt). IsStatement (in_target (env_of old)) (items u') s x) is_loop q.means),
+          tt,
+        ),
+      );
+      next_is = more_of (declared_in t.1) (env_of old) (env_of new)
+          (q.next_is ∙ ap (λ (s : Stmt). behind_of s (in_target (env_of old))) is_loop)
+          (within ∙ ap (λ (v : Env). v.inside) same);
+    }
+
+-- ---- a target data
+
+pub read_data_block : (old mid new : Scope) (u u' : Cursor) (after : Items) (maps : _) (v : Vec Part Global) →
+    is_directive (first_item u).terminal ≡ true → behind u ≡ items u' → env_of mid ≡ env_of old →
+    IsRead (env_of old).names (first_item u) (behind u) (resolved.Over (construct.Data maps)) → AreLongest false v.items →
+    IsBlockRead (env_of mid) (env_of mid) (env_of new) (items u') after (pieces_of v.items) →
+    IsPieceRead (env_of old) (env_of new) (items u) after (piece.Part (DataOf maps v))
+read_data_block old mid new u u' after maps v e d same line longest q0 =
+    let l = lexemes_on (first_item u).terminal in
+    let hidden = items_hidden-the_row-Part-0 v in
+    let q : IsBlockRead (env_of old) (env_of old) (env_of new) (items u') after (pieces_of v.items) =
+    subst (λ (w : Env). IsBlockRead w w (env_of new) (items u') after (pieces_of v.items)) same q0 in
+    record {
+      text = OverBlock l q.texts;
+      tokens = block_tokens l u u' q.texts after (line_is (first_item u).terminal e) d q.tokens;
+      rest = block_rest l u u' q.texts after d q.rest;
+      is_text = (line.words, line.over, q.are_texts);
+      fewer = omega (arith, behind_less u u' d, q.fewer);
+      means = (
+        line.line,
+        line.means.0,
+        line.means.1,
+        subst (λ (ps : List Part). AreLongest false ps) (sym hidden) longest,
+        subst (λ (ps : List Part). ArePieces (env_of old) (drop 1 (behind u)) q.texts (pieces_of ps)) (sym hidden)
+            (subst (λ (is : Items). ArePieces (env_of old) (drop 1 is) q.texts (pieces_of v.items)) (sym d) q.means),
+      );
+      next_is = q.next_is;
+    }
+
+-- what a loop alone means in a target data
+data_loop : (env : Env) (i : Item Terminal) (is : Items) (h : Head) (b : Stmts) (p : Piece) (ps : List Part) →
+    AreAlone (place_of is) p ps → IsPiece env is (Repeat h b) p → IsHostLoop env is h b ps ⊎
+    OneLoop (λ bounds qs. IsHead h bounds × AreMixed qs ×
+    ArePieces (in_loop h.name env) (drop (1 + head_size h) (i ∷ is)) b (pieces_of qs)) ps
+data_loop env i is h b (piece.Statement x) ps a m =
+    inl (subst (λ (qs : List Part). IsHostLoop env is h b qs) (sym a.1)
+    (a.2, subst (λ (xs : List Statement). AreStatements env is (Then (Repeat h b) Done) xs) (sym a.3) (m, tt)))
+data_loop env i is h b (piece.Part (part.Loop' bounds shape row)) ps a m =
+    inr (subst (λ (qs : List Part). OneLoop (λ bounds us. IsHead h bounds × AreMixed us ×
+    ArePieces (in_loop h.name env) (drop (1 + head_size h) (i ∷ is)) b (pieces_of us)) qs) (sym a) m)
+data_loop env i is h b (piece.Part (part.Host r)) ps a m = absurd m
+data_loop env i is h b (piece.Part (part.Block' shape row)) ps a m = absurd m
+data_loop env i is h b (piece.Part (part.Target t r)) ps a m = absurd m
+data_loop env i is h b (piece.Part (part.Data' maps shape row)) ps a m = absurd m
+data_loop env i is h b (piece.Part (part.Alone d)) ps a m = absurd m
+
+pub read_data_loop : (old mid new : Scope) (u u' : Cursor) (after : Items) (maps : _) (v : Vec Part Global) (p : Piece) →
+    is_directive (first_item u).terminal ≡ true → behind u ≡ items u' → env_of mid ≡ env_of old →
+    IsRead (env_of old).names (first_item u) (behind u) (resolved.Over (construct.Data maps)) →
+    AreAlone (place_of (items u')) p v.items → terminals (items u') ≡ Fixed For ∷ terminals (behind u') →
+    IsLoopRead (env_of mid) (env_of new) (behind u') after p →
+    IsPieceRead (env_of old) (env_of new) (items u) after (piece.Part (DataOf maps v))
+read_data_loop old mid new u u' after maps v p e d same line one word q0 =
+    let l = lexemes_on (first_item u).terminal in
+    let hidden = items_hidden-the_row-Part-0 v in
+    let q : IsLoopRead (env_of old) (env_of new) (behind u') after p =
+    subst (λ (w : Env). IsLoopRead w (env_of new) (behind u') after p) same q0 in
+    let n = length (loop_slots q.head q.texts) in
+    record {
+      text = OverLoop l q.head q.texts;
+      tokens = first_then (Line l) u u' (line_is (first_item u).terminal e) d
+          ∙ ap (λ (ts : List Terminal). Line l ∷ ts) (word ∙ ap (λ (ts : List Terminal). Fixed For ∷ ts) q.tokens);
+      rest = drop_by (1 + (1 + n)) (stmt_size (OverLoop l q.head q.texts)) (items u) after (omega arith)
+          (loop_rest l u u' (1 + n) after d (drops 1 n (items u') (behind u') after refl q.rest));
+      is_text = (line.words, line.over, q.are_texts);
+      fewer = omega (arith, behind_less u u' d, q.fewer);
+      means = (
+        line.line,
+        line.means.0,
+        line.means.1,
+        subst (λ (ps : List Part). DataMeans (behind u) q.head q.texts ps) (sym hidden)
+            (subst (λ (is : Items). DataMeans is q.head q.texts v.items) (sym d)
+            (data_loop (env_of old) (first_item u) (items u') q.head q.texts p v.items one (q.means (items u') refl))),
+      );
+      next_is = q.next_is;
+    }
+  where
+    DataMeans : Items → Head → Stmts → List Part → Type 0
+    DataMeans is h b ps = IsHostLoop (env_of old) is h b ps ⊎ OneLoop (λ bounds qs. IsHead h bounds × AreMixed qs ×
+        ArePieces (in_loop h.name (env_of old)) (drop (1 + head_size h) (first_item u ∷ is)) b (pieces_of qs)) ps

@@ -1,0 +1,61 @@
+-- What is read behind the line of a directive.
+use Rattle.std.proofs.Common.{◌≡◌, true, false, List, [], ◌∷◌, Vec, Global, refl, sym, ap, subst, ◌∙◌, inl, inr}
+use Rattle.base.specs.declared.tree.Place.{Place}
+use Rattle.base.specs.declared.tree.Region.{Region}
+use Rattle.base.specs.declared.tree.Target.{Target}
+use Rattle.base.specs.declared.tree.Part.{Part, Data as DataOf}
+use Rattle.base.specs.declared.tree.Part.TheVariants as part
+use Rattle.c_grammar.specs.Lexeme.{For}
+use Rattle.c_grammar.specs.Rules.{inside}
+use Rattle.c_grammar.specs.Terminal.{Fixed}
+use Rattle.c_expressions.specs.declared.cursor.Cursor.{Cursor}
+use Rattle.c_expressions.specs.declared.scope.Scope.{Scope}
+use Rattle.c_expressions.specs.Means.{Items, place_of}
+use Rattle.c_expressions.specs.Cursor.{items, first_item, behind}
+use Rattle.c_expressions.specs.Reading.{terminals, is_directive}
+use Rattle.c_expressions.specs.Scopes.{context_of}
+use Rattle.c_statements.specs.Simple.{env_of}
+use Rattle.c_statements.specs.Statements.{Env}
+use Rattle.c_constructs.specs.declared.resolved.Construct.{Construct}
+use Rattle.c_constructs.specs.declared.resolved.Construct.TheVariants as construct
+use Rattle.c_constructs.specs.declared.resolved.Resolved.TheVariants as resolved
+use Rattle.c_constructs.specs.LineMeaning.{IsRead, is_target, scope_behind}
+use Rattle.c_read.specs.declared.piece.Piece.{Piece}
+use Rattle.c_read.specs.declared.piece.Piece.TheVariants as piece
+use Rattle.c_read.specs.Parts.{Placed, pieces_of, AreLongest}
+use Rattle.c_read.specs.Read.{AreAlone, AreDataRead, IsBlockRead, IsLoopRead, IsOverRead, IsPieceRead, IsRegionRead}
+use Rattle.c_read.proofs.Directed.{read_data_block, read_data_loop, read_region_block, read_region_loop}
+
+read_target : (old mid new : Scope) (u u' : Cursor) (after : Items) (g : Target) (r : Region) →
+    is_directive (first_item u).terminal ≡ true → behind u ≡ items u' → env_of mid ≡ env_of old →
+    IsRead (env_of old).names (first_item u) (behind u) (resolved.Over (construct.Target g)) → r.place ≡ place_of (items u') →
+    inside (context_of new 0 0) ≡ inside (context_of mid 0 0) →
+    IsRegionRead (env_of mid) (env_of new) (items u') after r.body.items →
+    IsPieceRead (env_of old) (env_of new) (items u) after (piece.Part (part.Target g r))
+read_target old mid new u u' after g r e d same line place within (inl b) =
+    read_region_block old mid new u u' after g r e d same line place b
+read_target old mid new u u' after g r e d same line place within (inr x) =
+    read_region_loop old mid new u u' after g r x.0 e d same line place x.1 x.2 within x.3
+
+read_data : (old mid new : Scope) (u u' : Cursor) (after : Items) (maps : _) (v : Vec Part Global) →
+    is_directive (first_item u).terminal ≡ true → behind u ≡ items u' → env_of mid ≡ env_of old →
+    IsRead (env_of old).names (first_item u) (behind u) (resolved.Over (construct.Data maps)) → AreLongest false v.items →
+    AreDataRead (env_of mid) (env_of new) (items u') after v.items →
+    IsPieceRead (env_of old) (env_of new) (items u) after (piece.Part (DataOf maps v))
+read_data old mid new u u' after maps v e d same line longest (inl b) =
+    read_data_block old mid new u u' after maps v e d same line longest b
+read_data old mid new u u' after maps v e d same line longest (inr x) =
+    read_data_loop old mid new u u' after maps v x.0 e d same line x.1 x.2 x.3
+
+pub read_over : (old mid new : Scope) (u u' : Cursor) (after : Items) (c : Construct) (p : Part) →
+    is_directive (first_item u).terminal ≡ true → behind u ≡ items u' → mid ≡ scope_behind (resolved.Over c) old →
+    IsRead (env_of old).names (first_item u) (behind u) (resolved.Over c) →
+    inside (context_of new 0 0) ≡ inside (context_of mid 0 0) →
+    IsOverRead (env_of mid) (env_of new) c (items u') after p →
+    IsPieceRead (env_of old) (env_of new) (items u) after (piece.Part p)
+read_over old mid new u u' after (construct.Target g) p e d s line within r =
+    subst (λ (q : Part). IsPieceRead (env_of old) (env_of new) (items u) after (piece.Part q)) (sym r.1)
+    (read_target old mid new u u' after g r.0 e d (ap env_of s) line r.2 within r.3)
+read_over old mid new u u' after (construct.Data maps) p e d s line within r =
+    subst (λ (q : Part). IsPieceRead (env_of old) (env_of new) (items u) after (piece.Part q)) (sym r.1)
+    (read_data old mid new u u' after maps r.0 e d (ap env_of s) line r.2 r.3)

@@ -1,0 +1,14 @@
+use Rattle.std.proofs.Common.{◌≤◌, [], ◌∷◌, length, arith, subst}
+use Rattle.c_grammar.specs.Program.{start}
+use Rattle.c_grammar.specs.Rules.{begin}
+use Rattle.c_grammar.specs.Source.{items_of, max_source}
+use Rattle.c_expressions.specs.declared.fault.ReadError.{ReadError}
+use Rattle.c_expressions.specs.Reading.{run, Failed}
+use Rattle.c_read.proofs.Answered.{is_none}
+use Rattle.c_read.proofs.program.read_program.Goals as goal
+
+pub returns-in-Err-Fault-clause-refused : goal.returns-in-Err-Fault-clause-refused
+returns-in-Err-Fault-clause-refused c =
+    let short : length c.args.bytes.now ≤ max_source = omega arith in
+    is_none c.args.bytes.now c.in-Err-Fault.fault short
+    (subst (λ (e : ReadError). Failed e (run begin start (items_of c.args.bytes.now))) c.in-Err-Fault.field-0-is c.in-Err-Fault.ensures.read)

@@ -1,0 +1,117 @@
+-- What was read of the statements and directives of main.
+use Rattle.std.specs.Prelude.{◌≡◌, ℕ, ◌+◌, ◌<◌, ◌≤◌, true, false, List, [], ◌∷◌, ◌++◌, length, drop, Option, ◌⊎◌, Vec}
+use Rattle.std.specs.declared.alloc.Global.{Global}
+use Rattle.c_tokens.specs.declared.kind.Sign.TheVariants as sign
+use Rattle.base.specs.declared.tree.Place.{Place}
+use Rattle.base.specs.declared.tree.Region.{Region}
+use Rattle.base.specs.declared.tree.Part.{Part, Data as DataOf}
+use Rattle.base.specs.declared.tree.Part.TheVariants as part
+use Rattle.base.specs.declared.tree.Stmt.{Stmt as Statement}
+use Rattle.base.specs.declared.tree.Stmt.TheVariants as statement
+use Rattle.c_grammar.specs.Lexeme.{For}
+use Rattle.c_grammar.specs.Terminal.{Fixed, Mark}
+use Rattle.c_grammar.specs.Grammar.{Slots, Head, Stmt, Stmts, Repeat, head_slots, body_opening, body_closing, stmt, stmts, IsStmt, AreStmts}
+use Rattle.c_grammar.specs.Rules.{inside, under_if}
+use Rattle.c_expressions.specs.declared.scope.Scope.{Scope}
+use Rattle.c_expressions.specs.Means.{Items, place_of}
+use Rattle.c_expressions.specs.Reading.{terminals, kinds}
+use Rattle.c_expressions.specs.Scopes.{context_of, names_of}
+use Rattle.c_statements.specs.Statements.{Env, stmt_size, behind, declared_in, more}
+use Rattle.c_statements.specs.Simple.{loops_in, IsStmtRead}
+use Rattle.c_statements.specs.Bodies.{IsReady, IsBodyRead}
+use Rattle.c_constructs.specs.declared.resolved.Construct.{Construct}
+use Rattle.c_constructs.specs.declared.resolved.Construct.TheVariants as construct
+use Rattle.c_read.specs.declared.piece.Piece.{Piece}
+use Rattle.c_read.specs.declared.piece.Piece.TheVariants as piece
+use Rattle.c_read.specs.Parts.{Placed, in_target, pieces_of, AreLongest, IsPlaceAt, ArePieces, IsPiece}
+
+-- outside targets and ifs, where a directive may stand
+pub record IsOutside (s : Scope) : Type 0 where
+  pub ready : IsReady s
+  pub outside : inside (context_of s 0 0) ≡ false
+  pub always : under_if (context_of s 0 0) ≡ false
+  pub waiting : s.choice ≡ false
+
+-- a statement or part; env is what stands before it, next what stands behind it
+pub record IsPieceRead (env next : Env) (before after : Items) (p : Piece) : Type 0 where
+  pub text : Stmt
+  pub tokens : terminals before ≡ kinds (stmt text) ++ terminals after
+  pub rest : after ≡ drop (stmt_size text) before
+  pub is_text : IsStmt text
+  pub fewer : length after < length before
+  pub means : IsPiece env before text p
+  pub next_is : next ≡ behind text env
+
+abbrev pub loop_slots : Head → Stmts → Slots
+loop_slots h b = head_slots h ++ (body_opening ∷ (stmts b ++ body_closing ∷ []))
+
+abbrev pub IsLoop : Statement → Type 0
+IsLoop (statement.Loop' b shape row) = Unit {0}
+IsLoop _ = ⊥
+
+-- the statements and parts of a block and the brace that ends it; next is how many scalars are declared behind them
+pub record AreInnerRead (env : Env) (next : ℕ) (before after : Items) (ps : List Placed) : Type 0 where
+  pub texts : Stmts
+  pub tokens : terminals before ≡ kinds (stmts texts) ++ (Mark sign.CloseBrace ∷ terminals after)
+  pub rest : after ≡ drop (length (stmts texts) + 1) before
+  pub are_texts : AreStmts texts
+  pub fewer : length after < length before
+  pub means : ArePieces env before texts ps
+  pub scalars : next ≡ env.scalars + declared_in texts
+
+-- in braces; inner is what stands behind the first brace
+pub record IsBlockRead (env inner next : Env) (before after : Items) (ps : List Placed) : Type 0 where
+  pub texts : Stmts
+  pub tokens : terminals before ≡ Mark sign.OpenBrace ∷
+      (kinds (stmts texts) ++ (Mark sign.CloseBrace ∷ terminals after))
+  pub rest : after ≡ drop (length (stmts texts) + 2) before
+  pub are_texts : AreStmts texts
+  pub fewer : length after < length before
+  pub means : ArePieces inner (drop 1 before) texts ps
+  pub next_is : next ≡ more (declared_in texts) env
+
+-- a loop behind its word
+pub record IsLoopRead (env next : Env) (before after : Items) (p : Piece) : Type 0 where
+  pub head : Head
+  pub texts : Stmts
+  pub tokens : terminals before ≡ kinds (loop_slots head texts) ++ terminals after
+  pub rest : after ≡ drop (length (loop_slots head texts)) before
+  pub are_texts : AreStmts texts
+  pub fewer : length after < length before
+  pub means : (is : Items) → drop 1 is ≡ before → IsPiece env is (Repeat head texts) p
+  pub next_is : next ≡ more (declared_in texts) env
+
+-- one statement or part alone, which stands at the place
+abbrev pub AreAlone : Place → Piece → List Part → Type 0
+AreAlone place (piece.Statement x) ps =
+    (r : Region) × (ps ≡ part.Host r ∷ []) × (r.place ≡ place) × (r.body.items ≡ x ∷ [])
+AreAlone place (piece.Part p) ps = ps ≡ p ∷ []
+
+-- the region of a target: a block, or a loop
+abbrev pub IsRegionRead : Env → Env → Items → Items → List Statement → Type 0
+IsRegionRead env next before after xs =
+    IsBodyRead env (in_target env) next before after xs ⊎ ((x : Statement) × (xs ≡ x ∷ []) × IsLoop x ×
+    IsStmtRead (in_target env) (in_target next) before after x)
+
+-- the parts of a target data: those of a block, or of a loop
+abbrev pub AreDataRead : Env → Env → Items → Items → List Part → Type 0
+AreDataRead env next before after ps =
+    IsBlockRead env env next before after (pieces_of ps) ⊎ ((p : Piece) × AreAlone (place_of before) p ps ×
+    (terminals before ≡ Fixed For ∷ terminals (drop 1 before)) × IsLoopRead env next (drop 1 before) after p)
+
+-- the next block is that of a target, and none around is; each loop's name is counted
+pub record IsTargetNext (s : Scope) : Type 0 where
+  pub target : s.target ≡ true
+  pub loops : loops_in (names_of s) ≤ s.scalars
+
+-- behind the line of a directive that a block or loop must follow
+abbrev pub IsOverNext : Construct → Scope → Type 0
+IsOverNext (construct.Target g) s = IsTargetNext s
+IsOverNext (construct.Data maps) s = IsOutside s
+
+-- the part of such a directive, from behind its line on
+abbrev pub IsOverRead : Env → Env → Construct → Items → Items → Part → Type 0
+IsOverRead env next (construct.Target g) before after p =
+    (r : Region) × (p ≡ part.Target g r) × (r.place ≡ place_of before) × IsRegionRead env next before after r.body.items
+IsOverRead env next (construct.Data maps) before after p =
+    (v : Vec Part Global) × (p ≡ DataOf maps v) × AreLongest false v.items × AreDataRead env next before after v.items
