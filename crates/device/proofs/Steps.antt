@@ -1,141 +1,156 @@
--- The events of an item, on the states that the code's stand for.
-use Rattle.std.proofs.Common.{◌≡◌, ℕ, ◌+◌, ◌==◌, Bool, true, false, List, Option, Some, None, refl, sym, ap, ◌∙◌, arith, if◌then◌else◌}
-use Rattle.std.specs.Prelude.{slice_get, nat_lt, option_map}
+-- What the events that take no frame leave.
+use Rattle.std.proofs.Common.{◌≡◌, ◌≢◌, ◌+◌, ◌<◌, ℕ, Bool, true, false, List, length, Some, refl, sym, ap, ◌∙◌, subst, arith}
+use Rattle.std.specs.Prelude.{◌==◌, if◌then◌else◌, slice_get, slice_index}
+use Rattle.std.specs.List.{slice_set}
+use Rattle.std.proofs.lemmas.Bool.{true≢false, eqb-true}
 use Rattle.std.proofs.lemmas.Bool.Decides.{nat_tests}
-use mathlib.Core.Path.{fun_ext}
-use Rattle.base.specs.declared.item.Event.TheVariants.{Open, Close}
-use Rattle.base.specs.Memory.{Scalars}
+use Rattle.std.proofs.lemmas.Option.{same_Some}
+use Rattle.std.proofs.lemmas.List.{length-set}
+use Rattle.base.specs.declared.item.Event.TheVariants as event
 use Rattle.base.specs.Items.{Work, Plan}
-use Rattle.base.specs.Map.{Fill, Memories}
-use Rattle.base.specs.Machine.{State, Condition, Untouched, Opened, Closed, with_condition, moved_on, opening, closing, open_item, worked_on, captured_by, step}
-use Rattle.small_programs.specs.InOrder.{in_order}
-use Rattle.device.specs.declared.state.Phase.TheVariants.{Before, Within}
-use Rattle.device.specs.State.{state_at, snapshot_of}
+use Rattle.base.specs.Machine.{State, Condition, Generated, Passed, enabled, step}
+use Rattle.base.proofs.Places.{get_set_same, get_set_other}
+use Rattle.base.proofs.Runs.{enabled_End}
+use Rattle.std.specs.declared.alloc.Global.{Global}
+use Rattle.std.specs.Prelude.{Vec}
+use Rattle.taskgraph.specs.Board.{Board, Stands, Follows as GraphFollows, stage_at, stage_of}
+use Rattle.device.specs.declared.standing.Held.{Held}
+use Rattle.device.specs.declared.standing.Held.TheVariants as held
+use Rattle.device.specs.declared.standing.Standing.{Standing}
+use Rattle.device.specs.Standing.{IsAt, Keeps, fill_from, place_of}
 
-abbrev pub on : {A : Type 0} → A → (Work → A) → Option Work → A
-on other f o = elim o [ None ↦ other | Some w ↦ f w ]
+number_not : (j i : ℕ) → (j == i) ≡ false → i ≢ j
+number_not j i h e = grind (arith, nat_tests)
 
-same_place : (k i : ℕ) → (k == i) ≡ true → nat_lt k i ≡ true → true ≡ false
-same_place k i e h = grind (arith, nat_tests)
+-- the host moves on before the end
+moved : (b : Bool) (n m : ℕ) → b ≡ false → n + 1 ≡ m → place_of b n + 1 ≡ place_of b m
+moved true n m b e = absurd (true≢false b)
+moved false n m b e = e
 
-beyond : (k i : ℕ) → nat_lt k i ≡ true → nat_lt k (i + 1) ≡ false → true ≡ false
-beyond k i e h = grind (arith, nat_tests)
-
-at_beyond : (k i : ℕ) → (k == i) ≡ true → nat_lt k (i + 1) ≡ false → true ≡ false
-at_beyond k i e h = grind (arith, nat_tests)
-
-between : (k i : ℕ) → nat_lt k i ≡ false → (k == i) ≡ false → nat_lt k (i + 1) ≡ true → true ≡ false
-between k i e f h = grind (arith, nat_tests)
-
-itself : (i : ℕ) → (i == i) ≡ true
-itself i = grind (arith, nat_tests)
-
-not_less : (i : ℕ) → nat_lt i i ≡ false
-not_less i = grind (arith, nat_tests)
-
-here : (i : ℕ) (c : Condition) → in_order i c i ≡ c
-here i c = (λ j. if not_less i j then Closed else (if itself i j then c else Untouched))
-
-set_here : (i : ℕ) (c d : Condition) (k : ℕ) → (if k == i then c else in_order i d k) ≡ in_order i c k
-set_here i c d k = go (k == i) (nat_lt k i) refl refl
+-- a graph stands for states that differ in the host's place alone, at its own place
+pub stands_again : (plan : Plan) (s t : State) (g : Board) → Stands plan s g → s.condition ≡ t.condition →
+    Stands plan (record t { place = g.place }) g
+stands_again plan s t g h e = record {
+  items = h.items;
+  place = refl;
+  conditions = λ i lt. subst (λ (f : ℕ → Condition). HasStage f i) e (h.conditions i lt);
+}
   where
-    go : (b a : Bool) → (k == i) ≡ b → nat_lt k i ≡ a →
-        (if b then c else (if a then Closed else (if b then d else Untouched))) ≡
-        (if a then Closed else (if b then c else Untouched))
-    go true true e h = absurd (let f = same_place k i e h in cc)
-    go true false e h = refl
-    go false true e h = refl
-    go false false e h = refl
+    HasStage : (ℕ → Condition) → ℕ → Type 0
+    HasStage f i = stage_of (f i) ≡ stage_at g i
 
-set_closed : (i : ℕ) (d : Condition) (k : ℕ) → (if k == i then Closed else in_order i d k) ≡ in_order (i + 1)
-    Untouched k
-set_closed i d k = go (nat_lt k i) (k == i) (nat_lt k (i + 1)) (k == i + 1) refl refl refl
+module _ (plan : Plan) (xs : List Held) (input : List ℕ) (conditions : ℕ → Condition)
+    (keeps : (j : ℕ) (w : Work) → slice_get plan.items j ≡ Some w → Keeps j w input (conditions j) (slice_get xs j))
+    (i : ℕ) (c : Condition) where
+  -- what is kept for each item, where one has another condition
+  pub keeps_at : ((w : Work) → slice_get plan.items i ≡ Some w → Keeps i w input c (slice_get xs i)) →
+      (j : ℕ) (w : Work) → slice_get plan.items j ≡ Some w →
+      Keeps j w input (if j == i then c else conditions j) (slice_get xs j)
+  keeps_at own j w e = go (j == i) refl
+    where
+      go : (b : Bool) → (j == i) ≡ b → Keeps j w input (if b then c else conditions j) (slice_get xs j)
+      go false h = keeps j w e
+      go true h =
+          let same : i ≡ j = sym (eqb-true j i h) in
+          subst (λ k. Keeps k w input c (slice_get xs k)) same (own w (ap (slice_get plan.items) same ∙ e))
+
+  -- the same, where something else is kept for it
+  pub keeps_set : (x : Held) → i < length xs →
+      ((w : Work) → slice_get plan.items i ≡ Some w → Keeps i w input c (Some x)) →
+      (j : ℕ) (w : Work) → slice_get plan.items j ≡ Some w →
+      Keeps j w input (if j == i then c else conditions j) (slice_get (slice_set xs i x) j)
+  keeps_set x lt own j w e = go (j == i) refl
+    where
+      go : (b : Bool) → (j == i) ≡ b →
+          Keeps j w input (if b then c else conditions j) (slice_get (slice_set xs i x) j)
+      go false h =
+          subst (λ o. Keeps j w input (conditions j) o) (sym (get_set_other xs i x j (number_not j i h))) (keeps j w e)
+      go true h =
+          let same : i ≡ j = sym (eqb-true j i h) in
+          subst (λ k. Keeps k w input c (slice_get (slice_set xs i x) k)) same
+          (subst (λ o. Keeps i w input c o) (sym (get_set_same xs i x lt)) (own w (ap (slice_get plan.items) same ∙ e)))
+
+module _ (plan : Plan) (old : Standing) (s t : State) (at : IsAt plan old s) (going : old.ended ≡ false) (g : Board) where
+  pub passed : (i : ℕ) → GraphFollows old.graph (event.Wait i) g → step plan (fill_from old) s (event.Wait i) ≡ Some t →
+      IsAt plan (record old { graph = g }) t
+  passed i follows e = subst (λ x. IsAt plan (record old { graph = g }) x) (same_Some next t e) made
+    where
+      next : State
+      next = record s { place = s.place + 1; condition = λ k. if k == i then Passed else s.condition k }
+
+      stands : Stands plan (record next { place = old.graph.place + 1 }) g
+      stands = follows plan (fill_from old) (record s { place = old.graph.place }) _ at.graph refl
+
+      made : IsAt plan (record old { graph = g }) next
+      made = record {
+        host = at.host;
+        lengths = at.lengths;
+        device = at.device;
+        counts = at.counts;
+        graph = stands_again plan _ next g stands refl;
+        place = ap (λ n. n + 1) at.place ∙ moved old.ended old.graph.place g.place going stands.place;
+        ended = λ d. absurd (true≢false (sym d ∙ going));
+        scalars = at.scalars;
+        input = at.input;
+        output = at.output;
+        slots = at.slots;
+        held = keeps_at plan old.held.items s.input s.condition at.held i Passed (λ w e. tt);
+      }
+
+  pub generated : (i : ℕ) (b : _) (hs : Vec Held Global) → GraphFollows old.graph (event.Gen i) g →
+      hs.items ≡ slice_set old.held.items i (held.Captured b) → i < length old.held.items → b.value ≡ old.scalars →
+      step plan (fill_from old) s (event.Gen i) ≡ Some t →
+      IsAt plan (record old { graph = g; held = hs }) t
+  generated i b hs follows set lt captured e =
+      subst (λ x. IsAt plan (record old { graph = g; held = hs }) x) (same_Some next t e) made
+    where
+      next : State
+      next =
+          record s { place = s.place + 1; condition = λ k. if k == i then Generated s.scalars else s.condition k }
+
+      stands : Stands plan (record next { place = old.graph.place + 1 }) g
+      stands = follows plan (fill_from old) (record s { place = old.graph.place }) _ at.graph refl
+
+      made : IsAt plan (record old { graph = g; held = hs }) next
+      made = record {
+        host = at.host;
+        lengths = at.lengths;
+        device = at.device;
+        counts = at.counts;
+        graph = stands_again plan _ next g stands refl;
+        place = ap (λ n. n + 1) at.place ∙ moved old.ended old.graph.place g.place going stands.place;
+        ended = λ d. absurd (true≢false (sym d ∙ going));
+        scalars = at.scalars;
+        input = at.input;
+        output = at.output;
+        slots = ap (λ (xs : List Held). length xs) set ∙ length-set old.held.items i (held.Captured b) ∙ at.slots;
+        held =
+            subst (λ (xs : List Held). (j : ℕ) (w : Work) → slice_get plan.items j ≡ Some w →
+            Keeps j w s.input (if j == i then Generated s.scalars else s.condition j) (slice_get xs j)) (sym set)
+            (keeps_set plan old.held.items s.input s.condition at.held i (Generated s.scalars) (held.Captured b) lt
+            (λ w e. at.scalars ∙ ap (λ (xs : List ℕ). slice_index xs) (sym captured)));
+      }
+
+-- the host comes to the end
+pub ends : (plan : Plan) (old : Standing) (s t : State) → IsAt plan old s → old.ended ≡ false →
+    enabled plan s event.End ≡ true → step plan (fill_from old) s event.End ≡ Some t →
+    IsAt plan (record old { ended = true }) t
+ends plan old s t at going may e =
+    subst (λ x. IsAt plan (record old { ended = true }) x) (same_Some (record s { place = s.place + 1 }) t e)
+    (record {
+      host = at.host;
+      lengths = at.lengths;
+      device = at.device;
+      counts = at.counts;
+      graph = at.graph;
+      place = ap (λ n. n + 1) here;
+      ended = λ d. (sym here ∙ (enabled_End plan s may).0, (enabled_End plan s may).1);
+      scalars = at.scalars;
+      input = at.input;
+      output = at.output;
+      slots = at.slots;
+      held = at.held;
+    })
   where
-    go : (a b c e : Bool) → nat_lt k i ≡ a → (k == i) ≡ b → nat_lt k (i + 1) ≡ c →
-        (if b then Closed else (if a then Closed else (if b then d else Untouched))) ≡
-        (if c then Closed else (if e then Untouched else Untouched))
-    go true b false e h1 h2 h3 = absurd (let f = beyond k i h1 h3 in cc)
-    go true true true e h1 h2 h3 = refl
-    go true false true e h1 h2 h3 = refl
-    go false true false e h1 h2 h3 = absurd (let f = at_beyond k i h2 h3 in cc)
-    go false true true e h1 h2 h3 = refl
-    go false false true e h1 h2 h3 = absurd (let f = between k i h1 h2 h3 in cc)
-    go false false false true h1 h2 h3 = refl
-    go false false false false h1 h2 h3 = refl
-
-module _ (plan : Plan) (fill : ℕ → Fill) (i : ℕ) (w : Work) (at : slice_get plan.items i ≡ Some w) (scalars : Scalars)
-    (input output : List ℕ) where
-  snapshot_is : (m : Memories) → snapshot_of plan i m ≡ worked_on plan.lengths w.kind m
-  snapshot_is m = ap (λ o. on (λ c. None) (λ w. worked_on plan.lengths w.kind m) o) at
-
-  pub opens : (m n : Memories) → opening (fill i) w m ≡ Some n →
-      step plan fill (state_at plan Before i m scalars input output) (Open i) ≡ Some
-      (state_at plan Within i n scalars input output)
-  opens m n e =
-      ap (λ o. on None (λ w. open_item plan (fill i) i w (state_at plan Before i m scalars input output)) o) at
-      ∙ ap (λ o. option_map (λ n. with_condition i (Opened (captured_by (in_order i Untouched i) scalars)
-      (worked_on plan.lengths w.kind n)) (record (state_at plan Before i m scalars input output)
-      { memories = n })) o) e
-      ∙ (λ j. Some (record {
-        place = i;
-        memories = n;
-        scalars = scalars;
-        input = input;
-        output = output;
-        condition = conditions j;
-      }))
-    where
-      conditions : (λ k. if k == i then Opened (captured_by (in_order i Untouched i) scalars)
-          (worked_on plan.lengths w.kind n) else in_order i Untouched k)
-          ≡ in_order i (Opened scalars (snapshot_of plan i n))
-      conditions =
-          fun_ext (λ (k : ℕ).
-          (λ j. if k == i then Opened (captured_by (here i Untouched j) scalars) (sym (snapshot_is n) j) else in_order
-          i Untouched k)
-          ∙ set_here i (Opened scalars (snapshot_of plan i n)) Untouched k)
-
-  abbrev after : State → Option State
-  after t = Some (moved_on w.deferred (with_condition i Closed t))
-
-  closing_is : (m : Memories) →
-      step plan fill (state_at plan Within i m scalars input output) (Close i)
-      ≡ option_map (λ t. moved_on w.deferred (with_condition i Closed t))
-      (closing w (Opened scalars (worked_on plan.lengths w.kind m))
-      (state_at plan Within i m scalars input output))
-  closing_is m =
-      ap (λ o. on None (λ w. option_map (λ t. moved_on w.deferred (with_condition i Closed t))
-      (closing w (in_order i (Opened scalars (snapshot_of plan i m)) i)
-      (state_at plan Within i m scalars input output))) o) at
-      ∙ ap (λ c. option_map (λ t. moved_on w.deferred (with_condition i Closed t))
-      (closing w c (state_at plan Within i m scalars input output)))
-      (here i (Opened scalars (snapshot_of plan i m)) ∙ ap (λ v. Opened scalars v) (snapshot_is m))
-
-  pub closes : (m n : Memories) (scalars' : Scalars) (input' output' : List ℕ) → w.deferred ≡ false →
-      closing w (Opened scalars (worked_on plan.lengths w.kind m)) (state_at plan Within i m scalars input output)
-      ≡ Some (record (state_at plan Within i m scalars input output)
-      { memories = n; scalars = scalars'; input = input'; output = output' }) →
-      step plan fill (state_at plan Within i m scalars input output) (Close i) ≡ Some
-      (state_at plan Before (i + 1) n scalars' input' output')
-  closes m n scalars' input' output' not_deferred e =
-      closing_is m
-      ∙ ap (λ o. option_map (λ t. moved_on w.deferred (with_condition i Closed t)) o) e
-      ∙ ap (λ d. Some (moved_on d (with_condition i Closed (record (state_at plan Within i m scalars input output)
-      { memories = n; scalars = scalars'; input = input'; output = output' })))) not_deferred
-      ∙ (λ j. Some (record {
-        place = i + 1;
-        memories = n;
-        scalars = scalars';
-        input = input';
-        output = output';
-        condition = conditions j;
-      }))
-    where
-      conditions : (λ k. if k == i then Closed else in_order i (Opened scalars (snapshot_of plan i m)) k) ≡ in_order
-          (i + 1) Untouched
-      conditions = fun_ext (λ (k : ℕ). set_closed i (Opened scalars (snapshot_of plan i m)) k)
-
-  pub closes_not : (m : Memories) →
-      closing w (Opened scalars (worked_on plan.lengths w.kind m)) (state_at plan Within i m scalars input output) ≡
-      None →
-      step plan fill (state_at plan Within i m scalars input output) (Close i) ≡ None
-  closes_not m e = closing_is m ∙ ap (λ o. option_map (λ t. moved_on w.deferred (with_condition i Closed t)) o) e
+    here : s.place ≡ old.graph.place
+    here = at.place ∙ ap (λ b. place_of b old.graph.place) going

@@ -1,63 +1,102 @@
--- A run of a small program so far, and what it ends with.
-use Rattle.std.specs.Prelude.{ℕ, ◌≡◌, ◌+◌, ◌*◌, ◌<◌, ◌^◌, false, List, Some, None}
+-- A run as contracts see it.
+use Rattle.std.specs.Prelude.{◌≡◌, ℕ, ◌+◌, ◌&&◌, Bool, true, false, nat_lt, ◌++◌, ◌∷◌, [], List, Option, Some, None, length, refl, replicate, unwrap_or}
+use Rattle.std.specs.List.{slice_set}
+use Rattle.std.specs.Coded.{Coded, code_by, coded×, coded_ℕ, coded_list, coded_option}
+use Rattle.base.specs.contracts.tree.Program as program_code
+use Rattle.base.specs.contracts.item.Event as event_code
 use Rattle.base.specs.declared.tree.Program.{Program}
 use Rattle.base.specs.declared.item.Event.{Event}
 use Rattle.base.specs.declared.item.Event.TheVariants.{Gen, Open, Close, Wait, End}
 use Rattle.base.specs.Items.{plan}
-use Rattle.base.specs.Machine.{RunFrom, HasEnded, run_by_choices}
-use Rattle.base.specs.Small.{Fits, IsOversized}
-use Rattle.device.specs.declared.state.Phase.{Phase}
-use Rattle.device.specs.declared.state.Phase.TheVariants.{Before, Within, Past}
-use Rattle.device.specs.declared.state.Standing.{Standing}
-use Rattle.device.specs.declared.stop.Stop.{Stop}
-use Rattle.device.specs.declared.stop.Stop.TheVariants.{OutOfMemory, DeviceFull, Absent}
-use Rattle.device.specs.State.{IsStanding, IsBefore, IsWithin, IsPast, IsOverAt, state_of, fill_from}
+use Rattle.base.specs.Map.{Fill, in_use, need}
+use Rattle.base.specs.Machine.{State, on_item, start}
+use Rattle.base.specs.declared.fault.RunFault.{RunFault}
+use Rattle.base.specs.declared.fault.RunFault.TheVariants as fault
+use Rattle.device.specs.Moves.{enters}
+use Rattle.device.specs.Reached.{reached}
+use Rattle.device.specs.Standing.{Issue}
 
--- the event is the next one
-abbrev pub IsNextEvent : Program → Standing → Event → Type 0
-IsNextEvent p s (Open i) = IsBefore p s × (i ≡ s.place)
-IsNextEvent p s (Close i) = IsWithin p s × (i ≡ s.place)
-IsNextEvent p s End = IsPast p s
-IsNextEvent p s (Gen i) = ⊥
-IsNextEvent p s (Wait i) = ⊥
-
-abbrev pub done_in : Phase → ℕ → ℕ
-done_in Before i = 2 * i
-done_in Within i = 2 * i + 1
-done_in Past i = 2 * i + 1
-
--- how many events were done
-abbrev pub events_done : Standing → ℕ
-events_done s = done_in s.phase s.place
-
-abbrev pub opened_in : Phase → ℕ → ℕ
-opened_in Before i = i
-opened_in Within i = i + 1
-opened_in Past i = i
-
--- no item that was opened creates more cells than the capacity
-abbrev pub HaveFit : Program → ℕ → Standing → Type 0
-HaveFit p capacity s = (k : ℕ) → k < opened_in s.phase s.place → IsOverAt (plan p) capacity k false
-
--- a run that has ended
-pub record HasRunToEnd (p : Program) (input choices : List ℕ) (capacity : ℕ) (s : Standing) : Type 0 where
-  pub by_choices : run_by_choices (plan p) (fill_from s) input choices ≡ record
-      { history = s.history.items; state = Some (state_of (plan p) s) }
-  pub ran : RunFrom (plan p) (fill_from s) input s.history.items (Some (state_of (plan p) s))
-  pub ended : HasEnded (plan p) (state_of (plan p) s)
-  pub standing : IsStanding p s
-  pub number : s.table.fresh < 2 ^ 64
-  pub fits : Fits p capacity
-
--- a run fails
-pub record Fails (p : Program) (input : List ℕ) : Type 0 where
+-- the program and its whole input, how many cells the device has room for, what each cell of created storage holds, the
+-- events so far, and for each item the frame that its opening issued, as long as it is open
+pub record Run : Type 0 where
+  pub program : Program
+  pub input : List ℕ
+  pub capacity : ℕ
   pub fresh : ℕ
-  pub number : fresh < 2 ^ 64
-  pub events : List Event
-  pub ran : RunFrom (plan p) (λ i c. fresh) input events None
+  pub history : List Event
+  pub issued : List (Option Issue)
 
--- why a run stopped
-abbrev pub IsStopped : Program → List ℕ → ℕ → Stop → Type 0
-IsStopped p input capacity OutOfMemory = Unit {0}
-IsStopped p input capacity DeviceFull = IsOversized p capacity
-IsStopped p input capacity Absent = Fails p input
+abbrev pub fill_in : Run → ℕ → Fill
+fill_in r i = λ c. r.fresh
+
+-- the state of the two-memory machine after the events so far
+unfoldable pub state_of : Run → State
+state_of r = unwrap_or (reached (plan r.program) (fill_in r) r.input r.history) (start r.input)
+
+-- an item that is generated or closed has no frame
+abbrev pub issued_after : Event → List (Option Issue) → List (Option Issue)
+issued_after (Gen i) frames = slice_set frames i None
+issued_after (Open i) frames = frames
+issued_after (Close i) frames = slice_set frames i None
+issued_after (Wait i) frames = frames
+issued_after End frames = frames
+
+-- one more event, which issues no frame
+abbrev pub after : Run → Event → Run
+after r e = record r { history = r.history ++ e ∷ []; issued = issued_after e r.issued }
+
+-- an item was opened, and this frame was issued
+abbrev pub opened : Run → ℕ → Issue → Run
+opened r i f = record r { history = r.history ++ Open i ∷ []; issued = slice_set r.issued i (Some f) }
+
+abbrev pub issue_code : Coded Issue
+issue_code =
+    code_by (ℕ × (List ℕ × (List ℕ × (List (ℕ × List ℕ) × List ℕ))))
+    (coded× coded_ℕ (coded× (coded_list coded_ℕ) (coded× (coded_list coded_ℕ)
+    (coded× (coded_list (coded× coded_ℕ (coded_list coded_ℕ))) (coded_list coded_ℕ)))))
+    (λ i. (i.item, (i.loops, (i.scalars, (i.rows, i.input)))))
+    (λ p. record { item = p.0; loops = p.1.0; scalars = p.1.1.0; rows = p.1.1.1.0; input = p.1.1.1.1 }) (λ _. refl)
+
+abbrev pub run_code : Coded Run
+run_code =
+    code_by (Program × (List ℕ × (ℕ × (ℕ × (List Event × List (Option Issue))))))
+    (coded× program_code.the_row.coded (coded× (coded_list coded_ℕ) (coded× coded_ℕ (coded× coded_ℕ
+    (coded× (coded_list event_code.the_row.coded) (coded_list (coded_option issue_code)))))))
+    (λ r. (r.program, (r.input, (r.capacity, (r.fresh, (r.history, r.issued))))))
+    (λ p. record {
+      program = p.0;
+      input = p.1.0;
+      capacity = p.1.1.0;
+      fresh = p.1.1.1.0;
+      history = p.1.1.1.1.0;
+      issued = p.1.1.1.1.1;
+    })
+    (λ _. refl)
+
+-- a run that has done nothing
+pub record IsStart (p : Program) (given : List ℕ) (room : ℕ) (r : Run) : Type 0 where
+  pub program : r.program ≡ p
+  pub input : r.input ≡ given
+  pub capacity : r.capacity ≡ room
+  pub history : r.history ≡ []
+  pub issued : r.issued ≡ replicate (length (plan p).items) None
+
+-- an item was opened, and some frame was issued for it
+pub record HasOpened (i : ℕ) (old new : Run) : Type 0 where
+  pub frame : Issue
+  pub is : new ≡ opened old i frame
+
+-- the item creates storage beyond the capacity when it is opened
+abbrev pub is_over : Run → ℕ → Bool
+is_over r i = on_item (plan r.program) i false (λ w. enters w.kind &&
+    nat_lt r.capacity (in_use (state_of r).memories.device.blocks + need w.maps (state_of r).memories.device.blocks))
+
+-- why an item is not opened: for want of memory, or of room on the device
+abbrev pub IsOpenFault : Run → ℕ → RunFault → Type 0
+IsOpenFault r i fault.OutOfMemory = Unit {0}
+IsOpenFault r i fault.DeviceFull = is_over r i ≡ true
+IsOpenFault r i fault.Absent = ⊥
+IsOpenFault r i fault.Stranger = ⊥
+IsOpenFault r i fault.ThreadNotStarted = ⊥
+IsOpenFault r i fault.OtherState = ⊥
+IsOpenFault r i fault.RangeRefused = ⊥

@@ -1,13 +1,18 @@
-// What a run that has ended answers.
+// What a whole run by choices answers.
 
-ghost use Rattle.std.specs.Prelude.{◌≡◌, ◌≤◌, ◌++◌, ◌∷◌, [], IfOk, OnOk, decimal, length};
-ghost use Rattle.base.specs.Meaning.{output_of};
-ghost use Rattle.device.specs.Cells.{rows_of};
-ghost use Rattle.device.specs.Ends.{finals_from, numbered, IsOf};
+ghost use Rattle.std.specs.Prelude.{◌≡◌, ◌++◌, ◌∷◌, [], IfErr, IfOk, OnOk, decimal, map, slice_index};
+ghost use Rattle.base.specs.Answer.{IsAnswer};
+ghost use Rattle.base.specs.Items.{plan};
+ghost use Rattle.base.specs.Machine.{HasEnded};
+ghost use Rattle.base.specs.Meaning.{lengths_of, output_of};
+ghost use Rattle.device.specs.Answering.{IsAnswerFault, IsAnswerOf, IsRunAnswer, final_in, final_of, values_in};
+ghost use Rattle.device.specs.Run.{state_of};
 
-use crate::state::Standing;
-use base::item::Answer;
+use crate::state::RunState;
+use base::fault::RunFault;
+use base::item::{Answer, Cell, Event};
 use base::tree::ArrayId;
+use lower::Image;
 use std::alloc::{AllocError, Global};
 
 // A number in decimal, with a line feed.
@@ -19,7 +24,7 @@ fn add_line(alloc: Global, out: &mut Vec<u8>, n: u64) -> Result<(), AllocError>
     Ok(())
 }
 
-#[tactic(auto, using(crate::proofs::Final::output_more))]
+#[tactic(auto, using(crate::proofs::Answers::output_more))]
 // The output's bytes.
 fn text_of(alloc: Global, printed: &[u64]) -> Result<Vec<u8>, AllocError>
     ensures { IfOk result (λ out. out.items ≡ output_of printed.now) }
@@ -31,37 +36,104 @@ fn text_of(alloc: Global, printed: &[u64]) -> Result<Vec<u8>, AllocError>
     Ok(out)
 }
 
-// Each array's values, in order of declaration.
-fn finals_of(alloc: Global, host: Vec<Vec<u64>>) -> Result<Vec<(ArrayId, Vec<u64>)>, AllocError>
-    requires { length host.items ≤ 1 }
-    ensures { IfOk result (λ finals. finals_from finals.items ≡ numbered (rows_of host.items)) }
+// The events again.
+fn copy_of(alloc: Global, history: &[Event]) -> Result<Vec<Event>, AllocError>
+    ensures { IfOk result (λ copy. copy.items ≡ history.now) }
 {
-    let mut finals = Vec::new(alloc);
-    let mut host = host;
-    if let Some(values) = host.pop() {
-        finals.push((ArrayId(0), values))?;
-    }
-    Ok(finals)
+    let mut copy = Vec::new(alloc);
+    copy.extend_from_slice(history)?;
+    Ok(copy)
 }
 
-/// What the run answers that ended so.
-pub fn answer_of(alloc: Global, end: Standing<'_>) -> Result<Answer, AllocError>
-    requires { length end.host.items ≤ 1 }
-    ensures { IfOk result (IsOf end.entry) }
+impl<'a> RunState<'a> {
+    // How many cells an array has, 0 where it is none of the program's.
+    fn length_of(&self, array: ArrayId) -> u64
+        ensures { result ≡ slice_index (lengths_of self.now.program) array.0 }
+    {
+        match self.image.lengths().get(array.0 as usize) {
+            Some(length) => *length as u64,
+            None => 0,
+        }
+    }
+
+    // The numbers of an array on the host.
+    fn values_of(&self, alloc: Global, array: ArrayId) -> Result<Vec<u64>, AllocError>
+        ensures { IfOk result (λ values. values.items ≡ values_in self.now array) }
+    {
+        let mut values = Vec::new(alloc);
+        let length = self.length_of(array);
+        for index in 0..length {
+            values.push(self.host_cell(Cell { array, index }))?;
+        }
+        Ok(values)
+    }
+
+    // The numbers of some arrays.
+    fn finals_of(
+        &self,
+        alloc: Global,
+        arrays: &[ArrayId],
+    ) -> Result<Vec<(ArrayId, Vec<u64>)>, AllocError>
+        ensures { IfOk result (λ finals. map final_of finals.items ≡ map (final_in self.now) arrays.now) }
+    {
+        let mut finals = Vec::new(alloc);
+        for array in arrays {
+            let values = self.values_of(alloc, *array)?;
+            finals.push((*array, values))?;
+        }
+        Ok(finals)
+    }
+
+    // What was printed, the numbers of these arrays, and the events.
+    fn answer_with(&self, alloc: Global, arrays: &[ArrayId]) -> Result<Answer, AllocError>
+        ensures { IfOk result (IsAnswerOf self.now arrays.now) }
+    {
+        Ok(Answer {
+            out: text_of(alloc, self.output())?,
+            finals: self.finals_of(alloc, arrays)?,
+            history: copy_of(alloc, self.history())?,
+        })
+    }
+
+    /// The answer of a run that has ended: its output, the values of the arrays that are marked current, and its
+    /// events. The error comes for want of memory.
+    pub fn answer(&self, alloc: Global) -> Result<Answer, AllocError>
+        requires { HasEnded (plan self.now.program) (state_of self.now) }
+        ensures { IfOk result (IsRunAnswer self.now) }
+    {
+        self.is_reached();
+        let marked = self.image.marked();
+        match self.answer_with(alloc, marked) {
+            Err(error) => Err(error),
+            Ok(answer) => Ok(answer),
+        }
+    }
+}
+
+/// Runs an accepted program on this input by these choices, on a device with room for `capacity` cells. The answer has
+/// the values of the arrays that are marked current. The error is `DeviceFull` where the run comes to an opening that
+/// would create more cells than the device has room for, or `OutOfMemory`.
+pub fn run_choices(
+    alloc: Global,
+    image: &Image<'_>,
+    input: &[u64],
+    choices: &[u32],
+    capacity: u64,
+) -> Result<Answer, RunFault>
+    ensures answer { IfOk result (IsAnswer image.now input.now choices.now) }
+    ensures fault { IfErr result (IsAnswerFault image.now input.now choices.now capacity) }
 {
-    let Standing {
-        place: _,
-        phase: _,
-        host,
-        table: _,
-        scalars: _,
-        input: _,
-        output,
-        history,
-    } = end;
-    Ok(Answer {
-        out: text_of(alloc, &output)?,
-        finals: finals_of(alloc, host)?,
-        history,
-    })
+    let mut run = match RunState::new(alloc, image, input, capacity) {
+        Err(_) => return Err(RunFault::OutOfMemory),
+        Ok(run) => run,
+    };
+    match run.play_choices(choices) {
+        Err(fault) => return Err(fault),
+        Ok(()) => {}
+    }
+    run.is_reached();
+    match run.answer(alloc) {
+        Err(_) => Err(RunFault::OutOfMemory),
+        Ok(answer) => Ok(answer),
+    }
 }

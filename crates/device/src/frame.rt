@@ -1,17 +1,117 @@
-// Where a region stands.
+// The frame of an item.
 
-ghost use Rattle.device.specs.Cells.{IsStored};
+ghost use Rattle.std.specs.Prelude.{◌≡◌, ◌≤◌, ◌<◌, ◌^◌, false, IfOk, length};
+ghost use Rattle.base.specs.Accepted.{is_host, is_target};
+ghost use Rattle.base.specs.Arrays.{lengths_of};
+ghost use Rattle.base.specs.Items.{plan};
+ghost use Rattle.base.specs.declared.tree.Program.{Program};
+ghost use Rattle.device.specs.Framing.{Captures, FramesWell};
 
-use base::item::Cell;
+use crate::standing::{Held, Standing};
+use base::item::{Item, ItemKind};
+use frames::{host_frame, kernel_frame};
+use kernel::Frame;
+use lower::Image;
+use std::alloc::{AllocError, Global};
 
-/// The scalars, the memory as it was and as the stores have made it, the input that is left, and what was printed.
-#[derive(Drop)]
-pub struct Frame<'m, 'i> {
-    pub scalars: [u64; 256],
-    pub before: &'m [Vec<u64>],
-    pub cells: Vec<Vec<u64>>,
-    pub stores: Vec<(Cell, u64)>,
-    pub input: &'i [u64],
-    pub printed: Vec<u64>,
-    ghost done: { IsStored before.now cells.items stores.items },
+impl<'a> Standing<'a> {
+    // The scalars that an item has captured, or those of now where it is not deferred.
+    fn captured(&self, deferred: bool, item: u32) -> [u64; 256]
+        requires { item < length self.now.held.items }
+        ensures { Captures self.now deferred item result }
+    {
+        if !deferred {
+            return self.scalars;
+        }
+        match &self.held[item as usize] {
+            Held::Captured(scalars) => **scalars,
+            Held::Nothing => self.scalars,
+            Held::Issued(_) => self.scalars,
+        }
+    }
+
+    // The frame of a host item.
+    fn frame_of_host(
+        &self,
+        alloc: Global,
+        image: &Image<'a>,
+        it: &'a Item,
+        item: u32,
+    ) -> Result<Frame<'a>, AllocError>
+        requires inside { item < length self.now.held.items }
+        requires same { length self.now.held.items ≡ length (plan image.now).items }
+        requires lengths { lengths_of self.now.host ≡ (plan image.now).lengths }
+        requires kind { it.now.kind ≡ ItemKind.Host }
+        ensures serves { IfOk result (FramesWell image.now self.now item it.now) }
+    {
+        let scalars = self.captured(it.deferred, item);
+        let reach = image.reach(item as usize);
+        let frame = host_frame(
+            alloc, item, &it.loops, &scalars, self.input, reach, &self.host,
+        )?;
+        Ok(frame)
+    }
+
+    // The frame of a target, with no numbers yet.
+    fn frame_of_target(
+        &self,
+        alloc: Global,
+        image: &Image<'a>,
+        it: &'a Item,
+        item: u32,
+    ) -> Result<Frame<'a>, AllocError>
+        requires inside { item < length self.now.held.items }
+        requires same { length self.now.held.items ≡ length (plan image.now).items }
+        requires kind { it.now.kind ≡ ItemKind.Target }
+        ensures few { IfOk result (λ frame. length frame.rows.items ≤ 2 ^ 32) }
+        ensures serves { IfOk result (FramesWell image.now self.now item it.now) }
+    {
+        let scalars = self.captured(it.deferred, item);
+        let reach = image.reach(item as usize);
+        let _lengths = image.lengths();
+        let frame = kernel_frame(alloc, item, &it.loops, &scalars, reach)?;
+        Ok(frame)
+    }
+
+    // The frame of an item without a region.
+    fn frame_of_none(&self, alloc: Global, it: &'a Item, item: u32) -> Frame<'a>
+        requires inside { item < length self.now.held.items }
+        requires host { is_host it.now.kind ≡ false }
+        requires target { is_target it.now.kind ≡ false }
+        ensures serves { (p : Program) → FramesWell p self.now item it.now result }
+    {
+        Frame {
+            item,
+            loops: &it.loops,
+            scalars: self.captured(it.deferred, item),
+            rows: Vec::new(alloc),
+            input: &[],
+        }
+    }
+
+    /// The frame of an item that may be opened, before its entries are done.
+    pub fn frame(
+        &self,
+        alloc: Global,
+        image: &Image<'a>,
+        it: &'a Item,
+        item: u32,
+    ) -> Result<Frame<'a>, AllocError>
+        requires inside { item < length self.now.held.items }
+        requires same { length self.now.held.items ≡ length (plan image.now).items }
+        requires lengths { lengths_of self.now.host ≡ (plan image.now).lengths }
+        ensures few { IfOk result (λ frame. it.now.kind ≡ ItemKind.Target → length frame.rows.items ≤ 2 ^ 32) }
+        ensures serves { IfOk result (FramesWell image.now self.now item it.now) }
+    {
+        match it.kind {
+            ItemKind::Host => self.frame_of_host(alloc, image, it, item),
+            ItemKind::Target => self.frame_of_target(alloc, image, it, item),
+            ItemKind::Begin => Ok(self.frame_of_none(alloc, it, item)),
+            ItemKind::End => Ok(self.frame_of_none(alloc, it, item)),
+            ItemKind::Enter => Ok(self.frame_of_none(alloc, it, item)),
+            ItemKind::Exit => Ok(self.frame_of_none(alloc, it, item)),
+            ItemKind::Update => Ok(self.frame_of_none(alloc, it, item)),
+            ItemKind::Wait => Ok(self.frame_of_none(alloc, it, item)),
+        }
+    }
 }

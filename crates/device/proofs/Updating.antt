@@ -1,0 +1,59 @@
+-- An update of a section to both sides, and one to none.
+use Rattle.std.proofs.Common.{◌≡◌, false, Option, Some, None, refl, sym, ap, ◌∙◌, subst}
+use Rattle.std.specs.Prelude.{IsSomeAnd}
+use Rattle.std.proofs.lemmas.Option.{same_Some}
+use Rattle.base.specs.declared.item.MapItem.{MapItem}
+use Rattle.base.specs.declared.item.MapKind.TheVariants as kind
+use Rattle.base.specs.declared.memory.Memory.{Memory as Arrays}
+use Rattle.base.specs.Map.{Memories, Presence, Absent, Inside, InPart, copies_from, copies_to, copy_in, copy_out, presence, update, when}
+use Rattle.present.specs.declared.Table.{Table}
+use Rattle.present.specs.Table.{Are, Does, item_to, item_from, memories}
+use Rattle.device.specs.Moves.{Leads}
+
+abbrev pub updated : MapItem → Memories → Presence → Option Memories
+updated item m Absent = Some m
+updated item m (Inside b) = Some (when (copies_from item.kind) (copy_out item.section)
+    (when (copies_to item.kind) (copy_in item.section) m))
+updated item m InPart = None
+
+pub is_updated : (item : MapItem) (m : Memories) (q : Presence) → presence m.device.blocks item.section ≡ q →
+    update item m ≡ updated item m q
+is_updated item m q e = rw (e, update) refl
+
+known : (x m : Memories) (h : Arrays) (t : Table) → Some x ≡ Some m → Are h t x → Are h t m
+known x m h t e a = subst (Are h t) (same_Some x m e) a
+
+pub both_ways : (item : MapItem) → item.kind ≡ kind.ToFrom → (t t' : Table) (h h' : Arrays) →
+    Does (update (item_to item.section)) t h t' h → Does (update (item_from item.section)) t' h t' h' →
+    Leads (update item) t h t' h'
+both_ways item is t t' h h' first second d m shown e = go (presence d.blocks item.section) refl
+  where
+    go : (q : Presence) → presence d.blocks item.section ≡ q → Are h' t' m
+    go Absent k =
+        let a = subst (λ o. IsSomeAnd o (Are h t')) (is_updated (item_to item.section) (memories h d) Absent k) (first d shown) in
+        let b = subst (λ o. IsSomeAnd o (Are h' t')) (is_updated (item_from item.section) (memories h d) Absent k) (second d a.shown) in
+        known (memories h d) m h' t' (sym (is_updated item (memories h d) Absent k) ∙ e) b
+    go (Inside x) k =
+        let one = copy_in item.section (memories h d) in
+        let a = subst (λ o. IsSomeAnd o (Are h t')) (is_updated (item_to item.section) (memories h d) (Inside x) k) (first d shown) in
+        let b = subst (λ o. IsSomeAnd o (Are h' t')) (is_updated (item_from item.section) one (Inside x) k) (second one.device a.shown) in
+        known (copy_out item.section one) m h' t'
+        (sym (is_updated item (memories h d) (Inside x) k
+        ∙ ap (λ y. Some (when (copies_from y) (copy_out item.section) (when (copies_to y) (copy_in item.section) (memories h d)))) is) ∙ e) b
+    go InPart k = absurd (let bad : None ≡ Some m = sym (is_updated item (memories h d) InPart k) ∙ e in cc)
+
+pub no_way : (item : MapItem) → copies_from item.kind ≡ false → copies_to item.kind ≡ false → (t : Table) (h : Arrays) →
+    Leads (update item) t h t h
+no_way item f g t h d m shown e = go (presence d.blocks item.section) refl
+  where
+    here : Are h t (memories h d)
+    here = record { host = refl; shown = shown }
+
+    go : (q : Presence) → presence d.blocks item.section ≡ q → Are h t m
+    go Absent k = known (memories h d) m h t (sym (is_updated item (memories h d) Absent k) ∙ e) here
+    go (Inside b) k =
+        known (memories h d) m h t
+        (sym (is_updated item (memories h d) (Inside b) k
+        ∙ ap (λ y. Some (when y (copy_out item.section) (when (copies_to item.kind) (copy_in item.section) (memories h d)))) f
+        ∙ ap (λ y. Some (when y (copy_in item.section) (memories h d))) g) ∙ e) here
+    go InPart k = absurd (let bad : None ≡ Some m = sym (is_updated item (memories h d) InPart k) ∙ e in cc)

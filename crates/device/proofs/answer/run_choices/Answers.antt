@@ -1,0 +1,13 @@
+use Rattle.device.proofs.Answers.{is_answer, no_answer}
+use Rattle.device.proofs.answer.run_choices.Goals as goal
+
+pub returns-in-Err-play_choices-clause-fault : goal.returns-in-Err-play_choices-clause-fault
+returns-in-Err-play_choices-clause-fault c =
+    no_answer c.args.image.now c.args.input.now c.args.choices.now c.args.capacity c.in-Ok.run' c.play_choices.new.self
+    c.in-Err-play_choices.fault c.in-Ok.ensures.start c.in-Err-play_choices.ensures.stopped
+
+pub returns-clause-answer : goal.returns-clause-answer
+returns-clause-answer c =
+    is_answer c.args.image.now c.args.input.now c.args.choices.now c.args.capacity c.in-Ok.run'
+    c.play_choices.new.self c.in-Ok-answer.answer c.in-Ok.ensures.start c.in-Ok-play_choices.ensures.played
+    c.is_reached.ensures c.in-Ok-answer.ensures

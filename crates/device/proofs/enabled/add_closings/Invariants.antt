@@ -1,0 +1,10 @@
+use Rattle.std.proofs.Common.{◌≡◌, ◌++◌, map}
+use Rattle.std.specs.Prelude.{filter}
+use Rattle.std.specs.List.{range_with_len}
+use Rattle.base.specs.declared.item.Event.TheVariants as event
+use Rattle.taskgraph.specs.Board.{allows}
+use Rattle.device.proofs.enabled.add_closings.Given as goal
+
+abbrev pub invariant-loop-i : goal.invariant-loop-i
+invariant-loop-i l =
+    l.events.items ≡ l.fn.events.items ++ filter (allows l.graph) (map event.Close (range_with_len 0 l.i))

@@ -1,0 +1,6 @@
+use Rattle.base.specs.Map.{update}
+use Rattle.device.proofs.Moving.{InTheMidst}
+use Rattle.device.proofs.moves.update_all.Given as goal
+
+abbrev pub invariant-loop-i : goal.invariant-loop-i
+invariant-loop-i l = InTheMidst update l.maps l.i l.fn.table l.fn.host l.table l.host

@@ -1,0 +1,52 @@
+use Rattle.std.proofs.Common.{◌≡◌, ◌∙◌, Some, sym, ap, subst}
+use Rattle.std.specs.Prelude.{slice_get}
+use Rattle.std.proofs.lemmas.Option.{slice_get-get_or}
+use Rattle.kernel.specs.Kept.{IsKept}
+use Rattle.base.specs.declared.item.Event.TheVariants as event
+use Rattle.device.specs.declared.standing.Held.{Held}
+use Rattle.device.specs.Closing.{left_in}
+use Rattle.device.specs.Jobs.{IsIssuedDone}
+use Rattle.device.specs.Standing.{done_on}
+use Rattle.device.proofs.IssuedFrames.{held_issued, is_issued_done, of_item}
+use Rattle.device.proofs.MayClose.{close_facts, runs}
+use Rattle.device.proofs.Reaching.{asked}
+use Rattle.device.proofs.state.RunState.close_item.Goals as goal
+
+pub run-requires : goal.run-requires
+run-requires c =
+    let s = c.self.inside in
+    let it = c.index-items-item.result in
+    let f = close_facts s c.args.self.now c.args.item _ c.items.result.now it c.self.view_is c.self.invariant c.requires
+    c.items.ensures.shown c.index-items-item.is in
+    let at_i : slice_get s.standing.held.items c.args.item ≡ Some c.index.result.now =
+    slice_get-get_or s.standing.held.items c.args.item c.index.result.now f.item.inside ∙ ap (λ (x : Held). Some x) (sym c.index.ensures) in
+    let at_f = at_i ∙ ap (λ (x : Held). Some x) c.in-Issued.is in
+    let of = c.code-code.ensures f.item.work f.item.is in
+    runs s c.args.item it c.self.invariant f c.code-code.result.now c.in-Issued.frame of at_f
+
+pub finish-requires : goal.finish-requires
+finish-requires c =
+    let s = c.self.inside in
+    let it = c.index-items-item.result in
+    let f = close_facts s c.args.self.now c.args.item _ c.items.result.now it c.self.view_is c.self.invariant c.requires
+    c.items.ensures.shown c.index-items-item.is in
+    let at_i : slice_get s.standing.held.items c.args.item ≡ Some c.index.result.now =
+    slice_get-get_or s.standing.held.items c.args.item c.index.result.now f.item.inside ∙ ap (λ (x : Held). Some x) (sym c.index.ensures) in
+    let at_f = at_i ∙ ap (λ (x : Held). Some x) c.in-Issued.is in
+    let of = c.code-code.ensures f.item.work f.item.is in
+    let e = held_issued s.standing c.args.item c.in-Issued.frame at_f in
+    let d = c.in-Ok.done in
+    record {
+      region = c.code-code.result.now;
+      frame = c.in-Issued.frame;
+      of_item = of_item s c.args.item it c.self.invariant f c.code-code.result.now c.in-Issued.frame of e;
+      issued =
+          subst (λ r. IsIssuedDone r c.code-code.result.now c.in-Issued.frame) c.self.view_is
+          (is_issued_done s c.args.item it c.self.invariant f c.code-code.result.now c.in-Issued.frame of e
+          (asked s c.args.self.now (event.Close c.args.item) c.self.view_is c.requires));
+      kept =
+          subst (λ xs. IsKept (done_on c.code-code.result.now c.in-Issued.frame) (left_in d.scalars xs d.input.now c.deref-2.result.now)) (sym c.deref.ensures.value)
+          (subst (λ xs. IsKept (done_on c.code-code.result.now c.in-Issued.frame) (left_in d.scalars d.rows.items d.input.now xs)) (sym c.deref-2.ensures.value)
+          (subst (λ r. IsKept (done_on r c.in-Issued.frame) (left_in d.scalars d.rows.items d.input.now d.printed.items)) c.in-Ok.ensures.region
+          (subst (λ g. IsKept (done_on d.region.now g) (left_in d.scalars d.rows.items d.input.now d.printed.items)) c.in-Ok.ensures.frame d.is_meaning)));
+    }

@@ -1,0 +1,46 @@
+use Rattle.std.proofs.Common.{sym, ◌∙◌, subst, arith}
+use Rattle.base.specs.declared.fault.RunFault.TheVariants as fault
+use Rattle.device.specs.Choosing.{IsStopped}
+use Rattle.device.specs.Run.{Run}
+use Rattle.device.proofs.Choices.{comes_from, ends_at_most, ends_here, may_happen, one_more_choice, stops, why}
+use Rattle.device.proofs.state.RunState.play_choices.Goals as goal
+
+pub loop-turn-init : goal.loop-turn-init
+loop-turn-init c = comes_from c.args.choices.now c.args.self.now
+
+pub returns-in_default-clause-stopped : goal.returns-in_default-clause-stopped
+returns-in_default-clause-stopped c =
+    stops c.loop-turn.turn c.args.choices.now c.args.self.now c.loop-turn.self c.loop-turn.invariant fault.OutOfMemory tt
+
+pub loop-turn-preserved : goal.loop-turn-preserved
+loop-turn-preserved c =
+    one_more_choice c.loop-turn.turn c.args.choices.now c.args.self.now c.loop-turn.self c.take.new.self c.in-Some.event
+    c.loop-turn.invariant (sym c.in-Ok.ensures ∙ c.in-Some.is) c.in-Ok-take.ensures.taken
+
+pub returns-in_default-next-clause-played : goal.returns-in_default-next-clause-played
+returns-in_default-next-clause-played c =
+    let most = c.most_events-most.ensures in
+    let below = c.loop-turn-test.true in
+    ends_here c.loop-turn.turn c.args.choices.now c.args.self.now c.loop-turn.self c.loop-turn.invariant
+    c.is_reached.ensures (omega arith) (sym c.in-Ok.ensures ∙ c.in_default-next.is)
+
+pub take-requires : goal.take-requires
+take-requires c =
+    may_happen c.loop-turn.turn c.args.choices.now c.args.self.now c.loop-turn.self c.loop-turn.invariant c.in-Some.event
+    (sym c.in-Ok.ensures ∙ c.in-Some.is)
+
+pub returns-in-Err-clause-stopped : goal.returns-in-Err-clause-stopped
+returns-in-Err-clause-stopped c =
+    let next = sym c.in-Ok.ensures ∙ c.in-Some.is in
+    subst (λ (r : Run). IsStopped c.args.choices.now c.args.self.now r c.in-Err.fault) (sym c.in-Err.ensures.unchanged)
+    (stops c.loop-turn.turn c.args.choices.now c.args.self.now c.loop-turn.self c.loop-turn.invariant c.in-Err.fault
+    (why c.loop-turn.turn c.args.choices.now c.args.self.now c.loop-turn.self c.loop-turn.invariant c.in-Some.event next
+    c.in-Err.fault c.in-Err.ensures.fault))
+
+pub returns-clause-played : goal.returns-clause-played
+returns-clause-played c =
+    let most = c.most_events-most.ensures in
+    let past = c.loop-turn-test.false in
+    let x = c.loop-turn.auto in
+    ends_at_most c.loop-turn.turn c.args.choices.now c.args.self.now c.loop-turn.self c.loop-turn.invariant
+    c.is_reached-2.ensures (omega arith) (omega arith)

@@ -1,0 +1,94 @@
+-- What an opening does, and the frame that it issues.
+use Rattle.std.specs.Prelude.{◌≡◌, ℕ, List, Some, length, map, slice_get}
+use Rattle.std.specs.List.{slice_set}
+use Rattle.base.specs.declared.item.Item.{Item}
+use Rattle.base.specs.declared.item.ItemKind.{ItemKind}
+use Rattle.base.specs.declared.item.ItemKind.TheVariants as kind
+use Rattle.base.specs.declared.item.Event.TheVariants as event
+use Rattle.base.specs.Memory.{View}
+use Rattle.base.specs.Items.{Work, Plan}
+use Rattle.base.specs.Map.{Memories}
+use Rattle.base.specs.Machine.{State, captured_by, opening, step, worked_on}
+use Rattle.frames.specs.Rows.{AreNumbers}
+use Rattle.kernel.specs.declared.frames.Frame.{Frame}
+use Rattle.kernel.specs.declared.frames.Row.{Row}
+use Rattle.kernel.specs.Rows.{cells_of}
+use Rattle.present.specs.declared.Table.{Table}
+use Rattle.present.specs.Rows.{IsLoaded, over}
+use Rattle.present.specs.Table.{IsUnchanged, Shows, number_at}
+use Rattle.regions.specs.Footprints.{BoundedView}
+use Rattle.device.specs.declared.standing.Standing.{Standing}
+use Rattle.device.specs.Standing.{IsAt, IsFrameOf, fill_from, frame_parts, issue_of}
+
+-- a work with the kind and the map items of an item
+pub record IsOf (it : Item) (w : Work) : Type 0 where
+  pub kind : w.kind ≡ it.kind
+  pub maps : w.maps ≡ it.maps.items
+  pub deferred : w.deferred ≡ it.deferred
+  pub loops : w.loops ≡ it.loops.values.items
+
+-- a frame with other numbers in its cells
+pub record HasCells (old : Frame) (view : View) (new : Frame) : Type 0 where
+  pub item : new.item ≡ old.item
+  pub loops : new.loops.now.values.items ≡ old.loops.now.values.items
+  pub scalars : new.scalars ≡ old.scalars
+  pub input : new.input.now ≡ old.input.now
+  pub cells : cells_of new.rows.items ≡ view
+  pub bounded : BoundedView (cells_of new.rows.items)
+
+-- the frame of a kernel takes the numbers of the device, after the entries
+abbrev pub IsFilled : ItemKind → Frame → Table → Frame → Type 0
+IsFilled kind.Target old t new = HasCells old (over (number_at t) (cells_of old.rows.items)) new
+IsFilled kind.Host old t new = new ≡ old
+IsFilled kind.Begin old t new = new ≡ old
+IsFilled kind.End old t new = new ≡ old
+IsFilled kind.Enter old t new = new ≡ old
+IsFilled kind.Exit old t new = new ≡ old
+IsFilled kind.Update old t new = new ≡ old
+IsFilled kind.Wait old t new = new ≡ old
+
+-- a row of an array took the numbers of a view
+pub record TakesNumbers (view : View) (a : ℕ) (old new : Row) : Type 0 where
+  pub first : new.first ≡ old.first
+  pub numbers : IsLoaded view (record { 0 = a }) old.first old.cells.items new.cells.items
+  pub bounded : AreNumbers new.cells.items
+
+-- of as many rows each one did
+pub record TakeNumbers (view : View) (old new : List Row) : Type 0 where
+  pub count : length new ≡ length old
+  pub each : (a : ℕ) (x y : Row) → slice_get old a ≡ Some x → slice_get new a ≡ Some y → TakesNumbers view a x y
+
+-- the rows of a kernel take the numbers of the device; the others stay
+abbrev pub FillsRows : ItemKind → Frame → Table → Frame → Type 0
+FillsRows kind.Target old t new = TakeNumbers (number_at t) old.rows.items new.rows.items
+FillsRows kind.Host old t new = new ≡ old
+FillsRows kind.Begin old t new = new ≡ old
+FillsRows kind.End old t new = new ≡ old
+FillsRows kind.Enter old t new = new ≡ old
+FillsRows kind.Exit old t new = new ≡ old
+FillsRows kind.Update old t new = new ≡ old
+FillsRows kind.Wait old t new = new ≡ old
+
+-- the frame is that of the item, once it is filled
+abbrev pub Serves : Plan → Standing → State → ℕ → Work → Frame → Type 0
+Serves plan now s i w frame = (m : Memories) (t : Table) (f : Frame) → opening (fill_from now i) w s.memories ≡ Some m →
+    Shows t m.device → IsFilled w.kind frame t f →
+    IsFrameOf i w (captured_by (s.condition i) s.scalars) (worked_on plan.lengths w.kind m) s.input f
+
+-- where an item is opened in a state that is shown, with a frame that serves it, the state after it is shown
+abbrev pub FollowsOpen : Standing → ℕ → Item → Frame → Standing → Type 0
+FollowsOpen old i it frame new = (plan : Plan) (s t : State) (w : Work) → IsAt plan old s →
+    slice_get plan.items i ≡ Some w → IsOf it w → Serves plan old s i w frame →
+    step plan (fill_from old) s (event.Open i) ≡ Some t → IsAt plan new t
+
+-- all but the table is the same, and the table looks the same
+pub record IsSame (old new : Standing) : Type 0 where
+  pub table : IsUnchanged old.table new.table
+  pub rest : new ≡ record old { table = new.table }
+
+-- a frame, once it was filled, was issued for an item
+pub record Issues (k : ItemKind) (given : Frame) (i : ℕ) (old new : Standing) : Type 0 where
+  pub frame : Frame
+  pub is : map issue_of new.held.items ≡ slice_set (map issue_of old.held.items) i (Some (frame_parts frame))
+  pub filled : IsFilled k given new.table frame
+  pub rows : FillsRows k given new.table frame

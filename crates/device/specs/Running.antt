@@ -1,0 +1,39 @@
+-- What holds of the state of a run.
+use Rattle.std.specs.Prelude.{◌≡◌, ◌<◌, ◌^◌, Some, map}
+use Rattle.base.specs.Items.{plan}
+use Rattle.base.specs.Machine.{RunFrom}
+use Rattle.base.specs.Accepted.{IsAccepted}
+use Rattle.base.specs.Headline.{AreNumbers}
+use Rattle.present.specs.Table.{capacity_of}
+use Rattle.device.specs.declared.state.RunState.TheInside.{Inside}
+use Rattle.device.specs.declared.standing.Standing.{Standing}
+use Rattle.base.specs.Limits.{AreShort}
+use Rattle.device.specs.Run.{Run, fill_in, state_of}
+use Rattle.device.specs.Standing.{IsAt, issue_of}
+
+-- the program is accepted, and its events so far are a run, which leads to the state of the two-memory machine
+pub record IsReached (r : Run) : Type 0 where
+  pub accepted : IsAccepted (plan r.program)
+  pub short : AreShort r.program
+  pub numbers : AreNumbers r.input
+  pub fresh : r.fresh < 2 ^ 64
+  pub ran : RunFrom (plan r.program) (fill_in r) r.input r.history (Some (state_of r))
+
+-- the code's values show that state
+pub record IsRunning (r : Run) (now : Standing) : Type 0 where
+  pub reached : IsReached r
+  pub at : IsAt (plan r.program) now (state_of r)
+  pub room : capacity_of now.table ≡ r.capacity
+
+abbrev pub run_of : Inside → Run
+run_of s = record {
+  program = s.image.now;
+  input = s.whole.now;
+  capacity = s.capacity;
+  fresh = s.standing.table.fresh;
+  history = s.history.items;
+  issued = map issue_of s.standing.held.items;
+}
+
+abbrev pub Shows : Inside → Type 0
+Shows s = IsRunning (run_of s) s.standing

@@ -1,0 +1,90 @@
+// Closing an item of a run.
+
+ghost use Rattle.std.specs.Prelude.{◌≡◌, IsTrue, IfErr, OnErr, OnOk};
+ghost use Rattle.base.specs.Items.{plan};
+ghost use Rattle.base.specs.Machine.{enabled};
+ghost use Rattle.base.specs.declared.item.Event.TheVariants as event;
+ghost use Rattle.device.specs.Closing.{left_in};
+ghost use Rattle.device.specs.Jobs.{IsCloseFault, IsIssuedDone, IsLeft};
+ghost use Rattle.device.specs.Run.{after, state_of};
+
+use crate::standing::Held;
+use crate::state::{RunState, forget, note};
+use base::fault::RunFault;
+use base::item::Event;
+use kernel::{Done, KeptRow, run};
+
+impl<'a> RunState<'a> {
+    // What the region of an open item left is stored, and the item is closed. The error comes for want of memory.
+    fn finish(
+        &mut self,
+        item: u32,
+        scalars: &[u64; 256],
+        rows: &[KeptRow],
+        input: &'a [u64],
+        printed: &[u64],
+    ) -> Result<(), RunFault>
+        requires { IsLeft self.old item (left_in scalars.now rows.now input.now printed.now) }
+        ensures closed { OnOk result (self.new ≡ after self.old (event.Close item)) }
+        ensures unchanged { OnErr result (self.new ≡ self.old) }
+        ensures memory { IfErr result (λ fault. fault ≡ RunFault.OutOfMemory) }
+    {
+        let it = &self.image.items()[item as usize];
+        let _lengths = self.image.lengths();
+        note(&mut self.history, Event::Close(item))?;
+        match self.standing.close(it, item, scalars, rows, input, printed) {
+            Ok(()) => Ok(()),
+            Err(_) => {
+                forget(&mut self.history);
+                Err(RunFault::OutOfMemory)
+            }
+        }
+    }
+
+    /// The region of an open item is run on the frame that was kept for it, and the item is closed. The error comes for want
+    /// of memory.
+    pub(crate) fn close_item(&mut self, item: u32) -> Result<(), RunFault>
+        requires { IsTrue (enabled (plan self.old.program) (state_of self.old) (event.Close item)) }
+        ensures closed { OnOk result (self.new ≡ after self.old (event.Close item)) }
+        ensures unchanged { OnErr result (self.new ≡ self.old) }
+        ensures memory { IfErr result (λ fault. fault ≡ RunFault.OutOfMemory) }
+    {
+        let _it = &self.image.items()[item as usize];
+        let code = self.image.code(item as usize);
+        let Held::Issued(frame) = &self.standing.held[item as usize] else {
+            return Err(RunFault::OutOfMemory);
+        };
+        let Ok(done) = run(self.alloc, code, frame) else {
+            return Err(RunFault::OutOfMemory);
+        };
+        let Done {
+            region: _,
+            frame: _,
+            scalars,
+            rows,
+            input,
+            printed,
+        } = done;
+        self.finish(item, &scalars, &rows, input, &printed)
+    }
+
+    /// Closes an item with what its region did on the frame that was issued for it. The error is `Stranger` where the
+    /// item of the frame is not open, or the region or the frame is not the one that was issued, or `OutOfMemory`.
+    pub fn close(&mut self, done: &Done<'_, '_, 'a>) -> Result<(), RunFault>
+        ensures closed { OnOk result (self.new ≡ after self.old (event.Close done.now.frame.now.item)) }
+        ensures issued { OnOk result (IsIssuedDone self.old done.now.region.now done.now.frame.now) }
+        ensures fault { IfErr result (IsCloseFault self.old done.now.region.now done.now.frame.now) }
+        ensures unchanged { OnErr result (self.new ≡ self.old) }
+    {
+        if !self.is_issued(done.region, done.frame) {
+            return Err(RunFault::Stranger);
+        }
+        self.finish(
+            done.frame.item,
+            &done.scalars,
+            &done.rows,
+            done.input,
+            &done.printed,
+        )
+    }
+}

@@ -1,0 +1,125 @@
+// Where an item is closed.
+
+ghost use Rattle.std.specs.Prelude.{◌≡◌, ◌<◌, ◌≤◌, ◌^◌, true, false, None, OnErr, OnOk, length, map};
+ghost use Rattle.std.specs.List.{slice_set};
+ghost use Rattle.base.specs.Arrays.{lengths_of};
+ghost use Rattle.base.specs.declared.item.Event.TheVariants as event;
+ghost use Rattle.taskgraph.specs.Board.{allows};
+ghost use Rattle.frames.specs.Views.{AreCells};
+ghost use Rattle.kernel.specs.Rows.{cells_stored};
+ghost use Rattle.present.specs.Table.{AreSections, AreWithin, IsKept};
+ghost use Rattle.device.specs.Closing.{FollowsClose, GoesOut, HasDoneHost, HasDoneKernel, HasLeft, left_in};
+ghost use Rattle.device.specs.Standing.{Stays, issue_of};
+
+use crate::moves::exit_all;
+use crate::standing::{Held, Standing};
+use base::item::{Item, ItemKind, MapItem};
+use frames::{store_host, store_kernel};
+use kernel::KeptRow;
+use std::alloc::AllocError;
+
+impl<'a> Standing<'a> {
+    // What a host region left is stored, and its numbers are printed.
+    fn leave_host(
+        &mut self,
+        scalars: &[u64; 256],
+        rows: &[KeptRow],
+        input: &'a [u64],
+        printed: &[u64],
+    ) -> Result<(), AllocError>
+        requires few { length (lengths_of self.old.host) ≤ 2 ^ 32 }
+        requires cells { AreCells (lengths_of self.old.host) (cells_stored rows.now) }
+        ensures done { OnOk result (HasDoneHost (left_in scalars.now rows.now input.now printed.now) self.old self.new) }
+        ensures unchanged { OnErr result (Stays self.old self.new) }
+        ensures held { self.new.held ≡ self.old.held }
+        ensures graph { self.new.graph ≡ self.old.graph }
+        ensures ended { self.new.ended ≡ self.old.ended }
+        ensures table { self.new.table ≡ self.old.table }
+    {
+        self.output.extend_from_slice(printed)?;
+        store_host(&mut self.host, rows);
+        self.scalars = *scalars;
+        self.input = input;
+        Ok(())
+    }
+
+    // What a kernel left is stored, and its map items are left.
+    fn leave_kernel(&mut self, rows: &[KeptRow], maps: &[MapItem])
+        requires few { length (lengths_of self.old.host) ≤ 2 ^ 32 }
+        requires cells { AreCells (lengths_of self.old.host) (cells_stored rows.now) }
+        requires sections { AreSections maps.now }
+        requires within { AreWithin self.old.host maps.now }
+        requires goes { GoesOut (cells_stored rows.now) maps.now self.old }
+        ensures done { HasDoneKernel (cells_stored rows.now) maps.now self.old self.new }
+        ensures kept { IsKept self.old.table self.new.table }
+    {
+        store_kernel(&mut self.table, rows);
+        exit_all(&mut self.table, &mut self.host, maps);
+    }
+
+    // What an item left is stored, and its map items are left.
+    fn leave(
+        &mut self,
+        it: &Item,
+        scalars: &[u64; 256],
+        rows: &[KeptRow],
+        input: &'a [u64],
+        printed: &[u64],
+    ) -> Result<(), AllocError>
+        requires few { length (lengths_of self.old.host) ≤ 2 ^ 32 }
+        requires cells { AreCells (lengths_of self.old.host) (cells_stored rows.now) }
+        requires sections { AreSections it.now.maps.items }
+        requires within { AreWithin self.old.host it.now.maps.items }
+        requires goes { it.now.kind ≡ ItemKind.Target → GoesOut (cells_stored rows.now) it.now.maps.items self.old }
+        ensures left { OnOk result (HasLeft it.now.kind (left_in scalars.now rows.now input.now printed.now) it.now.maps.items self.old self.new) }
+        ensures unchanged { OnErr result (Stays self.old self.new) }
+        ensures held { self.new.held ≡ self.old.held }
+        ensures graph { self.new.graph ≡ self.old.graph }
+        ensures ended { self.new.ended ≡ self.old.ended }
+        ensures kept { IsKept self.old.table self.new.table }
+    {
+        match it.kind {
+            ItemKind::Host => self.leave_host(scalars, rows, input, printed),
+            ItemKind::Target => {
+                self.leave_kernel(rows, &it.maps);
+                Ok(())
+            }
+            ItemKind::Begin => Ok(()),
+            ItemKind::End => Ok(()),
+            ItemKind::Enter => Ok(()),
+            ItemKind::Exit => Ok(()),
+            ItemKind::Update => Ok(()),
+            ItemKind::Wait => Ok(()),
+        }
+    }
+
+    /// The open item is closed, with what its region left. The error comes for want of memory.
+    pub fn close(
+        &mut self,
+        it: &Item,
+        item: u32,
+        scalars: &[u64; 256],
+        rows: &[KeptRow],
+        input: &'a [u64],
+        printed: &[u64],
+    ) -> Result<(), AllocError>
+        requires here { allows self.old.graph (event.Close item) ≡ true }
+        requires inside { item < length self.old.held.items }
+        requires going { self.old.ended ≡ false }
+        requires few { length (lengths_of self.old.host) ≤ 2 ^ 32 }
+        requires cells { AreCells (lengths_of self.old.host) (cells_stored rows.now) }
+        requires sections { AreSections it.now.maps.items }
+        requires within { AreWithin self.old.host it.now.maps.items }
+        requires goes { it.now.kind ≡ ItemKind.Target → GoesOut (cells_stored rows.now) it.now.maps.items self.old }
+        ensures closed { OnOk result (FollowsClose self.old item it.now (left_in scalars.now rows.now input.now printed.now) self.new) }
+        ensures unchanged { OnErr result (Stays self.old self.new) }
+        ensures held { OnErr result (self.new.held ≡ self.old.held) }
+        ensures issued { OnOk result (map issue_of self.new.held.items ≡ slice_set (map issue_of self.old.held.items) item None) }
+        ensures kept { IsKept self.old.table self.new.table }
+    {
+        self.leave(it, scalars, rows, input, printed)?;
+        self.held[item as usize] = Held::Nothing;
+        self.graph.closed(item as usize);
+        Ok(())
+    }
+}

@@ -1,0 +1,27 @@
+//! An accepted program as it runs: the code of each region, and for each item the cells that its region may touch.
+#![tactic(auto)]
+
+ghost use Rattle.std.specs.Prelude.{◌≡◌, IfOk};
+ghost use Rattle.base.specs.Limits.{AreShort};
+
+pub use crate::image::Image;
+
+use crate::image::build;
+use mapcheck::{Accepted, current_at_end};
+use std::alloc::{AllocError, Global};
+
+mod image;
+mod reaches;
+
+/// The image of an accepted program: each region is compiled once, and each item's region is searched for the cells that
+/// it may touch. No array may have more than 65,536 cells, as in every program that is read. The error comes for want of
+/// memory.
+pub fn lower<'a>(alloc: Global, accepted: &'a Accepted<'a>) -> Result<Image<'a>, AllocError>
+    requires { AreShort accepted.now }
+    ensures { IfOk result (λ image. image ≡ accepted.now) }
+{
+    accepted.is_accepted();
+    let marked = current_at_end(alloc, accepted)?;
+    let image = build(alloc, accepted.outlined(), marked)?;
+    Ok(image)
+}
