@@ -1,0 +1,8 @@
+use Rattle.host.proofs.Stopping.{still_from}
+use Rattle.host.proofs.board.Board.open.Goals as goal
+
+pub invariant_of-self-in-Err : goal.invariant_of-self-in-Err
+invariant_of-self-in-Err g c = record {
+  origin = still_from g.B.Origin.start c.args.self.now.state c.open.new.self c.in-Err.ensures.unchanged c.args.self.now.origin;
+  cause = tt;
+}

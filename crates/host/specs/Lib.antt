@@ -1,0 +1,4 @@
+pub mod Origins
+pub mod Threads
+pub mod Stops
+pub mod Looks

@@ -1,0 +1,254 @@
+// What stands behind the lock.
+
+ghost use Rattle.std.specs.Prelude.{◌≡◌, true, false, IsTrue, IfErr, IfOk, IfSome, None, OnOk};
+ghost use Rattle.base.specs.declared.item.Event.TheVariants as event;
+ghost use Rattle.base.specs.Items.{plan};
+ghost use Rattle.base.specs.Machine.{enabled};
+ghost use Rattle.device.specs.Run.{state_of};
+ghost use Rattle.host.specs.Looks.{IsClosing, IsLook};
+ghost use Rattle.host.specs.Origins.{IsFrom, one_origin};
+ghost use Rattle.host.specs.Stops.{HasCause, IsEndFault, IsOver, IsPlain, StaysStopped, fault_of, first_stop, one_cause};
+ghost use Rattle.host.specs.Threads.{IsThreadAnswer, IsThreadFault};
+
+use crate::origin::Origin;
+use base::fault::RunFault;
+use base::item::{Answer, Event, Item, ItemKind};
+use device::{Job, RunState};
+use kernel::Done;
+use lower::Image;
+use std::alloc::Global;
+use std::marker::PhantomData;
+
+/// Why a run on threads stops before its end.
+#[derive(Drop)]
+pub enum Stop {
+    OutOfMemory,
+    /// The opening of this item would create more cells than the device has room for.
+    DeviceFull(u32),
+    /// What was computed is not what was asked for.
+    Stranger,
+    ThreadNotStarted,
+}
+
+/// What a look at the board says.
+#[derive(Drop)]
+pub enum Look<'a> {
+    /// The run is over.
+    Stop,
+    /// There is nothing to do as yet.
+    Wait,
+    /// An event was done.
+    Again,
+    /// An item was opened.
+    Do(Job<'a>),
+}
+
+/// A run and the first cause to stop it, after which no event is done. The state is of the run that the parameter names,
+/// and where an opening did not fit, it is that in which this opening may happen.
+#[derive(Drop)]
+pub struct Board<'a, B: Origin> {
+    image: &'a Image<'a>,
+    state: RunState<'a>,
+    stop: Option<Stop>,
+    of: PhantomData<B>,
+    ghost origin: { IsFrom B.start state } by { one_origin B.start state },
+    ghost cause: { HasCause state stop } by { one_cause state stop },
+}
+
+// Whether an item is one for the workers.
+fn is_for_workers(item: &Item) -> bool {
+    item.deferred || item.kind == ItemKind::Target
+}
+
+// What the host does with the item at which it stands; nothing with one that the workers open and close.
+fn event_at(items: &[Item], place: usize) -> Option<Event> {
+    let Some(item) = items.get(place) else {
+        return Some(Event::End);
+    };
+    let number = u32::try_from(place).ok()?;
+    match item.kind {
+        _ if item.deferred => Some(Event::Gen(number)),
+        ItemKind::Wait => Some(Event::Wait(number)),
+        ItemKind::Target => None,
+        _ => Some(Event::Open(number)),
+    }
+}
+
+// The fault that a run answers.
+fn answered(stop: Stop) -> RunFault
+    ensures { result ≡ fault_of stop }
+{
+    match stop {
+        Stop::OutOfMemory => RunFault::OutOfMemory,
+        Stop::DeviceFull(_) => RunFault::DeviceFull,
+        Stop::Stranger => RunFault::Stranger,
+        Stop::ThreadNotStarted => RunFault::ThreadNotStarted,
+    }
+}
+
+impl<'a, B: Origin> Board<'a, B> {
+    /// The board of a run that goes on.
+    pub fn new(image: &'a Image<'a>, state: RunState<'a>) -> Self
+        requires { IsFrom B.start state }
+        ensures state { result.state ≡ state.entry }
+        ensures goes { result.stop ≡ None }
+    {
+        Board {
+            image,
+            state,
+            stop: None,
+            of: PhantomData,
+        }
+    }
+
+    /// Stops the run. The first cause is kept.
+    pub fn stop(&mut self, stop: Stop)
+        requires { IsPlain stop }
+        ensures first { self.new.stop ≡ first_stop self.old.stop stop }
+        ensures state { self.new.state ≡ self.old.state }
+    {
+        if self.stop.is_none() {
+            self.stop = Some(stop);
+        }
+    }
+
+    // Whether there is nothing more to do.
+    fn is_over(&self) -> bool
+        ensures over { result ≡ true → IsOver self.now.stop self.now.state }
+        ensures goes { result ≡ false → self.now.stop ≡ None }
+    {
+        self.stop.is_some() || self.state.has_ended()
+    }
+
+    // The lowest item that a worker may open.
+    fn next_for_worker(&self) -> Option<u32>
+        ensures { IfSome result (λ item. IsTrue (enabled (plan self.now.state.program) (state_of self.now.state) (event.Open item))) }
+    {
+        let items = self.image.items();
+        for i in 0..items.len() {
+            let item = i as u32;
+            if is_for_workers(&items[i]) && self.state.is_enabled(Event::Open(item)) {
+                return Some(item);
+            }
+        }
+        None
+    }
+
+    // The host's next event, if it may happen.
+    fn next_for_host(&self) -> Option<Event>
+        ensures { IfSome result (λ e. IsTrue (enabled (plan self.now.state.program) (state_of self.now.state) e)) }
+    {
+        let event = event_at(self.image.items(), self.state.place())?;
+        if self.state.is_enabled(event) {
+            Some(event)
+        } else {
+            None
+        }
+    }
+
+    // Opens an item.
+    fn open(&mut self, item: u32) -> Look<'a>
+        requires goes { self.old.stop ≡ None }
+        requires may { IsTrue (enabled (plan self.old.state.program) (state_of self.old.state) (event.Open item)) }
+        ensures { IsLook self.old.stop self.old.state result self.new.stop self.new.state }
+    {
+        match self.state.open(item) {
+            Ok(job) => Look::Do(job),
+            Err(RunFault::DeviceFull) => {
+                self.stop = Some(Stop::DeviceFull(item));
+                Look::Stop
+            }
+            Err(_) => {
+                self.stop = Some(Stop::OutOfMemory);
+                Look::Stop
+            }
+        }
+    }
+
+    // Does an event of the host.
+    fn happen(&mut self, event: Event) -> Look<'a>
+        requires goes { self.old.stop ≡ None }
+        requires may { IsTrue (enabled (plan self.old.state.program) (state_of self.old.state) event) }
+        ensures { IsLook self.old.stop self.old.state result self.new.stop self.new.state }
+    {
+        if let Event::Open(item) = event {
+            return self.open(item);
+        }
+        match self.state.take(event) {
+            Ok(()) => Look::Again,
+            Err(_) => {
+                self.stop = Some(Stop::OutOfMemory);
+                Look::Stop
+            }
+        }
+    }
+
+    /// A worker opens the lowest item that it may.
+    pub fn look_as_worker(&mut self) -> Look<'a>
+        ensures found { IsLook self.old.stop self.old.state result self.new.stop self.new.state }
+        ensures stopped { StaysStopped self.old.stop self.old.state self.new.stop self.new.state }
+    {
+        if self.is_over() {
+            return Look::Stop;
+        }
+        match self.next_for_worker() {
+            None => Look::Wait,
+            Some(item) => self.open(item),
+        }
+    }
+
+    /// The host does its next event.
+    pub fn look_as_host(&mut self) -> Look<'a>
+        ensures found { IsLook self.old.stop self.old.state result self.new.stop self.new.state }
+        ensures stopped { StaysStopped self.old.stop self.old.state self.new.stop self.new.state }
+    {
+        if self.is_over() {
+            return Look::Stop;
+        }
+        match self.next_for_host() {
+            None => Look::Wait,
+            Some(event) => self.happen(event),
+        }
+    }
+
+    /// Closes an item, unless the run was stopped.
+    pub fn close(&mut self, done: &Done<'_, '_, 'a>)
+        ensures { IsClosing self.old.stop self.old.state done.now.region.now done.now.frame.now self.new.stop self.new.state }
+    {
+        if self.stop.is_some() {
+            return;
+        }
+        match self.state.close(done) {
+            Ok(()) => {}
+            Err(RunFault::OutOfMemory) => self.stop = Some(Stop::OutOfMemory),
+            Err(_) => self.stop = Some(Stop::Stranger),
+        }
+    }
+
+    /// What the run has come to. `OtherState` is for a state that has not ended and was not stopped.
+    pub fn answer(self, alloc: Global) -> Result<Answer, RunFault>
+        ensures origin { IsFrom B.start self.entry.state }
+        ensures answer { IfOk result (IsThreadAnswer self.entry.state.program self.entry.state.input) }
+        ensures goes { OnOk result (self.entry.stop ≡ None) }
+        ensures cause { IfErr result (IsEndFault self.entry.stop self.entry.state) }
+        ensures fault { IfErr result (IsThreadFault self.entry.state.program self.entry.state.input self.entry.state.capacity) }
+    {
+        let Board {
+            image: _,
+            state,
+            stop,
+            of: _,
+        } = self;
+        state.is_reached();
+        if let Some(stop) = stop {
+            return Err(answered(stop));
+        }
+        if !state.has_ended() {
+            return Err(RunFault::OtherState);
+        }
+        match state.answer(alloc) {
+            Ok(answer) => Ok(answer),
+            Err(_) => Err(RunFault::OutOfMemory),
+        }
+    }
+}

@@ -1,0 +1,42 @@
+// Where worker threads stop between the steps of an item.
+
+ghost use Rattle.std.specs.Prelude.{◌≡◌, IfOk};
+
+use device::Job;
+use kernel::{Done, run};
+use std::alloc::{AllocError, Global};
+
+/// What an item has come to when its thread asks the gate.
+#[derive(Clone, Copy, PartialEq, Eq, Debug)]
+pub enum Phase {
+    Opened,
+    Computed,
+    Closed,
+}
+
+/// Where threads stop between the steps of an item, for tests. It is asked outside the lock.
+pub trait Gate {
+    /// The thread that has the item passes.
+    fn pass(&self, item: u32, phase: Phase);
+
+    /// What the job's region does on its frame. The error comes for want of memory.
+    fn compute<'f, 'a>(
+        &self,
+        alloc: Global,
+        _item: u32,
+        job: &'f Job<'a>,
+    ) -> Result<Done<'a, 'f, 'a>, AllocError>
+        ensures region { IfOk result (λ done. done.region.now ≡ job.now.code.now) }
+        ensures frame { IfOk result (λ done. done.frame.now ≡ job.now.frame) }
+    {
+        run(alloc, job.code, &job.frame)
+    }
+}
+
+/// A gate at which nothing stops.
+#[derive(Drop)]
+pub struct OpenGate;
+
+impl Gate for OpenGate {
+    fn pass(&self, _item: u32, _phase: Phase) {}
+}

@@ -1,0 +1,15 @@
+//! A run on worker threads: one lock round the state of the run, workers, and the calling thread as the host.
+#![tactic(auto)]
+
+pub use crate::gate::{Gate, OpenGate, Phase};
+pub use crate::run::run_threads;
+
+mod board;
+mod gate;
+mod origin;
+mod run;
+#[cfg(test)]
+mod sources;
+#[cfg(test)]
+mod tests;
+mod work;

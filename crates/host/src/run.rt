@@ -1,0 +1,65 @@
+// A run on threads.
+
+ghost use Rattle.std.specs.Prelude.{◌≡◌, ◌≤◌, IfErr, IfOk, Some};
+ghost use Rattle.host.specs.Threads.{IsThreadAnswer, IsThreadFault};
+
+use crate::board::Board;
+use crate::gate::Gate;
+use crate::origin::Origin;
+use crate::work::work_on_threads;
+use base::fault::RunFault;
+use base::item::Answer;
+use device::RunState;
+use lower::Image;
+use std::alloc::Global;
+use std::marker::Brand;
+use std::sync::{Condvar, Mutex, Wait};
+use std::thread::Threads;
+
+// The run that the parameter names.
+fn run_from<'a, B: Origin + Send, R: Threads + Wait + Sync, G: Gate + Sync>(
+    rt: &R,
+    alloc: Global,
+    image: &'a Image<'a>,
+    input: &'a [u64],
+    workers: usize,
+    capacity: u64,
+    gate: &G,
+) -> Result<Answer, RunFault>
+    requires { B.start ≡ Some (record { program = image.now; input = input.now; capacity = capacity }) }
+    ensures answer { IfOk result (IsThreadAnswer image.now input.now) }
+    ensures fault { IfErr result (IsThreadFault image.now input.now capacity) }
+{
+    let state = match RunState::new(alloc, image, input, capacity) {
+        Err(_) => return Err(RunFault::OutOfMemory),
+        Ok(state) => state,
+    };
+    let board: Mutex<Board<'a, B>> = Mutex::new(Board::new(image, state));
+    let moved = Condvar::new();
+    work_on_threads(rt, alloc, &board, &moved, gate, workers);
+    board.into_inner().answer(alloc)
+}
+
+/// Runs an accepted program on this input by worker threads, on a device with room for `capacity` cells. The calling
+/// thread is the host; targets and deferred items are for the workers. The answer has the values of the arrays that are
+/// marked current.
+///
+/// The first fault stops all threads, which are joined, and is answered: `DeviceFull` where an opening would create more
+/// cells than the device has room for, `OutOfMemory`, `ThreadNotStarted` where the runtime does not start a worker, or
+/// `Stranger`. `OtherState` is for a state that has not ended, though nothing stopped it.
+pub fn run_threads<R: Threads + Wait + Sync, G: Gate + Sync>(
+    rt: &R,
+    alloc: Global,
+    image: &Image<'_>,
+    input: &[u64],
+    workers: usize,
+    capacity: u64,
+    gate: &G,
+) -> Result<Answer, RunFault>
+    requires some { 1 ≤ workers }
+    requires few { workers ≤ 16 }
+    ensures answer { IfOk result (IsThreadAnswer image.now input.now) }
+    ensures fault { IfErr result (IsThreadFault image.now input.now capacity) }
+{
+    run_from::<Brand, R, G>(rt, alloc, image, input, workers, capacity, gate)
+}
