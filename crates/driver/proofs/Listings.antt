@@ -9,8 +9,8 @@ use Rattle.base.specs.declared.fault.OutlineFault.TheVariants as outline
 use Rattle.base.specs.declared.fault.SourceFault.{SourceFault}
 use Rattle.base.specs.declared.fault.SourceFault.TheVariants.{Read, Outline, Check, Run}
 use Rattle.base.specs.Items.{plan}
-use Rattle.base.specs.Small.{most_items}
-use Rattle.c_programs.specs.Spells.{Spells}
+use Rattle.base.specs.Limits.{most_items}
+use Rattle.c_read.specs.Spells.{Spells}
 use Rattle.mapcheck.specs.Passes.{IsCheckFault}
 use Rattle.driver.specs.Checking.{IsChecked, IsOutlineFault, IsRefused, IsRefusedProgram, IsTold, IsUnaccepted}
 use Rattle.driver.specs.Listing.{AreWritten, IsListed}

@@ -11,9 +11,9 @@ use Rattle.base.specs.declared.fault.SourceFault.{SourceFault}
 use Rattle.base.specs.declared.fault.SourceFault.TheVariants.{Read, Outline, Check, Run}
 use Rattle.base.specs.Accepted.{IsAccepted}
 use Rattle.base.specs.Items.{plan}
-use Rattle.base.specs.Small.{most_items}
+use Rattle.base.specs.Limits.{most_items}
 use Rattle.c_grammar.specs.Source.{IsFirstFault}
-use Rattle.c_programs.specs.Spells.{Spells, OnText}
+use Rattle.c_read.specs.Spells.{Spells, OnText}
 use Rattle.mapcheck.specs.Passes.{IsCheckFault}
 use Rattle.mapcheck.specs.Third.{AreMarked}
 use Rattle.report.specs.Checked.{accepted_bytes}

@@ -4,7 +4,7 @@ use Rattle.std.specs.Io.KnownBytes.{Appends}
 use Rattle.base.specs.declared.tree.Program.{Program}
 use Rattle.base.specs.Accepted.{IsAccepted}
 use Rattle.base.specs.Items.{plan}
-use Rattle.c_programs.specs.Spells.{Spells}
+use Rattle.c_read.specs.Spells.{Spells}
 use Rattle.report.specs.Listing.{list_bytes}
 
 -- a program is accepted, and its items are appended, a line each

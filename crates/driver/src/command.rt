@@ -1,6 +1,8 @@
 //! The words of a command line.
 
-use clap::{Arg, ArgMatches, Command, Error, value_parser};
+ghost use Rattle.std.specs.Prelude.{◌≤◌};
+
+use clap::{Arg, ArgAction, ArgMatches, Command, Error, value_parser};
 use std::alloc::Global;
 
 /// The device's capacity in cells, where none is given.
@@ -9,14 +11,40 @@ const DEFAULT_CAPACITY: u64 = 4_194_304;
 /// The largest capacity in cells.
 const MAX_CAPACITY: i64 = 4_294_967_296;
 
+/// How many worker threads there are, where none is given.
+const DEFAULT_WORKERS: usize = 4;
+
+/// The most worker threads.
+const MAX_WORKERS: u64 = 16;
+
 /// What the words ask for.
 #[derive(Clone, Copy)]
 pub enum Request<'a> {
+    Run(Run<'a>),
     Step(Step<'a>),
     /// Whether the program in the file is accepted.
     Check(&'a str),
     /// The items of the program in the file.
     List(&'a str),
+}
+
+/// How many worker threads there are.
+#[derive(Clone, Copy)]
+pub struct Workers {
+    pub count: usize,
+    ghost some: { 1 ≤ count },
+    ghost few: { count ≤ 16 },
+}
+
+/// A run by worker threads.
+#[derive(Clone, Copy)]
+pub struct Run<'a> {
+    pub file: &'a str,
+    pub workers: Workers,
+    pub capacity: u64,
+    /// Whether the log and the values of arrays are printed.
+    pub log: bool,
+    pub finals: bool,
 }
 
 /// A run event by event.
@@ -31,21 +59,48 @@ fn file<'a>(alloc: Global) -> Arg<'a> {
     Arg::new(alloc, "FILE").required(true).help("the source")
 }
 
+fn capacity<'a>(alloc: Global) -> Arg<'a> {
+    Arg::new(alloc, "capacity")
+        .long("capacity")
+        .value_name("C")
+        .value_parser(value_parser!(u64).range(0..=MAX_CAPACITY))
+        .help("the device's capacity in cells")
+}
+
+fn run_command<'a>(alloc: Global) -> Result<Command<'a>, Error> {
+    let workers = Arg::new(alloc, "workers")
+        .long("workers")
+        .value_name("N")
+        .value_parser(value_parser!(u64).range(1..=MAX_WORKERS as i64))
+        .help("how many worker threads run targets and deferred items");
+    let log = Arg::new(alloc, "log")
+        .long("log")
+        .action(ArgAction::SetTrue)
+        .help("prints the events too");
+    let finals = Arg::new(alloc, "finals")
+        .long("finals")
+        .action(ArgAction::SetTrue)
+        .help("prints the arrays that are current at the end too");
+    let run = Command::new(alloc, "run")
+        .about("runs a program by worker threads, and prints its output")
+        .arg(file(alloc))?
+        .arg(workers)?
+        .arg(capacity(alloc))?
+        .arg(log)?
+        .arg(finals)?;
+    Ok(run)
+}
+
 fn step_command<'a>(alloc: Global) -> Result<Command<'a>, Error> {
     let choices = Arg::new(alloc, "choices")
         .long("choices")
         .value_name("LIST")
         .help("which of the enabled events is next, at each step: numbers separated by commas");
-    let capacity = Arg::new(alloc, "capacity")
-        .long("capacity")
-        .value_name("C")
-        .value_parser(value_parser!(u64).range(0..=MAX_CAPACITY))
-        .help("the device's capacity in cells");
     let step = Command::new(alloc, "step")
         .about("runs a program event by event, and prints its output and its log")
         .arg(file(alloc))?
         .arg(choices)?
-        .arg(capacity)?;
+        .arg(capacity(alloc))?;
     Ok(step)
 }
 
@@ -64,6 +119,7 @@ fn list_command<'a>(alloc: Global) -> Result<Command<'a>, Error> {
 }
 
 fn commands<'a>(alloc: Global) -> Result<Command<'a>, Error> {
+    let run = run_command(alloc)?;
     let step = step_command(alloc)?;
     let list = list_command(alloc)?;
     let check = check_command(alloc)?;
@@ -74,6 +130,7 @@ fn commands<'a>(alloc: Global) -> Result<Command<'a>, Error> {
         .no_binary_name(true)
         .subcommand(check)?
         .subcommand(list)?
+        .subcommand(run)?
         .subcommand(step)?;
     Ok(program)
 }
@@ -86,16 +143,40 @@ fn text_of<'a>(step: &ArgMatches<'a>, id: &str) -> &'a str {
     }
 }
 
+fn capacity_of(given: &ArgMatches<'_>) -> u64 {
+    match given.get_one::<u64>("capacity") {
+        Some(capacity) => capacity,
+        None => DEFAULT_CAPACITY,
+    }
+}
+
+fn workers_of(given: &ArgMatches<'_>) -> Workers {
+    match given.get_one::<u64>("workers") {
+        Some(count) if 1 <= count && count <= MAX_WORKERS => Workers {
+            count: count as usize,
+        },
+        _ => Workers {
+            count: DEFAULT_WORKERS,
+        },
+    }
+}
+
+fn run_of<'a>(given: &ArgMatches<'a>) -> Run<'a> {
+    Run {
+        file: text_of(given, "FILE"),
+        workers: workers_of(given),
+        capacity: capacity_of(given),
+        log: given.get_flag("log"),
+        finals: given.get_flag("finals"),
+    }
+}
+
 fn step_of<'a>(given: &ArgMatches<'a>) -> Step<'a> {
-    let mut step = Step {
+    Step {
         file: text_of(given, "FILE"),
         choices: text_of(given, "choices"),
-        capacity: DEFAULT_CAPACITY,
-    };
-    if let Some(capacity) = given.get_one::<u64>("capacity") {
-        step.capacity = capacity;
+        capacity: capacity_of(given),
     }
-    step
 }
 
 /// Reads the words, without the program's name.
@@ -105,6 +186,7 @@ pub fn parse<'a>(alloc: Global, words: &'a [&'a str]) -> Result<Request<'a>, Err
     match matches.subcommand() {
         Some(("check", given)) => Ok(Request::Check(text_of(given, "FILE"))),
         Some(("list", given)) => Ok(Request::List(text_of(given, "FILE"))),
+        Some(("run", given)) => Ok(Request::Run(run_of(given))),
         Some((_, given)) => Ok(Request::Step(step_of(given))),
         None => Ok(Request::List("")),
     }

@@ -7,14 +7,17 @@ mod listing;
 mod numbers;
 mod perform;
 mod source;
-mod texts;
+mod threads;
 
 pub use checking::check_source;
 pub use listing::list_source;
 pub use perform::{SourceError, Sources, drive};
 pub use source::run_source;
+pub use threads::run_source_on_threads;
 
 #[cfg(test)]
 mod check_tests;
+#[cfg(test)]
+mod step_tests;
 #[cfg(test)]
 mod tests;

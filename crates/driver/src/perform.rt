@@ -1,20 +1,27 @@
 //! One command, over any sources, reader and writers.
 
 ghost use Rattle.std.specs.Prelude.{◌≡◌, ◌≤◌, ◌⊎◌, IfOk, OnErr};
+ghost use Rattle.base.specs.Limits.{AreShort};
 
-use crate::checking::check_source;
-use crate::command::{Request, Step, parse};
+use crate::checking::{check_source, tell};
+use crate::command::{Request, Run, Step, Workers, parse};
 use crate::listing::list_source;
 use crate::numbers::{NumbersFault, choice_list, input_numbers};
-use crate::source::load;
-use crate::texts::log_text;
+use crate::source::run_accepted;
+use crate::threads::run_accepted_on_threads;
 use base::fault::{CheckFault, OutlineFault, ReadFault, RunFault, SourceFault};
 use base::item::Answer;
+use base::tree::Program;
+use c_read::read_program;
 use clap::error::ErrorKind;
-use device::run_small;
+use mapcheck::{Accepted, check};
+use outline::{Outlined, outline};
+use report::{finals_text, log_text};
 use std::alloc::Global;
 use std::io;
 use std::io::{Read, Write};
+use std::sync::Wait;
+use std::thread::Threads;
 
 /// Why a source has no bytes.
 #[derive(Clone, Copy, Debug, PartialEq, Eq)]
@@ -151,50 +158,175 @@ fn bytes_of<'a, S: Sources>(sources: &mut S, name: &'a str) -> Result<Vec<u8>, E
     }
 }
 
-/// The answer of a run. Faults are looked for in this order: the choices, the source's bytes, the program, the input, the
-/// run.
-fn answer<'a, S: Sources, R: Read>(
+/// How a program is run.
+#[derive(Clone, Copy)]
+enum Way<'c> {
+    Choices(&'c [u32]),
+    Workers(Workers),
+}
+
+/// What is asked of a run.
+#[derive(Clone, Copy)]
+struct Asked<'a, 'c> {
+    file: &'a str,
+    way: Way<'c>,
+    capacity: u64,
+    log: bool,
+    finals: bool,
+}
+
+fn run_by<T: Threads + Wait + Sync>(
+    rt: &T,
     alloc: Global,
-    step: Step<'a>,
-    sources: &mut S,
+    accepted: &Accepted<'_>,
+    numbers: &[u64],
+    way: Way<'_>,
+    capacity: u64,
+) -> Result<Answer, RunFault>
+    requires { AreShort accepted.now }
+{
+    match way {
+        Way::Choices(choices) => run_accepted(alloc, accepted, numbers, choices, capacity),
+        Way::Workers(workers) => {
+            run_accepted_on_threads(rt, alloc, accepted, numbers, workers.count, capacity)
+        }
+    }
+}
+
+/// Checks a program, reads its input and runs it.
+#[tactic(auto, using(crate::proofs::Runs::short_too))]
+fn answer_outlined<'a, T: Threads + Wait + Sync, R: Read, E: Write>(
+    rt: &T,
+    alloc: Global,
+    outlined: &Outlined<'_>,
+    asked: Asked<'_, '_>,
     input: &mut R,
-) -> Result<Answer, Ending<'a>> {
-    let choices = match choice_list(alloc, step.choices) {
-        Ok(choices) => choices,
-        Err(NumbersFault::Malformed) => return Err(Ending::BadChoices),
-        Err(NumbersFault::OutOfMemory) => return Err(Ending::OutOfMemory),
+    err: &mut E,
+) -> Result<Answer, Ending<'a>>
+    requires { AreShort outlined.now }
+{
+    let accepted = match check(alloc, outlined) {
+        Ok(accepted) => accepted,
+        Err(fault) => return Err(ending_of(tell(alloc, outlined.program(), fault, err))),
     };
-    let bytes = bytes_of(sources, step.file)?;
-    let program = load(alloc, &bytes)?;
     let numbers = read_input(alloc, input)?;
-    match run_small(alloc, &program, &numbers, &choices, step.capacity) {
+    match run_by(rt, alloc, &accepted, &numbers, asked.way, asked.capacity) {
         Ok(answer) => Ok(answer),
         Err(fault) => Err(Ending::Source(SourceFault::Run(fault))),
     }
 }
 
-fn write_answer<W: Write>(answer: &Answer, out: &mut W) -> io::Result<()> {
+/// The answer of a run of a program.
+#[tactic(auto, using(crate::proofs::Runs::short_too))]
+fn answer<'a, T: Threads + Wait + Sync, R: Read, E: Write>(
+    rt: &T,
+    alloc: Global,
+    program: &Program,
+    asked: Asked<'_, '_>,
+    input: &mut R,
+    err: &mut E,
+) -> Result<Answer, Ending<'a>>
+    requires { AreShort program.now }
+{
+    let outlined = match outline(alloc, program) {
+        Ok(outlined) => outlined,
+        Err(fault) => return Err(Ending::Source(SourceFault::Outline(fault))),
+    };
+    answer_outlined(rt, alloc, &outlined, asked, input, err)
+}
+
+/// Prints the output, then what else is asked for.
+fn write_answer<W: Write>(
+    program: &Program,
+    answer: &Answer,
+    asked: Asked<'_, '_>,
+    out: &mut W,
+) -> io::Result<()> {
     out.write_all(&answer.out)?;
-    log_text(&answer.history, out)?;
+    if asked.log {
+        log_text(&answer.history, out)?;
+    }
+    if asked.finals {
+        finals_text(program, &answer.finals, out)?;
+    }
     out.flush()
 }
 
-/// Runs a program and prints its output and its log.
-fn do_step<'a, S: Sources, R: Read, W: Write>(
+/// Runs a program and prints what is asked for. Faults are looked for in this order: the source's bytes, the program, the
+/// input, the run.
+fn run_file<'a, T: Threads + Wait + Sync, S: Sources, R: Read, W: Write, E: Write>(
+    rt: &T,
+    alloc: Global,
+    asked: Asked<'a, '_>,
+    sources: &mut S,
+    input: &mut R,
+    out: &mut W,
+    err: &mut E,
+) -> Result<u8, Ending<'a>>
+    ensures status { IfOk result (λ s. (s ≡ 0) ⊎ (s ≡ 3)) }
+    ensures quiet { OnErr result (W.contents out.new ≡ W.contents out.old) }
+{
+    let bytes = bytes_of(sources, asked.file)?;
+    let program = match read_program(alloc, &bytes) {
+        Ok(program) => program,
+        Err(fault) => return Err(Ending::Source(SourceFault::Read(fault))),
+    };
+    let answer = answer(rt, alloc, &program, asked, input, err)?;
+    match write_answer(&program, &answer, asked, out) {
+        Ok(()) => Ok(DONE),
+        Err(_) => Ok(FAILED),
+    }
+}
+
+/// Runs a program by worker threads.
+fn do_run<'a, T: Threads + Wait + Sync, S: Sources, R: Read, W: Write, E: Write>(
+    rt: &T,
+    alloc: Global,
+    run: Run<'a>,
+    sources: &mut S,
+    input: &mut R,
+    out: &mut W,
+    err: &mut E,
+) -> Result<u8, Ending<'a>>
+    ensures status { IfOk result (λ s. (s ≡ 0) ⊎ (s ≡ 3)) }
+    ensures quiet { OnErr result (W.contents out.new ≡ W.contents out.old) }
+{
+    let asked = Asked {
+        file: run.file,
+        way: Way::Workers(run.workers),
+        capacity: run.capacity,
+        log: run.log,
+        finals: run.finals,
+    };
+    run_file(rt, alloc, asked, sources, input, out, err)
+}
+
+/// Runs a program event by event, and prints its output and its log.
+fn do_step<'a, T: Threads + Wait + Sync, S: Sources, R: Read, W: Write, E: Write>(
+    rt: &T,
     alloc: Global,
     step: Step<'a>,
     sources: &mut S,
     input: &mut R,
     out: &mut W,
+    err: &mut E,
 ) -> Result<u8, Ending<'a>>
     ensures status { IfOk result (λ s. (s ≡ 0) ⊎ (s ≡ 3)) }
     ensures quiet { OnErr result (W.contents out.new ≡ W.contents out.old) }
 {
-    let answer = answer(alloc, step, sources, input)?;
-    match write_answer(&answer, out) {
-        Ok(()) => Ok(DONE),
-        Err(_) => Ok(FAILED),
-    }
+    let choices = match choice_list(alloc, step.choices) {
+        Ok(choices) => choices,
+        Err(NumbersFault::Malformed) => return Err(Ending::BadChoices),
+        Err(NumbersFault::OutOfMemory) => return Err(Ending::OutOfMemory),
+    };
+    let asked = Asked {
+        file: step.file,
+        way: Way::Choices(&choices),
+        capacity: step.capacity,
+        log: true,
+        finals: false,
+    };
+    run_file(rt, alloc, asked, sources, input, out, err)
 }
 
 /// Says whether a program is accepted.
@@ -235,7 +367,8 @@ fn do_list<'a, S: Sources, W: Write, E: Write>(
     }
 }
 
-fn perform<'a, S: Sources, R: Read, W: Write, E: Write>(
+fn perform<'a, T: Threads + Wait + Sync, S: Sources, R: Read, W: Write, E: Write>(
+    rt: &T,
     alloc: Global,
     words: &'a [&'a str],
     sources: &mut S,
@@ -247,7 +380,8 @@ fn perform<'a, S: Sources, R: Read, W: Write, E: Write>(
     ensures quiet { OnErr result (W.contents out.new ≡ W.contents out.old) }
 {
     match parse(alloc, words) {
-        Ok(Request::Step(step)) => do_step(alloc, step, sources, input, out),
+        Ok(Request::Run(run)) => do_run(rt, alloc, run, sources, input, out, err),
+        Ok(Request::Step(step)) => do_step(rt, alloc, step, sources, input, out, err),
         Ok(Request::Check(name)) => do_check(alloc, name, sources, out, err),
         Ok(Request::List(name)) => do_list(alloc, name, sources, out, err),
         Err(error) => Err(Ending::Usage(error)),
@@ -258,8 +392,10 @@ fn perform<'a, S: Sources, R: Read, W: Write, E: Write>(
 /// where the program is refused, 2 where the command cannot be done as it was given, 3 where the run stopped before its
 /// end, where memory ran out, or where standard output cannot be written.
 ///
-/// What a command prints goes to `out` at its end, and only where it succeeds; the text of a fault goes to `err`.
-pub fn drive<S: Sources, R: Read, W: Write, E: Write>(
+/// What a command prints goes to `out` at its end, and only where it succeeds; the text of a fault goes to `err`. `rt`
+/// starts the worker threads of `run`; every other command waits for nobody.
+pub fn drive<T: Threads + Wait + Sync, S: Sources, R: Read, W: Write, E: Write>(
+    rt: &T,
     alloc: Global,
     words: &[&str],
     sources: &mut S,
@@ -270,7 +406,7 @@ pub fn drive<S: Sources, R: Read, W: Write, E: Write>(
     ensures status { result ≤ 3 }
     ensures quiet { (result ≡ 1) ⊎ (result ≡ 2) → W.contents out.new ≡ W.contents out.old }
 {
-    match perform(alloc, words, sources, input, out, err) {
+    match perform(rt, alloc, words, sources, input, out, err) {
         Ok(status) => status,
         Err(ending) => {
             // A status is answered even where its text cannot be written.

@@ -4,7 +4,9 @@ use super::*;
 use std::alloc::Global;
 use std::io;
 use std::io::Write;
+use std::sync::Wait;
 use std::test::Fail;
+use std::thread::Threads;
 
 /// One source, of the name `a.c`.
 #[derive(Drop)]
@@ -30,12 +32,26 @@ pub struct Outcome {
     err: Vec<u8>,
 }
 
-pub fn run(alloc: Global, words: &[&str], text: &str, input: &str) -> Outcome {
+pub fn run<R: Threads + Wait + Sync>(
+    rt: &R,
+    alloc: Global,
+    words: &[&str],
+    text: &str,
+    input: &str,
+) -> Outcome {
     let mut sources = One { alloc, text };
     let mut reader = input.as_bytes();
     let mut out = Vec::new(alloc);
     let mut err = Vec::new(alloc);
-    let status = drive(alloc, words, &mut sources, &mut reader, &mut out, &mut err);
+    let status = drive(
+        rt,
+        alloc,
+        words,
+        &mut sources,
+        &mut reader,
+        &mut out,
+        &mut err,
+    );
     Outcome { status, out, err }
 }
 
@@ -45,7 +61,7 @@ pub fn fails(outcome: &Outcome, status: u8, text: &str) -> bool {
 }
 
 /// Whether the command prints how it is used.
-fn is_usage(outcome: &Outcome) -> bool {
+pub fn is_usage(outcome: &Outcome) -> bool {
     outcome.status == 2 && outcome.out.is_empty() && !outcome.err.is_empty()
 }
 
@@ -53,7 +69,7 @@ pub fn prints(outcome: &Outcome, text: &str) -> bool {
     outcome.status == 0 && outcome.err.is_empty() && outcome.out.as_slice() == text.as_bytes()
 }
 
-const DOUBLE: &str =
+pub const DOUBLE: &str =
     "uint64_t A[4];\nint main(void) {\nfor (uint64_t i = 0; i < 4; i += 1) { A[i] = i; }\n#pragma omp target map(tofrom: A[0:4])\nfor (uint64_t i = 0; i < 4; i += 1) { A[i] = A[i] * 2 + 1; }\nfor (uint64_t i = 0; i < 4; i += 1) { print(A[i]); }\n}\n";
 
 const DOUBLE_PRINTS: &str = "1\n3\n5\n7\nopen 0\nclose 0\nopen 1\nclose 1\nopen 2\nclose 2\nend\n";
@@ -67,26 +83,43 @@ fn runs_a_program(rt: HostRuntime) {
     let alloc = rt.alloc();
     assert!(rt;
         prints(
-            &run(alloc, &["step", "a.c"], "int main(void) {}", ""),
+            &run(&rt, alloc, &["step", "a.c"], "int main(void) {}", ""),
             "end\n"
         )
     );
-    assert!(rt; prints(&run(alloc, &["step", "a.c"], DOUBLE, ""), DOUBLE_PRINTS));
     assert!(rt;
         prints(
-            &run(alloc, &["step", "a.c", "--choices", "3,0,2"], DOUBLE, ""),
+            &run(&rt, alloc, &["step", "a.c"], DOUBLE, ""),
             DOUBLE_PRINTS
         )
     );
     assert!(rt;
         prints(
-            &run(alloc, &["step", "--choices=", "a.c"], DOUBLE, " 7\t8\r\n"),
+            &run(
+                &rt,
+                alloc,
+                &["step", "a.c", "--choices", "3,0,2"],
+                DOUBLE,
+                ""
+            ),
             DOUBLE_PRINTS
         )
     );
     assert!(rt;
         prints(
-            &run(alloc, &["step", "a.c", "--capacity", "4"], DOUBLE, ""),
+            &run(
+                &rt,
+                alloc,
+                &["step", "--choices=", "a.c"],
+                DOUBLE,
+                " 7\t8\r\n"
+            ),
+            DOUBLE_PRINTS
+        )
+    );
+    assert!(rt;
+        prints(
+            &run(&rt, alloc, &["step", "a.c", "--capacity", "4"], DOUBLE, ""),
             DOUBLE_PRINTS
         )
     );
@@ -98,7 +131,7 @@ fn wraps_numbers(rt: HostRuntime) {
     let text = "int main(void) { print(0 - 1); }";
     assert!(rt;
         prints(
-            &run(alloc, &["step", "a.c"], text, ""),
+            &run(&rt, alloc, &["step", "a.c"], text, ""),
             "18446744073709551615\nopen 0\nclose 0\nend\n"
         )
     );
@@ -109,14 +142,14 @@ fn refuses_a_program(rt: HostRuntime) {
     let alloc = rt.alloc();
     assert!(rt;
         fails(
-            &run(alloc, &["step", "a.c"], TOO_FAR, ""),
+            &run(&rt, alloc, &["step", "a.c"], TOO_FAR, ""),
             1,
             "E301 item 1 line 5 column 39\n"
         )
     );
     assert!(rt;
         fails(
-            &run(alloc, &["step", "a.c"], "int main(void) {", ""),
+            &run(&rt, alloc, &["step", "a.c"], "int main(void) {", ""),
             1,
             "E102 line 1 column 17\n"
         )
@@ -124,7 +157,7 @@ fn refuses_a_program(rt: HostRuntime) {
     let large = "int main(void) {\nprint(18446744073709551616);\n}\n";
     assert!(rt;
         fails(
-            &run(alloc, &["step", "a.c"], large, ""),
+            &run(&rt, alloc, &["step", "a.c"], large, ""),
             1,
             "E105 line 2 column 7\n"
         )
@@ -132,7 +165,7 @@ fn refuses_a_program(rt: HostRuntime) {
     let long = "int main(void) {\nfor (uint64_t i = 0; i < 1048577; i += 1) { print(i); }\n}\n";
     assert!(rt;
         fails(
-            &run(alloc, &["step", "a.c"], long, ""),
+            &run(&rt, alloc, &["step", "a.c"], long, ""),
             1,
             "E303 item 0 line 2 column 1\n"
         )
@@ -141,7 +174,13 @@ fn refuses_a_program(rt: HostRuntime) {
 
 #[test]
 fn answers_a_full_device(rt: HostRuntime) {
-    let outcome = run(rt.alloc(), &["step", "a.c", "--capacity", "3"], DOUBLE, "");
+    let outcome = run(
+        &rt,
+        rt.alloc(),
+        &["step", "a.c", "--capacity", "3"],
+        DOUBLE,
+        "",
+    );
     assert!(rt; fails(&outcome, 3, "F2\n"));
 }
 
@@ -150,6 +189,7 @@ fn answers_a_full_device(rt: HostRuntime) {
 fn looks_for_faults_in_order(rt: HostRuntime) {
     let alloc = rt.alloc();
     let usage = run(
+        &rt,
         alloc,
         &[
             "step",
@@ -165,28 +205,40 @@ fn looks_for_faults_in_order(rt: HostRuntime) {
     assert!(rt; is_usage(&usage));
     assert!(rt;
         fails(
-            &run(alloc, &["step", "b.c", "--choices", "1,,2"], TOO_FAR, "7 x"),
+            &run(
+                &rt,
+                alloc,
+                &["step", "b.c", "--choices", "1,,2"],
+                TOO_FAR,
+                "7 x"
+            ),
             2,
             "bad choices\n"
         )
     );
     assert!(rt;
         fails(
-            &run(alloc, &["step", "b.c"], TOO_FAR, "7 x"),
+            &run(&rt, alloc, &["step", "b.c"], TOO_FAR, "7 x"),
             2,
             "cannot read b.c\n"
         )
     );
     assert!(rt;
         fails(
-            &run(alloc, &["step", "a.c"], TOO_FAR, "7 x"),
+            &run(&rt, alloc, &["step", "a.c"], TOO_FAR, "7 x"),
             1,
             "E301 item 1 line 5 column 39\n"
         )
     );
     assert!(rt;
         fails(
-            &run(alloc, &["step", "a.c", "--capacity", "3"], DOUBLE, "7 x"),
+            &run(
+                &rt,
+                alloc,
+                &["step", "a.c", "--capacity", "3"],
+                DOUBLE,
+                "7 x"
+            ),
             2,
             "bad input\n"
         )
@@ -197,12 +249,13 @@ fn looks_for_faults_in_order(rt: HostRuntime) {
 fn refuses_malformed_choices(rt: HostRuntime) {
     let alloc = rt.alloc();
     for list in [",", "1,", "x", " 1", "+1", "4294967296"] {
-        let outcome = run(alloc, &["step", "a.c", "--choices", list], DOUBLE, "");
+        let outcome = run(&rt, alloc, &["step", "a.c", "--choices", list], DOUBLE, "");
         assert!(rt; fails(&outcome, 2, "bad choices\n"));
     }
     assert!(rt;
         prints(
             &run(
+                &rt,
                 alloc,
                 &["step", "a.c", "--choices", "4294967295,007"],
                 DOUBLE,
@@ -217,12 +270,18 @@ fn refuses_malformed_choices(rt: HostRuntime) {
 fn refuses_malformed_input(rt: HostRuntime) {
     let alloc = rt.alloc();
     for input in ["x", "1,2", "-1", "+1", "18446744073709551616"] {
-        let outcome = run(alloc, &["step", "a.c"], DOUBLE, input);
+        let outcome = run(&rt, alloc, &["step", "a.c"], DOUBLE, input);
         assert!(rt; fails(&outcome, 2, "bad input\n"));
     }
     assert!(rt;
         prints(
-            &run(alloc, &["step", "a.c"], DOUBLE, "0018446744073709551615"),
+            &run(
+                &rt,
+                alloc,
+                &["step", "a.c"],
+                DOUBLE,
+                "0018446744073709551615"
+            ),
             DOUBLE_PRINTS
         )
     );
@@ -231,12 +290,12 @@ fn refuses_malformed_input(rt: HostRuntime) {
 #[test]
 fn answers_usage_faults(rt: HostRuntime) {
     let alloc = rt.alloc();
-    assert!(rt; is_usage(&run(alloc, &[], DOUBLE, "")));
-    assert!(rt; is_usage(&run(alloc, &["walk"], DOUBLE, "")));
-    assert!(rt; is_usage(&run(alloc, &["step"], DOUBLE, "")));
-    assert!(rt; is_usage(&run(alloc, &["step", "a.c", "--capacity", "x"], DOUBLE, "")));
-    assert!(rt; is_usage(&run(alloc, &["step", "a.c", "--choices", "-1"], DOUBLE, "")));
-    assert!(rt; is_usage(&run(alloc, &["--help"], DOUBLE, "")));
+    assert!(rt; is_usage(&run(&rt, alloc, &[], DOUBLE, "")));
+    assert!(rt; is_usage(&run(&rt, alloc, &["walk"], DOUBLE, "")));
+    assert!(rt; is_usage(&run(&rt, alloc, &["step"], DOUBLE, "")));
+    assert!(rt; is_usage(&run(&rt, alloc, &["step", "a.c", "--capacity", "x"], DOUBLE, "")));
+    assert!(rt; is_usage(&run(&rt, alloc, &["step", "a.c", "--choices", "-1"], DOUBLE, "")));
+    assert!(rt; is_usage(&run(&rt, alloc, &["--help"], DOUBLE, "")));
 }
 
 /// A writer with room for some bytes.
@@ -272,6 +331,7 @@ fn answers_a_failing_writer(rt: HostRuntime) {
         };
         let mut input: &[u8] = &[];
         let status = drive(
+            &rt,
             alloc,
             &["step", "a.c"],
             &mut sources,
@@ -299,7 +359,7 @@ const ROW_LISTED: &str =
 
 #[test]
 fn lists_the_items_of_loops(rt: HostRuntime) {
-    let outcome = run(rt.alloc(), &["list", "a.c"], ROW_LISTED, "");
+    let outcome = run(&rt, rt.alloc(), &["list", "a.c"], ROW_LISTED, "");
     assert!(rt;
         prints(
             &outcome,
@@ -313,7 +373,7 @@ const DATA: &str =
 
 #[test]
 fn lists_a_target_data(rt: HostRuntime) {
-    let outcome = run(rt.alloc(), &["list", "a.c"], DATA, "");
+    let outcome = run(&rt, rt.alloc(), &["list", "a.c"], DATA, "");
     assert!(rt;
         prints(
             &outcome,
@@ -330,9 +390,9 @@ const ONE_MANY_TIMES: &str =
 
 #[test]
 fn counts_items_before_it_walks(rt: HostRuntime) {
-    let none = run(rt.alloc(), &["list", "a.c"], NONE_MANY_TIMES, "");
+    let none = run(&rt, rt.alloc(), &["list", "a.c"], NONE_MANY_TIMES, "");
     assert!(rt; prints(&none, ""));
-    let many = run(rt.alloc(), &["list", "a.c"], ONE_MANY_TIMES, "");
+    let many = run(&rt, rt.alloc(), &["list", "a.c"], ONE_MANY_TIMES, "");
     assert!(rt; fails(&many, 1, "E401\n"));
 }
 
@@ -348,11 +408,11 @@ fn lines(bytes: &[u8]) -> usize {
 
 #[test]
 fn lists_at_most_4096_items(rt: HostRuntime) {
-    let most = run(rt.alloc(), &["list", "a.c"], MOST, "");
+    let most = run(&rt, rt.alloc(), &["list", "a.c"], MOST, "");
     assert_eq!(rt; most.status, 0);
     assert_eq!(rt; lines(&most.out), 4096);
     assert!(rt; most.out.as_slice().ends_with(b"\n4095 wait\n".as_slice()));
-    let more = run(rt.alloc(), &["list", "a.c"], ONE_MORE, "");
+    let more = run(&rt, rt.alloc(), &["list", "a.c"], ONE_MORE, "");
     assert!(rt; fails(&more, 1, "E401\n"));
 }
 
@@ -361,7 +421,7 @@ const TWO_TASKS: &str =
 
 #[test]
 fn lists_deferred_items(rt: HostRuntime) {
-    let outcome = run(rt.alloc(), &["list", "a.c"], TWO_TASKS, "");
+    let outcome = run(&rt, rt.alloc(), &["list", "a.c"], TWO_TASKS, "");
     assert!(rt;
         prints(
             &outcome,
@@ -373,16 +433,28 @@ fn lists_deferred_items(rt: HostRuntime) {
 /// The items of an empty block, of an empty `target data`, and of a loop in one.
 #[test]
 fn lists_empty_blocks(rt: HostRuntime) {
-    let block = run(rt.alloc(), &["list", "a.c"], "int main(void) { { } }\n", "");
+    let block = run(
+        &rt,
+        rt.alloc(),
+        &["list", "a.c"],
+        "int main(void) { { } }\n",
+        "",
+    );
     assert!(rt; prints(&block, "0 host\n"));
-    let nothing = run(rt.alloc(), &["list", "a.c"], "int main(void) { }\n", "");
+    let nothing = run(
+        &rt,
+        rt.alloc(),
+        &["list", "a.c"],
+        "int main(void) { }\n",
+        "",
+    );
     assert!(rt; prints(&nothing, ""));
     let empty = "uint64_t A[4];\nint main(void) {\n#pragma omp target data map(alloc: A)\n{ }\n}\n";
-    let data = run(rt.alloc(), &["list", "a.c"], empty, "");
+    let data = run(&rt, rt.alloc(), &["list", "a.c"], empty, "");
     assert!(rt; prints(&data, "0 begin alloc A[0:4]\n1 end alloc A[0:4]\n"));
     let over_loop =
         "uint64_t A[4];\nint main(void) {\n#pragma omp target data map(alloc: A)\nfor (uint64_t i = 0; i < 4; i += 1) { A[i] = i; }\n}\n";
-    let turns = run(rt.alloc(), &["list", "a.c"], over_loop, "");
+    let turns = run(&rt, rt.alloc(), &["list", "a.c"], over_loop, "");
     assert!(rt;
         prints(
             &turns,
@@ -394,9 +466,9 @@ fn lists_empty_blocks(rt: HostRuntime) {
 #[test]
 fn refuses_to_list_a_faulty_text(rt: HostRuntime) {
     let text = "int main(void) {\n#pragma omp target map(to: B)\n{ }\n}\n";
-    let outcome = run(rt.alloc(), &["list", "a.c"], text, "");
+    let outcome = run(&rt, rt.alloc(), &["list", "a.c"], text, "");
     assert!(rt; fails(&outcome, 1, "E103 line 2 column 28\n"));
-    let absent = run(rt.alloc(), &["list", "b.c"], text, "");
+    let absent = run(&rt, rt.alloc(), &["list", "b.c"], text, "");
     assert!(rt; fails(&absent, 2, "cannot read b.c\n"));
-    assert!(rt; is_usage(&run(rt.alloc(), &["list"], text, "")));
+    assert!(rt; is_usage(&run(&rt, rt.alloc(), &["list"], text, "")));
 }

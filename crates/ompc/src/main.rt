@@ -2,6 +2,7 @@
 #![tactic(auto)]
 
 use driver::{SourceError, Sources, drive};
+use std::alloc::Global;
 use std::io::Write;
 use std::process::ExitCode;
 use std::{fs, io};
@@ -27,19 +28,15 @@ const OUT_OF_MEMORY: u8 = 3;
 /// The words of the command line cannot be read.
 const MISUSED: u8 = 2;
 
-/// Does the command of the words behind the program's name.
-fn run(rt: &HostRuntime) -> io::Result<u8> {
-    let alloc = rt.alloc();
-    let words: Vec<String> = std::env::args(rt)?.skip(1).collect(alloc)?;
-    let words: Vec<&str> = words.iter().map(|word| word.as_str()).collect(alloc)?;
-    Ok(drive(
-        alloc,
-        words.as_slice(),
-        &mut Disk { rt },
-        &mut rt.reader(),
-        &mut io::writer(rt),
-        &mut rt.stderr(),
-    ))
+/// The words behind the program's name.
+fn words_of(rt: &HostRuntime) -> io::Result<Vec<String>> {
+    let words = std::env::args(rt)?.skip(1).collect(rt.alloc())?;
+    Ok(words)
+}
+
+fn texts(alloc: Global, words: &[String]) -> io::Result<Vec<&str>> {
+    let texts = words.iter().map(|word| word.as_str()).collect(alloc)?;
+    Ok(texts)
 }
 
 /// The status of a command whose words could not be had, with its text.
@@ -57,8 +54,21 @@ fn no_words<E: Write>(error: &io::Error, err: &mut E) -> u8 {
 }
 
 fn main(rt: HostRuntime) -> ExitCode {
-    match run(&rt) {
-        Ok(status) => ExitCode::from(status),
-        Err(error) => ExitCode::from(no_words(&error, &mut rt.stderr())),
-    }
+    let words = match words_of(&rt) {
+        Ok(words) => words,
+        Err(error) => return ExitCode::from(no_words(&error, &mut rt.stderr())),
+    };
+    let words = match texts(rt.alloc(), &words) {
+        Ok(words) => words,
+        Err(error) => return ExitCode::from(no_words(&error, &mut rt.stderr())),
+    };
+    ExitCode::from(drive(
+        &rt,
+        rt.alloc(),
+        words.as_slice(),
+        &mut Disk { rt: &rt },
+        &mut rt.reader(),
+        &mut io::writer(&rt),
+        &mut rt.stderr(),
+    ))
 }

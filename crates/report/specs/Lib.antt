@@ -1,3 +1,4 @@
 pub mod Listing
 pub mod Refusals
 pub mod Checked
+pub mod Runs

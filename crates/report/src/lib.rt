@@ -4,9 +4,11 @@
 mod checked;
 mod listing;
 mod refusal;
+mod run;
 #[cfg(test)]
 mod tests;
 
 pub use checked::accepted_text;
 pub use listing::list_text;
 pub use refusal::refusal_text;
+pub use run::{finals_text, log_text};

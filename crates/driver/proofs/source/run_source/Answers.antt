@@ -1,4 +1,15 @@
+use Rattle.driver.specs.Source.{stopped_by_choices}
+use Rattle.driver.proofs.Runs.{answer_by_choices, source_fault}
 use Rattle.driver.proofs.source.run_source.Goals as goal
 
-pub returns-in-Err-clause-fault : goal.returns-in-Err-clause-fault
-returns-in-Err-clause-fault c = c.in-Err.ensures.fault c.args.capacity
+pub returns-clause-answer : goal.returns-clause-answer
+returns-clause-answer c =
+    answer_by_choices c.erased_text_runs.ensures c.args.bytes.now c.args.input.now c.args.choices.now c.in-Ok.program _
+    c.in-Ok-outline.ensures.outlined c.in-Ok.ensures.found c.in-Ok-outline.ensures.few c.run_outlined.result
+    c.run_outlined.ensures.answer
+
+pub returns-clause-fault : goal.returns-clause-fault
+returns-clause-fault c =
+    source_fault (stopped_by_choices c.args.input.now c.args.choices.now c.args.capacity) c.args.bytes.now
+    c.in-Ok.program _ c.in-Ok-outline.ensures.outlined c.in-Ok.ensures.found c.in-Ok-outline.ensures.few
+    c.run_outlined.result c.run_outlined.ensures.fault
