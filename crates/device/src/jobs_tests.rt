@@ -77,17 +77,17 @@ struct TwoRuns;
 
 impl Look for TwoRuns {
     fn look<R: Abort>(&self, rt: &R, alloc: Global, image: &Image<'_>) -> Result<(), Fail> {
-    let inputs = ([5], [6]);
-    let Ok(mut left) = RunState::new(alloc, image, &inputs.0, 4) else {
-        return Err(Fail::from(AllocError));
-    };
-    let Ok(mut right) = RunState::new(alloc, image, &inputs.1, 4) else {
-        return Err(Fail::from(AllocError));
-    };
-    assert_own(rt, alloc, &mut left, &mut right, 0)?;
-    assert_own(rt, alloc, &mut left, &mut right, 1)?;
-    assert_end(rt, alloc, &mut left, 2, 6)?;
-    assert_end(rt, alloc, &mut right, 2, 7)
+        let inputs = ([5], [6]);
+        let Ok(mut left) = RunState::new(alloc, image, &inputs.0, 4) else {
+            return Err(Fail::from(AllocError));
+        };
+        let Ok(mut right) = RunState::new(alloc, image, &inputs.1, 4) else {
+            return Err(Fail::from(AllocError));
+        };
+        assert_own(rt, alloc, &mut left, &mut right, 0)?;
+        assert_own(rt, alloc, &mut left, &mut right, 1)?;
+        assert_end(rt, alloc, &mut left, 2, 6)?;
+        assert_end(rt, alloc, &mut right, 2, 7)
     }
 }
 
@@ -96,21 +96,21 @@ struct Played;
 
 impl Look for Played {
     fn look<R: Abort>(&self, rt: &R, alloc: Global, image: &Image<'_>) -> Result<(), Fail> {
-    let input = [5];
-    let Ok(mut state) = RunState::new(alloc, image, &input, 4) else {
-        return Err(Fail::from(AllocError));
-    };
-    let mut turns = Vec::new(alloc);
-    for item in 0..3 {
-        turns.push(Turn::Open(item))?;
-        turns.push(Turn::Close(item))?;
-    }
-    turns.push(Turn::Wait(3))?;
-    turns.push(Turn::Open(0))?;
-    assert!(rt; matches!(play::<RunState<'_>>(&mut state, turns), Ok(7)));
-    assert_eq!(rt; state.output(), [6].as_slice());
-    assert_eq!(rt; state.history().last(), Some(&Event::End));
-    Ok(())
+        let input = [5];
+        let Ok(mut state) = RunState::new(alloc, image, &input, 4) else {
+            return Err(Fail::from(AllocError));
+        };
+        let mut turns = Vec::new(alloc);
+        for item in 0..3 {
+            turns.push(Turn::Open(item))?;
+            turns.push(Turn::Close(item))?;
+        }
+        turns.push(Turn::Wait(3))?;
+        turns.push(Turn::Open(0))?;
+        assert!(rt; matches!(play::<RunState<'_>>(&mut state, turns), Ok(7)));
+        assert_eq!(rt; state.output(), [6].as_slice());
+        assert_eq!(rt; state.history().last(), Some(&Event::End));
+        Ok(())
     }
 }
 

@@ -5,7 +5,6 @@ ghost use Rattle.std.specs.Prelude.{◌≡◌, IfOk};
 ghost use Rattle.base.specs.Limits.{AreShort};
 
 pub use crate::image::Image;
-
 use crate::image::build;
 use mapcheck::{Accepted, current_at_end};
 use std::alloc::{AllocError, Global};
@@ -14,8 +13,8 @@ mod image;
 mod reaches;
 
 /// The image of an accepted program: each region is compiled once, and each item's region is searched for the cells that
-/// it may touch. No array may have more than 65,536 cells, as in every program that is read. The error comes for want of
-/// memory.
+/// it may touch, once for all items of a region that names no loop around it. No array may have more than 65,536 cells,
+/// as in every program that is read. The error comes for want of memory.
 pub fn lower<'a>(alloc: Global, accepted: &'a Accepted<'a>) -> Result<Image<'a>, AllocError>
     requires { AreShort accepted.now }
     ensures { IfOk result (λ image. image ≡ accepted.now) }

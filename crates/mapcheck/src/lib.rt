@@ -80,8 +80,9 @@ impl<'a> Accepted<'a> {
 /// the third the refusal of the least item, by its code, its cell and the other item (E501 to E504, E506 to E508).
 /// `OutOfMemory` is answered where an allocation fails.
 ///
-/// It takes time for each turn of a region and each cell that one touches, and for each pair of items; memory for the
-/// cells that each region touches.
+/// It takes time for each turn of a region, which are gone through once for all items of a region that names no loop
+/// around it; for each cell that an item's region touches, and for each pair of items; and memory for the cells that each
+/// item's region touches.
 pub fn check<'a>(alloc: Global, outlined: &'a Outlined<'a>) -> Result<Accepted<'a>, CheckFault>
     ensures accepted { IfOk result (λ a. a ≡ outlined.now) }
     ensures fault { IfErr result (IsCheckFault (plan outlined.now)) }

@@ -90,12 +90,7 @@ fn turned(
     }
 }
 
-fn program(
-    alloc: Global,
-    turns: u32,
-    parts: Vec<Part>,
-    read: u64,
-) -> Result<Program, AllocError> {
+fn program(alloc: Global, turns: u32, parts: Vec<Part>, read: u64) -> Result<Program, AllocError> {
     let mut arrays = IndexMap::new(alloc);
     arrays.insert("A".to_string(alloc)?, ArrayInfo { length: 8 })?;
     arrays.insert("B".to_string(alloc)?, ArrayInfo { length: 2 })?;
@@ -179,9 +174,15 @@ fn two_regions_in_turn(rt: HostRuntime) -> Result<(), Fail> {
     let alloc = rt.alloc();
     let first = target(alloc, store(Expr::Number(0)))?;
     let second = target(alloc, store(Expr::Number(2)))?;
-    assert_eq!(rt; turned(alloc, 2, vec![in alloc; first, second]?, 2).err(), stale(5, 2));
+    assert_eq!(rt;
+        turned(alloc, 2, vec![in alloc; first, second]?, 2).err(),
+        stale(5, 2)
+    );
     let fixed = target(alloc, store(Expr::Number(0)))?;
     let named = target(alloc, store(Expr::LoopName(0)))?;
-    assert_eq!(rt; turned(alloc, 9, vec![in alloc; fixed, named]?, 1).err(), outside(18));
+    assert_eq!(rt;
+        turned(alloc, 9, vec![in alloc; fixed, named]?, 1).err(),
+        outside(18)
+    );
     Ok(())
 }

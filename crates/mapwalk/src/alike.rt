@@ -30,11 +30,7 @@ fn touch_alike(outlined: &Outlined<'_>, earlier: &Item, item: &Item) -> bool
 }
 
 // The last item so far with the region of an item, where the two are known to touch alike.
-fn earlier_alike(
-    outlined: &Outlined<'_>,
-    last: &[Option<usize>],
-    number: usize,
-) -> Option<usize>
+fn earlier_alike(outlined: &Outlined<'_>, last: &[Option<usize>], number: usize) -> Option<usize>
     requires inside { number < length (plan outlined.now).items }
     requires last { AreBelow number last.now }
     ensures { IfSome result (IsRepeat (plan outlined.now) number) }

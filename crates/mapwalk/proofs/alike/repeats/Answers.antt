@@ -1,4 +1,4 @@
-use Rattle.std.proofs.Common.{◌≡◌, ℕ, ◌+◌, List, Option, Some, sym, subst}
+use Rattle.std.proofs.Common.{ℕ, ◌+◌, List, Option, sym, subst}
 use Rattle.std.specs.Prelude.{IfSome}
 use Rattle.base.specs.Items.{plan}
 use Rattle.mapwalk.specs.Repeats.{AreFirstRepeats, IsRepeat}
