@@ -8,7 +8,7 @@ use base::tree::{
     SectionText, Source, Stmt, Target, Tasking,
 };
 use indexmap::IndexMap;
-use outline::outline;
+use outline::{Outlined, outline};
 use smallvec::SmallVec;
 use std::alloc::{AllocError, Global};
 use std::test::Fail;
@@ -103,10 +103,14 @@ fn program(alloc: Global, turns: u32, parts: Vec<Part>, read: u64) -> Result<Pro
 }
 
 fn marked(alloc: Global, program: &Program) -> Result<Vec<ArrayId>, CheckFault> {
-    let Ok(outlined) = outline(alloc, program) else {
-        return Err(CheckFault::OutOfMemory);
-    };
-    let accepted = check(alloc, &outlined)?;
+    match outline(alloc, program) {
+        Err(_) => Err(CheckFault::OutOfMemory),
+        Ok(outlined) => marked_in(alloc, &outlined),
+    }
+}
+
+fn marked_in(alloc: Global, outlined: &Outlined<'_>) -> Result<Vec<ArrayId>, CheckFault> {
+    let accepted = check(alloc, outlined)?;
     match current_at_end(alloc, &accepted) {
         Ok(arrays) => Ok(arrays),
         Err(_) => Err(CheckFault::OutOfMemory),
