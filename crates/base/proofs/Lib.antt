@@ -1,8 +1,9 @@
 pub mod Trees
-pub mod Bodies
 pub mod Runs
 pub mod Closing
 pub mod Places
 pub mod HostRows
 pub mod Nils
 pub mod Leasts
+pub mod Sections
+pub mod LoopTurns

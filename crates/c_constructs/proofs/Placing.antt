@@ -89,11 +89,6 @@ placed_fit [] is after f = tt
 placed_fit (x ∷ xs) [] after f = absurd f
 placed_fit (x ∷ xs) (i ∷ is) after f = (f.1, placed_fit xs is after f.2)
 
-pub placed_left : (xs ys : Spelling) (cs : List ℕ) → Placed (xs ++ ys) cs → Placed xs cs
-placed_left [] ys cs p = tt
-placed_left (x ∷ xs) ys [] p = absurd p
-placed_left (x ∷ xs) ys (c ∷ cs) p = (p.0, placed_left xs ys cs p.1)
-
 pub placed_right : (xs ys : Spelling) (cs : List ℕ) → Placed (xs ++ ys) cs → Placed ys (drop (length xs) cs)
 placed_right [] ys cs p = p
 placed_right (x ∷ xs) ys [] p = absurd p

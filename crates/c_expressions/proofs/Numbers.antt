@@ -1,5 +1,6 @@
 -- Numbers outside expressions.
 use Rattle.std.proofs.Common.{◌≡◌, ℕ, ◌+◌, ◌*◌, ◌^◌, ◌<◌, ◌≤◌, Bool, true, false, cond, eqb, List, [], ◌∷◌, Option, Some, None, refl, sym, ap, ◌∙◌, arith}
+use Rattle.std.proofs.lemmas.Bool.{or_left, or_right}
 use Rattle.std.specs.Prelude.{nat_lt, ◌||◌}
 use Rattle.std.proofs.lemmas.Bool.Decides.{nat_tests}
 use Rattle.base.specs.declared.fault.ReadCode.TheVariants.{Unexpected, BadNumber, BadLength, BadOperand}
@@ -118,14 +119,6 @@ go_step l c s n t t' e low high b =
     ap (λ (i : Item Terminal). run (limited l c) (WantNum Step ∷ s) (i ∷ behind t))
     (put_is (first_item t) (Num (Some n)) e) ∙ item_step l c s n (first_item t) (behind t) z w
     ∙ ap (run (limited l c) s) b
-
-or_left : (a b : Bool) → a ≡ true → (a || b) ≡ true
-or_left true b e = refl
-or_left false b e = absurd cc
-
-or_right : (a b : Bool) → b ≡ true → (a || b) ≡ true
-or_right true b e = refl
-or_right false b e = e
 
 pub zero_step : (l : ℕ) (c : Context) (s : Stack) (n : ℕ) (t : Cursor) → (first_item t).terminal ≡ Num (Some n) →
     n ≡ 0 → run (limited l c) (WantNum Step ∷ s) (items t) ≡ Some (fault_at (first_item t) BadOperand)

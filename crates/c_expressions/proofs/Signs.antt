@@ -36,22 +36,6 @@ no_operator ShiftRight = refl
 no_operator Divide = refl
 no_operator Remainder = refl
 
-pub no_fraction : (o : Operator) → fraction_in all_fractions (Mark (operator_sign o)) ≡ None
-no_fraction LogicOr = refl
-no_fraction LogicAnd = refl
-no_fraction BitOr = refl
-no_fraction BitXor = refl
-no_fraction BitAnd = refl
-no_fraction Equal = refl
-no_fraction NotEqual = refl
-no_fraction Less = refl
-no_fraction LessEqual = refl
-no_fraction Greater = refl
-no_fraction GreaterEqual = refl
-no_fraction Add = refl
-no_fraction Subtract = refl
-no_fraction Multiply = refl
-
 -- ---- where no operator of some levels stands
 
 operator_at : (t : Terminal) (o : Operator) → t ≡ Mark (operator_sign o) → operator_in all_operators t ≡ Some o

@@ -1,5 +1,6 @@
 -- The machine at the length of an array.
 use Rattle.std.proofs.Common.{◌≡◌, ℕ, ◌<◌, ◌≤◌, Bool, true, false, eqb, ◌∷◌, Some, refl, ap, ◌∙◌, arith}
+use Rattle.std.proofs.lemmas.Bool.{or_left, or_right}
 use Rattle.std.specs.Prelude.{nat_lt, ◌||◌}
 use Rattle.std.proofs.lemmas.Bool.Decides.{nat_tests}
 use Rattle.base.specs.declared.fault.ReadCode.TheVariants.{BadLength}
@@ -17,14 +18,6 @@ use Rattle.c_expressions.specs.Reading.{run, fault_at}
 use Rattle.c_expressions.specs.Scopes.{context_of}
 use Rattle.c_expressions.proofs.Going.{put, put_is}
 use Rattle.c_read.specs.Globals.{with_cells}
-
-or_left : (a b : Bool) → a ≡ true → (a || b) ≡ true
-or_left true b e = refl
-or_left false b e = absurd cc
-
-or_right : (a b : Bool) → b ≡ true → (a || b) ≡ true
-or_right true b e = refl
-or_right false b e = e
 
 item_length : (c : Context) (n : ℕ) (s : Stack) (i : Item Terminal) (is : Items) → eqb n 0 ≡ false →
     nat_lt 65536 n ≡ false → run c (WantNum Length ∷ s) (put i (Num (Some n)) ∷ is) ≡

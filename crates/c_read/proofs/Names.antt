@@ -24,10 +24,6 @@ use Rattle.c_expressions.specs.Scopes.{context_of, sort_of_meaning}
 use Rattle.c_expressions.proofs.Going.{put, put_is, stop}
 use Rattle.c_read.specs.Globals.{naming, global_code, is_over}
 
-pub visible_is : (o : Option Meaning) → is_some o ≡ is_visible (option_map sort_of_meaning o)
-visible_is None = refl
-visible_is (Some m) = refl
-
 named_by : Context → Stack → List ℕ → Item Terminal → Items → Option Code → Option TextFault
 named_by c s x i is None = run (naming x c) (AfterGlobal ∷ s) is
 named_by c s x i is (Some code) = Some (fault_at i code)

@@ -1,5 +1,6 @@
 -- The region of a target that was read.
 use Rattle.std.proofs.Common.{◌≡◌, ℕ, ◌+◌, ◌≤◌, Bool, true, false, List, [], ◌∷◌, ◌++◌, Option, Some, None, Vec, Global, refl, sym, ap, subst, ◌∙◌, inl, inr, arith}
+use Rattle.std.proofs.lemmas.Bool.{or_right}
 use Rattle.std.specs.Prelude.{◌||◌}
 use Rattle.std.specs.Borrow.{Bor}
 use Rattle.base.specs.declared.tree.Bounds.{Bounds}
@@ -24,19 +25,15 @@ use Rattle.c_statements.proofs.Wholes.{read_loop}
 use Rattle.c_read.specs.Parts.{in_target}
 use Rattle.c_read.specs.Read.{IsLoop, IsRegionRead}
 
-or_yes : (a b : Bool) → b ≡ true → (a || b) ≡ true
-or_yes true b e = refl
-or_yes false b e = e
-
 -- in the block of a target
 target_inner : (s : Scope) → s.target ≡ true → inner_env None s ≡ in_target (env_of s)
-target_inner s e = ap (λ (i : Bool). (let v : Env = record (env_of s) { inside = i } in v)) (or_yes (inside (context_of s 0 0)) s.target e)
+target_inner s e = ap (λ (i : Bool). (let v : Env = record (env_of s) { inside = i } in v)) (or_right (inside (context_of s 0 0)) s.target e)
 
 target_turn : (s : Scope) (t : Turn) → s.target ≡ true → t.level ≡ loops_in (names_of s) →
     inner_env (Some t) s ≡ in_loop t.name.now (in_target (env_of s))
 target_turn s t e h =
     let n = loops_in (names_of s) in
-    ap (λ (i : Bool). (let v : Env = record (inner_env (Some t) s) { inside = i } in v)) (or_yes (inside (context_of s 0 0)) s.target e)
+    ap (λ (i : Bool). (let v : Env = record (inner_env (Some t) s) { inside = i } in v)) (or_right (inside (context_of s 0 0)) s.target e)
     ∙ ap (λ (l : ℕ). (let v : Env = record { names = (t.name.now, meaning.Loop l) ∷ names_of s; scalars = s.next_scalar; loops = n + 1; inside = true } in v)) h
 
 pub region_block : (s0 s1 : Scope) (before after : Items) (xs : List Statement) → s0.target ≡ true →

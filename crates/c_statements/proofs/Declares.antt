@@ -1,5 +1,6 @@
 -- The machine and the reader at declarations.
 use Rattle.std.proofs.Common.{◌≡◌, ℕ, ◌+◌, ◌<◌, ◌≤◌, true, false, List, ◌∷◌, length, Option, Some, None, refl, sym, ap, ◌∙◌, arith}
+use Rattle.std.proofs.lemmas.Bool.{or_left, or_right}
 use Rattle.std.specs.Prelude.{nat_lt, nat_le, ◌||◌}
 use Rattle.std.specs.Borrow.{Bor}
 use Rattle.std.proofs.lemmas.Bool.Decides.{nat_tests}
@@ -21,7 +22,7 @@ use Rattle.c_expressions.specs.Scopes.{context_of, fresh_name}
 use Rattle.c_expressions.proofs.Going.{put, put_is, stop}
 use Rattle.c_statements.specs.Bodies.{naming}
 use Rattle.c_statements.specs.Simple.{ending}
-use Rattle.c_statements.proofs.Heads.{NoName, or_left, or_right, or_none}
+use Rattle.c_statements.proofs.Heads.{NoName, or_none}
 
 -- ---- the name
 

@@ -1,5 +1,6 @@
 -- The machine and the reader at the heads of loops.
 use Rattle.std.proofs.Common.{◌≡◌, ℕ, ◌+◌, ◌<◌, ◌≤◌, Bool, true, false, List, [], ◌∷◌, ◌++◌, length, Option, Some, None, refl, sym, ap, ◌∙◌, append_assoc, arith, length-append}
+use Rattle.std.proofs.lemmas.Bool.{or_left, or_right}
 use Rattle.std.specs.Prelude.{nat_lt, nat_le, ◌||◌, is_some}
 use Rattle.std.specs.Option.{option_map}
 use Rattle.std.proofs.lemmas.Bool.Decides.{nat_tests}
@@ -54,14 +55,6 @@ pub bad_turn : (sc : Scope) (s : Stack) (x : List ℕ) (t : Cursor) → (first_i
     Some (fault_at (first_item t) AlreadyDeclared)
 bad_turn sc s x t e h = ap (λ (i : Item Terminal). run (context_of sc 0 0) (Turn ∷ s) (i ∷ behind t))
     (put_is (first_item t) (Name x) e) ∙ item_visible (context_of sc 0 0) s x (first_item t) (behind t) h
-
-pub or_left : (a b : Bool) → a ≡ true → (a || b) ≡ true
-or_left true b e = refl
-or_left false b e = absurd cc
-
-pub or_right : (a b : Bool) → b ≡ true → (a || b) ≡ true
-or_right true b e = refl
-or_right false b e = e
 
 pub or_none : (a b : Bool) → a ≡ false → b ≡ false → (a || b) ≡ false
 or_none true b e f = absurd cc

@@ -19,20 +19,6 @@ use Rattle.c_statements.specs.Statements.{Env, in_loop, more}
 use Rattle.c_statements.proofs.Levels.{names_below_is, top_size}
 use Rattle.c_statements.proofs.Locals.{env_is}
 
-abbrev lower : Context → Context
-lower c = record c { frames = below c.frames }
-
--- the brace that ends a block
-pub left_now : (a b d : Scope) → IsSameBlock a b → context_of d 0 0 ≡ lower (context_of b 0 0) → names_of d ≡
-    names_below b → IsLeft a d
-left_now a b d p e h = record {
-  frames = ap (λ (c : Context). c.frames) e ∙ p.frames;
-  names = h ∙ p.names;
-  target = λ g. ap (λ (c : Context). c.target) e ∙ p.target g;
-  waiting = λ g. ap (λ (c : Context). c.choice) e ∙ p.waiting g;
-  scalars = omega (arith, p.scalars, ap (λ (c : Context). c.scalars) e);
-}
-
 -- the open blocks are again those of before
 pub record IsBack (old new : Scope) : Type 0 where
   pub frames : frames_of new ≡ frames_of old

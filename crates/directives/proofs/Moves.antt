@@ -128,11 +128,3 @@ not_over (Reserved x) true c a e h b = absurd cc
 not_over (Signed x) true c a e h b = absurd cc
 not_over (Worded x) true c a e h b = absurd cc
 not_over (Numbered x) true c a e h b = absurd cc
-
-pub is_over : (t : Lexeme) (o : Bool) → ends_well t o ≡ true → t ≡ Ended → o ≡ true
-is_over Ended o e h = e
-is_over Strange o e h = absurd cc
-is_over (Reserved x) o e h = absurd cc
-is_over (Signed x) o e h = absurd cc
-is_over (Worded x) o e h = absurd cc
-is_over (Numbered x) o e h = absurd cc

@@ -39,9 +39,6 @@ pub spelled_first : (l l' : Line) (t : Lexeme) (o : Option ℕ) (xs : Spelling) 
 spelled_first l l' t o xs after e h b r =
     spelled_then ((t, o) ∷ []) xs (items l) (items l') after (spelled_one l (items l') t o e h b) r
 
-pub behind_less : (l l' : Line) → behind l ≡ items l' → length (items l') < length (items l)
-behind_less l l' b = omega (arith, ap (λ (is : Items). length is) b)
-
 -- one more behind a sign
 pub each_more : {X : Type 0} (s : Sign) (f : X → Spelling) (xs : List X) (x : X) →
     each_behind s f (xs ++ x ∷ []) ≡ each_behind s f xs ++ (sign_mark s ∷ f x)

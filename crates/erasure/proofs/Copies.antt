@@ -119,9 +119,6 @@ ends : (end k : ℕ) (ts : List Token) → AreFrom k end ts → k ≤ end
 ends end k [] a = a
 ends end k (t ∷ ts) a = omega (arith, a.0, a.1, ends end (t.last + 1) ts a.2)
 
-pub copied_within : (bytes kept : List ℕ) (k : ℕ) (ts : List Token) → IsCopied bytes kept k ts → k ≤ length bytes
-copied_within bytes kept k ts c = ends (length bytes) k ts c.order
-
 pub token_within : (bytes kept : List ℕ) (k : ℕ) (all : List Token) (t : Token) (ts : List Token) → all ≡ t ∷ ts →
     IsCopied bytes kept k all → (k ≤ t.first) × (t.first ≤ t.last) × (t.last + 1 ≤ length bytes)
 token_within bytes kept k all t ts same d =

@@ -22,18 +22,6 @@ use Rattle.mapwalk.proofs.Refusals.{stages_end}
 use Rattle.mapwalk.proofs.SideRows.{length_row, lengths_count}
 use Rattle.mapwalk.proofs.Walking.{Reached}
 
--- before the first item
-pub begins : (plan : Plan) (blocks : List Block) (s : Sides) → blocks ≡ [] → IsStart plan.lengths true s.host.items →
-    IsStart plan.lengths false s.device.items → Reached plan 0 blocks (shown_by s) []
-begins plan blocks s e host device =
-    record {
-      stages_left = ap (stages_from plan.items) (sym e);
-      rows_left = ap (acts_rows plan.items) e;
-      count = refl;
-      agree = record { host = host; device = device };
-      clean = λ j h. absurd (omega arith);
-    }
-
 take_whole : {X : Type 0} (xs : List X) (i : ℕ) → drop i xs ≡ [] → take i xs ≡ xs
 take_whole [] zero e = refl
 take_whole [] (suc i) e = refl

@@ -1,5 +1,6 @@
 -- The least of some cells.
 use Rattle.std.proofs.Common.{◌≡◌, ℕ, ◌<◌, ◌≤◌, ◌==◌, Bool, true, false, List, [], ◌∷◌, Option, Some, None, refl, sym, ap, ◌∙◌, arith}
+use Rattle.std.proofs.lemmas.Bool.{or_left, or_right}
 use Rattle.std.specs.Prelude.{nat_lt, nat_le, max, ◌&&◌, ◌||◌, if◌then◌else◌}
 use Rattle.std.specs.List.{list_any}
 use Rattle.std.proofs.lemmas.Bool.Decides.{nat_tests}
@@ -32,14 +33,6 @@ after_both c d e a b = go (is_before e c) refl
 later_still : (c d e : Cell) → is_before c d ≡ false → is_before e c ≡ false → is_before e d ≡ false
 later_still c d e a b = grind (arith, nat_tests)
 
-or_true : (a b : Bool) → a ≡ true → (a || b) ≡ true
-or_true true b e = refl
-or_true false b e = absurd cc
-
-or_last : (a b : Bool) → b ≡ true → (a || b) ≡ true
-or_last true b e = refl
-or_last false b e = e
-
 or_cases : {P : Type 0} (a b : Bool) → (a || b) ≡ true → (a ≡ true → P) → (b ≡ true → P) → P
 or_cases true b e f g = f refl
 or_cases false b e f g = g e
@@ -53,16 +46,16 @@ pub least_also : (p q : Cell → Bool) (found o : Option Cell) → IsLeast p fou
     (λ c. p c || q c) (also o found)
 least_also p q None None h k = λ c. or_none (p c) (q c) (h c) (k c)
 least_also p q (Some x) None h k =
-    (or_true (p x) (q x) h.0, λ d t. or_cases (p d) (q d) t (h.1 d) (λ u. absurd (let n = k d in cc)))
+    (or_left (p x) (q x) h.0, λ d t. or_cases (p d) (q d) t (h.1 d) (λ u. absurd (let n = k d in cc)))
 least_also p q None (Some y) h k =
-    (or_last (p y) (q y) k.0, λ d t. or_cases (p d) (q d) t (λ u. absurd (let n = h d in cc)) (k.1 d))
+    (or_right (p y) (q y) k.0, λ d t. or_cases (p d) (q d) t (λ u. absurd (let n = h d in cc)) (k.1 d))
 least_also p q (Some x) (Some y) h k = go (is_before y x) refl
   where
     go : (t : Bool) → is_before y x ≡ t → IsLeast (λ c. p c || q c) (Some (if t then y else x))
     go true e =
-        (or_last (p y) (q y) k.0, λ d t. or_cases (p d) (q d) t (λ u. after_both y x d e (h.1 d u)) (k.1 d))
+        (or_right (p y) (q y) k.0, λ d t. or_cases (p d) (q d) t (λ u. after_both y x d e (h.1 d u)) (k.1 d))
     go false e =
-        (or_true (p x) (q x) h.0, λ d t. or_cases (p d) (q d) t (h.1 d) (λ u. later_still y x d e (k.1 d u)))
+        (or_left (p x) (q x) h.0, λ d t. or_cases (p d) (q d) t (h.1 d) (λ u. later_still y x d e (k.1 d u)))
 
 abbrev first_of : Section → Section → Cell
 first_of s t = record { array = s.array; index = max s.first t.first }

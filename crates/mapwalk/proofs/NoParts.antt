@@ -2,7 +2,7 @@
 use Rattle.std.proofs.Common.{◌≡◌, ℕ, ◌+◌, ◌-◌, ◌<◌, ◌≤◌, max, Bool, true, false, ◌==◌, List, [], ◌∷◌, ◌++◌, ◌⊎◌, inl, inr, map, Option, Some, None, refl, sym, ap, ◌∙◌, subst, arith, true≢false}
 use Rattle.std.specs.Prelude.{find, filter, not, ◌&&◌, ◌||◌, nat_lt, if◌then◌else◌}
 use Rattle.std.specs.List.{list_any}
-use Rattle.std.proofs.lemmas.Bool.{cases_Bool, cond-true, cond-false, and_from, eqb-true, eq-eqb, ltb-true, lt-ltb, le-leb}
+use Rattle.std.proofs.lemmas.Bool.{cases_Bool, cond-true, cond-false, and_from, eqb-true, eq-eqb, ltb-true, lt-ltb, le-leb, or_right, or_left}
 use Rattle.std.proofs.lemmas.Option.{same_Some}
 use Rattle.base.specs.declared.item.Cell.{Cell}
 use Rattle.base.specs.declared.item.MapItem.{MapItem}
@@ -115,21 +115,13 @@ wide_found p (x ∷ blocks) b h e = go (wide_found p blocks b h.1) (cases_Bool (
     go again (inl t) = subst (λ (y : Block). 0 < y.section.length) (same_Some x b (sym (find_yes p x blocks t) ∙ e)) h.0
     go again (inr t) = again (sym (find_no p x blocks t) ∙ e)
 
-or_true : (a b : Bool) → b ≡ true → (a || b) ≡ true
-or_true true b e = refl
-or_true false b e = e
-
-or_first : (a b : Bool) → a ≡ true → (a || b) ≡ true
-or_first true b e = refl
-or_first false b e = absurd cc
-
 any_found : (p q : Block → Bool) (blocks : List Block) (b : Block) → find p blocks ≡ Some b → q b ≡ true → list_any q blocks ≡ true
 any_found p q [] b e h = no_block b e
 any_found p q (x ∷ blocks) b e h = go (λ f. any_found p q blocks b f h) (cases_Bool (p x))
   where
     go : (find p blocks ≡ Some b → list_any q blocks ≡ true) → (p x ≡ true) ⊎ (p x ≡ false) → (q x || list_any q blocks) ≡ true
-    go again (inl t) = or_first (q x) (list_any q blocks) (ap q (same_Some x b (sym (find_yes p x blocks t) ∙ e)) ∙ h)
-    go again (inr t) = or_true (q x) (list_any q blocks) (again (sym (find_no p x blocks t) ∙ e))
+    go again (inl t) = or_left (q x) (list_any q blocks) (ap q (same_Some x b (sym (find_yes p x blocks t) ∙ e)) ∙ h)
+    go again (inr t) = or_right (q x) (list_any q blocks) (again (sym (find_no p x blocks t) ∙ e))
 
 abbrev shared : Section → Section → Cell
 shared s t = record { array = s.array; index = max s.first t.first }

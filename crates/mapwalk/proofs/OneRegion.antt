@@ -56,18 +56,6 @@ shown_at entries items works i x w are inside is there =
     let at = work_at entries items works i x are inside is in
     at.is ∙ ap (λ (y : Work). Some y) (same_Some at.work w (sym at.there ∙ there))
 
--- no item is known
-pub none_below : (n m : ℕ) → AreBelow n (replicate m None)
-none_below n zero r k e = absurd (let lt : r < 0 = slice_get_within {A = Option ℕ} [] r (Some k) e in omega arith)
-none_below n (suc m) zero k e = absurd cc
-none_below n (suc m) (suc r) k e = none_below n m r k e
-
-pub no_repeats : (plan : Plan) → AreFirstRepeats plan 0 []
-no_repeats plan = record {
-  count = refl;
-  each = λ i k e. absurd (let lt : i < 0 = slice_get_within {A = Option ℕ} [] i (Some k) e in omega arith);
-}
-
 -- one item more
 pub one_repeat : (plan : Plan) (n : ℕ) (all : List (Option ℕ)) (o : Option ℕ) → AreFirstRepeats plan n all →
     ((k : ℕ) → o ≡ Some k → IsRepeat plan n k) → AreFirstRepeats plan (n + 1) (all ++ o ∷ [])

@@ -9,17 +9,6 @@ use Rattle.ranges.specs.declared.cells.Footprint.{Footprint}
 use Rattle.mapwalk.specs.Footprints.{AreFirstFootprints, AreFootprints}
 use Rattle.mapwalk.specs.Regions.{IsFoundFor}
 
-pub no_prints : (plan : Plan) → AreFirstFootprints plan 0 []
-no_prints plan = record {
-  count = refl;
-  each = λ i w o there e. absurd (let lt : i < 0 = slice_get_within [] i o e in omega arith);
-  fine = λ i w lt there. absurd (omega arith);
-}
-
-pub all_prints : (plan : Plan) (n : ℕ) (found : List (Option Footprint)) → AreFirstFootprints plan n found → n ≡ length plan.items →
-    AreFootprints plan found
-all_prints plan n found h e = record { count = h.count ∙ e; each = h.each }
-
 pub get_last : {A : Type 0} (found : List A) (o p : A) (i : ℕ) → i ≡ length found →
     slice_get (found ++ o ∷ []) i ≡ Some p → o ≡ p
 get_last [] o p i e h = same_Some o p (subst (λ k. slice_get (o ∷ []) k ≡ Some p) e h)

@@ -141,14 +141,3 @@ none_refused plan i blocks k rows h r g o f = go (nat_lt g.item i) refl
         contrary _
         (ap (λ (s : Option Stage). elim s as (λ z. Bool) [ None ↦ false | Some v ↦ cause g.code v (current_before plan g.item) g.cell ])
         (past (stages plan) i g.item (stages_end plan i blocks k rows h r) (not_below g.item i p))) t
-
-take_front : {X : Type 0} (xs ys : List X) → take (length xs) (xs ++ ys) ≡ xs
-take_front [] ys = refl
-take_front (x ∷ xs) ys = ap (λ zs. x ∷ zs) (take_front xs ys)
-
--- the rows so far are those of the items so far
-pub rows_before : (plan : Plan) (i : ℕ) (blocks : List Block) (k : Current) (rows : List (List Acts)) →
-    Reached plan i blocks k rows → rows ≡ take i (acts_rows plan.items [])
-rows_before plan i blocks k rows r =
-    sym (take_front rows (acts_rows (drop i plan.items) blocks))
-    ∙ (λ t. take (r.count t) (r.rows_left t))

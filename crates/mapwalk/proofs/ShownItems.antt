@@ -30,7 +30,3 @@ shown_of entries item w e = go item.region e
 pub if_none : {X P : Type 0} (o : Option X) → P → IfNone o P
 if_none None p = p
 if_none (Some x) p = tt
-
-pub if_some : {X : Type 0} (P : Type 0) (o : Option X) → is_some o ≡ true → IfNone o P
-if_some P None e = absurd cc
-if_some P (Some x) e = tt

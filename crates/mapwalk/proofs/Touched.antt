@@ -144,10 +144,3 @@ shown_is regions entries item k e are number held = rw number there
 
 pub same_work : (a b : Work) (o : Option Work) → o ≡ Some a → o ≡ Some b → a ≡ b
 same_work a b o e f = let x : ◌≡◌ {A = Option Work} (Some a) (Some b) = sym e ∙ f in cc
-
--- where there is no fault of range there is no first one
-pub no_first : (faults : List RangeFault) (f : FootprintFault) (g : RangeFault) → faults ≡ [] → f ≡ Range g →
-    IsFootprintFault faults f → ⊥
-no_first faults f g none is h =
-    let first : IsFirst [] g = subst (λ xs. IsFirst xs g) none (subst (IsFootprintFault faults) is h) in
-    absurd (omega (arith, first.holds.1))

@@ -1,4 +1,5 @@
 -- The first cause of an item.
+use Rattle.std.proofs.lemmas.Bool.{or_left}
 use Rattle.std.proofs.Common.{◌≡◌, ℕ, ◌≤◌, ◌==◌, Bool, true, false, List, Option, Some, None, refl, sym, ap, ◌∙◌, subst, arith}
 use Rattle.std.specs.Prelude.{nat_lt, ◌&&◌, ◌||◌}
 use Rattle.std.proofs.lemmas.Bool.Decides.{nat_tests}
@@ -55,10 +56,6 @@ or_cases : {P : Type 0} (a b : Bool) → (a || b) ≡ true → (a ≡ true → P
 or_cases true b e f g = f refl
 or_cases false b e f g = g e
 
-or_true : (a b : Bool) → a ≡ true → (a || b) ≡ true
-or_true true b e = refl
-or_true false b e = absurd cc
-
 or_last : (a b : Bool) → a ≡ false → (a || b) ≡ b
 or_last false b e = refl
 or_last true b e = absurd cc
@@ -83,7 +80,7 @@ module _ (w : Work) (blocks : List Block) (k : Current) where
   pub met_is_first : (x : Cause) → IsFirstOf met (Some x) → IsFirstOf all (Some x)
   met_is_first x h =
       whole (Some x) (
-        or_true (met x.code x.cell) (region x.code x.cell) h.0,
+        or_left (met x.code x.cell) (region x.code x.cell) h.0,
         λ code c t. or_cases (met code c) (region code c) t (h.1 code c)
             (λ u. not_less (refusal_rank code) (refusal_rank x.code) (is_before c x.cell)
             (region_high w (at_region w blocks k) code c u) (met_low w.kind (met_by w.kind w.maps blocks) x.code x.cell h.0)),

@@ -9,7 +9,7 @@ use Rattle.outline.specs.Parts.{parts_items, turns_items}
 use Rattle.outline.specs.Regions.{Entry}
 use Rattle.outline.specs.Shown.{all_shown, as_shown}
 use Rattle.outline.specs.Walk.{Added}
-use Rattle.outline.proofs.Turns.{one_turn_less, no_turn_left}
+use Rattle.base.proofs.LoopTurns.{one_turn_less, no_turn_left}
 
 turn_items : (v : ℕ) (b : Bounds) (body : List Part) (lengths loops : List ℕ) → v < b.end →
     turns_items v b body lengths loops

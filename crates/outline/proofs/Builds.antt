@@ -15,18 +15,6 @@ use Rattle.outline.specs.Parts.{parts_items}
 use Rattle.outline.specs.Shown.{shown, all_shown, as_shown}
 use Rattle.outline.proofs.Lengths.{list_is_parts}
 
--- the regions of a whole program stand at the front
-pub stand_whole : (held regions : List RegionEntry) (s a : ℕ) (parts body : List Part) →
-    map entry_of regions ≡ list_entries s a parts → held ≡ regions → parts ≡ body →
-    StandAt (map entry_of held) 0 (list_entries s a body)
-stand_whole held regions s a parts body are held_is parts_is =
-    record {
-      rest = [];
-      are =
-          ap (λ rs. map entry_of rs) held_is ∙ are ∙ ap (λ ps. list_entries s a ps) parts_is
-          ∙ sym (append-nil (list_entries s a body));
-    }
-
 as_many : (es : List Entry) (items : List Item) (works : List Work) → all_shown es items ≡ as_shown works →
     length items ≡ length works
 as_many es items works e =

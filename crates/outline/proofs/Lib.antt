@@ -4,7 +4,6 @@ pub mod Counting
 pub mod Trees
 pub mod Names
 pub mod Stands
-pub mod Turns
 pub mod Walks
 pub mod AddedTurns
 pub mod Lengths

@@ -135,6 +135,26 @@ fn program(alloc: Global, cells: u32, body: Vec<Part>) -> Result<Program, AllocE
     })
 }
 
+// One more part.
+fn add(body: &mut Vec<Part>, part: Result<Part, AllocError>) -> Result<(), AllocError> {
+    body.push(part?)?;
+    Ok(())
+}
+
+// A target with one map item.
+fn mapping(
+    alloc: Global,
+    map: MapText<RegionKind>,
+    nowait: bool,
+    region: Region,
+) -> Result<Part, AllocError> {
+    Ok(target(alloc, vec![in alloc; map]?, nowait, region))
+}
+
+fn host(region: Result<Region, AllocError>) -> Result<Part, AllocError> {
+    Ok(Part::Host(region?))
+}
+
 // What an item is, whether it is deferred, and its first map item.
 #[derive(Clone, Copy, PartialEq, Eq, Debug)]
 struct Summary {
@@ -195,18 +215,23 @@ fn assert_items(
     Ok(())
 }
 
+// A `target data` round a target, an update and a region of the host
+fn data_region(alloc: Global) -> Result<Vec<Part>, AllocError> {
+    let kernel = store(alloc, A, Expr::Number(5))?;
+    let first_two = part_of(alloc, A, Term::Literal(0), 2)?;
+    let mut inner = Vec::new(alloc);
+    inner.push(target(alloc, Vec::new(alloc), false, kernel))?;
+    add(&mut inner, update(alloc, UpdateKind::From, first_two))?;
+    add(&mut inner, host(store(alloc, A, Expr::Number(1))))?;
+    let map = mapped(RegionKind::Alloc, part_of(alloc, A, Term::Literal(0), 4)?);
+    let data = Part::Data(SmallVec::from_vec(vec![in alloc; map]?), inner);
+    Ok(vec![in alloc; data]?)
+}
+
 #[test]
 fn data_begins_and_ends(rt: HostRuntime) -> Result<(), Fail> {
     let alloc = rt.alloc();
-    let kernel = store(alloc, A, Expr::Number(5))?;
-    let first_two = part_of(alloc, A, Term::Literal(0), 2)?;
-    let inner = vec![in alloc;
-        target(alloc, Vec::new(alloc), false, kernel),
-        update(alloc, UpdateKind::From, first_two)?,
-        Part::Host(store(alloc, A, Expr::Number(1))?),
-    ]?;
-    let map = mapped(RegionKind::Alloc, part_of(alloc, A, Term::Literal(0), 4)?);
-    let body = vec![in alloc; Part::Data(SmallVec::from_vec(vec![in alloc; map]?), inner)]?;
+    let body = data_region(alloc)?;
     let wanted = [
         with(ItemKind::Begin, MapKind::Alloc, 0, 4),
         with(ItemKind::Target, MapKind::ToFrom, 0, 4),
@@ -217,15 +242,22 @@ fn data_begins_and_ends(rt: HostRuntime) -> Result<(), Fail> {
     assert_items(&rt, alloc, body, 4, &wanted)
 }
 
+// An enter, and a loop round an update of its section and a region of the host
+fn updates_in_a_loop(alloc: Global) -> Result<Vec<Part>, AllocError> {
+    let at_twice = part_of(alloc, A, Term::Times(2, 0), 1)?;
+    let mut turn = Vec::new(alloc);
+    add(&mut turn, update(alloc, UpdateKind::To, at_twice))?;
+    add(&mut turn, host(store(alloc, A, Expr::LoopName(0))))?;
+    let mut body = Vec::new(alloc);
+    add(&mut body, enter(alloc, EnterKind::To, whole(A)))?;
+    body.push(repeat(2, turn))?;
+    Ok(body)
+}
+
 #[test]
 fn sections_follow_the_loop(rt: HostRuntime) -> Result<(), Fail> {
     let alloc = rt.alloc();
-    let at_twice = part_of(alloc, A, Term::Times(2, 0), 1)?;
-    let turn = vec![in alloc;
-        update(alloc, UpdateKind::To, at_twice)?,
-        Part::Host(store(alloc, A, Expr::LoopName(0))?),
-    ]?;
-    let body = vec![in alloc; enter(alloc, EnterKind::To, whole(A))?, repeat(2, turn)]?;
+    let body = updates_in_a_loop(alloc)?;
     let wanted = [
         with(ItemKind::Enter, MapKind::To, 0, 4),
         with(ItemKind::Update, MapKind::To, 0, 1),
@@ -236,22 +268,32 @@ fn sections_follow_the_loop(rt: HostRuntime) -> Result<(), Fail> {
     assert_items(&rt, alloc, body, 4, &wanted)
 }
 
+// A deferred target on half of `A`
+fn half(alloc: Global, first: u64, number: u64) -> Result<Part, AllocError> {
+    let map = mapped(
+        RegionKind::ToFrom,
+        part_of(alloc, A, Term::Literal(first), 4)?,
+    );
+    mapping(alloc, map, true, store(alloc, A, Expr::Number(number))?)
+}
+
+// Two deferred targets on the halves of `A`, between an enter and a deferred exit
+fn halves(alloc: Global) -> Result<Vec<Part>, AllocError> {
+    let mut body = Vec::new(alloc);
+    add(&mut body, enter(alloc, EnterKind::To, whole(A)))?;
+    add(&mut body, half(alloc, 0, 1))?;
+    add(&mut body, half(alloc, 4, 10))?;
+    body.push(wait(alloc))?;
+    add(&mut body, update(alloc, UpdateKind::From, whole(A)))?;
+    add(&mut body, host(store(alloc, A, Expr::Number(0))))?;
+    add(&mut body, exit(alloc, ExitKind::Delete, whole(A)))?;
+    Ok(body)
+}
+
 #[test]
 fn deferred_targets_and_a_wait(rt: HostRuntime) -> Result<(), Fail> {
     let alloc = rt.alloc();
-    let low = mapped(RegionKind::ToFrom, part_of(alloc, A, Term::Literal(0), 4)?);
-    let high = mapped(RegionKind::ToFrom, part_of(alloc, A, Term::Literal(4), 4)?);
-    let first = store(alloc, A, Expr::Number(1))?;
-    let second = store(alloc, A, Expr::Number(10))?;
-    let body = vec![in alloc;
-        enter(alloc, EnterKind::To, whole(A))?,
-        target(alloc, vec![in alloc; low]?, true, first),
-        target(alloc, vec![in alloc; high]?, true, second),
-        wait(alloc),
-        update(alloc, UpdateKind::From, whole(A))?,
-        Part::Host(store(alloc, A, Expr::Number(0))?),
-        exit(alloc, ExitKind::Delete, whole(A))?,
-    ]?;
+    let body = halves(alloc)?;
     let wanted = [
         with(ItemKind::Enter, MapKind::To, 0, 8),
         deferred(with(ItemKind::Target, MapKind::ToFrom, 0, 4)),
@@ -380,10 +422,9 @@ fn kernel_with_locals(alloc: Global) -> Result<Region, AllocError> {
 #[test]
 fn scalars_from_outside_are_captured(rt: HostRuntime) -> Result<(), Fail> {
     let alloc = rt.alloc();
-    let body = vec![in alloc;
-        Part::Host(store(alloc, B, Expr::Number(1))?),
-        target(alloc, Vec::new(alloc), false, kernel_with_locals(alloc)?),
-    ]?;
+    let mut body = Vec::new(alloc);
+    add(&mut body, host(store(alloc, B, Expr::Number(1))))?;
+    body.push(target(alloc, Vec::new(alloc), false, kernel_with_locals(alloc)?))?;
     let program = program(alloc, 4, body)?;
     let outlined = outline(alloc, &program)?;
     let mut kernels = Vec::new(alloc);

@@ -8,7 +8,7 @@ use Rattle.base.specs.Memory.{is_in, within}
 use Rattle.present.specs.declared.block.Block.{Block}
 use Rattle.present.specs.Blocks.{IsSection, are_stored, stored_at, has}
 use Rattle.present.specs.Found.{IsAbsentAt, IsBlockAt}
-use Rattle.present.proofs.Sections.{in_parts}
+use Rattle.base.proofs.Sections.{in_parts}
 use Rattle.present.proofs.Finds.{find_insert_new, find_insert_old, find_set_new, find_set_old, find_remove_new, find_remove_old}
 use Rattle.present.proofs.Orders.{Stored}
 use Rattle.present.proofs.Founds.{one_block, others_lack, at_block, absent_none}

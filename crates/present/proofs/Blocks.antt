@@ -9,7 +9,7 @@ use Rattle.base.specs.declared.item.Section.{Section}
 use Rattle.base.specs.Memory.{is_in, is_inside, overlaps, same_section}
 use Rattle.base.specs.Map.{Block, Presence, Absent, Inside, InPart, presence, counted, without}
 use Rattle.present.specs.Blocks.{holder, AreApart}
-use Rattle.present.proofs.Sections.{first_in, inside_in, overlaps_from, common, same_parts, same_in}
+use Rattle.base.proofs.Sections.{first_in, inside_in, overlaps_from, common, same_parts, same_in}
 
 -- The first block that passes a test.
 

@@ -13,7 +13,7 @@ use Rattle.base.specs.Arrays.{IsWithin, memory_of, overwritten, row_of}
 use Rattle.base.proofs.Places.{get_take, get_drop, overwritten_before, overwritten_in, overwritten_after}
 use Rattle.present.specs.declared.block.Block.{Block}
 use Rattle.present.specs.Blocks.{Show, are_stored, number_in, stored_at}
-use Rattle.present.proofs.Sections.{in_parts, inside_parts, inside_in}
+use Rattle.base.proofs.Sections.{in_parts, inside_parts, inside_in}
 use Rattle.present.proofs.Orders.{Stored, stored_each}
 use Rattle.present.proofs.Founds.{at_block}
 use Rattle.present.proofs.Shown.{within_in, within_out, shows_changed}

@@ -14,7 +14,7 @@ use Rattle.present.specs.Blocks.{IsSection, Show, present, number_in, stored_at,
 use Rattle.present.specs.Found.{IsAbsentAt, IsInsideAt, IsInPart}
 use Rattle.present.specs.Change.{Opens, Raises, blocks_of, with_count}
 use Rattle.present.specs.Table.{Shows, count_at, first_cell, fill_of, with_created}
-use Rattle.present.proofs.Sections.{in_parts, inside_in, inside_self, first_in}
+use Rattle.base.proofs.Sections.{in_parts, inside_in, inside_self, first_in}
 use Rattle.present.proofs.Orders.{cells_insert, cells_set}
 use Rattle.present.proofs.Founds.{at_block, absent_none}
 use Rattle.present.proofs.Shown.{presence_absent, presence_inside, presence_part, shows_created, shows_counted}

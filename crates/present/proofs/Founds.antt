@@ -11,7 +11,7 @@ use Rattle.present.specs.Blocks.{IsSection, are_stored, start_of, stop_of, store
 use Rattle.present.specs.Found.{AllBefore, AllAfter, IsAbsentAt, IsInsideAt, IsInPart}
 use Rattle.present.proofs.Finds.{find_at, find_none}
 use Rattle.present.proofs.Orders.{Stored, stored_each, in_order}
-use Rattle.present.proofs.Sections.{in_parts, in_from, AreInside, inside_parts}
+use Rattle.base.proofs.Sections.{in_parts, in_from, AreInside, inside_parts}
 
 pub one_block : {A : Type 0} (o : Option A) (x y : A) → o ≡ Some x → o ≡ Some y → x ≡ y
 one_block o x y e f = let g : Some x ≡ Some y = sym e ∙ f in cc

@@ -7,7 +7,7 @@ use Rattle.base.specs.declared.item.Section.{Section}
 use Rattle.base.specs.Memory.{is_in, same_section}
 use Rattle.base.specs.Map.{Block, counted, without, in_use}
 use Rattle.present.specs.Blocks.{holder, AreApart}
-use Rattle.present.proofs.Sections.{same_parts, same_in, same_self}
+use Rattle.base.proofs.Sections.{same_parts, same_in, same_self}
 use Rattle.present.proofs.Blocks.{find_yes, find_no, has, other_than, holds}
 
 abbrev pub size : Block → ℕ

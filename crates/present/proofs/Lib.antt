@@ -1,6 +1,5 @@
 pub mod Finds
 pub mod Orders
-pub mod Sections
 pub mod Founds
 pub mod Blocks
 pub mod Moves

@@ -12,7 +12,7 @@ use Rattle.present.specs.declared.block.Block.{Block}
 use Rattle.present.specs.Blocks.{IsSection, holder, present, stored_at}
 use Rattle.present.specs.Table.{Shows}
 use Rattle.present.specs.Needed.{Covers, Meets, Takes, IsMetOr, IsFreeOr, IsNumber, Needs, in_one, is_taken}
-use Rattle.present.proofs.Sections.{common}
+use Rattle.base.proofs.Sections.{common}
 use Rattle.present.proofs.Finds.{find_yes, find_no}
 use Rattle.present.proofs.Blocks.{meets, judge, presence_is, absent_from, holder_absent, holder_counted, holder_some, holder_none, counted_blocks, more_blocks}
 use Rattle.present.proofs.Moves.{is_absent, entry_absent, entry_there, entry_part}

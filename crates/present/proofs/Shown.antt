@@ -8,7 +8,7 @@ use Rattle.base.specs.Memory.{View, is_in, is_inside, same_section, within}
 use Rattle.base.specs.Map.{Block as Present, Device, Absent, Inside, InPart, presence, counted, without}
 use Rattle.present.specs.declared.block.Block.{Block}
 use Rattle.present.specs.Blocks.{Show, holder, present, number_in, stored_at, has}
-use Rattle.present.proofs.Sections.{inside_in, same_in, same_self, first_in}
+use Rattle.base.proofs.Sections.{inside_in, same_in, same_self, first_in}
 use Rattle.present.proofs.Finds.{find_yes, find_no}
 use Rattle.present.proofs.Blocks.{meets, holder_absent, holder_inside, absent_from, inside_found, holder_counted, holder_some, holder_none, holder_outside, holder_removed, counted_blocks, more_blocks, fewer_blocks}
 use Rattle.present.proofs.Moves.{is_absent, is_there, is_part}

@@ -12,7 +12,7 @@ use Rattle.base.specs.Machine.{store_device}
 use Rattle.base.proofs.Places.{get_set_same, get_set_other}
 use Rattle.present.specs.declared.block.Block.{Block}
 use Rattle.present.specs.Blocks.{Show, are_stored, number_in, stored_at}
-use Rattle.present.proofs.Sections.{IsIn, in_parts}
+use Rattle.base.proofs.Sections.{IsIn, in_parts}
 use Rattle.present.proofs.Orders.{Stored, stored_each}
 use Rattle.present.proofs.Founds.{at_block}
 use Rattle.present.proofs.Shown.{shows_changed}

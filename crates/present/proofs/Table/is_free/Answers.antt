@@ -1,7 +1,7 @@
 use Rattle.std.proofs.Common.{subst}
 use Rattle.present.specs.Found.{IsAbsentAt, IsInsideAt, IsInPart}
 use Rattle.present.specs.Needed.{sections_in}
-use Rattle.present.proofs.Sections.{inside_in, first_in}
+use Rattle.base.proofs.Sections.{inside_in, first_in}
 use Rattle.present.proofs.Founds.{absent_none, at_block}
 use Rattle.present.proofs.NeededCells.{free_or, takes_at}
 use Rattle.present.specs.Table.{first_cell}
