@@ -15,7 +15,7 @@ use Rattle.base.specs.Accepted.{is_target, region_faults, section_faults, touche
 use Rattle.headline.proofs.AcceptedItems.{AllClean, NoFault, accepted_clean}
 use Rattle.headline.proofs.PlainWorks.{AllSensible, Sensible, list_sensible}
 use Rattle.regions.proofs.StatementsDone.{list_small}
-use Rattle.frames.specs.Reach.{is_touched}
+use Rattle.ranges.specs.Reach.{is_touched}
 use Rattle.frames.specs.Laws.{AcceptedItemsAreFine}
 
 -- an item of which nothing is refused

@@ -1,6 +1,5 @@
 pub mod RowViews
 pub mod LoadedRows
-pub mod LeastRuns
 pub mod Stores
 pub mod StoredRows
 pub mod TouchedCells

@@ -12,10 +12,10 @@ use Rattle.kernel.specs.Rows.{cells_of, in_row}
 use Rattle.present.specs.Rows.{IsLoaded, cell_at, over}
 use Rattle.present.proofs.RowParts.{at_index_from, at_index_before}
 use Rattle.regions.specs.Footprints.{BoundedView}
-use Rattle.frames.specs.Rows.{AreNumbers, IsLoadedRow}
+use Rattle.frames.specs.Rows.{AreNumbers, TakeNumbers, TakesNumbers}
 use Rattle.frames.proofs.RowViews.{by_row, cells_bounded, past_end}
 
-pub loaded_row : (view : View) (a : ArrayId) (first : ℕ) (old new : List ℕ) → IsLoaded view a first old new →
+loaded_row : (view : View) (a : ArrayId) (first : ℕ) (old new : List ℕ) → IsLoaded view a first old new →
     (i : ℕ) → in_row first new i ≡ option_map (λ n. unwrap_or (view (record { array = a; index = i })) n) (in_row first old i)
 loaded_row view a first old new h i = go (nat_le first i) refl
   where
@@ -32,16 +32,28 @@ loaded_row view a first old new h i = go (nat_le first i) refl
         at_index_before first new i l
         ∙ ap (option_map (λ n. unwrap_or (view (cell_at a i)) n)) (sym (at_index_before first old i l))
 
+-- what stands at an index of a row that took the numbers
+loaded : (view : View) (a : ℕ) (x y : Row) → TakesNumbers view a x y → (i : ℕ) →
+    in_row y.first y.cells.items i ≡ option_map (λ n. unwrap_or (view (record { array = record { 0 = a }; index = i })) n)
+    (in_row x.first x.cells.items i)
+loaded view a x y t i =
+    ap (λ first. in_row first y.cells.items i) t.first
+    ∙ loaded_row view (record { 0 = a }) x.first x.cells.items y.cells.items t.numbers i
+
 module _ (view : View) where
   -- those before place n took the numbers, and the others are as they were
-  pub record LoadedUpTo (n : ℕ) (old now : List Row) : Type 0 where
-    pub done : (k : ℕ) (x y : Row) → k < n → slice_get old k ≡ Some x → slice_get now k ≡ Some y →
-        IsLoadedRow view (record { 0 = k }) x y
+  pub record TakenUpTo (n : ℕ) (old now : List Row) : Type 0 where
+    pub done : (k : ℕ) (x y : Row) → k < n → slice_get old k ≡ Some x → slice_get now k ≡ Some y → TakesNumbers view k x y
     pub rest : (k : ℕ) → n ≤ k → slice_get now k ≡ slice_get old k
 
-  pub loaded_cells : (n : ℕ) (old now : List Row) → length now ≡ length old → length old ≤ n → LoadedUpTo n old now →
+  pub all_taken : (n : ℕ) (old now : List Row) → length now ≡ length old → length old ≤ n → TakenUpTo n old now →
+      TakeNumbers view old now
+  all_taken n old now long past h =
+      record { count = long; each = λ k x y e f. h.done k x y (let m = slice_get_within old k x e in omega arith) e f }
+
+  pub taken_cells : (n : ℕ) (old now : List Row) → length now ≡ length old → length old ≤ n → TakenUpTo n old now →
       cells_of now ≡ over view (cells_of old)
-  loaded_cells n old now long past h =
+  taken_cells n old now long past h =
       fun_ext (λ (c : Cell). at c (slice_get old c.array.0) refl (slice_get now c.array.0) refl)
     where
       at : (c : Cell) (o : Option Row) → slice_get old c.array.0 ≡ o → (p : Option Row) → slice_get now c.array.0 ≡ p →
@@ -58,12 +70,12 @@ module _ (view : View) where
           absurd (omega arith)
       at c (Some s) e (Some r) f =
           ap (by_row c.index) f
-          ∙ (h.done c.array.0 s r (let m = slice_get_within old c.array.0 s e in omega arith) e f).cells c.index
+          ∙ loaded view c.array.0 s r (h.done c.array.0 s r (let m = slice_get_within old c.array.0 s e in omega arith) e f) c.index
           ∙ sym (ap (λ o. option_map (λ m. unwrap_or (view c) m) (by_row c.index o)) e)
 
-  pub loaded_bounded : (n : ℕ) (old now : List Row) → length now ≡ length old → length old ≤ n → LoadedUpTo n old now →
+  pub taken_bounded : (n : ℕ) (old now : List Row) → length now ≡ length old → length old ≤ n → TakenUpTo n old now →
       BoundedView (cells_of now)
-  loaded_bounded n old now long past h = cells_bounded now small
+  taken_bounded n old now long past h = cells_bounded now small
     where
       small : (a : ℕ) (r : Row) → slice_get now a ≡ Some r → AreNumbers r.cells.items
       small a r f = go (slice_get old a) refl

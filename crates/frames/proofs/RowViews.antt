@@ -13,12 +13,13 @@ use Rattle.base.specs.Arrays.{IsWithin, items_of, length_of, lengths_of, memory_
 use Rattle.base.proofs.Places.{get_left, get_right}
 use Rattle.kernel.specs.declared.frames.Row.{Row}
 use Rattle.kernel.specs.Rows.{cells_of, in_row}
-use Rattle.present.proofs.Sections.{in_parts, in_from}
+use Rattle.base.proofs.Sections.{in_parts, in_from}
 use Rattle.present.proofs.Founds.{one_block}
 use Rattle.present.proofs.Copies.{host_number, section_length}
 use Rattle.present.proofs.RowParts.{at_index_from, at_index_before, at_index_past}
 use Rattle.regions.specs.Footprints.{BoundedView}
-use Rattle.frames.specs.Reach.{AreOfArrays, cell_of, in_reach}
+use Rattle.ranges.specs.Reach.{AreOfArrays, cell_of}
+use Rattle.frames.specs.Reach.{in_reach}
 use Rattle.frames.specs.Rows.{AreEach, AreNumbers, AreRows, IsRow, in_run}
 use Rattle.frames.specs.Views.{every}
 

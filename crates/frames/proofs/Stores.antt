@@ -11,11 +11,11 @@ use Rattle.base.specs.declared.memory.Memory.{Memory as Arrays}
 use Rattle.base.specs.Memory.{Memory, View, is_in, within}
 use Rattle.base.specs.Arrays.{items_of, row_of}
 use Rattle.present.specs.Rows.{at_index, if_marked, marked_at, marked_in}
-use Rattle.present.proofs.Sections.{in_parts, in_from}
+use Rattle.base.proofs.Sections.{in_parts, in_from}
 use Rattle.present.proofs.Shown.{within_in, within_out}
 use Rattle.present.proofs.Copies.{part_at}
 use Rattle.present.proofs.RowParts.{at_index_from, at_index_before, at_index_past}
-use Rattle.frames.specs.Reach.{cell_of}
+use Rattle.ranges.specs.Reach.{cell_of}
 use Rattle.frames.specs.Views.{AreCells, with_stored}
 
 small_vec : (v : Vec ℕ Global) → length v.items < 2 ^ 64

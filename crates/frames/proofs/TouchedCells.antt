@@ -10,14 +10,15 @@ use Rattle.base.specs.Meaning.{Run, run_region}
 use Rattle.base.specs.Footprint.{Touch, has_cell, reads, touches_of, writes}
 use Rattle.kernel.specs.Kept.{Kept, kept_of}
 use Rattle.present.specs.Table.{number_at}
-use Rattle.present.proofs.Sections.{in_from}
+use Rattle.base.proofs.Sections.{in_from}
 use Rattle.regions.specs.Footprints.{StoresIn}
 use Rattle.regions.proofs.FootprintsHold.{all_met, region_outcome}
 use Rattle.regions.proofs.Needs.{Every}
 use Rattle.regions.proofs.Ranges.{InRange, region_in_range, touched_cell}
 use Rattle.regions.proofs.StatementOutcomes.{whether}
 use Rattle.regions.proofs.StatementsDone.{small_list}
-use Rattle.frames.specs.Reach.{HasTouched, cell_of, in_reach, is_reached, is_touched}
+use Rattle.ranges.specs.Reach.{cell_of, is_touched}
+use Rattle.frames.specs.Reach.{HasTouched, in_reach, is_reached}
 use Rattle.frames.specs.Views.{every}
 use Rattle.frames.specs.Laws.{HostFrameMeans, KernelFrameMeans, LeastRunsReach, StoresAreCells, TouchedCellsDecide}
 use Rattle.frames.proofs.RowViews.{past_end}

@@ -18,7 +18,8 @@ use Rattle.present.specs.declared.Table.{Table}
 use Rattle.present.specs.Rows.{over, with_numbers}
 use Rattle.present.specs.Table.{Shows, number_at}
 use Rattle.regions.specs.Footprints.{BoundedScalars, BoundedView}
-use Rattle.frames.specs.Reach.{AreLeastRuns, AreRuns, HasTouched, in_reach, is_touched}
+use Rattle.ranges.specs.Reach.{AreLeastRuns, is_touched}
+use Rattle.frames.specs.Reach.{AreRuns, HasTouched, in_reach}
 use Rattle.frames.specs.Views.{AreCells, every, with_stored}
 
 -- a region's loops, scalars and input are numbers below 2^64

@@ -1,11 +1,12 @@
 -- Rows that have the cells of a view.
-use Rattle.std.specs.Prelude.{ℕ, ◌≡◌, ◌<◌, ◌^◌, List, length, Option, Some, None, option_map, slice_get, unwrap_or, if◌then◌else◌}
+use Rattle.std.specs.Prelude.{ℕ, ◌≡◌, ◌<◌, ◌^◌, List, length, Option, Some, None, slice_get, if◌then◌else◌}
 use Rattle.base.specs.declared.item.Section.{Section}
 use Rattle.base.specs.declared.tree.ArrayId.{ArrayId}
 use Rattle.base.specs.Memory.{View, is_in}
 use Rattle.kernel.specs.declared.frames.Row.{Row}
 use Rattle.kernel.specs.Rows.{in_row}
-use Rattle.frames.specs.Reach.{cell_of}
+use Rattle.present.specs.Rows.{IsLoaded}
+use Rattle.ranges.specs.Reach.{cell_of}
 
 -- what is in a run of cells of a view
 abbrev pub in_run : View → Section → ℕ → Option ℕ
@@ -31,7 +32,12 @@ pub record AreRows (view : View) (reach : List Section) (rows : List Row) : Type
   pub each : AreEach view reach rows
 
 -- a row of an array took the numbers of a view
-pub record IsLoadedRow (view : View) (a : ArrayId) (old new : Row) : Type 0 where
-  pub cells : (i : ℕ) → in_row new.first new.cells.items i ≡ option_map (λ n. unwrap_or
-      (view (record { array = a; index = i })) n) (in_row old.first old.cells.items i)
+pub record TakesNumbers (view : View) (a : ℕ) (old new : Row) : Type 0 where
+  pub first : new.first ≡ old.first
+  pub numbers : IsLoaded view (record { 0 = a }) old.first old.cells.items new.cells.items
   pub bounded : AreNumbers new.cells.items
+
+-- of as many rows each one did
+pub record TakeNumbers (view : View) (old new : List Row) : Type 0 where
+  pub count : length new ≡ length old
+  pub each : (a : ℕ) (x y : Row) → slice_get old a ≡ Some x → slice_get new a ≡ Some y → TakesNumbers view a x y

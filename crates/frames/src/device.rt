@@ -3,8 +3,9 @@
 ghost use Rattle.std.specs.Prelude.{◌≡◌, ◌<◌, ◌≤◌, ◌^◌, ℕ, [], Some, IfOk, length, replicate, slice_index};
 ghost use Rattle.base.specs.declared.item.Cell.{Cell};
 ghost use Rattle.base.specs.Map.{Device};
-ghost use Rattle.frames.specs.Reach.{AreOfArrays, in_reach};
-ghost use Rattle.frames.specs.Rows.{AreNumbers, AreRows, IsLoadedRow};
+ghost use Rattle.ranges.specs.Reach.{AreOfArrays};
+ghost use Rattle.frames.specs.Reach.{in_reach};
+ghost use Rattle.frames.specs.Rows.{AreNumbers, AreRows, TakeNumbers, TakesNumbers};
 ghost use Rattle.frames.specs.Views.{every};
 ghost use Rattle.kernel.specs.Rows.{cells_of, cells_stored};
 ghost use Rattle.present.specs.Rows.{IsLoaded, over, with_numbers};
@@ -65,22 +66,11 @@ pub fn kernel_frame<'i>(
     })
 }
 
-/// The cells of a frame take the numbers of the storage of the device. A cell without storage stays as it was. It takes
-/// no memory.
-pub fn load_kernel(frame: &mut Frame<'_>, table: &Table)
-    requires { length frame.old.rows.items ≤ 2 ^ 32 }
-    ensures item { frame.new.item ≡ frame.old.item }
-    ensures loops { frame.new.loops.now ≡ frame.old.loops.now }
-    ensures scalars { frame.new.scalars ≡ frame.old.scalars }
-    ensures input { frame.new.input.now ≡ frame.old.input.now }
-    ensures cells { cells_of frame.new.rows.items ≡ over (number_at table.now) (cells_of frame.old.rows.items) }
-    ensures bounded { BoundedView (cells_of frame.new.rows.items) }
-{
-    load_rows(&mut frame.rows, table);
-}
-
-fn load_rows(rows: &mut [Row], table: &Table)
+/// The cells of rows take the numbers of the storage of the device; a cell without storage stays as it was. It takes no
+/// memory.
+pub fn load_rows(rows: &mut [Row], table: &Table)
     requires { length rows.old ≤ 2 ^ 32 }
+    ensures taken { TakeNumbers (number_at table.now) rows.old rows.new }
     ensures cells { cells_of rows.new ≡ over (number_at table.now) (cells_of rows.old) }
     ensures bounded { BoundedView (cells_of rows.new) }
 {
@@ -90,7 +80,7 @@ fn load_rows(rows: &mut [Row], table: &Table)
 }
 
 fn load_row(row: &mut Row, array: ArrayId, table: &Table)
-    ensures { IsLoadedRow (number_at table.now) array row.old row.new }
+    ensures { TakesNumbers (number_at table.now) array.0 row.old row.new }
 {
     load_numbers(&mut row.cells, array, row.first, table);
 }

@@ -3,13 +3,11 @@
 
 ghost use Rattle.frames.specs.Laws.{AcceptedItemsAreFine, EntriesGiveStorage, HostFrameMeans, KeptLeaves, KernelFrameMeans, LeastRunsReach, StoresAreCells, TouchedCellsDecide};
 
-pub use crate::device::{kernel_frame, load_kernel, store_kernel};
+pub use crate::device::{kernel_frame, load_rows, store_kernel};
 pub use crate::host::{host_frame, store_host};
-pub use crate::runs::reach;
 
 mod device;
 mod host;
-mod runs;
 
 /// A region depends on the cells alone that it may touch. Only one of the two views needs to have numbers below 2^64.
 pub fn touched_cells_decide()

@@ -1,23 +1,15 @@
--- The items of an outline, with their regions and what these may touch.
-use Rattle.std.proofs.Common.{◌≡◌, ℕ, zero, suc, ◌+◌, ◌-◌, ◌<◌, Bool, true, false, List, [], ◌∷◌, ◌++◌, get_or, length, map, Option, Some, None, Result, Ok, Err, Vec, Global, refl, sym, ap, ◌∙◌, subst, length-append, arith}
-use Rattle.std.specs.Prelude.{nat_lt, option_map, slice_get, IfOk}
-use Rattle.std.specs.declared.alloc.AllocError.{AllocError}
-use Rattle.std.proofs.lemmas.Bool.{ltb-true, ltb-false}
+-- The items of an outline, with their regions.
+use Rattle.std.proofs.Common.{◌≡◌, ℕ, zero, suc, ◌<◌, List, [], ◌∷◌, length, map, Option, Some, None, refl, sym, ap, ◌∙◌, subst, arith}
+use Rattle.std.specs.Prelude.{option_map, slice_get}
 use Rattle.std.proofs.lemmas.List.{length-map}
-use Rattle.std.proofs.lemmas.Option.{slice_get-get_or, slice_get-map, slice_get_within}
-use Rattle.base.proofs.Places.{get_left, get_right}
+use Rattle.std.proofs.lemmas.Option.{slice_get-map, slice_get_within}
 use Rattle.base.specs.declared.item.Item.{Item}
-use Rattle.base.specs.declared.item.Section.{Section}
 use Rattle.base.specs.declared.tree.Region.{Region}
-use Rattle.base.specs.Items.{Plan, Work}
+use Rattle.base.specs.Items.{Work}
 use Rattle.outline.specs.Regions.{Entry}
 use Rattle.outline.specs.Shown.{all_shown, as_shown, shown, work_with}
-use Rattle.frames.specs.Reach.{HasTouched}
 use Rattle.frames.proofs.RowViews.{past_end}
-use Rattle.mapwalk.specs.Repeats.{AreRepeats}
-use Rattle.mapwalk.proofs.Copies.{item_at, repeat_at}
-use Rattle.present.proofs.Founds.{one_block}
-use Rattle.lower.specs.Image.{AreEmpty, AreReaches, IsReach, IsRegionOf, region_of}
+use Rattle.lower.specs.Image.{IsRegionOf, region_of}
 
 -- as many items as works
 pub as_many : (es : List Entry) (items : List Item) (works : List Work) → all_shown es items ≡ as_shown works →
@@ -103,86 +95,3 @@ pub code_none : (es : List Entry) (items : List Item) (works : List Work) → al
     item.region ≡ None → x.body.items ≡ [] → IsRegionOf w.region x
 code_none es items works e i item w x g n h z =
     subst (λ (v : Work). IsRegionOf v.region x) (shown_none es item w h (work_at es items works e i item w g n)) z
-
--- one empty run more
-pub empty_more : (n : ℕ) (runs after : List Section) (s : Section) → s.array.0 ≡ n → s.length ≡ 0 →
-    after ≡ runs ++ s ∷ [] → AreEmpty n runs → AreEmpty (n + 1) after
-empty_more n runs after s a z e h = record {
-  count = ap (λ xs. length xs) e ∙ (let l = length-append runs (s ∷ []) in let c = h.count in
-      (let m : length (runs ++ s ∷ []) ≡ n + 1 = omega arith in m));
-  of_arrays = λ k t f. (part k t f).0;
-  empty = λ k t f. (part k t f).1;
-}
-  where
-    part : (k : ℕ) (t : Section) → slice_get after k ≡ Some t → (t.array.0 ≡ k) × (t.length ≡ 0)
-    part k t f = go (nat_lt k n) refl (ap (λ xs. slice_get xs k) (sym e) ∙ f)
-      where
-        go : (b : Bool) → nat_lt k n ≡ b → slice_get (runs ++ s ∷ []) k ≡ Some t → (t.array.0 ≡ k) × (t.length ≡ 0)
-        go true l g =
-            let m = ltb-true k n l in
-            let c = h.count in
-            let old = sym (get_left runs (s ∷ []) k (omega arith)) ∙ g in
-            (h.of_arrays k t old, h.empty k t old)
-        go false l g =
-            let m = ltb-false k n l in
-            let c = h.count in
-            let w = slice_get_within (runs ++ s ∷ []) k t g in
-            let all = length-append runs (s ∷ []) in
-            let is : n ≡ k = omega arith in
-            let none : k - length runs ≡ 0 = omega arith in
-            let last : slice_get (runs ++ s ∷ []) k ≡ Some s =
-            get_right runs (s ∷ []) k (omega arith) ∙ ap (slice_get (s ∷ [])) none in
-            let same : s ≡ t = one_block (slice_get (runs ++ s ∷ []) k) s t last g in
-            subst (λ (x : Section). (x.array.0 ≡ k) × (x.length ≡ 0)) same (a ∙ is, z)
-
--- the reaches of the items before place n
-pub record Grown (lengths : List ℕ) (works : List Work) (n : ℕ) (all : List (Vec Section Global)) : Type 0 where
-  pub count : length all ≡ n
-  pub each : AreReaches lengths works all
-
-pub grown_more : (lengths : List ℕ) (works : List Work) (n : ℕ) (all after : List (Vec Section Global))
-    (v : Vec Section Global) → ((w : Work) → slice_get works n ≡ Some w → IsReach lengths w v.items) →
-    after ≡ all ++ v ∷ [] → Grown lengths works n all → Grown lengths works (n + 1) after
-grown_more lengths works n all after v one e h = record {
-  count = ap (λ xs. length xs) e ∙ (let l = length-append all (v ∷ []) in let c = h.count in
-      (let m : length (all ++ v ∷ []) ≡ n + 1 = omega arith in m));
-  each = λ i w x f g. at i w x f (ap (λ xs. slice_get xs i) (sym e) ∙ g) (nat_lt i n) refl;
-}
-  where
-    at : (i : ℕ) (w : Work) (x : Vec Section Global) → slice_get works i ≡ Some w →
-        slice_get (all ++ v ∷ []) i ≡ Some x → (b : Bool) → nat_lt i n ≡ b → IsReach lengths w x.items
-    at i w x f g true l =
-        let m = ltb-true i n l in
-        let c = h.count in
-        h.each i w x f (sym (get_left all (v ∷ []) i (omega arith)) ∙ g)
-    at i w x f g false l =
-        let m = ltb-false i n l in
-        let c = h.count in
-        let b = slice_get_within (all ++ v ∷ []) i x g in
-        let long = length-append all (v ∷ []) in
-        let is : i ≡ n = omega arith in
-        let none : i - length all ≡ 0 = omega arith in
-        let last : slice_get (all ++ v ∷ []) i ≡ Some v =
-        get_right all (v ∷ []) i (omega arith) ∙ ap (slice_get (v ∷ [])) none in
-        let same : v ≡ x = one_block (slice_get (all ++ v ∷ []) i) v x last g in
-        subst (λ (y : Vec Section Global). IsReach lengths w y.items) same (one w (ap (slice_get works) (sym is) ∙ f))
-
--- the runs of the item that is repeated, copied
-pub copied_reach : (plan : Plan) (repeats : List (Option ℕ)) (n k : ℕ) (w : Work) (before : List (Vec Section Global))
-    (v : Vec Section Global) (runs : List Section) (r : Result (Vec Section Global) AllocError) →
-    AreRepeats plan repeats → AreReaches plan.lengths plan.items before → length before ≡ n → n < length plan.items →
-    slice_get plan.items n ≡ Some w → get_or repeats n None ≡ Some k → v ≡ get_or before k v → runs ≡ v.items →
-    IfOk r (λ y. y.items ≡ runs) → IfOk r (λ y. IsReach plan.lengths w y.items)
-copied_reach plan repeats n k w before v runs (Err e) are each many inside there is at same copied = tt
-copied_reach plan repeats n k w before v runs (Ok y) are each many inside there is at same copied =
-    let r = repeat_at plan repeats n k are inside is in
-    let lower = r.before in
-    let x = item_at plan k (omega arith) in
-    let held : slice_get before k ≡ Some v = slice_get-get_or before k v (omega arith)
-    ∙ ap (λ (z : Vec Section Global). Some z) (sym at) in
-    let old = each k x.work v x.there held in
-    subst (λ (ss : List Section). IsReach plan.lengths w ss) (sym (copied ∙ same))
-    (record {
-      runs = old.runs;
-      touched = subst (HasTouched v.items) (sym (r.alike x.work w x.there there).touches) old.touched;
-    })

@@ -9,7 +9,7 @@ use Rattle.base.specs.Accepted.{IsAccepted, touches_in}
 use Rattle.base.specs.Items.{Work, plan}
 use Rattle.base.specs.Limits.{AreShort}
 use Rattle.base.specs.Meaning.{lengths_of}
-use Rattle.frames.specs.Reach.{AreOfArrays, AreRuns, HasTouched}
+use Rattle.frames.specs.Reach.{AreRuns, HasTouched}
 use Rattle.mapcheck.specs.Third.{AreMarked}
 use Rattle.outline.specs.Regions.{Entry, entries_of}
 
@@ -40,9 +40,3 @@ pub record IsImage (p : Program) (none : Region) (codes : List Region) (marked :
   pub marked_kept : AreMarked (plan p) marked
   pub all_reached : length reaches ≡ length (plan p).items
   pub reaches_kept : AreReaches (lengths_of p) (plan p).items reaches
-
--- for each of so many arrays a run of no cell
-pub record AreEmpty (arrays : ℕ) (runs : List Section) : Type 0 where
-  pub count : length runs ≡ arrays
-  pub of_arrays : AreOfArrays runs
-  pub empty : (a : ℕ) (s : Section) → slice_get runs a ≡ Some s → s.length ≡ 0

@@ -5,12 +5,12 @@ ghost use Rattle.base.specs.Accepted.{IsAccepted};
 ghost use Rattle.base.specs.Items.{Work, plan};
 ghost use Rattle.base.specs.Meaning.{lengths_of};
 ghost use Rattle.base.specs.Limits.{AreShort, most_items};
-ghost use Rattle.lower.specs.Image.{IsReach, IsRegionOf, region_of};
+ghost use Rattle.lower.specs.Image.{AreReaches, IsReach, IsRegionOf, region_of};
+ghost use Rattle.mapcheck.specs.Reaches;
 ghost use Rattle.mapcheck.specs.Third.{AreMarked};
 ghost use Rattle.outline.specs.Regions.{entries_of};
 ghost use Rattle.outline.specs.Shown.{all_shown, as_shown};
 
-use crate::reaches::reaches;
 use base::item::{Item, Section};
 use base::tree::{ArrayId, Program};
 use kernel::{Code, compile};
@@ -28,7 +28,7 @@ pub struct Image<'a> {
     codes: Vec<Code<'a>>,
     marked: Vec<ArrayId>,
     // Of each item.
-    reaches: Vec<Vec<Section>>,
+    reaches: &'a [Vec<Section>],
 }
 
 impl<'a> Model for Image<'a> {
@@ -42,7 +42,7 @@ impl<'a> Model for Image<'a> {
 
     ghost view = { λ i. i.outlined.now };
 
-    ghost invariant = { λ i. IsImage i.outlined.now i.no_code i.codes.items i.marked.items i.reaches.items };
+    ghost invariant = { λ i. IsImage i.outlined.now i.no_code i.codes.items i.marked.items i.reaches.now };
 }
 
 impl<'a> Image<'a> {
@@ -96,12 +96,19 @@ impl<'a> Image<'a> {
         }
     }
 
+    fn reaches(&self) -> &'a [Vec<Section>]
+        ensures count { length result.now ≡ length (plan self.now).items }
+        ensures each { AreReaches (lengths_of self.now) (plan self.now).items result.now }
+    {
+        self.reaches
+    }
+
     /// For each array a run of its cells; together they have each cell that the item's region may touch.
     pub fn reach(&self, item: usize) -> &[Section]
         requires { item < length (plan self.now).items }
         ensures { (w : Work) → slice_get (plan self.now).items item ≡ Some w → IsReach (lengths_of self.now) w result.now }
     {
-        &self.reaches[item]
+        &self.reaches()[item]
     }
 }
 
@@ -116,15 +123,17 @@ fn codes<'a>(alloc: Global, outlined: &'a Outlined<'a>) -> Result<Vec<Code<'a>>,
     Ok(codes)
 }
 
-// The image of an accepted program, of which these arrays are marked current. The error comes for want of memory.
+// The image of an accepted program, of which these arrays are marked current and whose items reach these cells. The error comes for want of memory.
 pub(crate) fn build<'a>(
     alloc: Global,
     outlined: &'a Outlined<'a>,
     marked: Vec<ArrayId>,
+    reaches: &'a [Vec<Section>],
 ) -> Result<Image<'a>, AllocError>
     requires accepted { IsAccepted (plan outlined.now) }
     requires short { AreShort outlined.now }
     requires marked { AreMarked (plan outlined.now) marked.items }
+    requires reaches { Reaches.AreReaches (plan outlined.now) reaches.now }
     ensures { IfOk result (λ image. image ≡ outlined.now) }
 {
     Ok(Image {
@@ -132,6 +141,6 @@ pub(crate) fn build<'a>(
         no_code: compile(alloc, outlined.no_region())?,
         codes: codes(alloc, outlined)?,
         marked,
-        reaches: reaches(alloc, outlined)?,
+        reaches,
     })
 }

@@ -10,10 +10,9 @@ use mapcheck::{Accepted, current_at_end};
 use std::alloc::{AllocError, Global};
 
 mod image;
-mod reaches;
 
-/// The image of an accepted program: each region is compiled once, and each item's region is searched for the cells that
-/// it may touch, once for all items of a region that names no loop around it. No array may have more than 65,536 cells,
+/// The image of an accepted program: each region is compiled once. The cells that the items' regions may touch are those
+/// that the check found. No array may have more than 65,536 cells,
 /// as in every program that is read. The error comes for want of memory.
 pub fn lower<'a>(alloc: Global, accepted: &'a Accepted<'a>) -> Result<Image<'a>, AllocError>
     requires { AreShort accepted.now }
@@ -21,6 +20,6 @@ pub fn lower<'a>(alloc: Global, accepted: &'a Accepted<'a>) -> Result<Image<'a>,
 {
     accepted.is_accepted();
     let marked = current_at_end(alloc, accepted)?;
-    let image = build(alloc, accepted.outlined(), marked)?;
+    let image = build(alloc, accepted.outlined(), marked, accepted.reaches())?;
     Ok(image)
 }

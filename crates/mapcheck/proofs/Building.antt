@@ -25,26 +25,9 @@ use Rattle.mapcheck.specs.declared.items.Part.TheVariants as part
 use Rattle.mapcheck.specs.Accesses.{AreAccesses, GrowsBy, HasTouches, some_reads, some_writes}
 use Rattle.mapcheck.specs.Building.{ExtendsBy, part_actions, row_actions}
 
-pub extends_none : (old : Accesses) → ExtendsBy [] old old
-extends_none old actions h = subst (AreAccesses old) (sym (append-nil actions)) h
-
 pub extends_both : (xs ys : List Action) (a b c : Accesses) → ExtendsBy xs a b → ExtendsBy ys b c → ExtendsBy (xs ++ ys) a c
 extends_both xs ys a b c h k actions are =
     subst (AreAccesses c) (append_assoc actions xs ys) (k (actions ++ xs) (h actions are))
-
-pub extends_if : (holds : Bool) (x : Action) (old new : Accesses) → holds ≡ true → GrowsBy x old new →
-    ExtendsBy (only_if holds x) old new
-extends_if holds x old new e h = subst (λ b. ExtendsBy (only_if b x) old new) (sym e) h
-
-pub extends_not : (holds : Bool) (x : Action) (old new : Accesses) → holds ≡ false → new ≡ old → ExtendsBy (only_if holds x) old new
-extends_not holds x old new e same =
-    subst (λ b. ExtendsBy (only_if b x) old new) (sym e) (subst (ExtendsBy [] old) (sym same) (extends_none old))
-
--- the counts, and two more
-pub extends_three : (x : Action) (xs ys : List Action) (a b c d : Accesses) → GrowsBy x a b → ExtendsBy xs b c →
-    ExtendsBy ys c d → ExtendsBy (x ∷ (xs ++ ys)) a d
-extends_three x xs ys a b c d h k l =
-    extends_both (x ∷ []) (xs ++ ys) a b d h (extends_both xs ys b c d k l)
 
 pub on_ok : {A E P Q : Type 0} (r : Result A E) → (P → Q) → OnOk r P → OnOk r Q
 on_ok (Ok x) f h = f h
@@ -163,11 +146,6 @@ kernel_region w f old new t h = subst (λ xs. ExtendsBy xs old new) (sym (same_a
         nothing_written loc.Host c = refl
         nothing_written loc.Dev c = refl
         nothing_written loc.Tab c = refl
-
-pub no_region : (act : List Touch → Action) (w : Work) (old : Accesses) → w.region ≡ None →
-    ExtendsBy (region_acts act w []).actions old old
-no_region act w old e =
-    subst (λ xs. ExtendsBy xs old old) (sym (same_acts act w ∙ ap (acts_with act w) e)) (extends_none old)
 
 abbrev pub by_kind : Work → List Acts → List MapItem → ItemKind → List Action
 by_kind w row maps Host = (region_acts HostRegion w []).actions

@@ -25,9 +25,6 @@ abbrev pub IsFoundBelow : Plan → ℕ → ℕ → Option Refusal → Type 0
 IsFoundBelow plan i j None = (k : ℕ) (d : Cell) → k < i → IsUnordered plan k j d → ⊥
 IsFoundBelow plan i j (Some r) = IsFirstBelow plan i j r
 
-pub none_below : (plan : Plan) (j : ℕ) → IsFoundBelow plan 0 j None
-none_below plan j k d lt h = absurd (omega arith)
-
 -- an item with which there is no conflict
 pub none_found : (plan : Plan) (i j : ℕ) (o : Option Refusal) → IsFoundBelow plan i j o →
     ((c : Cell) → IsUnordered plan i j c → ⊥) → IsFoundBelow plan (i + 1) j o

@@ -8,3 +8,4 @@ pub mod FirstFaults
 pub mod Building
 pub mod Stages
 pub mod ThirdFaults
+pub mod Reached

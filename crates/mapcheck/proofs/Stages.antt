@@ -107,9 +107,6 @@ accesses_at p n i w row a none alone lt there spelled are =
         alone (record { code = OverlapsInPart; item = i; cell = c; other = None }) lt refl
         (on_stage_is (plan p) i s (λ x. cause OverlapsInPart x (current_before (plan p) i) c) e ∙ t))
 
-pub no_accesses : (plan : Plan) → AreOfFirst plan 0 []
-no_accesses plan = record { count = refl; are = λ k a e. absurd (let lt : k < 0 = slice_get_within [] k a e in omega arith) }
-
 pub one_item : (plan : Plan) (n : ℕ) (list : List Accesses) (a : Accesses) → AreOfFirst plan n list →
     AreAccessesOf (slice_get (stages plan) n) a → AreOfFirst plan (n + 1) (list ++ a ∷ [])
 one_item plan n list a h is = record {

@@ -104,18 +104,6 @@ none_alone plan None first sound g lt alone fault = sound g alone fault
 none_alone plan (Some r) first sound g lt alone fault =
     true≢false (sym (earlier_key g r lt) ∙ first.first g alone fault)
 
-take_again : {A : Type 0} (n : ℕ) (xs : List A) → take (length (take n xs)) xs ≡ take n xs
-take_again zero [] = refl
-take_again zero (x ∷ xs) = refl
-take_again (suc n) [] = refl
-take_again (suc n) (x ∷ xs) = ap (λ ys. x ∷ ys) (take_again n xs)
-
-pub first_rows : (plan : Plan) (n : ℕ) (rows : List (Vec Acts Global)) → map row_items rows ≡ take n (acts_rows plan.items []) →
-    AreFirstRows plan rows
-first_rows plan n rows e =
-    e ∙ sym (take_again n (acts_rows plan.items []))
-    ∙ ap (λ k. take k (acts_rows plan.items [])) (ap (λ xs. length xs) (sym e) ∙ length-map rows row_items)
-
 take_long : {A : Type 0} (n : ℕ) (xs : List A) → n ≤ length xs → length (take n xs) ≡ n
 take_long zero xs h = refl
 take_long (suc n) [] h = absurd (omega arith)

@@ -6,3 +6,4 @@ pub mod Accepting
 pub mod Passes
 pub mod Building
 pub mod Third
+pub mod Reaches

@@ -6,12 +6,16 @@ ghost use Rattle.base.specs.Accepted.{IsAccepted};
 ghost use Rattle.base.specs.Items.{plan};
 ghost use Rattle.mapcheck.specs.Accepting.{FaultlessIsAccepted};
 ghost use Rattle.mapcheck.specs.Passes.{IsCheckFault};
+ghost use Rattle.mapcheck.specs.Reaches.{AreReaches};
 ghost use Rattle.mapcheck.specs.Third.{AreMarked, AreOrdered};
 
 use crate::passes::{footprints_of, order_of};
+use crate::reaches::reaches;
 use crate::third::third_pass;
 use base::fault::CheckFault;
+use base::item::Section;
 use base::tree::ArrayId;
+use mapwalk::repeats;
 use outline::Outlined;
 use std::alloc::{AllocError, Global};
 use std::marker::Model;
@@ -23,6 +27,7 @@ mod items;
 mod loop_tests;
 mod marks;
 mod passes;
+mod reaches;
 #[cfg(test)]
 mod tests;
 mod third;
@@ -34,13 +39,15 @@ pub mod unordered;
 pub struct Accepted<'a> {
     outlined: &'a Outlined<'a>,
     current: Vec<ArrayId>,
+    // Of each item.
+    reaches: Vec<Vec<Section>>,
 }
 
 impl<'a> Model for Accepted<'a> {
     ghost use Rattle.base.specs.declared.tree.Program.{Program};
     ghost use Rattle.base.specs.contracts.tree.Program as code;
     ghost use Rattle.base.specs.Items.{plan};
-    ghost use Rattle.mapcheck.specs.Third.{IsPassed};
+    ghost use Rattle.mapcheck.specs.Reaches.{IsKnown};
 
     ghost Value = { Program };
 
@@ -48,7 +55,7 @@ impl<'a> Model for Accepted<'a> {
 
     ghost view = { λ a. a.outlined.now };
 
-    ghost invariant = { λ a. IsPassed (plan a.outlined.now) a.current.items };
+    ghost invariant = { λ a. IsKnown (plan a.outlined.now) a.current.items a.reaches.items };
 }
 
 impl<'a> Accepted<'a> {
@@ -66,6 +73,14 @@ impl<'a> Accepted<'a> {
         &self.current
     }
 
+    /// For each item and each array the least run of cells that has all which the item's region may touch, of length 0
+    /// where it touches none.
+    pub fn reaches(&self) -> &[Vec<Section>]
+        ensures { AreReaches (plan self.now) result.now }
+    {
+        &self.reaches
+    }
+
     /// The program is accepted.
     pub fn is_accepted(&self)
         ensures accepted { IsAccepted (plan self.now) }
@@ -80,17 +95,27 @@ impl<'a> Accepted<'a> {
 /// the third the refusal of the least item, by its code, its cell and the other item (E501 to E504, E506 to E508).
 /// `OutOfMemory` is answered where an allocation fails.
 ///
-/// It takes time for each turn of a region, which are gone through once for all items of a region that names no loop
-/// around it; for each cell that an item's region touches, and for each pair of items; and memory for the cells that each
+/// It takes time for each turn of a region that is walked for its footprint, once for all items of a region that names no
+/// loop around it; for each cell that an item's region touches, and for each pair of items; and memory for the cells that each
 /// item's region touches.
 pub fn check<'a>(alloc: Global, outlined: &'a Outlined<'a>) -> Result<Accepted<'a>, CheckFault>
     ensures accepted { IfOk result (λ a. a ≡ outlined.now) }
     ensures fault { IfErr result (IsCheckFault (plan outlined.now)) }
 {
-    let found = footprints_of(alloc, outlined)?;
+    let Ok(repeats) = repeats(alloc, outlined) else {
+        return Err(CheckFault::OutOfMemory);
+    };
+    let found = footprints_of(alloc, outlined, &repeats)?;
     let order = order_of(alloc, outlined)?;
     let current = third_pass(alloc, outlined, &found, &order)?;
-    Ok(Accepted { outlined, current })
+    let Ok(reaches) = reaches(alloc, outlined, &repeats, &found) else {
+        return Err(CheckFault::OutOfMemory);
+    };
+    Ok(Accepted {
+        outlined,
+        current,
+        reaches,
+    })
 }
 
 /// The arrays all of whose cells are current on the host at the end, in ascending order. The error comes where an

@@ -2,7 +2,7 @@
 
 use crate::{check, current_at_end};
 use base::fault::{CheckFault, RangeCode, RangeFault, Refusal, RefusalCode};
-use base::item::Cell;
+use base::item::{Cell, Section};
 use base::tree::{
     ArrayId, ArrayInfo, Bounds, Directive, EnterKind, Expr, MapText, Part, Place, Program, Region,
     SectionText, Source, Stmt, Target, Tasking,
@@ -188,5 +188,48 @@ fn two_regions_in_turn(rt: HostRuntime) -> Result<(), Fail> {
         turned(alloc, 9, vec![in alloc; fixed, named]?, 1).err(),
         outside(18)
     );
+    Ok(())
+}
+
+fn reached(alloc: Global, outlined: &Outlined<'_>) -> Result<Vec<(usize, Section)>, CheckFault> {
+    let accepted = check(alloc, outlined)?;
+    let mut all = Vec::new(alloc);
+    for (item, runs) in accepted.reaches().iter().enumerate() {
+        for run in runs {
+            if run.length > 0 {
+                let Ok(()) = all.push((item, *run)) else {
+                    return Err(CheckFault::OutOfMemory);
+                };
+            }
+        }
+    }
+    Ok(all)
+}
+
+fn cell_of_a(index: u64) -> Section {
+    Section {
+        array: A,
+        first: index,
+        length: 1,
+    }
+}
+
+// The entry touches nothing, and the third item repeats the first target.
+#[test]
+fn runs_of_cells_by_item(rt: HostRuntime) -> Result<(), Fail> {
+    let alloc = rt.alloc();
+    let fixed = target(alloc, store(Expr::Number(5)))?;
+    let named = target(alloc, store(Expr::LoopName(0)))?;
+    let program = program(alloc, 2, vec![in alloc; fixed, named]?, 7)?;
+    let outlined = outline(alloc, &program)?;
+    let all = reached(alloc, &outlined)?;
+    let expected = [
+        (1, cell_of_a(5)),
+        (2, cell_of_a(0)),
+        (3, cell_of_a(5)),
+        (4, cell_of_a(1)),
+        (5, cell_of_a(7)),
+    ];
+    assert!(rt; all.as_slice() == expected.as_slice());
     Ok(())
 }

@@ -13,7 +13,7 @@ ghost use Rattle.order.specs.Built.{HasNoClash};
 ghost use Rattle.ranges.specs.Found.{IsFootprintFault};
 
 use base::fault::CheckFault;
-use mapwalk::{next_footprint, repeats};
+use mapwalk::next_footprint;
 use order::{Order, OrderBuildFault};
 use outline::Outlined;
 use ranges::{Footprint, FootprintFault, sections};
@@ -50,22 +50,21 @@ fn range_fault(item: u32, fault: FootprintFault) -> CheckFault
     }
 }
 
-/// The first pass: the footprint of each item's region. The error is the first fault of range: of the least item that
+/// The first pass: the footprint of each item's region, where these are the items that repeat earlier ones. The error is the first fault of range: of the least item that
 /// has one, E302, E303 or E301 at its least place; or `OutOfMemory` where an allocation fails.
 pub fn footprints_of(
     alloc: Global,
     outlined: &Outlined<'_>,
+    repeats: &[Option<usize>],
 ) -> Result<Vec<Option<Footprint>>, CheckFault>
+    requires { AreRepeats (plan outlined.now) repeats.now }
     ensures found { IfOk result (λ found. AreFootprints (plan outlined.now) found.items) }
     ensures fine { OnOk result (HasNoRangeFault (plan outlined.now)) }
     ensures fault { IfErr result (IsCheckFault (plan outlined.now)) }
 {
-    let Ok(repeats) = repeats(alloc, outlined) else {
-        return Err(CheckFault::OutOfMemory);
-    };
     let mut found = Vec::new(alloc);
     'items: for number in 0..outlined.items().len() {
-        match item_footprint(alloc, outlined, &repeats, &found) {
+        match item_footprint(alloc, outlined, repeats, &found) {
             Err(fault) => return Err(range_fault(number as u32, fault)),
             Ok(footprint) => {
                 let Ok(()) = found.push(footprint) else {

@@ -15,23 +15,23 @@ use Rattle.ranges.proofs.SeenTests.{exposed_write, exposed_read, sure_write}
 abbrev pub place_of : Touch → Place
 place_of t = t.place
 
-abbrev with_write : Touch → Seen → Seen
+abbrev pub with_write : Touch → Seen → Seen
 with_write t s = record s {
   write = λ c. s.write c || is_among t.array t.cells c;
   sure = λ c. s.sure c || ((t.certain && is_single t.cells) && is_among t.array t.cells c);
 }
 
-abbrev with_read : Touch → Seen → Seen
+abbrev pub with_read : Touch → Seen → Seen
 with_read t s = record s {
   exposed = λ c. s.exposed c || (is_among t.array t.cells c && not (s.sure c));
   read = λ c. s.read c || is_among t.array t.cells c;
 }
 
-abbrev beyond : Touch → Seen → Seen
+abbrev pub beyond : Touch → Seen → Seen
 beyond t s = record s { least = Some (lesser t.place s.least) }
 
 -- a touch that leaves its array changes the least place alone, and another one the sets alone
-touch_is : (lengths : List ℕ) (t : Touch) (s : Seen) → after_touch lengths t s
+pub touch_is : (lengths : List ℕ) (t : Touch) (s : Seen) → after_touch lengths t s
     ≡ cond (leaves_array lengths t) (beyond t s) (cond t.is_write (with_write t s) (with_read t s))
 touch_is lengths t s = go t.is_write (leaves_array lengths t)
   where

@@ -8,24 +8,24 @@ use Rattle.base.specs.declared.fault.RangeFault.{RangeFault}
 use Rattle.base.specs.Accepted.{key_less}
 use Rattle.ranges.specs.Faults.{IsFirst, fault_at, is_before, lesser, least_place, least_of, with_place, range_key}
 
-before_lesser : (p q : Place) → is_before (lesser p (Some q)) p ≡ true
+pub before_lesser : (p q : Place) → is_before (lesser p (Some q)) p ≡ true
 before_lesser p q = go (is_before q p) refl
   where
     go : (b : Bool) → is_before q p ≡ b → is_before (cond b q p) p ≡ true
     go true e = e
     go false e = grind (arith, nat_tests)
 
-before_first : (p q : Place) → is_before (lesser p (Some q)) q ≡ true
+pub before_first : (p q : Place) → is_before (lesser p (Some q)) q ≡ true
 before_first p q = go (is_before q p) refl
   where
     go : (b : Bool) → is_before q p ≡ b → is_before (cond b q p) q ≡ true
     go true e = grind (arith, nat_tests)
     go false e = grind (arith, nat_tests)
 
-before_itself : (p : Place) → is_before p p ≡ true
+pub before_itself : (p : Place) → is_before p p ≡ true
 before_itself p = grind (arith, nat_tests)
 
-before_before : (p q r : Place) → is_before p q ≡ true → is_before q r ≡ true → is_before p r ≡ true
+pub before_before : (p q r : Place) → is_before p q ≡ true → is_before q r ≡ true → is_before p r ≡ true
 before_before p q r a b = grind (arith, nat_tests)
 
 same_rank : (code : RangeCode) (p q : Place) → is_before p q ≡ true →

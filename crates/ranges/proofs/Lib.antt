@@ -1,7 +1,6 @@
 pub mod Leasts
 pub mod SectionFaults
 pub mod Outcomes
-pub mod TurnsLeft
 pub mod Touches
 pub mod Walked
 pub mod TurnCounts
@@ -14,3 +13,9 @@ pub mod Sets
 pub mod Runs
 pub mod Known
 pub mod ItemParts
+pub mod DecidingRows
+pub mod Undecided
+pub mod SeenAgainTests
+pub mod SeenTwice
+pub mod FirstTurns
+pub mod LeastRuns

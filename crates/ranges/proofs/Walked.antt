@@ -8,7 +8,7 @@ use Rattle.base.specs.declared.tree.Stmt.{Stmt, Loop, If}
 use Rattle.base.specs.Interval.{interval, is_known_zero, is_known_nonzero}
 use Rattle.base.specs.Footprint.{Touch, expr_touches, stmt_touches, turns_touch, unless}
 use Rattle.ranges.specs.Seen.{Seen, after, after_touch, list_touches, turns_from}
-use Rattle.ranges.proofs.TurnsLeft.{one_turn_less, no_turn_left}
+use Rattle.base.proofs.LoopTurns.{one_turn_less, no_turn_left}
 use Rattle.ranges.proofs.Touches.{touches_Loop, touches_If}
 
 pub after_append : (lengths : List ℕ) (xs ys : List Touch) (seen : Seen) →

@@ -4,3 +4,5 @@ pub mod Cells
 pub mod Seen
 pub mod Found
 pub mod ItemFaults
+pub mod Deciding
+pub mod Reach

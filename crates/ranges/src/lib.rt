@@ -12,6 +12,7 @@ ghost use Rattle.ranges.specs.Found.{IsFootprintFault};
 ghost use Rattle.ranges.specs.ItemFaults.{AreByParts};
 
 pub use crate::cells::{CellSet, Footprint};
+pub use crate::reached::{no_reach, reach};
 use crate::section::{note_depends, note_maps};
 use crate::state::Walk;
 use crate::turns::turns_in_all;
@@ -25,7 +26,9 @@ use thiserror::Error;
 mod cells;
 mod clones;
 mod contents;
+mod deciding;
 mod least;
+mod reached;
 mod row;
 mod section;
 mod state;
@@ -73,14 +76,15 @@ pub fn sections(program: &Program, item: &Item) -> Result<(), RangeFault>
 }
 
 /// The cells that a region may touch, found instance by instance: each turn of each loop, and of an `if` whose condition
-/// is known the one branch that it takes. The loops around the region have these values, the outermost first.
+/// is known the one branch that it takes. The loops around the region have these values, the outermost first. Of a loop
+/// that no subscript and no condition names the first turn is walked alone, since the others touch the same.
 ///
 /// The error is E303 at the region's first token where its loops have more than 1,048,576 turns, and then nothing is
 /// walked; else E301 at the least place, by line and then by column, of the array name of a subscript that can leave
 /// its array. An array that the program does not have is left by each subscript.
 ///
-/// It takes time for each turn and each subscript, and for the cells of a subscript's interval, unless all of them lie
-/// in the one run of cells that is kept for an array. It takes memory for the cells up to the last one touched.
+/// It takes time for each turn that is walked and each subscript, and for the cells of a subscript's interval, unless all
+/// of them lie in the one run of cells that is kept for an array. It takes memory for the cells up to the last one touched.
 pub fn footprint(
     alloc: Global,
     program: &Program,

@@ -236,6 +236,113 @@ fn write_under_unknown_condition_is_not_sure(rt: HostRuntime) -> Result<(), Fail
     Ok(())
 }
 
+fn is_footprint(
+    rt: &HostRuntime,
+    statements: Vec<Stmt>,
+    expected: [[u8; 8]; 4],
+) -> Result<bool, Fail> {
+    let Some(found) = rows(rt.alloc(), statements)? else {
+        return Ok(false);
+    };
+    let mut pairs = found.iter().zip(expected.iter());
+    Ok(pairs.all(|(row, wanted)| row.as_slice() == wanted.as_slice()))
+}
+
+// `for k below 3, i below 4 { A[i] = A[i + 1] ^ k; }`: the turns of k differ in no cell.
+#[test]
+fn turns_of_a_loop_that_is_only_computed_with(rt: HostRuntime) -> Result<(), Fail> {
+    let alloc = rt.alloc();
+    let next = binary(alloc, BinaryOp::Add, Expr::LoopName(1), Expr::Number(1))?;
+    let mixed = binary(
+        alloc,
+        BinaryOp::BitXor,
+        cell(alloc, HERE, next)?,
+        Expr::LoopName(0),
+    )?;
+    let inner = turning(4, vec![in alloc; store(Expr::LoopName(1), mixed)]?);
+    let all = vec![in alloc; turning(3, vec![in alloc; inner]?)]?;
+    let expected = [
+        [0, 1, 1, 1, 1, 0, 0, 0],
+        [0, 1, 1, 1, 1, 0, 0, 0],
+        [1, 1, 1, 1, 0, 0, 0, 0],
+        [1, 1, 1, 1, 0, 0, 0, 0],
+    ];
+    assert!(rt; is_footprint(&rt, all, expected)?);
+    Ok(())
+}
+
+// `for k below 2 { if (k) { A[1] = 1; } else { A[0] = A[2]; } }`
+#[test]
+fn turns_that_a_condition_tells_apart(rt: HostRuntime) -> Result<(), Fail> {
+    let alloc = rt.alloc();
+    let first = vec![in alloc; store(Expr::Number(1), Expr::Number(1))]?;
+    let second = vec![in alloc; store(Expr::Number(0), cell(alloc, HERE, Expr::Number(2))?)]?;
+    let choice = Stmt::If(Expr::LoopName(0), first, second);
+    let all = vec![in alloc; turning(2, vec![in alloc; choice]?)]?;
+    let expected = [
+        [0, 0, 1, 0, 0, 0, 0, 0],
+        [0, 0, 1, 0, 0, 0, 0, 0],
+        [1, 1, 0, 0, 0, 0, 0, 0],
+        [1, 1, 0, 0, 0, 0, 0, 0],
+    ];
+    assert!(rt; is_footprint(&rt, all, expected)?);
+    Ok(())
+}
+
+// `for k below 3, i below 2 { A[5 + i] = 1 + A[k]; }`
+#[test]
+fn turns_that_a_subscript_in_a_value_tells_apart(rt: HostRuntime) -> Result<(), Fail> {
+    let alloc = rt.alloc();
+    let next = binary(
+        alloc,
+        BinaryOp::Add,
+        Expr::Number(1),
+        cell(alloc, HERE, Expr::LoopName(0))?,
+    )?;
+    let subscript = binary(alloc, BinaryOp::Add, Expr::Number(5), Expr::LoopName(1))?;
+    let inner = turning(2, vec![in alloc; store(subscript, next)]?);
+    let all = vec![in alloc; turning(3, vec![in alloc; inner]?)]?;
+    let expected = [
+        [1, 1, 1, 0, 0, 0, 0, 0],
+        [1, 1, 1, 0, 0, 0, 0, 0],
+        [0, 0, 0, 0, 0, 1, 1, 0],
+        [0, 0, 0, 0, 0, 1, 1, 0],
+    ];
+    assert!(rt; is_footprint(&rt, all, expected)?);
+    Ok(())
+}
+
+// `for k below 2 { A[2] = A[0]; A[0] = k; if (s) { A[1] = k; } A[3] = A[1]; }`: the read of A[0] comes before the write.
+#[test]
+fn turns_alike_with_sure_and_other_writes(rt: HostRuntime) -> Result<(), Fail> {
+    let alloc = rt.alloc();
+    let unsure = vec![in alloc; store(Expr::Number(1), Expr::LoopName(0))]?;
+    let body = vec![in alloc;
+        store(Expr::Number(2), cell(alloc, HERE, Expr::Number(0))?),
+        store(Expr::Number(0), Expr::LoopName(0)),
+        Stmt::If(Expr::Scalar(ScalarId(0)), unsure, Vec::new(alloc)),
+        store(Expr::Number(3), cell(alloc, HERE, Expr::Number(1))?),
+    ]?;
+    let expected = [
+        [1, 1, 0, 0, 0, 0, 0, 0],
+        [1, 1, 0, 0, 0, 0, 0, 0],
+        [1, 1, 1, 1, 0, 0, 0, 0],
+        [1, 0, 1, 1, 0, 0, 0, 0],
+    ];
+    assert!(rt; is_footprint(&rt, vec![in alloc; turning(2, body)]?, expected)?);
+    Ok(())
+}
+
+// A loop with no turn.
+#[test]
+fn no_turn_touches_nothing(rt: HostRuntime) -> Result<(), Fail> {
+    let alloc = rt.alloc();
+    let body = vec![in alloc; store(Expr::Number(1), Expr::Number(1))]?;
+    let all = vec![in alloc; turning(0, body)]?;
+    assert!(rt; is_footprint(&rt, all, [[0; 8]; 4])?);
+    Ok(())
+}
+
 // A `for` of 1,024 turns around an empty one, which makes 1,024 * (1 + inner) turns.
 fn nested(alloc: Global, inner: u64) -> Result<Vec<Stmt>, AllocError> {
     let empty = turning(inner, Vec::new(alloc));

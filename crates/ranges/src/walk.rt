@@ -9,6 +9,7 @@ ghost use Rattle.ranges.specs.Faults.{with_place};
 ghost use Rattle.ranges.specs.Seen.{after, after_read, after_write, list_touches, seen_in, turns_from};
 
 use crate::cells::Footprint;
+use crate::deciding::telling_turns;
 use crate::least::note_place;
 use crate::state::Walk;
 use base::fault::Interval;
@@ -150,7 +151,10 @@ fn walk_stmt(
         }
         Stmt::Print(e) => walk_expr(e, certain, lengths, loops, walk),
         Stmt::Block(all) => walk_all(all, certain, lengths, loops, walk),
-        Stmt::Loop(bounds, body) => walk_turns(*bounds, body, certain, lengths, loops, walk),
+        Stmt::Loop(bounds, body) => {
+            let telling = telling_turns(*bounds, body, loops.len());
+            walk_turns(telling, body, certain, lengths, loops, walk)
+        }
         Stmt::If(c, first, second) => {
             walk_expr(c, certain, lengths, loops, walk)?;
             let known = interval(c, loops);

@@ -1,10 +1,8 @@
-use Rattle.std.proofs.Common.{length, ap, sym, subst, arith}
-use Rattle.std.specs.Vec.{with_items}
+use Rattle.std.proofs.Common.{length, ap, refl, sym, subst, arith}
 use Rattle.std.proofs.lemmas.List.{with_items_is}
 use Rattle.present.specs.Rows.{IsLoaded}
 use Rattle.present.specs.Table.{number_at}
 use Rattle.frames.specs.Rows.{AreNumbers}
-use Rattle.frames.proofs.LoadedRows.{loaded_row}
 use Rattle.frames.proofs.device.load_row.Goals as goal
 
 pub returns : goal.returns
@@ -16,7 +14,7 @@ returns c =
     let loaded = subst (λ xs. IsLoaded (number_at c.args.table.now) c.args.array r.first xs new) c.deref_mut.ensures.value
     c.load_numbers.ensures.loaded in
     record {
-      cells = loaded_row (number_at c.args.table.now) c.args.array r.first r.cells.items (with_items r.cells new).items
-          (subst (IsLoaded (number_at c.args.table.now) c.args.array r.first r.cells.items) (sym items) loaded);
+      first = refl;
+      numbers = subst (IsLoaded (number_at c.args.table.now) c.args.array r.first r.cells.items) (sym items) loaded;
       bounded = subst AreNumbers (sym items) c.load_numbers.ensures.bounded;
     }

@@ -1,17 +1,19 @@
-use Rattle.std.proofs.Common.{◌++◌, ◌∷◌, [], sym, ◌∙◌, ap, arith}
+use Rattle.std.proofs.Common.{◌++◌, ◌∷◌, [], sym, ◌∙◌, ap, arith, rules}
 use Rattle.std.proofs.lemmas.Grind.{common_steps}
 use Rattle.base.specs.Interval.{interval}
 use Rattle.base.specs.Footprint.{expr_touches}
 use Rattle.ranges.specs.Seen.{after, seen_in}
 use Rattle.ranges.proofs.Outcomes.{ok_end}
-use Rattle.ranges.proofs.Walked.{walked_If, from_Loop, walked_next, walked_turn, no_turn_touches}
+use Rattle.ranges.proofs.FirstTurns.{told_Loop}
+use Rattle.ranges.proofs.Walked.{walked_If, walked_next, walked_turn, no_turn_touches}
 use Rattle.ranges.proofs.walk.+walk.Goals as goal
 
 pub walk_stmt-returns-in-Loop-clause-seen : goal.walk_stmt-returns-in-Loop-clause-seen
 walk_stmt-returns-in-Loop-clause-seen t c =
     ok_end _ _ _ _
-    (from_Loop c.args.lengths.now c.args.s.now c.in-Loop.bounds c.in-Loop.body _ c.args.loops.now.items c.args.certain
-    (seen_in c.args.walk.now) c.in-Loop.is c.deref-in-Loop.ensures.value)
+    (told_Loop c.args.lengths.now c.args.s.now c.in-Loop.bounds c.telling_turns-telling.result c.in-Loop.body _ _
+    c.args.loops.now.items c.args.certain (seen_in c.args.walk.now) c.len.result c.in-Loop.is
+    c.deref-in-Loop.ensures.value c.deref-in-Loop-2.ensures.value (search rules) c.telling_turns-telling.ensures)
     c.walk_turns.ensures.seen
 
 pub walk_all-loop-s-preserved : goal.walk_all-loop-s-preserved

@@ -1,0 +1,12 @@
+use Rattle.ranges.proofs.DecidingRows.{decided_in_Loop, decided_in_If}
+use Rattle.ranges.proofs.deciding.+decided.Goals as goal
+
+pub in_stmt-returns-in-Loop : goal.in_stmt-returns-in-Loop
+in_stmt-returns-in-Loop t c =
+    decided_in_Loop _ _ c.in-Loop.field-0 c.in-Loop.body _ _ c.in-Loop.is c.deref-in-Loop.ensures.value
+    c.in_all-in-Loop.ensures
+
+pub in_stmt-returns-in-If : goal.in_stmt-returns-in-If
+in_stmt-returns-in-If t c =
+    decided_in_If _ _ c.in-If.c c.in-If.first c.in-If.second _ _ _ _ _ c.in-If.is c.deref-in-If.ensures.value
+    c.deref-in-If-2.ensures.value c.in_expr-in-If.ensures c.in_all-in-If.ensures c.in_all-in-If-2.ensures
