@@ -1,11 +1,8 @@
 -- A region without a fault of range has a meaning on rows of numbers that have what it needs.
-use Rattle.std.proofs.Common.{◌≡◌, ℕ, ◌<◌, ◌^◌, Bool, true, false, All, List, [], ◌∷◌, Option, Some, None, refl, subst, arith}
+use Rattle.std.proofs.Common.{◌≡◌, ℕ, ◌<◌, ◌^◌, Bool, true, false, List, [], ◌∷◌, Option, Some, None, refl, subst, arith}
 use Rattle.std.specs.Prelude.{◌-◌, nat_le, slice_get, slice_index, zero, suc, IsSome}
-use Rattle.base.specs.declared.item.Cell.{Cell}
-use Rattle.base.specs.declared.tree.Region.{Region}
-use Rattle.base.specs.Memory.{View, Scalars}
 use Rattle.base.specs.Meaning.{Run, run_region}
-use Rattle.regions.specs.Footprints.{BoundedView, BoundedScalars}
+use Rattle.regions.specs.Footprints.{BoundedView}
 use Rattle.regions.specs.Certain.{RegionRuns, RunsToEnd}
 use Rattle.kernel.specs.declared.frames.Row.{Row}
 use Rattle.kernel.specs.Rows.{cells_of, in_row}

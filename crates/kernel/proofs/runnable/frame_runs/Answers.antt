@@ -1,4 +1,4 @@
-use Rattle.std.proofs.Common.{◌≡◌, ℕ, List, slice_index, subst}
+use Rattle.std.proofs.Common.{ℕ, List, subst}
 use Rattle.kernel.specs.declared.frames.Row.{Row}
 use Rattle.kernel.specs.Runnable.{AreNumbers, HaveNumbers}
 use Rattle.kernel.proofs.Runnables.{runs_on}
