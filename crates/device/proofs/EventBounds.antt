@@ -38,10 +38,6 @@ three_each : (f : ℕ → Condition) (n : ℕ) → had_by f n ≤ 3 * n
 three_each f zero = omega arith
 three_each f (suc n) = let a = three_each f n in let b = at_most_three (f n) in omega arith
 
-none_yet : (n : ℕ) → had_by (λ i. Untouched) n ≡ 0
-none_yet zero = refl
-none_yet (suc n) = let a = none_yet n in omega arith
-
 same_by : (f g : ℕ → Condition) (n : ℕ) → ((j : ℕ) → j < n → g j ≡ f j) → had_by g n ≡ had_by f n
 same_by f g zero h = refl
 same_by f g (suc n) h =
@@ -99,13 +95,6 @@ open_touched (Generated s) h k = false≢true h
 open_touched (Opened s v) h k = false≢true k
 open_touched Closed h k = false≢true h
 open_touched Passed h k = false≢true h
-
-untouched_closed : (c : Condition) → is_untouched c ≡ true → is_open c ≡ false
-untouched_closed Untouched h = refl
-untouched_closed (Generated s) h = refl
-untouched_closed (Opened s v) h = absurd (false≢true h)
-untouched_closed Closed h = refl
-untouched_closed Passed h = refl
 
 had_none : (c : Condition) → is_untouched c ≡ true → had c ≡ 0
 had_none Untouched h = refl

@@ -17,7 +17,8 @@ use Rattle.present.specs.declared.Table.{Table}
 use Rattle.present.specs.Rows.{cell_at}
 use Rattle.present.specs.Table.{number_at}
 use Rattle.frames.proofs.RowViews.{past_end}
-use Rattle.device.specs.Opening.{FillsRows, IsFilled, TakeNumbers, TakesNumbers}
+use Rattle.frames.specs.Rows.{TakeNumbers, TakesNumbers}
+use Rattle.device.specs.Opening.{FillsRows, IsFilled}
 use Rattle.device.specs.Standing.{Issue, done_on, frame_parts, row_parts}
 
 -- the cells of rows by value

@@ -19,7 +19,8 @@ use Rattle.base.specs.Machine.{State, Condition, Untouched, Generated, Opened, C
 use Rattle.base.specs.Footprint.{touches_of}
 use Rattle.base.specs.Accepted.{is_host, is_target, touches_in}
 use Rattle.frames.specs.Laws.{AreSmall, IsFine}
-use Rattle.frames.specs.Reach.{HasTouched, in_reach, is_touched}
+use Rattle.ranges.specs.Reach.{is_touched}
+use Rattle.frames.specs.Reach.{HasTouched, in_reach}
 use Rattle.frames.specs.Views.{every}
 use Rattle.frames.proofs.TouchedCells.{host_frame_means, kernel_frame_means}
 use Rattle.frames.proofs.Storage.{entries_give_storage}
@@ -46,13 +47,6 @@ some_work (w ∷ ws) (suc i) lt = some_work ws i (omega arith)
 
 -- Captured scalars.
 
-waits_untouched : (c : Condition) (scalars : Scalars) → is_waiting false c ≡ true → captured_by c scalars ≡ scalars
-waits_untouched Untouched scalars h = refl
-waits_untouched (Generated a) scalars h = absurd (false≢true h)
-waits_untouched (Opened a v) scalars h = absurd (false≢true h)
-waits_untouched Closed scalars h = absurd (false≢true h)
-waits_untouched Passed scalars h = absurd (false≢true h)
-
 waits_generated : (i : ℕ) (w : Work) (input : List ℕ) (c : Condition) (scalars : Scalars) (o : Option Held) →
     is_waiting true c ≡ true → Keeps i w input c o → IsCaptured (captured_by c scalars) o
 waits_generated i w input Untouched scalars o h keeps = absurd (false≢true h)
@@ -60,10 +54,6 @@ waits_generated i w input (Generated a) scalars o h keeps = keeps
 waits_generated i w input (Opened a v) scalars o h keeps = absurd (false≢true h)
 waits_generated i w input Closed scalars o h keeps = absurd (false≢true h)
 waits_generated i w input Passed scalars o h keeps = absurd (false≢true h)
-
-pub captures_now : (now : Standing) (i : ℕ) → Captures now false i now.scalars
-captures_now now i p s w at is d waits =
-    sym at.scalars ∙ sym (waits_untouched (s.condition i) s.scalars (subst (λ b. is_waiting b (s.condition i) ≡ true) d waits))
 
 pub captures_kept : (now : Standing) (i : ℕ) (p : Plan) (s : State) (w : Work) → IsAt p now s → slice_get p.items i ≡ Some w →
     w.deferred ≡ true → is_waiting w.deferred (s.condition i) ≡ true →

@@ -20,6 +20,5 @@ pub mod Places
 pub mod SameBodies
 pub mod SameRuns
 pub mod FrameParts
-pub mod TakenRows
 pub mod IssuedFrames
 pub mod OpenedItems

@@ -17,15 +17,6 @@ use Rattle.present.specs.Table.{Are, Does, Fails, IsKept, AreWithin, item_to, it
 use Rattle.present.proofs.NeededCells.{drop_item}
 use Rattle.device.specs.Moves.{Goes, Leads}
 
-pub does_leads : (rule : Memories → Option Memories) (t t' : Table) (h h' : Arrays) → Does rule t h t' h' → Leads rule t h t' h'
-does_leads rule t t' h h' does d m shown e = subst (λ o. IsSomeAnd o (Are h' t')) e (does d shown)
-
-pub goes_not_fails : (rule : Memories → Option Memories) (t : Table) (h : Arrays) → Goes rule t h → Fails rule t h → ⊥
-goes_not_fails rule t h g fails = none_some (sym (fails g.device g.shown) ∙ g.is)
-  where
-    none_some : None ≡ Some g.after → ⊥
-    none_some e = cc e
-
 -- the memories that are shown are those of the table's device
 again : (h : Arrays) (t : Table) (m : Memories) → Are h t m → m ≡ memories h m.device
 again h t m a = λ j. record { host = a.host j; device = m.device }
@@ -68,20 +59,6 @@ module _ (f : MapItem → Memories → Option Memories) (item : MapItem) (rest :
 
 pub none_leads : (f : MapItem → Memories → Option Memories) (t : Table) (h : Arrays) → Leads (in_turn f []) t h t h
 none_leads f t h d m shown e = subst (λ x. Are h t x) (same_Some (memories h d) m e) (record { host = refl; shown = shown })
-
--- an update goes by its section and its kind
-pub update_to : (item : MapItem) → item.kind ≡ kind.To → (m : Memories) → update item m ≡ update (item_to item.section) m
-update_to item e m = ap (λ k. update (record (item_to item.section) { kind = k }) m) e
-
-pub update_from : (item : MapItem) → item.kind ≡ kind.From → (m : Memories) → update item m ≡ update (item_from item.section) m
-update_from item e m = ap (λ k. update (record (item_to item.section) { kind = k }) m) e
-
-pub same_goes : (r s : Memories → Option Memories) (t : Table) (h : Arrays) → ((m : Memories) → r m ≡ s m) → Goes r t h → Goes s t h
-same_goes r s t h e g = record { device = g.device; shown = g.shown; after = g.after; is = sym (e (memories h g.device)) ∙ g.is }
-
-pub same_leads : (r s : Memories → Option Memories) (t t' : Table) (h h' : Arrays) → ((m : Memories) → r m ≡ s m) →
-    Leads s t h t' h' → Leads r t h t' h'
-same_leads r s t t' h h' e leads d m shown k = leads d m shown (sym (e (memories h d)) ∙ k)
 
 -- how many cells an array has
 pub row_length : (h : Arrays) (a : ℕ) → length (row_of h a) ≡ slice_index (lengths_of h) a

@@ -62,9 +62,6 @@ pub issue_none : (n : ℕ) → map issue_of (replicate n Nothing) ≡ replicate 
 issue_none zero = refl
 issue_none (suc n) = ap (λ (xs : List (Option Issue)). None ∷ xs) (issue_none n)
 
-pub one_more : {A : Type 0} (n : ℕ) (a : A) → replicate n a ++ a ∷ [] ≡ replicate (n + 1) a
-one_more n a = replicate-append-replicate n 1 a
-
 pub record IsFresh (plan : Plan) (its : List Item) (input : List ℕ) (now : Standing) : Type 0 where
   pub zeros : memory_of now.host ≡ zeros
   pub lengths : lengths_of now.host ≡ plan.lengths

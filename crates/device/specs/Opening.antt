@@ -9,12 +9,11 @@ use Rattle.base.specs.Memory.{View}
 use Rattle.base.specs.Items.{Work, Plan}
 use Rattle.base.specs.Map.{Memories}
 use Rattle.base.specs.Machine.{State, captured_by, opening, step, worked_on}
-use Rattle.frames.specs.Rows.{AreNumbers}
+use Rattle.frames.specs.Rows.{TakeNumbers}
 use Rattle.kernel.specs.declared.frames.Frame.{Frame}
-use Rattle.kernel.specs.declared.frames.Row.{Row}
 use Rattle.kernel.specs.Rows.{cells_of}
 use Rattle.present.specs.declared.Table.{Table}
-use Rattle.present.specs.Rows.{IsLoaded, over}
+use Rattle.present.specs.Rows.{over}
 use Rattle.present.specs.Table.{IsUnchanged, Shows, number_at}
 use Rattle.regions.specs.Footprints.{BoundedView}
 use Rattle.device.specs.declared.standing.Standing.{Standing}
@@ -46,17 +45,6 @@ IsFilled kind.Enter old t new = new ≡ old
 IsFilled kind.Exit old t new = new ≡ old
 IsFilled kind.Update old t new = new ≡ old
 IsFilled kind.Wait old t new = new ≡ old
-
--- a row of an array took the numbers of a view
-pub record TakesNumbers (view : View) (a : ℕ) (old new : Row) : Type 0 where
-  pub first : new.first ≡ old.first
-  pub numbers : IsLoaded view (record { 0 = a }) old.first old.cells.items new.cells.items
-  pub bounded : AreNumbers new.cells.items
-
--- of as many rows each one did
-pub record TakeNumbers (view : View) (old new : List Row) : Type 0 where
-  pub count : length new ≡ length old
-  pub each : (a : ℕ) (x y : Row) → slice_get old a ≡ Some x → slice_get new a ≡ Some y → TakesNumbers view a x y
 
 -- the rows of a kernel take the numbers of the device; the others stay
 abbrev pub FillsRows : ItemKind → Frame → Table → Frame → Type 0

@@ -18,7 +18,6 @@ mod issued;
 mod jobs;
 #[cfg(test)]
 mod jobs_tests;
-mod loading;
 mod moves;
 mod open;
 mod opening;

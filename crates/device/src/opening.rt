@@ -7,11 +7,11 @@ ghost use Rattle.taskgraph.specs.Board.{allows};
 ghost use Rattle.device.specs.Moves.{AreCounted, Goes, IsMapsFault, enters, opens_with};
 ghost use Rattle.device.specs.Opening.{FillsRows, FollowsOpen, IsFilled, IsSame, Issues};
 
-use crate::loading::load_rows;
 use crate::moves::open_maps;
 use crate::standing::{Held, Standing};
 use base::fault::RunFault;
 use base::item::{Item, ItemKind};
+use frames::load_rows;
 use kernel::Frame;
 use present::Table;
 

@@ -29,9 +29,6 @@ use Rattle.host.proofs.board.Stop.TheSendSync as stop
 use Rattle.device.specs.contracts.state.RunState as state
 use Rattle.device.specs.contracts.state.RunState.TheInside as state_inside
 
-pub expression_sync : IsSync expression.the_row
-expression_sync = search (crossing.crosses, expressions.crosses, sendable) depth 60 fits 20000
-
 pub statement_sync : IsSync statement.the_row
 statement_sync = search (crossing.crosses, expressions.crosses, statements.crosses, sendable) depth 60 fits 20000
 

@@ -55,9 +55,9 @@ pub struct Board<'a, B: Origin> {
     ghost cause: { HasCause state stop } by { one_cause state stop },
 }
 
-// Whether an item is one for the workers.
-fn is_for_workers(item: &Item) -> bool {
-    item.deferred || item.kind == ItemKind::Target
+// Whether the workers open and close an item where the host stands at it.
+fn is_host_target(item: &Item) -> bool {
+    !item.deferred && item.kind == ItemKind::Target
 }
 
 // What the host does with the item at which it stands; nothing with one that the workers open and close.
@@ -120,18 +120,39 @@ impl<'a, B: Origin> Board<'a, B> {
         self.stop.is_some() || self.state.has_ended()
     }
 
-    // The lowest item that a worker may open.
+    // The target at which the host stands, if a worker may open it.
+    fn target_here(&self) -> Option<u32>
+        ensures { IfSome result (λ item. IsTrue (enabled (plan self.now.state.program) (state_of self.now.state) (event.Open item))) }
+    {
+        let place = self.state.place();
+        let item = u32::try_from(place).ok()?;
+        if is_host_target(self.image.items().get(place)?)
+            && self.state.is_enabled(Event::Open(item))
+        {
+            Some(item)
+        } else {
+            None
+        }
+    }
+
+    // The lowest item that a worker may open; a deferred one lies before the host's place.
     fn next_for_worker(&self) -> Option<u32>
         ensures { IfSome result (λ item. IsTrue (enabled (plan self.now.state.program) (state_of self.now.state) (event.Open item))) }
     {
-        let items = self.image.items();
-        for i in 0..items.len() {
-            let item = i as u32;
-            if is_for_workers(&items[i]) && self.state.is_enabled(Event::Open(item)) {
-                return Some(item);
-            }
+        match self.state.next_task(0) {
+            Some(item) => Some(item),
+            None => self.target_here(),
         }
-        None
+    }
+
+    /// Whether a worker may open an item, in a run that is not over.
+    pub fn calls_worker(&self) -> bool {
+        !self.is_over() && self.next_for_worker().is_some()
+    }
+
+    /// Whether the host may do its next event, or the run is over.
+    pub fn calls_host(&self) -> bool {
+        self.is_over() || self.next_for_host().is_some()
     }
 
     // The host's next event, if it may happen.

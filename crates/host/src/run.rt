@@ -6,14 +6,14 @@ ghost use Rattle.host.specs.Threads.{IsThreadAnswer, IsThreadFault};
 use crate::board::Board;
 use crate::gate::Gate;
 use crate::origin::Origin;
-use crate::work::work_on_threads;
+use crate::work::{Calls, work_on_threads};
 use base::fault::RunFault;
 use base::item::Answer;
 use device::RunState;
 use lower::Image;
 use std::alloc::Global;
 use std::marker::Brand;
-use std::sync::{Condvar, Mutex, Wait};
+use std::sync::{Mutex, Wait};
 use std::thread::Threads;
 
 // The run that the parameter names.
@@ -35,8 +35,7 @@ fn run_from<'a, B: Origin + Send, R: Threads + Wait + Sync, G: Gate + Sync>(
         Ok(state) => state,
     };
     let board: Mutex<Board<'a, B>> = Mutex::new(Board::new(image, state));
-    let moved = Condvar::new();
-    work_on_threads(rt, alloc, &board, &moved, gate, workers);
+    work_on_threads(rt, alloc, &board, &Calls::new(), gate, workers);
     board.into_inner().answer(alloc)
 }
 

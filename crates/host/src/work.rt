@@ -18,11 +18,45 @@ enum Role {
     Worker,
 }
 
+/// What threads sleep on, each kind apart, so that a call does not wake one of the other kind.
+#[derive(Drop)]
+pub struct Calls {
+    workers: Condvar,
+    host: Condvar,
+}
+
+impl Calls {
+    pub fn new() -> Calls {
+        Calls {
+            workers: Condvar::new(),
+            host: Condvar::new(),
+        }
+    }
+
+    fn of(&self, role: Role) -> &Condvar {
+        match role {
+            Role::Host => &self.host,
+            Role::Worker => &self.workers,
+        }
+    }
+
+    fn all(&self) {
+        self.workers.notify_all();
+        self.host.notify_all();
+    }
+}
+
 // Looks at the board until there is a job, or nothing more to do.
+//
+// A thread sleeps only where it looked, under the lock, and found nothing. Who leaves the lock while there is an item for
+// a worker calls one. So where workers sleep and there is such an item, one was called, or a thread that has not looked
+// since is at work and will: an item comes to be one for a worker by what the host does before it leaves the lock, or by
+// a closing, whose thread looks again. The host's event comes to be possible by a worker's closing, which calls the host.
+// Who stops the run, or finds it over, calls all.
 fn next_job<'a, B: Origin, R: Wait>(
     rt: &R,
     board: &Mutex<Board<'a, B>>,
-    moved: &Condvar,
+    calls: &Calls,
     role: Role,
 ) -> Option<Job<'a>> {
     let mut guard = board.lock(rt);
@@ -31,13 +65,16 @@ fn next_job<'a, B: Origin, R: Wait>(
             Role::Host => guard.look_as_host(),
             Role::Worker => guard.look_as_worker(),
         };
+        if matches!(look, Look::Wait | Look::Do(_)) && guard.calls_worker() {
+            calls.workers.notify_one();
+        }
         match look {
             Look::Stop => {
-                moved.notify_all();
+                calls.all();
                 return None;
             }
-            Look::Wait => guard = moved.wait(rt, guard),
-            Look::Again => moved.notify_all(),
+            Look::Wait => guard = calls.of(role).wait(rt, guard),
+            Look::Again => {}
             Look::Do(job) => return Some(job),
         }
     }
@@ -45,11 +82,11 @@ fn next_job<'a, B: Origin, R: Wait>(
 }
 
 // Stops the run, and wakes all threads.
-fn stop_all<B: Origin, R: Wait>(rt: &R, board: &Mutex<Board<'_, B>>, moved: &Condvar, stop: Stop)
+fn stop_all<B: Origin, R: Wait>(rt: &R, board: &Mutex<Board<'_, B>>, calls: &Calls, stop: Stop)
     requires { IsPlain stop }
 {
     board.lock(rt).stop(stop);
-    moved.notify_all();
+    calls.all();
 }
 
 // Does one job, outside the lock, and closes its item.
@@ -57,7 +94,7 @@ fn do_job<'a, B: Origin, R: Wait, G: Gate>(
     rt: &R,
     alloc: Global,
     board: &Mutex<Board<'a, B>>,
-    moved: &Condvar,
+    calls: &Calls,
     gate: &G,
     job: Job<'a>,
 ) {
@@ -66,11 +103,15 @@ fn do_job<'a, B: Origin, R: Wait, G: Gate>(
     match gate.compute(alloc, item, &job) {
         Ok(done) => {
             gate.pass(item, Phase::Computed);
-            board.lock(rt).close(&done);
-            moved.notify_all();
+            let mut guard = board.lock(rt);
+            guard.close(&done);
+            if guard.calls_host() {
+                calls.host.notify_one();
+            }
+            drop(guard);
             gate.pass(item, Phase::Closed);
         }
-        Err(_) => stop_all(rt, board, moved, Stop::OutOfMemory),
+        Err(_) => stop_all(rt, board, calls, Stop::OutOfMemory),
     }
 }
 
@@ -79,15 +120,15 @@ fn work<'a, B: Origin, R: Wait, G: Gate>(
     rt: &R,
     alloc: Global,
     board: &Mutex<Board<'a, B>>,
-    moved: &Condvar,
+    calls: &Calls,
     gate: &G,
     role: Role,
 ) {
     for _ in rt.forever() {
-        let Some(job) = next_job(rt, board, moved, role) else {
+        let Some(job) = next_job(rt, board, calls, role) else {
             return;
         };
-        do_job(rt, alloc, board, moved, gate, job);
+        do_job(rt, alloc, board, calls, gate, job);
     }
 }
 
@@ -96,20 +137,20 @@ pub fn work_on_threads<'a, B: Origin + Send, R: Threads + Wait + Sync, G: Gate +
     rt: &R,
     alloc: Global,
     board: &Mutex<Board<'a, B>>,
-    moved: &Condvar,
+    calls: &Calls,
     gate: &G,
     workers: usize,
 ) {
     thread::scope(thread::scope_env(), rt, move |scope| {
         for _ in 0..workers {
             if scope
-                .spawn(move || work(rt, alloc, board, moved, gate, Role::Worker))
+                .spawn(move || work(rt, alloc, board, calls, gate, Role::Worker))
                 .is_err()
             {
-                stop_all(rt, board, moved, Stop::ThreadNotStarted);
+                stop_all(rt, board, calls, Stop::ThreadNotStarted);
                 break;
             }
         }
-        work(rt, alloc, board, moved, gate, Role::Host);
+        work(rt, alloc, board, calls, gate, Role::Host);
     });
 }

@@ -12,65 +12,66 @@ use Rattle.base.specs.Machine.{State, on_item, step}
 use Rattle.taskgraph.specs.declared.Stage.{Stage}
 use Rattle.taskgraph.specs.declared.Stage.TheVariants as stage
 use Rattle.taskgraph.specs.declared.Task.{Task}
-use Rattle.taskgraph.specs.Board.{Facts, Board, Stands, task_facts, work_of, plan_in, allows}
-use Rattle.taskgraph.specs.Waiting.{IsCounted, one_if, precedes_in}
+use Rattle.taskgraph.specs.Board.{Facts, Stands, task_facts, work_of, plan_in, allows}
+use Rattle.taskgraph.specs.Waiting.{IsCounted, IsFirst, IsGraph, board_of, counted_in, one_if}
 use Rattle.taskgraph.proofs.Parts.{asked_at}
 use Rattle.taskgraph.proofs.Kept.{may_close}
-use Rattle.taskgraph.proofs.Closes.{host, task, in_count, opened_at}
+use Rattle.taskgraph.proofs.Closes.{in_count, opened_at}
+use Rattle.taskgraph.proofs.Events.{host_closed, task_closed}
 use Rattle.taskgraph.proofs.Standing.{place_after, closed}
-
-abbrev pub board_of : List Task → List Stage → ℕ → Board
-board_of ts stages place = record { tasks = map task_facts ts; stages = stages; place = place }
 
 facts_at : (ts : List Task) (i : ℕ) (t : Task) → slice_get ts i ≡ Some t →
     slice_get (map task_facts ts) i ≡ Some (task_facts t)
 facts_at ts i t e = slice_get-map task_facts ts i ∙ ap (option_map task_facts) e
 
-pub in_counts : (ts : List Task) (ss : List Stage) (place : ℕ) (counts : List ℕ) (i : ℕ) →
-    IsCounted (board_of ts ss place) counts → allows (board_of ts ss place) (Close i) ≡ true → (j : ℕ) → j < length ts →
-    one_if (precedes_in ts i j) ≤ slice_index counts j
-in_counts ts ss place counts i h a j lt = in_count (board_of ts ss place) counts i j h a (omega (arith, lt, length-map ts task_facts))
+pub in_counts : (ts : List Task) (ss : List Stage) (place : ℕ) (starts counts : List ℕ) (i : ℕ) →
+    IsCounted (board_of ts ss place) starts counts → allows (board_of ts ss place) (Close i) ≡ true → (j : ℕ) → j < length ts →
+    one_if (counted_in ts starts i j) ≤ slice_index counts j
+in_counts ts ss place starts counts i h a j lt = in_count (board_of ts ss place) starts counts i j h a (omega (arith, lt, length-map ts task_facts))
 
-pub host_counted : (ts : List Task) (ss : List Stage) (place : ℕ) (counts : List ℕ) (i : ℕ) (t : Task) →
-    IsCounted (board_of ts ss place) counts → allows (board_of ts ss place) (Close i) ≡ true → slice_get ts i ≡ Some t →
-    t.deferred ≡ false → IsCounted (board_of ts (slice_set ss i stage.Closed) (place + 1)) counts
-host_counted ts ss place counts i t h a e d = host (board_of ts ss place) counts i (task_facts t) h a (facts_at ts i t e) d
+pub host_left : (ts : List Task) (ss : List Stage) (place : ℕ) (starts ends counts : List ℕ) (first next i : ℕ) (t : Task) →
+    IsGraph (board_of ts ss place) starts ends counts first → allows (board_of ts ss place) (Close i) ≡ true →
+    slice_get ts i ≡ Some t → t.deferred ≡ false → IsFirst (board_of ts (slice_set ss i stage.Closed) (place + 1)) next →
+    IsGraph (board_of ts (slice_set ss i stage.Closed) (place + 1)) starts ends counts next
+host_left ts ss place starts ends counts first next i t g a e d f =
+    host_closed (board_of ts ss place) starts ends counts first next i (task_facts t) g a (facts_at ts i t e) d f
 
-pub task_counted : (ts : List Task) (ss : List Stage) (place : ℕ) (counts less : List ℕ) (i : ℕ) (t : Task) →
-    IsCounted (board_of ts ss place) counts → allows (board_of ts ss place) (Close i) ≡ true → slice_get ts i ≡ Some t →
-    t.deferred ≡ true → length less ≡ length ts →
-    ((j : ℕ) → j < length ts → slice_index less j + one_if (precedes_in ts i j) ≡ slice_index counts j) →
-    IsCounted (board_of ts (slice_set ss i stage.Closed) place) less
-task_counted ts ss place counts less i t h a e d long taken =
-    task (board_of ts ss place) counts less i h a (long ∙ sym (length-map ts task_facts))
+pub task_left : (ts : List Task) (ss : List Stage) (place : ℕ) (starts ends counts less : List ℕ) (first next i : ℕ) (t : Task) →
+    IsGraph (board_of ts ss place) starts ends counts first → allows (board_of ts ss place) (Close i) ≡ true →
+    slice_get ts i ≡ Some t → t.deferred ≡ true → length less ≡ length ts →
+    ((j : ℕ) → j < length ts → slice_index less j + one_if (counted_in ts starts i j) ≡ slice_index counts j) →
+    IsFirst (board_of ts (slice_set ss i stage.Closed) place) next →
+    IsGraph (board_of ts (slice_set ss i stage.Closed) place) starts ends less next
+task_left ts ss place starts ends counts less first next i t g a e d long taken f =
+    task_closed (board_of ts ss place) starts ends counts less first next i g a (long ∙ sym (length-map ts task_facts))
     (λ j lt. taken j (omega (arith, lt, length-map ts task_facts)))
-    (λ f q. ap (λ (v : Facts). v.deferred) (same_Some f (task_facts t) (sym q ∙ facts_at ts i t e)) ∙ d)
+    (λ v q. ap (λ (w : Facts). w.deferred) (same_Some v (task_facts t) (sym q ∙ facts_at ts i t e)) ∙ d) f
 
-pub host_follows : (ts : List Task) (ss : List Stage) (place : ℕ) (counts : List ℕ) (i : ℕ) (t : Task) →
-    IsCounted (board_of ts ss place) counts → allows (board_of ts ss place) (Close i) ≡ true → slice_get ts i ≡ Some t →
+pub host_follows : (ts : List Task) (ss : List Stage) (place : ℕ) (starts counts : List ℕ) (i : ℕ) (t : Task) →
+    IsCounted (board_of ts ss place) starts counts → allows (board_of ts ss place) (Close i) ≡ true → slice_get ts i ≡ Some t →
     t.deferred ≡ false → (plan : Plan) (fill : ℕ → Fill) (s u : State) → Stands plan s (board_of ts ss place) →
     step plan fill s (Close i) ≡ Some u → Stands plan u (board_of ts (slice_set ss i stage.Closed) (place + 1))
-host_follows ts ss place counts i t h a e d plan fill s u st q =
+host_follows ts ss place starts counts i t h a e d plan fill s u st q =
     let m = may_close (board_of ts ss place) i a in
     closed plan s u (board_of ts ss place) i (task_facts t) (place + 1) st q (facts_at ts i t e)
     (omega (arith, m.inside, h.stages)) h.stages (ap (λ c. place_after c place) (sym d))
 
-pub task_follows : (ts : List Task) (ss : List Stage) (place : ℕ) (counts : List ℕ) (i : ℕ) (t : Task) →
-    IsCounted (board_of ts ss place) counts → allows (board_of ts ss place) (Close i) ≡ true → slice_get ts i ≡ Some t →
+pub task_follows : (ts : List Task) (ss : List Stage) (place : ℕ) (starts counts : List ℕ) (i : ℕ) (t : Task) →
+    IsCounted (board_of ts ss place) starts counts → allows (board_of ts ss place) (Close i) ≡ true → slice_get ts i ≡ Some t →
     t.deferred ≡ true → (plan : Plan) (fill : ℕ → Fill) (s u : State) → Stands plan s (board_of ts ss place) →
     step plan fill s (Close i) ≡ Some u → Stands plan u (board_of ts (slice_set ss i stage.Closed) place)
-task_follows ts ss place counts i t h a e d plan fill s u st q =
+task_follows ts ss place starts counts i t h a e d plan fill s u st q =
     let m = may_close (board_of ts ss place) i a in
     closed plan s u (board_of ts ss place) i (task_facts t) place st q (facts_at ts i t e)
     (omega (arith, m.inside, h.stages)) h.stages (ap (λ c. place_after c place) (sym d))
 
 -- the host's place is that of the item
-pub host_here : (ts : List Task) (ss : List Stage) (place : ℕ) (counts : List ℕ) (i : ℕ) (t : Task) →
-    IsCounted (board_of ts ss place) counts → allows (board_of ts ss place) (Close i) ≡ true → slice_get ts i ≡ Some t →
+pub host_here : (ts : List Task) (ss : List Stage) (place : ℕ) (starts counts : List ℕ) (i : ℕ) (t : Task) →
+    IsCounted (board_of ts ss place) starts counts → allows (board_of ts ss place) (Close i) ≡ true → slice_get ts i ≡ Some t →
     t.deferred ≡ false → place ≡ i
-host_here ts ss place counts i t h a e d =
+host_here ts ss place starts counts i t h a e d =
     let m = may_close (board_of ts ss place) i a in
-    (opened_at (board_of ts ss place) counts i (task_facts t) h m.stage_is (facts_at ts i t e)).1 d
+    (opened_at (board_of ts ss place) starts counts i (task_facts t) h m.stage_is (facts_at ts i t e)).1 d
 
 pub written_back : (new old : List ℕ) (n : ℕ) → n ≡ length old → length new ≡ length old →
     take n (new ++ drop (length new) old) ≡ new

@@ -1,6 +1,6 @@
 -- The counts stay right where an item is closed.
 use Rattle.std.proofs.Common.{◌≡◌, ◌⊎◌, inl, inr, ℕ, suc, ◌+◌, ◌-◌, ◌<◌, ◌≤◌, true, false, List, length, map, Option, Some, None, refl, sym, ap, subst, ◌∙◌, arith}
-use Rattle.std.specs.Prelude.{◌&&◌, nat_lt, slice_get, slice_index, option_map}
+use Rattle.std.specs.Prelude.{◌&&◌, nat_le, nat_lt, slice_get, slice_index, option_map}
 use Rattle.std.proofs.lemmas.Bool.{cases_lt}
 use Rattle.std.proofs.lemmas.List.{length-set}
 use Rattle.std.proofs.lemmas.Option.{slice_get-map}
@@ -9,27 +9,27 @@ use Rattle.base.specs.Items.{Work}
 use Rattle.base.specs.Machine.{is_closed, is_wait, is_predecessor, on_item, precedes}
 use Rattle.taskgraph.specs.declared.Stage.TheVariants as stage
 use Rattle.taskgraph.specs.Board.{Facts, Board, work_of, plan_in, stage_at, condition_of, allows}
-use Rattle.taskgraph.specs.Waiting.{IsCounted, IsOpenTask, waits_for, held_by, one_if}
+use Rattle.taskgraph.specs.Waiting.{IsCounted, IsOpenTask, is_counted, held_by, one_if}
 use Rattle.taskgraph.proofs.Counts.{closed_in, set_at, close_keeps, close_takes}
 use Rattle.taskgraph.proofs.Kept.{may_close}
 use Rattle.taskgraph.proofs.Stays.{after}
-use Rattle.taskgraph.proofs.Releases.{none_before}
+use Rattle.taskgraph.proofs.Releases.{uncounted}
 use Rattle.taskgraph.proofs.Laws.{and_false}
 
 -- what item j waits for, before and after item i is closed
-pub closing : (b : Board) (i j place : ℕ) → i < length b.stages → closed_in b i ≡ false →
-    waits_for b j ≡ waits_for (set_at b i stage.Closed place) j + one_if (precedes (plan_in b) i j)
-closing b i j place lt was = go (cases_lt i j)
+pub closing : (b : Board) (s i j place : ℕ) → i < length b.stages → closed_in b i ≡ false →
+    held_by b s j j ≡ held_by (set_at b i stage.Closed place) s j j + one_if (is_counted (plan_in b) s i j)
+closing b s i j place lt was = go (cases_lt i j)
   where
     go : (i < j) ⊎ (j ≤ i) →
-        waits_for b j ≡ waits_for (set_at b i stage.Closed place) j + one_if (precedes (plan_in b) i j)
+        held_by b s j j ≡ held_by (set_at b i stage.Closed place) s j j + one_if (is_counted (plan_in b) s i j)
     go (inl below) =
         let whole : suc i + (j - suc i) ≡ j = omega (arith, below) in
-        subst (λ n. held_by b j n ≡ held_by (set_at b i stage.Closed place) j n + one_if (precedes (plan_in b) i j)) whole
-        (close_takes b i place j (j - suc i) lt was)
+        subst (λ n. held_by b s j n ≡ held_by (set_at b i stage.Closed place) s j n + one_if (is_counted (plan_in b) s i j)) whole
+        (close_takes b i place s j (j - suc i) lt was)
     go (inr above) =
-        let kept = close_keeps b i place j j above in
-        let none : one_if (precedes (plan_in b) i j) ≡ 0 = ap one_if (none_before b i j above) in
+        let kept = close_keeps b i place s j j above in
+        let none : one_if (is_counted (plan_in b) s i j) ≡ 0 = ap one_if (uncounted b s i j above) in
         omega (arith, kept, none)
 
 -- an item that is not deferred precedes none
@@ -46,7 +46,11 @@ host_precedes b i j f e d =
     no_one None = refl
     no_one (Some w) = rw d refl
 
-was_open : (b : Board) (i : ℕ) → stage_at b i ≡ stage.Open → closed_in b i ≡ false
+pub host_counted : (b : Board) (s i j : ℕ) (f : Facts) → slice_get b.tasks i ≡ Some f → f.deferred ≡ false →
+    is_counted (plan_in b) s i j ≡ false
+host_counted b s i j f e d = ap (λ x. nat_le s i && x) (host_precedes b i j f e d) ∙ and_false (nat_le s i)
+
+pub was_open : (b : Board) (i : ℕ) → stage_at b i ≡ stage.Open → closed_in b i ≡ false
 was_open b i e = ap (λ x. is_closed (condition_of x)) e
 
 -- what an open item tells
@@ -54,23 +58,24 @@ abbrev open_task : Board → ℕ → Facts → Type 0
 open_task b i f =
     (is_wait f.kind ≡ false) × (f.deferred ≡ false → b.place ≡ i) × (f.deferred ≡ true → i < b.place)
 
-pub opened_at : (b : Board) (counts : List ℕ) (i : ℕ) (f : Facts) → IsCounted b counts → stage_at b i ≡ stage.Open →
+pub opened_at : (b : Board) (starts counts : List ℕ) (i : ℕ) (f : Facts) → IsCounted b starts counts → stage_at b i ≡ stage.Open →
     slice_get b.tasks i ≡ Some f → open_task b i f
-opened_at b counts i f h e at = subst (λ o. IsOpenTask b i o) at (h.opened i e)
+opened_at b starts counts i f h e at = subst (λ o. IsOpenTask b i o) at (h.opened i e)
 
 -- the item is not deferred: the host moves on, and no count changes
-pub host : (b : Board) (counts : List ℕ) (i : ℕ) (f : Facts) → IsCounted b counts → allows b (Close i) ≡ true →
-    slice_get b.tasks i ≡ Some f → f.deferred ≡ false → IsCounted (set_at b i stage.Closed (b.place + 1)) counts
-host b counts i f h a at d =
+pub host : (b : Board) (starts counts : List ℕ) (i : ℕ) (f : Facts) → IsCounted b starts counts → allows b (Close i) ≡ true →
+    slice_get b.tasks i ≡ Some f → f.deferred ≡ false → IsCounted (set_at b i stage.Closed (b.place + 1)) starts counts
+host b starts counts i f h a at d =
     let m = may_close b i a in
     let lt : i < length b.stages = omega (arith, m.inside, h.stages) in
-    let here : b.place ≡ i = (opened_at b counts i f h m.stage_is at).1 d in
+    let here : b.place ≡ i = (opened_at b starts counts i f h m.stage_is at).1 d in
     record {
       stages = length-set b.stages i stage.Closed ∙ h.stages;
       same = h.same;
       missing = λ j inside.
-          let less = closing b i j (b.place + 1) lt (was_open b i m.stage_is) in
-          let none : one_if (precedes (plan_in b) i j) ≡ 0 = ap one_if (host_precedes b i j f at d) in
+          let less = closing b (slice_index starts j) i j (b.place + 1) lt (was_open b i m.stage_is) in
+          let none : one_if (is_counted (plan_in b) (slice_index starts j) i j) ≡ 0 =
+          ap one_if (host_counted b (slice_index starts j) i j f at d) in
           let before = h.missing j inside in omega (arith, less, none, before);
       generated = λ k e. elim (after b i k stage.Closed stage.Generated (b.place + 1) lt e) [
         | inl p ↦ absurd (let bad : stage.Closed ≡ stage.Generated = p.1 in cc)
@@ -96,19 +101,21 @@ host b counts i f h a at d =
     )
 
 -- the item is deferred: each count that it was in has lost it
-pub task : (b : Board) (counts less : List ℕ) (i : ℕ) → IsCounted b counts → allows b (Close i) ≡ true →
+pub task : (b : Board) (starts counts less : List ℕ) (i : ℕ) → IsCounted b starts counts → allows b (Close i) ≡ true →
     length less ≡ length b.tasks →
-    ((j : ℕ) → j < length b.tasks → slice_index less j + one_if (precedes (plan_in b) i j) ≡ slice_index counts j) →
-    ((f : Facts) → slice_get b.tasks i ≡ Some f → f.deferred ≡ true) → IsCounted (set_at b i stage.Closed b.place) less
-task b counts less i h a long taken d =
+    ((j : ℕ) → j < length b.tasks →
+    slice_index less j + one_if (is_counted (plan_in b) (slice_index starts j) i j) ≡ slice_index counts j) →
+    ((f : Facts) → slice_get b.tasks i ≡ Some f → f.deferred ≡ true) →
+    IsCounted (set_at b i stage.Closed b.place) starts less
+task b starts counts less i h a long taken d =
     let m = may_close b i a in
     let lt : i < length b.stages = omega (arith, m.inside, h.stages) in
-    let past : i < b.place = (opened_at b counts i m.facts h m.stage_is m.is).2 (d m.facts m.is) in
+    let past : i < b.place = (opened_at b starts counts i m.facts h m.stage_is m.is).2 (d m.facts m.is) in
     record {
       stages = length-set b.stages i stage.Closed ∙ h.stages;
       same = long;
       missing = λ j inside.
-          let all = closing b i j b.place lt (was_open b i m.stage_is) in
+          let all = closing b (slice_index starts j) i j b.place lt (was_open b i m.stage_is) in
           let one = taken j inside in
           let before = h.missing j inside in omega (arith, all, one, before);
       generated = λ k e. elim (after b i k stage.Closed stage.Generated b.place lt e) [
@@ -129,12 +136,12 @@ task b counts less i h a long taken d =
     others k None g = absurd g
     others k (Some t) g = g
 
--- an item that precedes another one is in its count
-pub in_count : (b : Board) (counts : List ℕ) (i j : ℕ) → IsCounted b counts → allows b (Close i) ≡ true →
-    j < length b.tasks → one_if (precedes (plan_in b) i j) ≤ slice_index counts j
-in_count b counts i j h a inside =
+-- an item that is counted for another one is in its count
+pub in_count : (b : Board) (starts counts : List ℕ) (i j : ℕ) → IsCounted b starts counts → allows b (Close i) ≡ true →
+    j < length b.tasks → one_if (is_counted (plan_in b) (slice_index starts j) i j) ≤ slice_index counts j
+in_count b starts counts i j h a inside =
     let m = may_close b i a in
     let lt : i < length b.stages = omega (arith, m.inside, h.stages) in
-    let all = closing b i j b.place lt (was_open b i m.stage_is) in
+    let all = closing b (slice_index starts j) i j b.place lt (was_open b i m.stage_is) in
     let before = h.missing j inside in
     omega (arith, all, before)

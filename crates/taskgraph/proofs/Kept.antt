@@ -71,7 +71,7 @@ pub record MayOpen (b : Board) (i : ℕ) : Type 0 where
   pub deferred : facts.deferred ≡ true → stage_at b i ≡ stage.Generated
   pub here : facts.deferred ≡ false → (b.place ≡ i) × (stage_at b i ≡ stage.Untouched)
 
-is_generated : (st : Stage) → is_waiting true (condition_of st) ≡ true → st ≡ stage.Generated
+pub is_generated : (st : Stage) → is_waiting true (condition_of st) ≡ true → st ≡ stage.Generated
 is_generated stage.Generated e = refl
 is_generated stage.Untouched e = absurd cc
 is_generated stage.Open e = absurd cc
@@ -85,7 +85,7 @@ is_untouched stage.Open e = absurd cc
 is_untouched stage.Closed e = absurd cc
 is_untouched stage.Passed e = absurd cc
 
-not_true : (x : Bool) → not x ≡ true → x ≡ false
+pub not_true : (x : Bool) → not x ≡ true → x ≡ false
 not_true false e = refl
 not_true true e = absurd cc
 

@@ -1,13 +1,13 @@
 -- When an item may be opened, or passed by the host.
-use Rattle.std.proofs.Common.{◌≡◌, ℕ, ◌<◌, ◌≤◌, Bool, true, false, map, length, Option, Some, None, refl, sym, ap, ◌∙◌, arith}
-use Rattle.std.specs.Prelude.{◌==◌, ◌&&◌, ◌||◌, not, slice_get, option_map, if◌then◌else◌}
+use Rattle.std.proofs.Common.{◌≡◌, ℕ, ◌<◌, ◌≤◌, Bool, true, false, List, map, length, Option, Some, None, refl, sym, ap, ◌∙◌, arith}
+use Rattle.std.specs.Prelude.{◌==◌, ◌&&◌, ◌||◌, not, slice_get, slice_index, option_map, if◌then◌else◌}
 use Rattle.std.proofs.lemmas.Option.{slice_get-map, slice_get_past}
 use Rattle.base.specs.declared.item.Event.TheVariants.{Open, Wait}
 use Rattle.base.specs.Items.{Work}
 use Rattle.base.specs.Machine.{is_wait, is_waiting, is_ready}
 use Rattle.taskgraph.specs.Board.{Facts, Board, work_of, plan_in, state_in, stage_at, allows}
 use Rattle.taskgraph.specs.Waiting.{begins, waits_for}
-use Rattle.taskgraph.proofs.Counts.{ready_free, free_ready}
+use Rattle.taskgraph.proofs.Readiness.{free_ready}
 use Rattle.taskgraph.proofs.Laws.{and_false}
 
 abbrev pub comes : Board → ℕ → Bool
@@ -56,7 +56,7 @@ table false false false true false = refl
 table false false false false true = refl
 table false false false false false = refl
 
-at : (b : Board) (i : ℕ) (f : Facts) → slice_get b.tasks i ≡ Some f →
+pub at : (b : Board) (i : ℕ) (f : Facts) → slice_get b.tasks i ≡ Some f →
     (allows b (Open i) || allows b (Wait i))
     ≡ (is_ready (plan_in b) (state_in b) i && begins f (stage_at b i) (b.place == i))
 at b i f e =
@@ -66,20 +66,16 @@ at b i f e =
     ∙ table (is_wait f.kind) f.deferred (b.place == i) (is_waiting f.deferred ((state_in b).condition i))
     (is_ready (plan_in b) (state_in b) i)
 
-unready : (b : Board) (i : ℕ) → 0 < waits_for b i → is_ready (plan_in b) (state_in b) i ≡ false
-unready b i lt = go (is_ready (plan_in b) (state_in b) i) refl
+unready : (b : Board) (starts : List ℕ) (i : ℕ) → 0 < waits_for b starts i → is_ready (plan_in b) (state_in b) i ≡ false
+unready b starts i lt = go (is_ready (plan_in b) (state_in b) i) refl
   where
     go : (x : Bool) → is_ready (plan_in b) (state_in b) i ≡ x → is_ready (plan_in b) (state_in b) i ≡ false
     go false e = e
-    go true e = absurd (omega (arith, lt, free_ready b i e))
+    go true e = absurd (omega (arith, lt, free_ready b (slice_index starts i) i e))
 
-pub held : (b : Board) (i : ℕ) → 0 < waits_for b i → false ≡ (allows b (Open i) || allows b (Wait i))
-held b i lt = go (slice_get b.tasks i) refl
+pub held : (b : Board) (starts : List ℕ) (i : ℕ) → 0 < waits_for b starts i → false ≡ (allows b (Open i) || allows b (Wait i))
+held b starts i lt = go (slice_get b.tasks i) refl
   where
     go : (o : Option Facts) → slice_get b.tasks i ≡ o → false ≡ (allows b (Open i) || allows b (Wait i))
     go None e = none b i e
-    go (Some f) e = sym (at b i f e ∙ ap (λ x. x && begins f (stage_at b i) (b.place == i)) (unready b i lt))
-
-pub free : (b : Board) (i : ℕ) (f : Facts) → slice_get b.tasks i ≡ Some f → waits_for b i ≡ 0 →
-    begins f (stage_at b i) (b.place == i) ≡ (allows b (Open i) || allows b (Wait i))
-free b i f e zero = sym (at b i f e ∙ ap (λ x. x && begins f (stage_at b i) (b.place == i)) (ready_free b i zero))
+    go (Some f) e = sym (at b i f e ∙ ap (λ x. x && begins f (stage_at b i) (b.place == i)) (unready b starts i lt))

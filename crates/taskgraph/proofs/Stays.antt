@@ -21,7 +21,7 @@ after b i k st v place lt e = go (cases_eq k i)
     go (inl same) = inl (same, sym (stage_set b i st place lt) ∙ ap (stage_at (set_at b i st place)) (sym same) ∙ e)
     go (inr ne) = inr (ne, sym (stage_kept b i k st place ne) ∙ e)
 
-not_closed : (b : Board) (i : ℕ) → (stage_at b i ≡ stage.Closed → ⊥) → closed_in b i ≡ false
+pub not_closed : (b : Board) (i : ℕ) → (stage_at b i ≡ stage.Closed → ⊥) → closed_in b i ≡ false
 not_closed b i h = go (stage_at b i) refl
   where
     go : (st : Stage) → stage_at b i ≡ st → closed_in b i ≡ false
@@ -32,13 +32,13 @@ not_closed b i h = go (stage_at b i) refl
     go stage.Passed e = ap (λ x. is_closed (condition_of x)) e
 
 -- the part of the invariant that speaks of counts
-abbrev pub HasCounts : Board → List ℕ → Type 0
-HasCounts b counts = (j : ℕ) → j < length b.tasks → slice_index counts j ≡ waits_for b j
+abbrev pub HasCounts : Board → List ℕ → List ℕ → Type 0
+HasCounts b starts counts = (j : ℕ) → j < length b.tasks → slice_index counts j ≡ waits_for b starts j
 
-counts_stay : (b : Board) (counts : List ℕ) (i : ℕ) (st : Stage) (place : ℕ) → IsCounted b counts → i < length b.stages →
-    (stage_at b i ≡ stage.Closed → ⊥) → is_closed (condition_of st) ≡ false → HasCounts (set_at b i st place) counts
-counts_stay b counts i st place h lt ne o = λ j inside. h.missing j inside
-    ∙ set_keeps b i st place j j lt (not_closed b i ne) o
+counts_stay : (b : Board) (starts counts : List ℕ) (i : ℕ) (st : Stage) (place : ℕ) → IsCounted b starts counts → i < length b.stages →
+    (stage_at b i ≡ stage.Closed → ⊥) → is_closed (condition_of st) ≡ false → HasCounts (set_at b i st place) starts counts
+counts_stay b starts counts i st place h lt ne o = λ j inside. h.missing j inside
+    ∙ set_keeps b i st place (slice_index starts j) j j lt (not_closed b i ne) o
 
 -- an open item after the host has passed one that is deferred or a wait
 pass_open : (b : Board) (i k : ℕ) (o : Option Facts) (st : Stage) → b.place ≡ i → slice_get b.tasks k ≡ o →
@@ -51,16 +51,16 @@ pass_open b i k (Some f) st here e h no_host = (
   λ d. omega (arith, h.2 d),
 )
 
-pub generated : (b : Board) (counts : List ℕ) (i : ℕ) → IsCounted b counts → allows b (Gen i) ≡ true →
-    IsCounted (set_at b i stage.Generated (b.place + 1)) counts
-generated b counts i h a =
+pub generated : (b : Board) (starts counts : List ℕ) (i : ℕ) → IsCounted b starts counts → allows b (Gen i) ≡ true →
+    IsCounted (set_at b i stage.Generated (b.place + 1)) starts counts
+generated b starts counts i h a =
     let m = may_generate b i a in
     let lt : i < length b.stages = omega (arith, m.inside, h.stages) in
     let fresh : stage_at b i ≡ stage.Closed → ⊥ = λ e. omega (arith, h.closed i e, m.here) in
     record {
       stages = length-set b.stages i stage.Generated ∙ h.stages;
       same = h.same;
-      missing = counts_stay b counts i stage.Generated (b.place + 1) h lt fresh refl;
+      missing = counts_stay b starts counts i stage.Generated (b.place + 1) h lt fresh refl;
       generated = λ k e. elim (after b i k stage.Generated stage.Generated (b.place + 1) lt e) [
         | inl p ↦ omega (arith, p.0, m.here)
         | inr p ↦ omega (arith, h.generated k p.1)
@@ -77,16 +77,16 @@ generated b counts i h a =
       ];
     }
 
-pub passed : (b : Board) (counts : List ℕ) (i : ℕ) → IsCounted b counts → allows b (Wait i) ≡ true →
-    IsCounted (set_at b i stage.Passed (b.place + 1)) counts
-passed b counts i h a =
+pub passed : (b : Board) (starts counts : List ℕ) (i : ℕ) → IsCounted b starts counts → allows b (Wait i) ≡ true →
+    IsCounted (set_at b i stage.Passed (b.place + 1)) starts counts
+passed b starts counts i h a =
     let m = may_pass b i a in
     let lt : i < length b.stages = omega (arith, m.inside, h.stages) in
     let fresh : stage_at b i ≡ stage.Closed → ⊥ = λ e. omega (arith, h.closed i e, m.here) in
     record {
       stages = length-set b.stages i stage.Passed ∙ h.stages;
       same = h.same;
-      missing = counts_stay b counts i stage.Passed (b.place + 1) h lt fresh refl;
+      missing = counts_stay b starts counts i stage.Passed (b.place + 1) h lt fresh refl;
       generated = λ k e. elim (after b i k stage.Passed stage.Generated (b.place + 1) lt e) [
         | inl p ↦ absurd (let bad : stage.Passed ≡ stage.Generated = p.1 in cc)
         | inr p ↦ omega (arith, h.generated k p.1)
@@ -103,15 +103,15 @@ passed b counts i h a =
       ];
     }
 
-pub opened : (b : Board) (counts : List ℕ) (i : ℕ) → IsCounted b counts → allows b (Open i) ≡ true →
-    IsCounted (set_at b i stage.Open b.place) counts
-opened b counts i h a =
+pub opened : (b : Board) (starts counts : List ℕ) (i : ℕ) → IsCounted b starts counts → allows b (Open i) ≡ true →
+    IsCounted (set_at b i stage.Open b.place) starts counts
+opened b starts counts i h a =
     let m = may_open b i a in
     let lt : i < length b.stages = omega (arith, m.inside, h.stages) in
     record {
       stages = length-set b.stages i stage.Open ∙ h.stages;
       same = h.same;
-      missing = counts_stay b counts i stage.Open b.place h lt (fresh m.facts.deferred refl) refl;
+      missing = counts_stay b starts counts i stage.Open b.place h lt (fresh m.facts.deferred refl) refl;
       generated = λ k e. elim (after b i k stage.Open stage.Generated b.place lt e) [
         | inl p ↦ absurd (let bad : stage.Open ≡ stage.Generated = p.1 in cc)
         | inr p ↦ h.generated k p.1

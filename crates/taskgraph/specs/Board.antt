@@ -1,7 +1,8 @@
 -- A task graph as a state of the machine with two memories.
-use Rattle.std.specs.Prelude.{◌≡◌, ℕ, ◌<◌, Bool, List, [], map, Some, None, length}
+use Rattle.std.specs.Prelude.{◌≡◌, ℕ, ◌<◌, Bool, false, List, [], map, Some, None, length}
 use Rattle.std.specs.List.{slice_index_or}
 use Rattle.base.specs.declared.item.Event.{Event}
+use Rattle.base.specs.declared.item.Event.TheVariants.{Open, Close}
 use Rattle.base.specs.declared.item.Item.{Item}
 use Rattle.base.specs.declared.item.ItemKind.{ItemKind}
 use Rattle.base.specs.declared.item.Depend.{Depend}
@@ -70,6 +71,10 @@ state_in b = record (start []) { place = b.place; condition = λ i. condition_of
 -- whether an event may happen next, by the machine's own rule
 abbrev pub allows : Board → Event → Bool
 allows b e = enabled (plan_in b) (state_in b) e
+
+-- an item may neither be opened next nor closed
+abbrev pub IsSettled : Board → ℕ → Type 0
+IsSettled b i = (allows b (Open i) ≡ false) × (allows b (Close i) ≡ false)
 
 -- the tasks before any event
 abbrev pub untouched : List Facts → Board

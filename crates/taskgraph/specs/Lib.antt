@@ -1,3 +1,4 @@
 pub mod Board
+pub mod Cover
 pub mod Waiting
 pub mod Laws

@@ -1,17 +1,19 @@
 //! The order in which tasks may run: what each item waits for, how far it is, and where the host stands.
 #![tactic(auto)]
 
-ghost use Rattle.std.specs.Prelude.{◌≡◌, ◌+◌, ◌<◌, ◌≤◌, ℕ, IfOk, length, map, slice_index};
-ghost use Rattle.base.specs.Machine.{is_predecessor};
-ghost use Rattle.taskgraph.specs.Board.{item_facts, task_facts, untouched, work_of};
+ghost use Rattle.std.specs.Prelude.{◌≡◌, ◌+◌, ◌<◌, ◌≤◌, ◌&&◌, not, true, ℕ, IfOk, length, map, slice_index};
+ghost use Rattle.base.specs.Machine.{is_closed, is_empty, is_predecessor};
+ghost use Rattle.taskgraph.specs.Board.{condition_of, item_facts, task_facts, untouched, work_of};
 ghost use Rattle.taskgraph.specs.Laws.{AllowedIsEnabled};
-ghost use Rattle.taskgraph.specs.Waiting.{AreCounts, AreUntouched, begins, one_if, precedes_in, waits_for};
+ghost use Rattle.taskgraph.specs.Waiting.{AreCounts, AreEnds, AreStarts, AreUntouched, AreClosed, IsExtended, IsFirst, IsStart, begins, board_of, counted_in, held_by, is_bare, one_if, plan_for};
 
+use crate::cover::covers;
 use base::depend::match_some;
 use base::item::{Depend, Item, ItemKind};
 use std::alloc::{AllocError, Global};
 use std::marker::Model;
 
+mod cover;
 #[cfg(test)]
 mod tests;
 
@@ -38,33 +40,65 @@ pub struct Task {
 /// items with a matching `depend` clause, and for a `taskwait` without one all earlier deferred items (OpenMP API 5.2,
 /// sections 15.5 and 15.9.5).
 ///
-/// Whether an item is ready is known at once, from a count that each closing of a deferred item takes down; so a
-/// deferred item's closing looks at all later items, and `new` at all pairs of items.
+/// Whether an item is ready is known at once, from a count that each closing of a deferred item takes down. The count
+/// leaves out a predecessor for which a later one stands, since that is opened when the former is closed: one whose
+/// depend items have all cells of the item's own, and write where they do. Nor does it go back past a `taskwait` without
+/// a clause, and such a `taskwait` is ready where no deferred item before it is left. So `new` looks at each item and at
+/// those before it, back to one that stands for all earlier ones, or to the first: at one in a chain of tasks on the same
+/// cells, and at all pairs of items where no two match. A deferred item's closing looks at the later items up to the last
+/// one in whose count it is.
 #[derive(Drop)]
 pub struct Graph {
     tasks: Vec<Task>,
     stages: Vec<Stage>,
-    /// How many predecessors of each task are not closed.
+    /// The predecessors of each task that are counted lie from this item on.
+    starts: Vec<usize>,
+    /// The tasks in whose counts each task is lie before this item.
+    ends: Vec<usize>,
+    /// How many counted predecessors of each task are not closed.
     missing: Vec<usize>,
+    /// The lowest item that is deferred and not closed, or `place` where none is before it.
+    first: usize,
     place: usize,
 }
 
 impl Model for Graph {
     ghost use Rattle.std.specs.Prelude.{map};
     ghost use Rattle.taskgraph.specs.Board.{Board, task_facts};
-    ghost use Rattle.taskgraph.specs.Waiting.{IsCounted};
+    ghost use Rattle.taskgraph.specs.Waiting.{IsGraph};
 
     ghost Value = { Board };
 
     ghost view = { λ g. record { tasks = map task_facts g.tasks.items; stages = g.stages.items; place = g.place } };
 
-    ghost invariant = { λ g. IsCounted (record { tasks = map task_facts g.tasks.items; stages = g.stages.items; place = g.place }) g.missing.items };
+    ghost invariant = { λ g. IsGraph (record { tasks = map task_facts g.tasks.items; stages = g.stages.items; place = g.place }) g.starts.items g.ends.items g.missing.items g.first };
 }
 
 fn is_wait(task: &Task) -> bool
     ensures { result ≡ Rattle.base.specs.Machine.is_wait task.now.kind }
 {
     matches!(task.kind, ItemKind::Wait)
+}
+
+/// Whether an item is a `taskwait` without a clause.
+fn is_bare(task: &Task) -> bool
+    ensures { result ≡ is_bare (work_of (task_facts task.now)) }
+{
+    is_wait(task) && task.depends.is_empty()
+}
+
+/// Whether the host passes it only where all deferred items before it are closed.
+fn is_barrier(task: &Task) -> bool
+    ensures { result ≡ (is_bare (work_of (task_facts task.now)) && not task.now.deferred) }
+{
+    is_bare(task) && !task.deferred
+}
+
+/// Whether it has no depend items.
+fn is_without(task: &Task) -> bool
+    ensures { result ≡ is_empty (work_of (task_facts task.now)).depends }
+{
+    task.depends.is_empty()
 }
 
 /// Whether the earlier of two items is a predecessor of the later.
@@ -74,7 +108,7 @@ fn is_predecessor(earlier: &Task, later: &Task) -> bool
     if !earlier.deferred {
         return false;
     }
-    if is_wait(later) && later.depends.is_empty() {
+    if is_bare(later) {
         return true;
     }
     match_some(&earlier.depends, &later.depends)
@@ -101,14 +135,43 @@ fn tasks_of(alloc: Global, items: &[Item]) -> Result<Vec<Task>, AllocError>
     Ok(tasks)
 }
 
-/// How many predecessors an item has.
-#[tactic(auto, using(crate::proofs::Pairs::none_yet))]
-fn predecessors(tasks: &[Task], item: usize) -> usize
+/// From where on an item's predecessors are counted: each one before is a predecessor of one that is counted, or lies
+/// before a `taskwait` without a clause.
+fn start_of(tasks: &[Task], item: usize) -> usize
     requires { item < length tasks.now }
-    ensures { result ≡ waits_for (untouched (map task_facts tasks.now)) item }
+    ensures { IsStart (plan_for tasks.now) item result }
+{
+    let later = &tasks[item];
+    if is_without(later) {
+        return item;
+    }
+    let mut start = item;
+    let mut earlier = item;
+    'earlier: while earlier > 0 {
+        earlier -= 1;
+        let task = &tasks[earlier];
+        if is_barrier(task) {
+            return start;
+        }
+        if is_predecessor(task, later) {
+            start = earlier;
+            if covers(&task.depends, &later.depends) {
+                return start;
+            }
+        }
+    }
+    start
+}
+
+/// How many predecessors of an item are counted.
+#[tactic(auto, using(crate::proofs::Pairs::none_yet))]
+fn predecessors(tasks: &[Task], start: usize, item: usize) -> usize
+    requires inside { item < length tasks.now }
+    requires start { start ≤ item }
+    ensures { result ≡ held_by (untouched (map task_facts tasks.now)) start item item }
 {
     let mut count = 0;
-    'earlier: for earlier in 0..item {
+    'earlier: for earlier in start..item {
         if is_predecessor(&tasks[earlier], &tasks[item]) {
             count += 1;
         }
@@ -124,30 +187,104 @@ fn stages_of(alloc: Global, count: usize) -> Result<Vec<Stage>, AllocError>
     Ok(stages)
 }
 
-/// How many predecessors each item has.
-fn counts_of(alloc: Global, tasks: &[Task]) -> Result<Vec<usize>, AllocError>
-    ensures { IfOk result (λ v. AreCounts tasks.now v.items) }
+/// From where on each item's predecessors are counted.
+fn starts_of(alloc: Global, tasks: &[Task]) -> Result<Vec<usize>, AllocError>
+    ensures { IfOk result (λ v. AreStarts (plan_for tasks.now) v.items) }
+{
+    let mut starts = Vec::with_capacity(alloc, tasks.len())?;
+    'items: for item in 0..tasks.len() {
+        starts.push(start_of(tasks, item))?;
+    }
+    Ok(starts)
+}
+
+/// How many predecessors of each item are counted.
+fn counts_of(alloc: Global, tasks: &[Task], starts: &[usize]) -> Result<Vec<usize>, AllocError>
+    requires { AreStarts (plan_for tasks.now) starts.now }
+    ensures { IfOk result (λ v. AreCounts tasks.now starts.now v.items) }
 {
     let mut counts = Vec::with_capacity(alloc, tasks.len())?;
     'items: for item in 0..tasks.len() {
-        counts.push(predecessors(tasks, item))?;
+        counts.push(predecessors(tasks, starts[item], item))?;
     }
     Ok(counts)
 }
 
-/// Takes the item from what each later one waits for.
-fn release(tasks: &[Task], missing: &mut [usize], item: usize)
+/// Notes that the predecessors of an item that are counted are in its count.
+fn extend(tasks: &[Task], start: usize, item: usize, ends: &mut [usize])
     requires inside { item < length tasks.now }
-    requires same { length missing.old ≡ length tasks.now }
-    requires counted { (j : ℕ) → j < length tasks.now → one_if (precedes_in tasks.now item j) ≤ slice_index missing.old j }
-    ensures same { length missing.new ≡ length tasks.now }
-    ensures taken { (j : ℕ) → j < length tasks.now → slice_index missing.new j + one_if (precedes_in tasks.now item j) ≡ slice_index missing.old j }
+    requires same { length ends.old ≡ length tasks.now }
+    ensures { IsExtended (plan_for tasks.now) start item ends.old ends.new }
 {
-    'later: for later in item + 1..tasks.len() {
-        if is_predecessor(&tasks[item], &tasks[later]) {
+    'earlier: for earlier in start..item {
+        if is_predecessor(&tasks[earlier], &tasks[item]) {
+            ends[earlier] = item + 1;
+        }
+    }
+}
+
+/// For each item, before which one the items lie in whose counts it is.
+fn ends_of(alloc: Global, tasks: &[Task], starts: &[usize]) -> Result<Vec<usize>, AllocError>
+    requires { AreStarts (plan_for tasks.now) starts.now }
+    ensures { IfOk result (λ v. AreEnds (plan_for tasks.now) starts.now v.items) }
+{
+    let mut ends = vec![in alloc; 0; tasks.len()]?;
+    'items: for item in 0..tasks.len() {
+        extend(tasks, starts[item], item, &mut ends);
+    }
+    Ok(ends)
+}
+
+/// Whether an item is in the count of a later one.
+fn is_counted(tasks: &[Task], starts: &[usize], item: usize, later: usize) -> bool
+    requires before { item < later }
+    requires inside { later < length tasks.now }
+    requires starts { length starts.now ≡ length tasks.now }
+    ensures { result ≡ counted_in tasks.now starts.now item later }
+{
+    starts[later] <= item && is_predecessor(&tasks[item], &tasks[later])
+}
+
+/// Takes the item from the counts of later ones, which lie before `end`.
+fn release(tasks: &[Task], starts: &[usize], missing: &mut [usize], item: usize, end: usize)
+    requires inside { item < length tasks.now }
+    requires end { end ≤ length tasks.now }
+    requires starts { length starts.now ≡ length tasks.now }
+    requires same { length missing.old ≡ length tasks.now }
+    requires past { (j : ℕ) → j < length tasks.now → counted_in tasks.now starts.now item j ≡ true → j < end }
+    requires counted { (j : ℕ) → j < length tasks.now → one_if (counted_in tasks.now starts.now item j) ≤ slice_index missing.old j }
+    ensures same { length missing.new ≡ length tasks.now }
+    ensures taken { (j : ℕ) → j < length tasks.now → slice_index missing.new j + one_if (counted_in tasks.now starts.now item j) ≡ slice_index missing.old j }
+{
+    'later: for later in item + 1..end {
+        if is_counted(tasks, starts, item, later) {
             missing[later] -= 1;
         }
     }
+}
+
+/// Whether an item is deferred and not closed.
+fn is_left(task: &Task, stage: Stage) -> bool
+    ensures { result ≡ (task.now.deferred && not (is_closed (condition_of stage))) }
+{
+    task.deferred && !matches!(stage, Stage::Closed)
+}
+
+/// The lowest item, from one on below which there is none, that is deferred and not closed; the place where none is
+/// before it.
+fn first_left(tasks: &[Task], stages: &[Stage], from: usize, place: usize) -> usize
+    requires inside { place ≤ length tasks.now }
+    requires same { length stages.now ≡ length tasks.now }
+    requires from { from ≤ place }
+    requires below { AreClosed (board_of tasks.now stages.now place) from }
+    ensures { IsFirst (board_of tasks.now stages.now place) result }
+{
+    'left: for item in from..place {
+        if is_left(&tasks[item], stages[item]) {
+            return item;
+        }
+    }
+    place
 }
 
 /// Whether an item at that stage may begin, where its predecessors are closed and the host stands at it or not.
@@ -164,23 +301,27 @@ fn may_begin(task: &Task, stage: Stage, here: bool) -> bool
 }
 
 impl Graph {
-    ghost use Rattle.std.specs.Prelude.{◌≡◌, ℕ, ◌||◌, IfOk, true, false};
-    ghost use Rattle.base.specs.declared.item.Event.TheVariants.{Gen, Open, Close, Wait};
+    ghost use Rattle.std.specs.Prelude.{◌≡◌, ◌<◌, ◌≤◌, ℕ, ◌||◌, IfOk, IfSome, IsTrue, length, true, false};
+    ghost use Rattle.base.specs.declared.item.Event.TheVariants.{Gen, Open, Close, Wait, End};
     ghost use Rattle.base.specs.Machine.{is_open, is_closed, is_wait, on_item};
-    ghost use Rattle.taskgraph.specs.Board.{IsNew, Follows, allows, plan_in, stage_at, state_in};
+    ghost use Rattle.taskgraph.specs.Board.{IsNew, IsSettled, Follows, allows, plan_in, stage_at, state_in};
 
     /// The graph of these items, none of which has begun.
-    #[tactic(auto, using(crate::proofs::Fresh::fresh))]
     pub fn new(alloc: Global, items: &[Item]) -> Result<Graph, AllocError>
         ensures { IfOk result (λ g. IsNew items.now g) }
     {
         let tasks = tasks_of(alloc, items)?;
         let stages = stages_of(alloc, tasks.len())?;
-        let missing = counts_of(alloc, &tasks)?;
+        let starts = starts_of(alloc, &tasks)?;
+        let ends = ends_of(alloc, &tasks, &starts)?;
+        let missing = counts_of(alloc, &tasks, &starts)?;
         Ok(Graph {
             tasks,
             stages,
+            starts,
+            ends,
             missing,
+            first: 0,
             place: 0,
         })
     }
@@ -224,7 +365,7 @@ impl Graph {
     /// Whether the item may be opened next, or passed by the host where it is a wait: it was not before, all its
     /// predecessors are closed, and it is generated (a deferred item) or the host stands at it. This takes a few steps,
     /// however many items there are. A number past the last gives `false`.
-    #[tactic(auto, using(crate::proofs::Ready::past, crate::proofs::Ready::held, crate::proofs::Ready::free))]
+    #[tactic(auto, using(crate::proofs::Ready::past, crate::proofs::Ready::held))]
     pub fn ready(&self, item: usize) -> bool
         ensures { result ≡ (allows self.now (Open item) || allows self.now (Wait item)) }
     {
@@ -234,7 +375,11 @@ impl Graph {
         if self.missing[item] > 0 {
             return false;
         }
-        may_begin(&self.tasks[item], self.stages[item], self.place == item)
+        let task = &self.tasks[item];
+        if is_bare(task) {
+            return self.place == item && self.first == item;
+        }
+        may_begin(task, self.stages[item], self.place == item)
     }
 
     #[tactic(auto, using(crate::proofs::Parts::asked_past))]
@@ -304,10 +449,13 @@ impl Graph {
     {
         self.stages[item] = Stage::Closed;
         if self.tasks[item].deferred {
-            release(&self.tasks, &mut self.missing, item);
+            let end = self.ends[item];
+            release(&self.tasks, &self.starts, &mut self.missing, item, end);
+            self.first = first_left(&self.tasks, &self.stages, self.first, self.place);
             return;
         }
         self.place += 1;
+        self.first = first_left(&self.tasks, &self.stages, self.first, self.place);
     }
 
     /// The host passes the wait at which it stands.
@@ -317,5 +465,37 @@ impl Graph {
     {
         self.stages[item] = Stage::Passed;
         self.place += 1;
+        self.first = first_left(&self.tasks, &self.stages, self.first, self.place);
+    }
+
+    /// Whether the run may end: the host is past the last item, and all deferred items are closed.
+    pub fn may_end(&self) -> bool
+        ensures { result ≡ allows self.now End }
+    {
+        self.first == self.tasks.len()
+    }
+
+    /// An item below which none may be opened or closed; nor may one be above the host's place.
+    pub fn first(&self) -> usize
+        ensures below { (i : ℕ) → i < result → IsSettled self.now i }
+        ensures above { (i : ℕ) → self.now.place < i → IsSettled self.now i }
+        ensures inside { result ≤ self.now.place }
+        ensures within { result ≤ length self.now.tasks }
+    {
+        self.first
+    }
+
+    /// The lowest deferred item, from one on, that may be opened next. It looks at those from `first` to the host's
+    /// place.
+    pub fn next_task(&self, from: usize) -> Option<usize>
+        ensures { IfSome result (λ item. IsTrue (allows self.now (Open item))) }
+    {
+        let start = if from < self.first { self.first } else { from };
+        for item in start..self.place {
+            if self.stages[item] == Stage::Generated && self.may_open(item) {
+                return Some(item);
+            }
+        }
+        None
     }
 }

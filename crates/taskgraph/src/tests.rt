@@ -158,9 +158,41 @@ fn a_long_chain_runs_in_order(rt: HostRuntime) -> Result<(), Fail> {
         generate(&rt, &mut graph, task);
     }
     for task in 0..4000 {
-        assert!(rt; !graph.ready(task + 1));
+        assert!(rt; !graph.ready(task + 1) && !graph.may_end());
+        assert_eq!(rt; graph.next_task(0), Some(task));
+        assert!(rt; graph.next_task(task + 1).is_none());
+        assert_eq!(rt; graph.first(), task);
         open(&rt, &mut graph, task);
         close(&rt, &mut graph, task);
     }
+    assert!(rt; graph.may_end());
+    Ok(())
+}
+
+/// A task on two cells, one on the first of them, a wait without a clause, and a task on both.
+#[test]
+fn a_task_waits_for_all_before_the_last(rt: HostRuntime) -> Result<(), Fail> {
+    let alloc = rt.alloc();
+    let mut items = Vec::new(alloc);
+    items.push(task(alloc, &[depend(DependKind::InOut, 0, 2)])?)?;
+    items.push(task(alloc, &[depend(DependKind::InOut, 0, 1)])?)?;
+    items.push(task(alloc, &[depend(DependKind::In, 0, 2)])?)?;
+    items.push(item(alloc, ItemKind::Wait, false, &[])?)?;
+    items.push(task(alloc, &[depend(DependKind::InOut, 0, 2)])?)?;
+    let mut graph = Graph::new(alloc, &items)?;
+    for task in 0..3 {
+        generate(&rt, &mut graph, task);
+    }
+    for task in 0..3 {
+        assert!(rt; !graph.ready(task + 1));
+        assert_eq!(rt; graph.next_task(0), Some(task));
+        open(&rt, &mut graph, task);
+        assert!(rt; graph.next_task(0).is_none());
+        close(&rt, &mut graph, task);
+    }
+    pass(&rt, &mut graph, 3);
+    assert_eq!(rt; graph.first(), 4);
+    generate(&rt, &mut graph, 4);
+    assert_eq!(rt; graph.next_task(0), Some(4));
     Ok(())
 }

@@ -7,5 +7,5 @@ use Rattle.taskgraph.proofs.counts_of.Given as goal
 abbrev pub invariant-items : goal.invariant-items
 invariant-items l = record {
   long : length l.counts.items ≡ l.item;
-  each : (j : ℕ) → j < l.item → slice_index l.counts.items j ≡ waits_for (untouched (map task_facts l.tasks)) j;
+  each : (j : ℕ) → j < l.item → slice_index l.counts.items j ≡ waits_for (untouched (map task_facts l.tasks)) l.starts j;
 }

@@ -1,14 +1,17 @@
-use Rattle.std.proofs.Common.{◌≡◌, ◌+◌, ◌<◌, ◌≤◌, ℕ, List, true, length, Some, sym, ap, subst, ◌∙◌, arith}
+use Rattle.std.proofs.Common.{◌≡◌, ◌+◌, ◌<◌, ◌≤◌, ℕ, List, true, length, map, Some, sym, ap, subst, ◌∙◌, arith}
 use Rattle.std.specs.Prelude.{slice_get, slice_index}
 use Rattle.std.specs.List.{slice_set}
 use Rattle.std.proofs.lemmas.List.{length-map}
+use Rattle.std.proofs.lemmas.Grind.{get_or_default_zero}
 use Rattle.std.proofs.lemmas.Option.{slice_get-get_or}
 use Rattle.base.specs.declared.item.Event.TheVariants.{Close}
 use Rattle.taskgraph.specs.declared.Task.{Task}
+use Rattle.taskgraph.specs.declared.Stage.{Stage}
 use Rattle.taskgraph.specs.declared.Stage.TheVariants as stage
-use Rattle.taskgraph.specs.Board.{Board, Stands, allows, task_facts}
-use Rattle.taskgraph.specs.Waiting.{IsCounted, one_if, precedes_in}
-use Rattle.taskgraph.proofs.ClosedGraph.{board_of, in_counts, host_counted, task_counted, host_follows, task_follows, host_here, written_back}
+use Rattle.taskgraph.specs.Board.{Board, Stands, allows, task_facts, work_of}
+use Rattle.taskgraph.specs.Waiting.{AreClosed, IsFirst, IsGraph, board_of, counted_in, one_if}
+use Rattle.taskgraph.proofs.Events.{closed_below}
+use Rattle.taskgraph.proofs.ClosedGraph.{in_counts, host_left, task_left, host_follows, task_follows, host_here, written_back}
 use Rattle.taskgraph.proofs.Kept.{may_close}
 use Rattle.taskgraph.proofs.Graph.closed.Goals as goal
 
@@ -18,13 +21,106 @@ release-requires-clause-counted c =
     let ts = c.self.inside.tasks.items in
     let ss = c.self.inside.stages.items in
     let p = c.self.inside.place in
+    let starts = c.self.inside.starts.items in
     let asked : allows (board_of ts ss p) (Close i) ≡ true =
     subst (λ (x : Board). allows x (Close i) ≡ true) (sym c.self.view_is) c.requires in
-    let all = in_counts ts ss p c.self.inside.missing.items i c.self.invariant asked in
-    subst (λ (xs : List Task). (j : ℕ) → j < length xs → one_if (precedes_in xs i j) ≤ slice_index c.deref_mut.result.now j)
-    (sym c.deref.ensures.value)
-    (subst (λ (ns : List ℕ). (j : ℕ) → j < length ts → one_if (precedes_in ts i j) ≤ slice_index ns j)
-    (sym c.deref_mut.ensures.value) all)
+    let all = in_counts ts ss p starts c.self.inside.missing.items i c.self.invariant.counted asked in
+    subst (λ (xs : List Task). (j : ℕ) → j < length xs →
+    one_if (counted_in xs c.deref-then-index.result.now i j) ≤ slice_index c.deref_mut.result.now j) (sym c.deref.ensures.value)
+    (subst (λ (ns : List ℕ). (j : ℕ) → j < length ts → one_if (counted_in ts ns i j) ≤ slice_index c.deref_mut.result.now j)
+    (sym c.deref-then-index.ensures.value)
+    (subst (λ (ns : List ℕ). (j : ℕ) → j < length ts → one_if (counted_in ts starts i j) ≤ slice_index ns j)
+    (sym c.deref_mut.ensures.value) all))
+
+pub release-requires-clause-past : goal.release-requires-clause-past
+release-requires-clause-past c =
+    let i = c.args.item in
+    let ts = c.self.inside.tasks.items in
+    let ss = c.self.inside.stages.items in
+    let p = c.self.inside.place in
+    let asked : allows (board_of ts ss p) (Close i) ≡ true =
+    subst (λ (x : Board). allows x (Close i) ≡ true) (sym c.self.view_is) c.requires in
+    let m = may_close (board_of ts ss p) i asked in
+    let lt : i < length ts = omega (arith, m.inside, length-map ts task_facts) in
+    let es = c.self.inside.ends.items in
+    let within : i < length es = omega (arith, lt, c.self.invariant.ends.same, length-map ts task_facts, length-map (map task_facts ts) work_of) in
+    let end : slice_index es i ≡ c.index-end.result.now =
+    sym (get_or_default_zero es i c.index-end.result.now within) ∙ sym c.index-end.ensures in
+    subst (λ (xs : List Task). (j : ℕ) → j < length xs → counted_in xs c.deref-then-index.result.now i j ≡ true →
+    j < c.index-end.result.now) (sym c.deref.ensures.value)
+    (subst (λ (ns : List ℕ). (j : ℕ) → j < length ts → counted_in ts ns i j ≡ true → j < c.index-end.result.now)
+    (sym c.deref-then-index.ensures.value)
+    (λ j inside e. subst (λ n. j < n) end (c.self.invariant.ends.past i j
+    (omega (arith, inside, length-map ts task_facts, length-map (map task_facts ts) work_of)) e)))
+
+pub release-requires-clause-end : goal.release-requires-clause-end
+release-requires-clause-end c =
+    let i = c.args.item in
+    let ts = c.self.inside.tasks.items in
+    let ss = c.self.inside.stages.items in
+    let p = c.self.inside.place in
+    let asked : allows (board_of ts ss p) (Close i) ≡ true =
+    subst (λ (x : Board). allows x (Close i) ≡ true) (sym c.self.view_is) c.requires in
+    let m = may_close (board_of ts ss p) i asked in
+    let lt : i < length ts = omega (arith, m.inside, length-map ts task_facts) in
+    let es = c.self.inside.ends.items in
+    let within : i < length es = omega (arith, lt, c.self.invariant.ends.same, length-map ts task_facts, length-map (map task_facts ts) work_of) in
+    let end : slice_index es i ≡ c.index-end.result.now =
+    sym (get_or_default_zero es i c.index-end.result.now within) ∙ sym c.index-end.ensures in
+    let small = c.self.invariant.ends.small i in
+    subst (λ (xs : List Task). c.index-end.result.now ≤ length xs) (sym c.deref.ensures.value)
+    (omega (arith, end, small, length-map ts task_facts, length-map (map task_facts ts) work_of))
+
+pub first_left-self-inside-requires-clause-inside : goal.first_left-self-inside-requires-clause-inside
+first_left-self-inside-requires-clause-inside c =
+    let ts = c.self.inside.tasks.items in
+    subst (λ (xs : List Task). c.self.inside.place ≤ length xs) (sym c.deref-then-index-2.ensures.value)
+    (omega (arith, c.self.invariant.ordered.inside, length-map ts task_facts))
+
+pub first_left-self-inside-requires-clause-from : goal.first_left-self-inside-requires-clause-from
+first_left-self-inside-requires-clause-from c = let h = c.self.invariant.first.inside in omega (arith, h)
+
+pub first_left-self-inside-requires-clause-below : goal.first_left-self-inside-requires-clause-below
+first_left-self-inside-requires-clause-below c =
+    let i = c.args.item in
+    let ts = c.self.inside.tasks.items in
+    let ss = c.self.inside.stages.items in
+    let p = c.self.inside.place in
+    let asked : allows (board_of ts ss p) (Close i) ≡ true =
+    subst (λ (x : Board). allows x (Close i) ≡ true) (sym c.self.view_is) c.requires in
+    subst (λ (xs : List Task). AreClosed (board_of xs c.deref-then-index-3.result.now p) c.self.inside.first) (sym c.deref-then-index-2.ensures.value)
+    (subst (λ (xs : List Stage). AreClosed (board_of ts xs p) c.self.inside.first) (sym c.deref-then-index-3.ensures.value)
+    (closed_below (board_of ts ss p) c.self.inside.starts.items c.self.inside.ends.items c.self.inside.missing.items c.self.inside.first i p c.self.invariant asked))
+
+pub first_left-self-inside-requires-2-clause-inside : goal.first_left-self-inside-requires-2-clause-inside
+first_left-self-inside-requires-2-clause-inside c =
+    let i = c.args.item in
+    let ts = c.self.inside.tasks.items in
+    let ss = c.self.inside.stages.items in
+    let p = c.self.inside.place in
+    let asked : allows (board_of ts ss p) (Close i) ≡ true =
+    subst (λ (x : Board). allows x (Close i) ≡ true) (sym c.self.view_is) c.requires in
+    let m = may_close (board_of ts ss p) i asked in
+    let lt : i < length ts = omega (arith, m.inside, length-map ts task_facts) in
+    let t : slice_get ts i ≡ Some c.index.result.now =
+    slice_get-get_or ts i c.index.result.now lt ∙ ap (λ (x : Task). Some x) (sym c.index.ensures) in
+    let here = host_here ts ss p c.self.inside.starts.items c.self.inside.missing.items i c.index.result.now c.self.invariant.counted asked t c.if-index.false in
+    subst (λ (xs : List Task). p + 1 ≤ length xs) (sym c.deref-2.ensures.value) (omega (arith, here, lt))
+
+pub first_left-self-inside-requires-2-clause-from : goal.first_left-self-inside-requires-2-clause-from
+first_left-self-inside-requires-2-clause-from c = let h = c.self.invariant.first.inside in omega (arith, h)
+
+pub first_left-self-inside-requires-2-clause-below : goal.first_left-self-inside-requires-2-clause-below
+first_left-self-inside-requires-2-clause-below c =
+    let i = c.args.item in
+    let ts = c.self.inside.tasks.items in
+    let ss = c.self.inside.stages.items in
+    let p = c.self.inside.place in
+    let asked : allows (board_of ts ss p) (Close i) ≡ true =
+    subst (λ (x : Board). allows x (Close i) ≡ true) (sym c.self.view_is) c.requires in
+    subst (λ (xs : List Task). AreClosed (board_of xs c.deref-3.result.now (p + 1)) c.self.inside.first) (sym c.deref-2.ensures.value)
+    (subst (λ (xs : List Stage). AreClosed (board_of ts xs (p + 1)) c.self.inside.first) (sym c.deref-3.ensures.value)
+    (closed_below (board_of ts ss p) c.self.inside.starts.items c.self.inside.ends.items c.self.inside.missing.items c.self.inside.first i (p + 1) c.self.invariant asked))
 
 pub invariant_of-self : goal.invariant_of-self
 invariant_of-self c =
@@ -32,24 +128,34 @@ invariant_of-self c =
     let ts = c.self.inside.tasks.items in
     let ss = c.self.inside.stages.items in
     let p = c.self.inside.place in
-    let old = c.self.inside.missing.items in
     let asked : allows (board_of ts ss p) (Close i) ≡ true =
     subst (λ (x : Board). allows x (Close i) ≡ true) (sym c.self.view_is) c.requires in
     let m = may_close (board_of ts ss p) i asked in
     let lt : i < length ts = omega (arith, m.inside, length-map ts task_facts) in
     let t : slice_get ts i ≡ Some c.index.result.now =
     slice_get-get_or ts i c.index.result.now lt ∙ ap (λ (x : Task). Some x) (sym c.index.ensures) in
-    let taken : (j : ℕ) → j < length ts → slice_index c.release.new.missing j + one_if (precedes_in ts i j) ≡ slice_index old j =
-    subst (λ (ns : List ℕ). (j : ℕ) → j < length ts → slice_index c.release.new.missing j + one_if (precedes_in ts i j) ≡ slice_index ns j)
+    let old = c.self.inside.missing.items in
+    let starts = c.self.inside.starts.items in
+    let now = c.release.new.missing in
+    let taken : (j : ℕ) → j < length ts → slice_index now j + one_if (counted_in ts starts i j) ≡ slice_index old j =
+    subst (λ (ns : List ℕ). (j : ℕ) → j < length ts → slice_index now j + one_if (counted_in ts starts i j) ≡ slice_index ns j)
     c.deref_mut.ensures.value
-    (subst (λ (xs : List Task). (j : ℕ) → j < length xs → slice_index c.release.new.missing j + one_if (precedes_in xs i j) ≡ slice_index c.deref_mut.result.now j)
-    c.deref.ensures.value c.release.ensures.taken) in
-    let long : length c.release.new.missing ≡ length ts =
+    (subst (λ (ns : List ℕ). (j : ℕ) → j < length ts → slice_index now j + one_if (counted_in ts ns i j) ≡ slice_index c.deref_mut.result.now j)
+    c.deref-then-index.ensures.value
+    (subst (λ (xs : List Task). (j : ℕ) → j < length xs → slice_index now j + one_if (counted_in xs c.deref-then-index.result.now i j) ≡ slice_index c.deref_mut.result.now j)
+    c.deref.ensures.value c.release.ensures.taken)) in
+    let long : length now ≡ length ts =
     c.release.ensures.same ∙ ap (λ (xs : List Task). length xs) c.deref.ensures.value in
-    let back = written_back c.release.new.missing old c.self.inside.missing.len c.self.inside.missing.ok.0
-    (omega (arith, long, c.self.invariant.same, length-map ts task_facts)) in
-    subst (λ (ns : List ℕ). IsCounted (board_of ts (slice_set ss i stage.Closed) p) ns) (sym back)
-    (task_counted ts ss p old c.release.new.missing i c.index.result.now c.self.invariant asked t c.if-index.true long taken)
+    let back = written_back now old c.self.inside.missing.len c.self.inside.missing.ok.0
+    (omega (arith, long, c.self.invariant.counted.same, length-map ts task_facts)) in
+    let next = c.first_left-self-inside.result in
+    let lowest : IsFirst (board_of ts (slice_set ss i stage.Closed) p) next =
+    subst (λ (xs : List Task). IsFirst (board_of xs (slice_set ss i stage.Closed) p) next) c.deref-then-index-2.ensures.value
+    (subst (λ (xs : List Stage). IsFirst (board_of c.deref-then-index-2.result.now xs p) next)
+    c.deref-then-index-3.ensures.value c.first_left-self-inside.ensures) in
+    subst (λ (ns : List ℕ). IsGraph (board_of ts (slice_set ss i stage.Closed) p) starts c.self.inside.ends.items ns next) (sym back)
+    (task_left ts ss p starts c.self.inside.ends.items old now c.self.inside.first next i c.index.result.now c.self.invariant
+    asked t c.if-index.true long taken lowest)
 
 pub returns-then-index : goal.returns-then-index
 returns-then-index c =
@@ -64,7 +170,7 @@ returns-then-index c =
     let t : slice_get ts i ≡ Some c.index.result.now =
     slice_get-get_or ts i c.index.result.now lt ∙ ap (λ (x : Task). Some x) (sym c.index.ensures) in
     λ plan fill s u stands e.
-    task_follows ts ss p c.self.inside.missing.items i c.index.result.now c.self.invariant asked t c.if-index.true plan fill s u
+    task_follows ts ss p c.self.inside.starts.items c.self.inside.missing.items i c.index.result.now c.self.invariant.counted asked t c.if-index.true plan fill s u
     (subst (λ (x : Board). Stands plan s x) (sym c.self.view_is) stands) e
 
 pub overflow_add-self : goal.overflow_add-self
@@ -79,7 +185,7 @@ overflow_add-self c =
     let lt : i < length ts = omega (arith, m.inside, length-map ts task_facts) in
     let t : slice_get ts i ≡ Some c.index.result.now =
     slice_get-get_or ts i c.index.result.now lt ∙ ap (λ (x : Task). Some x) (sym c.index.ensures) in
-    let here = host_here ts ss p c.self.inside.missing.items i c.index.result.now c.self.invariant asked t c.if-index.false in
+    let here = host_here ts ss p c.self.inside.starts.items c.self.inside.missing.items i c.index.result.now c.self.invariant.counted asked t c.if-index.false in
     omega (arith, here, lt, c.ranges.item.fits)
 
 pub invariant_of-self-2 : goal.invariant_of-self-2
@@ -94,7 +200,13 @@ invariant_of-self-2 c =
     let lt : i < length ts = omega (arith, m.inside, length-map ts task_facts) in
     let t : slice_get ts i ≡ Some c.index.result.now =
     slice_get-get_or ts i c.index.result.now lt ∙ ap (λ (x : Task). Some x) (sym c.index.ensures) in
-    host_counted ts ss p c.self.inside.missing.items i c.index.result.now c.self.invariant asked t c.if-index.false
+    let next = c.first_left-self-inside-2.result in
+    let lowest : IsFirst (board_of ts (slice_set ss i stage.Closed) (p + 1)) next =
+    subst (λ (xs : List Task). IsFirst (board_of xs (slice_set ss i stage.Closed) (p + 1)) next) c.deref-2.ensures.value
+    (subst (λ (xs : List Stage). IsFirst (board_of c.deref-2.result.now xs (p + 1)) next)
+    c.deref-3.ensures.value c.first_left-self-inside-2.ensures) in
+    host_left ts ss p c.self.inside.starts.items c.self.inside.ends.items c.self.inside.missing.items c.self.inside.first next i
+    c.index.result.now c.self.invariant asked t c.if-index.false lowest
 
 pub returns : goal.returns
 returns c =
@@ -109,5 +221,5 @@ returns c =
     let t : slice_get ts i ≡ Some c.index.result.now =
     slice_get-get_or ts i c.index.result.now lt ∙ ap (λ (x : Task). Some x) (sym c.index.ensures) in
     λ plan fill s u stands e.
-    host_follows ts ss p c.self.inside.missing.items i c.index.result.now c.self.invariant asked t c.if-index.false plan fill s u
+    host_follows ts ss p c.self.inside.starts.items c.self.inside.missing.items i c.index.result.now c.self.invariant.counted asked t c.if-index.false plan fill s u
     (subst (λ (x : Board). Stands plan s x) (sym c.self.view_is) stands) e

@@ -5,12 +5,8 @@ use Rattle.base.specs.Machine.{enabled}
 use Rattle.device.specs.Run.{Run, state_of}
 use Rattle.device.specs.Running.{run_of}
 use Rattle.device.proofs.Allowing.{never}
-use Rattle.device.proofs.Reaching.{over, same_events, same_tasks}
+use Rattle.device.proofs.Reaching.{over, same_events}
 use Rattle.device.proofs.state.RunState.is_enabled.Goals as goal
-
-pub is_allowed-requires : goal.is_allowed-requires
-is_allowed-requires c =
-    same_tasks (run_of c.self.inside) c.self.inside.standing _ c.items.result.now c.self.invariant c.items.ensures.shown
 
 pub returns-then-not-self : goal.returns-then-not-self
 returns-then-not-self c =
