@@ -32,12 +32,6 @@ on_checked (Ok x) bytes old new p q e s a =
     record { program = p; spelled = s; told = subst (λ (u : Program). IsTold u old new) e a }
 on_checked (Err x) bytes old new p q e s a = tt
 
-pub refused : (p : Program) (f : CheckFault) (r : SourceFault) → IsCheckFault (plan p) f →
-    ((r ≡ Check f) ⊎ (r ≡ Check check.OutOfMemory)) → IsUnaccepted p r
-refused p f r h told = ⊎_elim
-    (λ (same : r ≡ Check f). subst (IsUnaccepted p) (sym same) h)
-    (λ (memory : r ≡ Check check.OutOfMemory). subst (IsUnaccepted p) (sym memory) tt) told
-
 pub unaccepted : (bytes : List ℕ) (p q : Program) (f : SourceFault) → q ≡ p → Spells bytes p →
     length (plan p).items ≤ most_items → IsUnaccepted q f → IsRefused bytes f
 unaccepted bytes p q (Check f) e s few h =

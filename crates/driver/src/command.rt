@@ -64,7 +64,7 @@ fn capacity<'a>(alloc: Global) -> Arg<'a> {
         .long("capacity")
         .value_name("C")
         .value_parser(value_parser!(u64).range(0..=MAX_CAPACITY))
-        .help("the device's capacity in cells")
+        .help("the device's capacity in cells, up to 4294967296; 4194304 where it is not given")
 }
 
 fn run_command<'a>(alloc: Global) -> Result<Command<'a>, Error> {
@@ -72,7 +72,9 @@ fn run_command<'a>(alloc: Global) -> Result<Command<'a>, Error> {
         .long("workers")
         .value_name("N")
         .value_parser(value_parser!(u64).range(1..=MAX_WORKERS as i64))
-        .help("how many worker threads run targets and deferred items");
+        .help(
+            "how many worker threads run targets and deferred items, up to 16; 4 where it is not given",
+        );
     let log = Arg::new(alloc, "log")
         .long("log")
         .action(ArgAction::SetTrue)
@@ -82,7 +84,9 @@ fn run_command<'a>(alloc: Global) -> Result<Command<'a>, Error> {
         .action(ArgAction::SetTrue)
         .help("prints the arrays that are current at the end too");
     let run = Command::new(alloc, "run")
-        .about("runs a program by worker threads, and prints its output")
+        .about(
+            "runs a program on what standard input holds, by worker threads, and prints its output",
+        )
         .arg(file(alloc))?
         .arg(workers)?
         .arg(capacity(alloc))?
@@ -95,9 +99,11 @@ fn step_command<'a>(alloc: Global) -> Result<Command<'a>, Error> {
     let choices = Arg::new(alloc, "choices")
         .long("choices")
         .value_name("LIST")
-        .help("which of the enabled events is next, at each step: numbers separated by commas");
+        .help(
+            "which of the enabled events is next, at each step: numbers separated by commas, 0 past the last",
+        );
     let step = Command::new(alloc, "step")
-        .about("runs a program event by event, and prints its output and its log")
+        .about("runs a program likewise, but event by event, and prints its output and its log")
         .arg(file(alloc))?
         .arg(choices)?
         .arg(capacity(alloc))?;
@@ -128,6 +134,7 @@ fn commands<'a>(alloc: Global) -> Result<Command<'a>, Error> {
         .subcommand_required(true)
         .arg_required_else_help(true)
         .no_binary_name(true)
+        .bin_name("ompc")?
         .subcommand(check)?
         .subcommand(list)?
         .subcommand(run)?
