@@ -1,0 +1,2 @@
+uint64_t x;
+int main(void) { uint64_t x = 1; }

@@ -1,0 +1,2 @@
+uint64_t A[0];
+int main(void) { }

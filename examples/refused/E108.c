@@ -1,0 +1,2 @@
+uint64_t x;
+int main(void) { print(7 % x); }
