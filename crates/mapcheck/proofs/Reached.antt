@@ -74,10 +74,3 @@ one_reach plan n all w v h there is = record {
         let lt : i < length (all ++ v ∷ []) = slice_get_within (all ++ v ∷ []) i x f in
         let long = length-append all (v ∷ []) in
         let c = h.count in omega (arith, lt, long, c, other)
-
--- the reach of no item
-pub no_reaches : (plan : Plan) → AreFirstReaches plan 0 []
-no_reaches plan = record {
-  count = refl;
-  each = λ i w v there e. absurd (let lt : i < 0 = slice_get_within [] i v e in omega arith);
-}

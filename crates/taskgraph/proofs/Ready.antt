@@ -10,9 +10,6 @@ use Rattle.taskgraph.specs.Waiting.{begins, waits_for}
 use Rattle.taskgraph.proofs.Readiness.{free_ready}
 use Rattle.taskgraph.proofs.Laws.{and_false}
 
-abbrev pub comes : Board → ℕ → Bool
-comes b i = allows b (Open i) || allows b (Wait i)
-
 -- the questions that the machine asks of an item
 abbrev may_open : Board → ℕ → Work → Bool
 may_open b i w =

@@ -16,9 +16,6 @@ pub record IsScan (p : Plan) (j here start : ℕ) : Type 0 where
   pub small : start ≤ j
   pub none : (i : ℕ) → here ≤ i → i < start → precedes p i j ≡ false
 
-pub scan_none : (p : Plan) (j : ℕ) → IsScan p j j j
-scan_none p j = record { above = omega arith; small = omega arith; none = λ i le lt. absurd (omega (arith, le, lt)) }
-
 pub scan_past : (p : Plan) (j here next start : ℕ) → IsScan p j here start → here ≡ next + 1 → precedes p next j ≡ false →
     IsScan p j next start
 scan_past p j here next start h e free = record {
@@ -30,16 +27,6 @@ scan_past p j here next start h e free = record {
     go : (i : ℕ) → i < start → (i < here) ⊎ (here ≤ i) → next ≤ i → precedes p i j ≡ false
     go i lt (inr seen) le = h.none i seen lt
     go i lt (inl new) le = let same : i ≡ next = omega (arith, new, le, e) in ap (λ k. precedes p k j) same ∙ free
-
-pub scan_found : (p : Plan) (j here next start : ℕ) → IsScan p j here start → here ≡ next + 1 → IsScan p j next next
-scan_found p j here next start h e =
-    let le = h.above in
-    let small = h.small in
-    record {
-      above = omega arith;
-      small = omega (arith, le, small, e);
-      none = λ i le lt. absurd (omega (arith, le, lt));
-    }
 
 never : (p : Plan) (i j : ℕ) {A : Type 0} → precedes p i j ≡ true → precedes p i j ≡ false → A
 never p i j e f = absurd (let bad : true ≡ false = sym e ∙ f in cc)
