@@ -1,5 +1,4 @@
 pub mod Accesses
-pub mod Places
 pub mod Collisions
 pub mod Unordered
 pub mod Accepting

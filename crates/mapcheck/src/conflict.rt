@@ -8,7 +8,6 @@ ghost use Rattle.mapcheck.specs.Collisions.{IsLeastConflict, collide, collides};
 ghost use Rattle.ranges.specs.Cells.{has};
 
 use crate::accesses::{Access, Accesses, Cells};
-use crate::marks::{first_in_section, first_of_both};
 use base::item::{Cell, Section};
 use base::least::{first_shared, lesser};
 use base::tree::ArrayId;
@@ -18,12 +17,12 @@ use ranges::CellSet;
 fn least_in_section(section: &Section, set: &CellSet) -> Option<Cell>
     ensures { IsLeast (λ c. is_in c section.now && has set.now c) result }
 {
-    match first_in_section(section, set.row(section.array)) {
-        None => None,
-        Some(i) => Some(Cell {
-            array: section.array,
-            index: i as u64,
-        }),
+    let array = section.array;
+    let index = set.row(array).first_from(section.first as usize)? as u64;
+    if index - section.first < section.length {
+        Some(Cell { array, index })
+    } else {
+        None
     }
 }
 
@@ -33,7 +32,7 @@ fn least_of_both(left: &CellSet, right: &CellSet) -> Option<Cell>
 {
     'arrays: for a in 0..left.arrays().min(right.arrays()) {
         let array = ArrayId(a as u32);
-        if let Some(i) = first_of_both(left.row(array), right.row(array)) {
+        if let Some(i) = left.row(array).first_common(right.row(array)) {
             return Some(Cell {
                 array,
                 index: i as u64,
@@ -78,8 +77,8 @@ fn least_with(access: &Access<'_>, others: &[Access<'_>]) -> Option<Cell>
 }
 
 /// The least cell, by array and then by index, on which two items with these accesses conflict. It takes no memory. It
-/// takes time for each pair of accesses at one location of which one writes, and of a region's footprint for the cells
-/// of the array up to the last one that it touches.
+/// takes time for each pair of accesses at one location of which one writes, and of a region's footprint a step for each
+/// 64 cells of the array up to the last one that it touches.
 pub fn least_conflict(left: &Accesses<'_>, right: &Accesses<'_>) -> Option<Cell>
     ensures { IsLeastConflict left.now right.now result }
 {

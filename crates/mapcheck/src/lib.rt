@@ -23,13 +23,8 @@ use std::marker::Model;
 pub mod accesses;
 pub mod conflict;
 mod items;
-#[cfg(test)]
-mod loop_tests;
-mod marks;
 mod passes;
 mod reaches;
-#[cfg(test)]
-mod tests;
 mod third;
 pub mod unordered;
 

@@ -1,5 +1,5 @@
 -- What is current after the last item.
-use Rattle.std.proofs.Common.{◌≡◌, ℕ, zero, suc, ◌+◌, ◌<◌, ◌≤◌, Bool, true, false, List, [], ◌∷◌, length, take, drop, Vec, Global, refl, sym, ap, ◌∙◌, subst, arith, map}
+use Rattle.std.proofs.Common.{◌≡◌, ℕ, zero, suc, ◌+◌, ◌<◌, ◌≤◌, Bool, true, false, List, [], ◌∷◌, length, take, drop, refl, sym, ap, ◌∙◌, subst, arith, map}
 use Rattle.std.specs.Prelude.{filter, slice_index, nat_lt, ◌&&◌}
 use Rattle.std.specs.List.{list_all, range_with_len}
 use Rattle.std.proofs.lemmas.Bool.Decides.{nat_tests}
@@ -15,11 +15,11 @@ use Rattle.base.specs.Accepted.{current_before}
 use Rattle.mapwalk.specs.declared.rows.Acts.{Acts}
 use Rattle.mapwalk.specs.declared.current.Sides.{Sides}
 use Rattle.mapwalk.specs.Acts.{acts_rows}
-use Rattle.mapwalk.specs.Current.{IsStart, is_full_in, marks_in, row_in, row_lengths}
+use Rattle.mapwalk.specs.Current.{is_full_in, marks_in}
 use Rattle.mapwalk.specs.Sides.{lengths_in, shown_by}
 use Rattle.mapwalk.proofs.Agreeing.{Agree}
 use Rattle.mapwalk.proofs.Refusals.{stages_end}
-use Rattle.mapwalk.proofs.SideRows.{length_row, lengths_count}
+use Rattle.mapwalk.proofs.SideRows.{lengths_count}
 use Rattle.mapwalk.proofs.Walking.{Reached}
 
 take_whole : {X : Type 0} (xs : List X) (i : ℕ) → drop i xs ≡ [] → take i xs ≡ xs
@@ -40,8 +40,7 @@ cell_there lengths a j h = grind (arith, nat_tests)
 full_is : (plan : Plan) (s : Sides) → lengths_in s ≡ plan.lengths → Agree plan.lengths (shown_by s) (current_at_end plan) →
     (a : ℕ) → is_full_in s.host.items a ≡ is_marked plan a
 full_is plan s e h a =
-    let long : length (row_in s.host.items a) ≡ slice_index plan.lengths a = sym (length_row s.host.items a) ∙ ap
-    (λ ls. slice_index ls a) e in
+    let long : slice_index (lengths_in s) a ≡ slice_index plan.lengths a = ap (λ ls. slice_index ls a) e in
     ap (λ n. list_all (λ j. marks_in s.host.items (record { array = record { 0 = a }; index = j })) (range_with_len 0 n)) long
     ∙ all_same (λ j. marks_in s.host.items (record { array = record { 0 = a }; index = j }))
     (λ j. (current_at_end plan).host (record { array = record { 0 = a }; index = j })) 0 (slice_index plan.lengths a)

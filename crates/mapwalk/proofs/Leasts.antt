@@ -11,8 +11,9 @@ use Rattle.base.specs.Map.{Block, Presence, Absent, Inside, InPart, presence}
 use Rattle.base.specs.Actions.{Met}
 use Rattle.base.specs.Accepted.{first_cell, in_part, is_absent, met_at}
 use Rattle.mapwalk.specs.declared.seen.Seen.{Seen}
-use Rattle.mapwalk.specs.Seen.{also, is_before, least_shared, lesser, nothing, seen_all, seen_at, shared}
-use Rattle.mapwalk.specs.Firsts.{IsLeast}
+use Rattle.base.specs.Least.{is_less}
+use Rattle.mapwalk.specs.Seen.{also, least_shared, lesser, nothing, seen_all, seen_at, shared}
+use Rattle.base.specs.Least.{IsLeast}
 use Rattle.mapwalk.specs.Causes.{is_absent_cell, is_part_cell}
 
 pub least_same : (p q : Cell → Bool) (o : Option Cell) → ((c : Cell) → p c ≡ q c) → IsLeast p o → IsLeast q o
@@ -20,17 +21,17 @@ least_same p q None e h = λ c. sym (e c) ∙ h c
 least_same p q (Some x) e h = (sym (e x) ∙ h.0, λ d t. h.1 d (e d ∙ t))
 
 -- none is before the lesser of two that is before neither
-before_less : (c d e : Cell) → is_before c d ≡ true → is_before e d ≡ false → is_before e c ≡ true → is_before e d ≡ true
+before_less : (c d e : Cell) → is_less c d ≡ true → is_less e d ≡ false → is_less e c ≡ true → is_less e d ≡ true
 before_less c d e a b x = grind (arith, nat_tests)
 
-after_both : (c d e : Cell) → is_before c d ≡ true → is_before e d ≡ false → is_before e c ≡ false
-after_both c d e a b = go (is_before e c) refl
+after_both : (c d e : Cell) → is_less c d ≡ true → is_less e d ≡ false → is_less e c ≡ false
+after_both c d e a b = go (is_less e c) refl
   where
-    go : (t : Bool) → is_before e c ≡ t → t ≡ false
+    go : (t : Bool) → is_less e c ≡ t → t ≡ false
     go false x = refl
     go true x = sym (before_less c d e a b x) ∙ b
 
-later_still : (c d e : Cell) → is_before c d ≡ false → is_before e c ≡ false → is_before e d ≡ false
+later_still : (c d e : Cell) → is_less c d ≡ false → is_less e c ≡ false → is_less e d ≡ false
 later_still c d e a b = grind (arith, nat_tests)
 
 or_cases : {P : Type 0} (a b : Bool) → (a || b) ≡ true → (a ≡ true → P) → (b ≡ true → P) → P
@@ -49,9 +50,9 @@ least_also p q (Some x) None h k =
     (or_left (p x) (q x) h.0, λ d t. or_cases (p d) (q d) t (h.1 d) (λ u. absurd (let n = k d in cc)))
 least_also p q None (Some y) h k =
     (or_right (p y) (q y) k.0, λ d t. or_cases (p d) (q d) t (λ u. absurd (let n = h d in cc)) (k.1 d))
-least_also p q (Some x) (Some y) h k = go (is_before y x) refl
+least_also p q (Some x) (Some y) h k = go (is_less y x) refl
   where
-    go : (t : Bool) → is_before y x ≡ t → IsLeast (λ c. p c || q c) (Some (if t then y else x))
+    go : (t : Bool) → is_less y x ≡ t → IsLeast (λ c. p c || q c) (Some (if t then y else x))
     go true e =
         (or_right (p y) (q y) k.0, λ d t. or_cases (p d) (q d) t (λ u. after_both y x d e (h.1 d u)) (k.1 d))
     go false e =
@@ -64,7 +65,7 @@ is_shared : (s t : Section) → ((s.array.0 == t.array.0) && (nat_lt (max s.firs
     && nat_lt (max s.first t.first) (end_of t))) ≡ true → (is_in (first_of s t) s && is_in (first_of s t) t) ≡ true
 is_shared s t e = grind (arith, nat_tests)
 
-not_earlier : (s t : Section) (d : Cell) → (is_in d s && is_in d t) ≡ true → is_before d (first_of s t) ≡ false
+not_earlier : (s t : Section) (d : Cell) → (is_in d s && is_in d t) ≡ true → is_less d (first_of s t) ≡ false
 not_earlier s t d e = grind (arith, nat_tests)
 
 none_shared : (s t : Section) (d : Cell) → ((s.array.0 == t.array.0) && (nat_lt (max s.first t.first) (end_of s)
@@ -105,7 +106,7 @@ least_of_blocks s (b ∷ blocks) p found h =
 itself : (c : Cell) → same_cell c c ≡ true
 itself c = grind (arith, nat_tests)
 
-no_earlier : (c d : Cell) → same_cell d c ≡ true → is_before d c ≡ false
+no_earlier : (c d : Cell) → same_cell d c ≡ true → is_less d c ≡ false
 no_earlier c d e = grind (arith, nat_tests)
 
 least_of_one : (x : Cell) → IsLeast (λ c. same_cell c x) (Some x)

@@ -1,4 +1,5 @@
-pub mod Written
+pub mod AllMarked
+pub mod FirstCells
 pub mod SideRows
 pub mod RowLists
 pub mod Recounts

@@ -10,7 +10,7 @@ use Rattle.base.specs.Actions.{Met}
 use Rattle.base.specs.Accepted.{is_exit, is_update}
 use Rattle.mapwalk.specs.declared.seen.Seen.{Seen}
 use Rattle.mapwalk.specs.Seen.{nothing, seen_all}
-use Rattle.mapwalk.specs.Firsts.{IsLeast}
+use Rattle.base.specs.Least.{IsLeast}
 use Rattle.mapwalk.specs.Causes.{IsFirstOf, is_absent_cell, is_less, is_part_cell, met_causes}
 use Rattle.mapwalk.proofs.Leasts.{AreNoted, all_noted}
 

@@ -20,7 +20,7 @@ use Rattle.mapwalk.specs.Steps.{stage_of}
 use Rattle.mapwalk.specs.Walk.{HasNoRangeFault, IsFirstAlone}
 use Rattle.mapwalk.proofs.Agreeing.{cause_agree}
 use Rattle.mapwalk.proofs.Walking.{IsClean, Reached, no_fault_at, on_stage_is, stage_at}
-use Rattle.mapwalk.proofs.Written.{same_number, other_number}
+use Rattle.mapwalk.proofs.SideRows.{same_number, other_number}
 
 nowhere_true : (o : Option Stage) → (elim o as (λ z. Bool) [ None ↦ false | Some s ↦ false ]) ≡ true → ⊥
 nowhere_true None e = cc

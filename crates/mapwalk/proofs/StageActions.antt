@@ -34,7 +34,7 @@ use Rattle.mapwalk.proofs.RowActions.{acts_are_actions}
 use Rattle.mapwalk.proofs.TargetMaps.{target_keeps_maps}
 use Rattle.mapwalk.proofs.Walking.{no_fault_at}
 use Rattle.mapwalk.proofs.WorkParts.{parts}
-use Rattle.mapwalk.proofs.Written.{other_number}
+use Rattle.mapwalk.proofs.SideRows.{other_number}
 
 or_first : (a b : Bool) → (a || b) ≡ false → a ≡ false
 or_first false b e = refl

@@ -19,7 +19,7 @@ use Rattle.mapwalk.specs.declared.rows.Acts.{Acts}
 use Rattle.mapwalk.specs.Kinds.{after_maps, after_region, before_region, joined_by, met_by}
 use Rattle.mapwalk.specs.Regions.{region_actions}
 use Rattle.mapwalk.specs.Sides.{after_acts}
-use Rattle.mapwalk.specs.Seen.{is_before}
+use Rattle.base.specs.Least.{is_less as is_cell_less}
 use Rattle.mapwalk.specs.Steps.{HasDone, stage_of}
 use Rattle.mapwalk.proofs.WorkParts.{at_region, cause_split, parts}
 
@@ -82,7 +82,7 @@ module _ (w : Work) (blocks : List Block) (k : Current) where
       whole (Some x) (
         or_left (met x.code x.cell) (region x.code x.cell) h.0,
         λ code c t. or_cases (met code c) (region code c) t (h.1 code c)
-            (λ u. not_less (refusal_rank code) (refusal_rank x.code) (is_before c x.cell)
+            (λ u. not_less (refusal_rank code) (refusal_rank x.code) (is_cell_less c x.cell)
             (region_high w (at_region w blocks k) code c u) (met_low w.kind (met_by w.kind w.maps blocks) x.code x.cell h.0)),
       )
 

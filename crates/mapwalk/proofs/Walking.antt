@@ -19,7 +19,7 @@ use Rattle.mapwalk.specs.Acts.{acts_row, acts_rows}
 use Rattle.mapwalk.specs.Steps.{HasDone, stage_of}
 use Rattle.mapwalk.specs.Walk.{HasNoRangeFault}
 use Rattle.mapwalk.proofs.Agreeing.{Agree, actions_agree, cause_agree}
-use Rattle.mapwalk.proofs.Written.{same_number, other_number}
+use Rattle.mapwalk.proofs.SideRows.{same_number, other_number}
 
 -- the item with its region in full
 pub record WorkAt (entries : List Entry) (works : List Work) (i : ℕ) (x : Item) : Type 0 where

@@ -13,7 +13,7 @@ use Rattle.base.specs.Actions.{Met}
 use Rattle.base.specs.Current.{Current}
 use Rattle.base.specs.Accepted.{first_cell, in_part, is_absent, is_exit, is_host, is_target, is_update, met_at, refusal_rank, touches_in}
 use Rattle.mapwalk.specs.declared.causes.Cause.{Cause}
-use Rattle.mapwalk.specs.Seen.{is_before}
+use Rattle.base.specs.Least.{is_less as is_before}
 
 abbrev pub refusal_of : Cause → ℕ → Refusal
 refusal_of x item = record { code = x.code; item = item; cell = x.cell; other = None }

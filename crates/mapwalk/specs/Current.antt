@@ -1,29 +1,32 @@
--- Sides: a row of marks for each array.
-use Rattle.std.specs.Prelude.{ℕ, ◌≡◌, Bool, true, not, ◌&&◌, ◌||◌, List, [], Option, Some, None, Vec, map, length, slice_get}
+-- Sides: the marks of each array.
+use Rattle.std.specs.Prelude.{ℕ, ◌≡◌, Bool, true, false, not, ◌&&◌, ◌||◌, List, Option, Some, None, map, slice_get, slice_index}
 use Rattle.std.specs.List.{list_all, range_with_len}
-use Rattle.std.specs.declared.alloc.Global.{Global}
 use Rattle.base.specs.declared.item.Cell.{Cell}
 use Rattle.base.specs.declared.tree.ArrayId.{ArrayId}
 use Rattle.base.specs.Memory.{is_cell}
-use Rattle.ranges.specs.Rows.{is_marked}
+use Rattle.mapwalk.specs.declared.marks.Marks.{Marks}
+use Rattle.mapwalk.specs.Marks.{has_mark}
 
-abbrev pub items_of : Option (Vec Bool Global) → List Bool
-items_of None = []
-items_of (Some row) = row.items
+-- whether a cell of an array is marked, if there is such an array
+abbrev pub marked : Option Marks → ℕ → Bool
+marked None i = false
+marked (Some m) i = has_mark m i
 
 -- the marks of an array
-abbrev pub row_in : List (Vec Bool Global) → ℕ → List Bool
-row_in rows a = items_of (slice_get rows a)
+abbrev pub marks_at : List Marks → ℕ → ℕ → Bool
+marks_at side a = marked (slice_get side a)
 
-abbrev pub row_length : Vec Bool Global → ℕ
-row_length row = length row.items
+-- of how many cells
+abbrev pub length_of : Marks → ℕ
+length_of m = m.length
 
-abbrev pub row_lengths : List (Vec Bool Global) → List ℕ
-row_lengths rows = map row_length rows
+-- of how many cells each array is
+abbrev pub row_lengths : List Marks → List ℕ
+row_lengths side = map length_of side
 
 -- the cells that are marked
-abbrev pub marks_in : List (Vec Bool Global) → Cell → Bool
-marks_in rows c = is_marked (row_in rows c.array.0) c.index
+abbrev pub marks_in : List Marks → Cell → Bool
+marks_in side c = marks_at side c.array.0 c.index
 
 -- each of these cells is one of an array
 abbrev pub AreInside : List ℕ → (Cell → Bool) → Type 0
@@ -36,12 +39,12 @@ abbrev pub with_cut : (Cell → Bool) → (Cell → Bool) → Cell → Bool
 with_cut cells side c = not (cells c) && side c
 
 -- each cell of an array has this mark
-abbrev pub IsStart : List ℕ → Bool → List (Vec Bool Global) → Type 0
-IsStart lengths mark rows = (c : Cell) → is_cell lengths c ≡ true → marks_in rows c ≡ mark
+abbrev pub IsStart : List ℕ → Bool → List Marks → Type 0
+IsStart lengths mark side = (c : Cell) → is_cell lengths c ≡ true → marks_in side c ≡ mark
 
 abbrev pub array_number : ArrayId → ℕ
 array_number a = a.0
 
 -- whether each cell of an array is marked
-abbrev pub is_full_in : List (Vec Bool Global) → ℕ → Bool
-is_full_in rows a = list_all (is_marked (row_in rows a)) (range_with_len 0 (length (row_in rows a)))
+abbrev pub is_full_in : List Marks → ℕ → Bool
+is_full_in side a = list_all (marks_at side a) (range_with_len 0 (slice_index (row_lengths side) a))

@@ -7,7 +7,6 @@ pub mod Kinds
 pub mod Marks
 pub mod Current
 pub mod Sides
-pub mod Firsts
 pub mod Causes
 pub mod Regions
 pub mod Steps

@@ -1,21 +1,19 @@
 -- What stands against map items, met by met.
-use Rattle.std.specs.Prelude.{ℕ, Bool, nat_lt, max, ◌&&◌, ◌||◌, ◌==◌, if◌then◌else◌, List, [], ◌∷◌, Option, Some, None, map}
+use Rattle.std.specs.Prelude.{nat_lt, max, ◌&&◌, ◌==◌, if◌then◌else◌, List, [], ◌∷◌, Option, Some, None, map}
 use Rattle.base.specs.declared.item.Cell.{Cell}
 use Rattle.base.specs.declared.item.Section.{Section}
 use Rattle.base.specs.declared.item.MapItem.{MapItem}
+use Rattle.base.specs.Least.{is_less}
 use Rattle.base.specs.Memory.{end_of}
 use Rattle.base.specs.Map.{Block, Presence, Absent, Inside, InPart, presence, entry, exit, blocks_after}
 use Rattle.base.specs.Actions.{Met}
 use Rattle.base.specs.Accepted.{first_cell}
 use Rattle.mapwalk.specs.declared.seen.Seen.{Seen}
 
--- by array, and then by index
-abbrev pub is_before : Cell → Cell → Bool
-is_before c d = nat_lt c.array.0 d.array.0 || ((c.array.0 == d.array.0) && nat_lt c.index d.index)
-
+-- the lesser of two cells, the second of which may be missing
 abbrev pub lesser : Cell → Option Cell → Cell
 lesser c None = c
-lesser c (Some d) = if is_before c d then c else d
+lesser c (Some d) = if is_less c d then c else d
 
 -- the first cell that two sections share
 abbrev pub shared : Section → Section → Option Cell

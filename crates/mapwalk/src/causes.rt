@@ -1,21 +1,24 @@
 // Why an item is refused by itself: the least cells.
 
-ghost use Rattle.std.specs.Prelude.{◌≡◌, ◌<◌, ◌^◌, ◌&&◌, ◌||◌, not, List, length};
+ghost use Rattle.std.specs.Prelude.{◌≡◌, ◌<◌, ◌^◌, ◌&&◌, ◌||◌, nat_le, not, List, length};
 ghost use Rattle.std.specs.List.{list_any};
 ghost use Rattle.base.specs.Memory.{is_in};
 ghost use Rattle.base.specs.Actions.{Met};
 ghost use Rattle.ranges.specs.Cells.{has};
-ghost use Rattle.ranges.specs.Rows.{is_marked};
+ghost use Rattle.bits.specs.Sets as bits;
 ghost use Rattle.mapwalk.specs.Current.{AreInside, marks_in, row_lengths};
-ghost use Rattle.mapwalk.specs.Firsts.{IsFirstAt, IsLeast};
+ghost use Rattle.bits.specs.Sets.{IsFirstAt};
+ghost use Rattle.base.specs.Least.{IsLeast};
 ghost use Rattle.mapwalk.specs.Causes.{AreBelow, IsFirstOf, met_causes};
 ghost use Rattle.mapwalk.specs.Seen.{nothing, seen_all};
 
 use crate::blocks::end;
+use crate::marks::Marks;
 use crate::seen::Seen;
 use base::fault::RefusalCode;
 use base::item::{Cell, ItemKind, MapItem, Section};
 use base::tree::ArrayId;
+use bits::BitSet;
 use ranges::{CellSet, Footprint};
 
 /// Why an item is refused by itself, and at which cell.
@@ -25,34 +28,15 @@ pub struct Cause {
     pub cell: Cell,
 }
 
-// Whether a place of a row is marked.
-fn is_set(row: &[bool], i: usize) -> bool
-    ensures { result ≡ is_marked row.now i }
-{
-    row.get(i).copied().unwrap_or(false)
-}
-
-// The first place that one row marks and the other does not.
-fn first_stale(exposed: &[bool], side: &[bool]) -> Option<usize>
-    ensures { IsFirstAt (λ i. is_marked exposed.now i && not (is_marked side.now i)) result }
-{
-    'cells: for i in 0..exposed.len() {
-        if exposed[i] && !is_set(side, i) {
-            return Some(i);
-        }
-    }
-    None
-}
-
 /// The least cell of a set that is not marked.
-pub fn least_stale(exposed: &CellSet, side: &[Vec<bool>]) -> Option<Cell>
+pub fn least_stale(exposed: &CellSet, side: &[Marks]) -> Option<Cell>
     requires few { length side.now < 2 ^ 32 }
     requires inside { AreInside (row_lengths side.now) (has exposed.now) }
     ensures { IsLeast (λ c. has exposed.now c && not (marks_in side.now c)) result }
 {
     'arrays: for a in 0..side.len() {
         let array = ArrayId(a as u32);
-        if let Some(i) = first_stale(exposed.row(array), &side[a]) {
+        if let Some(i) = exposed.row(array).first_not_in(&side[a].cells) {
             return Some(Cell {
                 array,
                 index: i as u64,
@@ -83,23 +67,32 @@ fn is_mapped(maps: &[MapItem], cell: Cell) -> bool
     false
 }
 
-// The first cell of an array that is read or written and that no map item has.
-fn first_unmapped(read: &[bool], write: &[bool], maps: &[MapItem], array: ArrayId) -> Option<usize>
-    ensures { IsFirstAt (λ i. (is_marked read.now i || is_marked write.now i) && not (list_any (λ m. is_in (record { array = array; index = i }) m.section) maps.now)) result }
+// The first cell of an array, from an index on, that is read or written.
+fn first_touched(read: &BitSet, write: &BitSet, from: usize) -> Option<usize>
+    ensures { IsFirstAt (λ i. nat_le from i && (bits.has read.now i || bits.has write.now i)) result }
 {
-    'cells: for i in 0..read.len().max(write.len()) {
-        let touched = is_set(read, i) || is_set(write, i);
-        if touched
-            && !is_mapped(
-                maps,
-                Cell {
-                    array,
-                    index: i as u64,
-                },
-            )
-        {
+    match (read.first_from(from), write.first_from(from)) {
+        (Some(r), Some(w)) => Some(r.min(w)),
+        (Some(r), None) => Some(r),
+        (None, found) => found,
+    }
+}
+
+// The first cell of an array that is read or written and that no map item has.
+fn first_unmapped(read: &BitSet, write: &BitSet, maps: &[MapItem], array: ArrayId) -> Option<usize>
+    ensures { IsFirstAt (λ i. (bits.has read.now i || bits.has write.now i) && not (list_any (λ m. is_in (record { array = array; index = i }) m.section) maps.now)) result }
+{
+    let end = read.end().max(write.end());
+    let mut from = 0;
+    'cells: while from < end {
+        let Some(i) = first_touched(read, write, from) else {
+            return None;
+        };
+        let index = i as u64;
+        if !is_mapped(maps, Cell { array, index }) {
             return Some(i);
         }
+        from = i + 1;
     }
     None
 }

@@ -6,7 +6,7 @@ ghost use Rattle.base.specs.Current.{nowhere};
 ghost use Rattle.ranges.specs.Cells.{has};
 ghost use Rattle.mapwalk.specs.Current.{AreInside, IsStart, marks_in, row_lengths, with_added, with_cut};
 
-use crate::marks::{add, clear, copy, is_full, take_away};
+use crate::marks::Marks;
 use crate::rows::Acts;
 use base::item::{MapItem, Section};
 use base::tree::ArrayId;
@@ -16,66 +16,66 @@ use std::alloc::{AllocError, Global};
 /// The marks of the current cells on either side.
 #[derive(Drop)]
 pub struct Sides {
-    pub host: Vec<Vec<bool>>,
-    pub device: Vec<Vec<bool>>,
+    pub host: Vec<Marks>,
+    pub device: Vec<Marks>,
     ghost same: { row_lengths host.items ≡ row_lengths device.items },
 }
 
 // Takes the marks of a section's cells away.
-fn clear_section(side: &mut [Vec<bool>], section: &Section)
+fn clear_section(side: &mut [Marks], section: &Section)
     ensures marks { marks_in side.new ≡ within section.now nowhere (marks_in side.old) }
     ensures lengths { row_lengths side.new ≡ row_lengths side.old }
 {
     let array = section.array.0 as usize;
     if array < side.len() {
-        clear(&mut side[array], section);
+        side[array].clear(section);
     }
 }
 
 // Gives a section's cells the marks of the other side.
-fn copy_section(side: &mut [Vec<bool>], from: &[Vec<bool>], section: &Section)
+fn copy_section(side: &mut [Marks], from: &[Marks], section: &Section)
     requires { row_lengths side.old ≡ row_lengths from.now }
     ensures marks { marks_in side.new ≡ within section.now (marks_in from.now) (marks_in side.old) }
     ensures lengths { row_lengths side.new ≡ row_lengths side.old }
 {
     let array = section.array.0 as usize;
     if array < side.len() {
-        copy(&mut side[array], &from[array], section);
+        side[array].copy(&from[array], section);
     }
 }
 
 // Marks the cells of a set, each of which is a cell of an array.
-fn add_set(side: &mut [Vec<bool>], cells: &CellSet)
+fn add_set(side: &mut [Marks], cells: &CellSet)
     requires few { length side.old < 2 ^ 32 }
     requires inside { AreInside (row_lengths side.old) (has cells.now) }
     ensures marks { marks_in side.new ≡ with_added (has cells.now) (marks_in side.old) }
     ensures lengths { row_lengths side.new ≡ row_lengths side.old }
 {
     'arrays: for array in 0..side.len() {
-        add(&mut side[array], cells.row(ArrayId(array as u32)));
+        side[array].add(cells.row(ArrayId(array as u32)));
     }
 }
 
 // Takes the marks of the cells of a set away, each of which is a cell of an array.
-fn cut_set(side: &mut [Vec<bool>], cells: &CellSet)
+fn cut_set(side: &mut [Marks], cells: &CellSet)
     requires few { length side.old < 2 ^ 32 }
     requires inside { AreInside (row_lengths side.old) (has cells.now) }
     ensures marks { marks_in side.new ≡ with_cut (has cells.now) (marks_in side.old) }
     ensures lengths { row_lengths side.new ≡ row_lengths side.old }
 {
     'arrays: for array in 0..side.len() {
-        take_away(&mut side[array], cells.row(ArrayId(array as u32)));
+        side[array].take_away(cells.row(ArrayId(array as u32)));
     }
 }
 
 // A side on which each cell has this mark.
-fn side_of(alloc: Global, lengths: &[u32], mark: bool) -> Result<Vec<Vec<bool>>, AllocError>
+fn side_of(alloc: Global, lengths: &[u32], mark: bool) -> Result<Vec<Marks>, AllocError>
     ensures lengths { IfOk result (λ s. row_lengths s.items ≡ lengths.now) }
     ensures marks { IfOk result (λ s. IsStart lengths.now mark s.items) }
 {
     let mut side = Vec::new(alloc);
     'arrays: for length in lengths {
-        side.push(vec![in alloc; mark; *length as usize]?)?;
+        side.push(Marks::new(alloc, *length as usize, mark)?)?;
     }
     Ok(side)
 }
@@ -160,7 +160,7 @@ impl Sides {
     {
         let mut full = Vec::new(alloc);
         'arrays: for array in 0..self.host.len() {
-            if is_full(&self.host[array]) {
+            if self.host[array].is_full() {
                 full.push(ArrayId(array as u32))?;
             }
         }

@@ -26,14 +26,13 @@ mod blocks;
 mod causes;
 mod current;
 mod footprints;
+mod marking;
 mod marks;
 mod region;
 mod rows;
 mod seen;
 mod steps;
 mod table;
-#[cfg(test)]
-mod tests;
 
 /// What the walk finds.
 #[derive(Drop)]

@@ -2,8 +2,9 @@
 
 ghost use Rattle.std.specs.Prelude.{◌≡◌, Some, None, map};
 ghost use Rattle.base.specs.Accepted.{first_cell};
+ghost use Rattle.base.specs.Least.{is_less};
 ghost use Rattle.mapwalk.specs.Blocks.{block_of};
-ghost use Rattle.mapwalk.specs.Seen.{is_before, least_shared, lesser, nothing, seen_at, shared};
+ghost use Rattle.mapwalk.specs.Seen.{least_shared, lesser, nothing, seen_at, shared};
 
 use crate::blocks::{Block, Place, end, place_of};
 use base::item::{Cell, Section};
@@ -17,7 +18,7 @@ pub struct Seen {
 
 // Whether a cell is before another, by array and then by index.
 fn comes_before(left: Cell, right: Cell) -> bool
-    ensures { result ≡ is_before left right }
+    ensures { result ≡ is_less left right }
 {
     left.array.0 < right.array.0 || (left.array.0 == right.array.0 && left.index < right.index)
 }

@@ -9,7 +9,7 @@ use Rattle.base.specs.Machine.{is_predecessor}
 use Rattle.base.specs.Order.{Before, in_line, after_predecessor, through}
 use Rattle.outline.specs.Regions.{Entry}
 use Rattle.outline.specs.Shown.{all_shown, as_shown, shown, work_with}
-use Rattle.order.specs.declared.set.ItemSet.{ItemSet}
+use Rattle.bits.specs.declared.set.BitSet.{BitSet}
 use Rattle.order.specs.Bare.{bare, plan_of}
 use Rattle.order.specs.Rows.{IsOrder}
 use Rattle.order.proofs.Befores.{ask, at_both}
@@ -57,7 +57,7 @@ before_alike p q _ _ alike (after_predecessor i j h) =
 before_alike p q _ _ alike (through i k j first second) =
     through i k j (before_alike p q i k alike first) (before_alike p q k j alike second)
 
-pub order_alike : (p q : Plan) (rows : List ItemSet) → Alike p q → IsOrder p rows → IsOrder q rows
+pub order_alike : (p q : Plan) (rows : List BitSet) → Alike p q → IsOrder p rows → IsOrder q rows
 order_alike p q rows alike h i j =
     (λ e. before_alike p q i j alike ((h i j).0 e), λ b. (h i j).1 (before_alike q p i j (other_way p q alike) b))
 

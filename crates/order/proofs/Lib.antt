@@ -1,4 +1,3 @@
-pub mod Bits
 pub mod Found
 pub mod Befores
 pub mod Reached

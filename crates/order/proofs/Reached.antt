@@ -5,19 +5,19 @@ use Rattle.std.proofs.lemmas.Bool.{or_cases, or_left, or_right, eq-eqb, eqb-true
 use Rattle.std.proofs.lemmas.Option.{slice_get_read, slice_get_within}
 use Rattle.base.specs.Items.{Plan}
 use Rattle.base.specs.Order.{Before, through}
-use Rattle.order.specs.declared.set.ItemSet.{ItemSet}
-use Rattle.order.specs.Sets.{has, room, room_for}
+use Rattle.bits.specs.declared.set.BitSet.{BitSet}
+use Rattle.bits.specs.Sets.{has, room, room_for}
 use Rattle.order.specs.Rows.{IsRow, IsRowThere, AreRows, IsOrder, is_in_row}
 use Rattle.order.proofs.Befores.{Leads, LastStep, last_step, led, later_inside}
 
 -- what is found of the items before item j, where those from k on were looked at
-pub record Reached (plan : Plan) (j k : ℕ) (s : ItemSet) : Type 0 where
+pub record Reached (plan : Plan) (j k : ℕ) (s : BitSet) : Type 0 where
   pub roomy : room s ≡ room_for (length plan.items)
   pub holds : (i : ℕ) → has s i ≡ true → Before plan i j
   pub closed : (i m : ℕ) → has s m ≡ true → Before plan i m → has s i ≡ true
   pub looked : (m : ℕ) → k ≤ m → Leads plan m j → has s m ≡ true
 
-pub starts : (plan : Plan) (j : ℕ) (s : ItemSet) → room s ≡ room_for (length plan.items) →
+pub starts : (plan : Plan) (j : ℕ) (s : BitSet) → room s ≡ room_for (length plan.items) →
     ((i : ℕ) → has s i ≡ false) → Reached plan j j s
 starts plan j s roomy none = record {
   roomy = roomy;
@@ -27,7 +27,7 @@ starts plan j s roomy none = record {
 }
 
 -- an item that leads to item j is added, with those before it
-pub added : (plan : Plan) (j n k : ℕ) (s row joined s' : ItemSet) → n ≡ k + 1 → Reached plan j n s → IsRow plan k row →
+pub added : (plan : Plan) (j n k : ℕ) (s row joined s' : BitSet) → n ≡ k + 1 → Reached plan j n s → IsRow plan k row →
     Leads plan k j →
     room joined ≡ room s → ((i : ℕ) → has joined i ≡ (has s i || has row i)) →
     room s' ≡ room joined → ((i : ℕ) → has s' i ≡ (has joined i || (k == i))) →
@@ -63,7 +63,7 @@ added plan j n k s row joined s' next h r leads joined_room joined_is new_room n
     itself i same = new_is i ∙ or_right (has joined i) (k == i) (eq-eqb k i same)
 
 -- an item that is there already, or does not lead to item j, is passed
-pub passed : (plan : Plan) (j n k : ℕ) (s : ItemSet) → n ≡ k + 1 → Reached plan j n s →
+pub passed : (plan : Plan) (j n k : ℕ) (s : BitSet) → n ≡ k + 1 → Reached plan j n s →
     (Leads plan k j → has s k ≡ true) → Reached plan j k s
 passed plan j n k s next h there = record {
   roomy = h.roomy;
@@ -75,7 +75,7 @@ passed plan j n k s next h there = record {
 }
 
 -- all earlier items were looked at
-pub all_looked : (plan : Plan) (j : ℕ) (s : ItemSet) → Reached plan j 0 s → IsRow plan j s
+pub all_looked : (plan : Plan) (j : ℕ) (s : BitSet) → Reached plan j 0 s → IsRow plan j s
 all_looked plan j s h = record { roomy = h.roomy; holds = h.holds; found = λ i b. go i (last_step plan i j b) }
   where
     go : (i : ℕ) → LastStep plan i j → has s i ≡ true
@@ -87,20 +87,20 @@ all_looked plan j s h = record { roomy = h.roomy; holds = h.holds; found = λ i 
 -- ---- the sets of items
 
 -- a set that is read
-pub row_read : (plan : Plan) (rows : List ItemSet) (k : ℕ) (r : ItemSet) → AreRows plan rows → k < length rows →
+pub row_read : (plan : Plan) (rows : List BitSet) (k : ℕ) (r : BitSet) → AreRows plan rows → k < length rows →
     r ≡ get_or rows k r → IsRow plan k r
 row_read plan rows k r h lt is =
-    subst (λ (o : Option ItemSet). IsRowThere plan k o) (slice_get_read rows (length rows) k r refl lt is) (h k lt)
+    subst (λ (o : Option BitSet). IsRowThere plan k o) (slice_get_read rows (length rows) k r refl lt is) (h k lt)
 
 -- the sets of all items are the order
-pub are_order : (plan : Plan) (rows : List ItemSet) → AreRows plan rows → length rows ≡ length plan.items → IsOrder plan rows
+pub are_order : (plan : Plan) (rows : List BitSet) → AreRows plan rows → length rows ≡ length plan.items → IsOrder plan rows
 are_order plan rows h same i j = (forth (slice_get rows j) refl, back)
   where
-    forth : (o : Option ItemSet) → slice_get rows j ≡ o → elim o [ None ↦ false | Some s ↦ has s i ] ≡ true → Before plan i j
+    forth : (o : Option BitSet) → slice_get rows j ≡ o → elim o [ None ↦ false | Some s ↦ has s i ] ≡ true → Before plan i j
     forth None e b = absurd cc
-    forth (Some s) e b = (subst (λ (o : Option ItemSet). IsRowThere plan j o) e (h j (slice_get_within rows j s e))).holds i b
+    forth (Some s) e b = (subst (λ (o : Option BitSet). IsRowThere plan j o) e (h j (slice_get_within rows j s e))).holds i b
 
-    found : (o : Option ItemSet) → IsRowThere plan j o → Before plan i j → elim o [ None ↦ false | Some s ↦ has s i ] ≡ true
+    found : (o : Option BitSet) → IsRowThere plan j o → Before plan i j → elim o [ None ↦ false | Some s ↦ has s i ] ≡ true
     found None r b = absurd r
     found (Some s) r b = r.found i b
 

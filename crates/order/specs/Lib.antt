@@ -1,4 +1,3 @@
-pub mod Sets
 pub mod Bare
 pub mod Rows
 pub mod Clashes

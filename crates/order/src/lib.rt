@@ -9,9 +9,9 @@ ghost use Rattle.order.specs.Built.{HasNoClash, IsBuildFault};
 
 use crate::clash::first_clash;
 use crate::rows::rows_of;
-use crate::set::ItemSet;
 use base::fault::OrderFault;
 use base::tree::Program;
+use bits::BitSet;
 use outline::Outlined;
 use std::alloc::Global;
 use std::marker::Model;
@@ -19,9 +19,6 @@ use thiserror::Error;
 
 mod clash;
 mod rows;
-mod set;
-#[cfg(test)]
-mod tests;
 
 /// Why a program has no order.
 #[derive(Clone, Copy, PartialEq, Eq, Debug, Error)]
@@ -38,7 +35,7 @@ pub enum OrderBuildFault {
 pub struct Order<'p> {
     program: &'p Program,
     // For each item those before it.
-    rows: Vec<ItemSet>,
+    rows: Vec<BitSet>,
 }
 
 impl<'p> Model for Order<'p> {

@@ -6,9 +6,9 @@ ghost use Rattle.base.specs.Limits.{most_items};
 ghost use Rattle.order.specs.Bare.{bare, plan_of};
 ghost use Rattle.order.specs.Rows.{AreRows, IsRow, leads_to};
 
-use crate::set::ItemSet;
 use base::depend::match_some;
 use base::item::{Item, ItemKind};
+use bits::BitSet;
 use std::alloc::{AllocError, Global};
 
 // A `taskwait` without a `depend` clause.
@@ -30,27 +30,27 @@ fn leads_to(earlier: &Item, later: &Item) -> bool
 fn row_of(
     alloc: Global,
     items: &[Item],
-    rows: &[ItemSet],
+    rows: &[BitSet],
     later: usize,
-) -> Result<ItemSet, AllocError>
+) -> Result<BitSet, AllocError>
     requires few { length items.now ≤ most_items }
     requires inside { later < length items.now }
     requires earlier { length rows.now ≡ later }
     requires rows { AreRows (plan_of items.now) rows.now }
     ensures { IfOk result (IsRow (plan_of items.now) later) }
 {
-    let mut found = ItemSet::new(alloc, items.len())?;
+    let mut found = BitSet::with_room(alloc, items.len())?;
     for earlier in (0..later).rev() {
         if !found.contains(earlier) && leads_to(&items[earlier], &items[later]) {
-            found.join(&rows[earlier]);
-            found.add(earlier);
+            found.union_with(&rows[earlier]);
+            found.insert(earlier);
         }
     }
     Ok(found)
 }
 
 /// For each item the set of those before it.
-pub fn rows_of(alloc: Global, items: &[Item]) -> Result<Vec<ItemSet>, AllocError>
+pub fn rows_of(alloc: Global, items: &[Item]) -> Result<Vec<BitSet>, AllocError>
     requires { length items.now ≤ most_items }
     ensures rows { IfOk result (λ rows. AreRows (plan_of items.now) rows.items) }
     ensures all { IfOk result (λ rows. length rows.items ≡ length items.now) }

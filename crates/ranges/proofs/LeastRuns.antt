@@ -1,22 +1,62 @@
--- The least run of marked places, as far as they were looked at.
-use Rattle.std.proofs.Common.{◌≡◌, ℕ, ◌+◌, ◌-◌, ◌<◌, ◌≤◌, Bool, true, false, List, [], ◌∷◌, ◌++◌, length, Option, Some, sym, ◌∙◌, ap, refl, subst, length-append, arith}
-use Rattle.std.specs.Prelude.{nat_lt, slice_get}
-use Rattle.std.proofs.lemmas.Bool.{false≢true, ltb-true, ltb-false}
+-- The least runs that have some cells.
+use Rattle.std.proofs.Common.{◌≡◌, ℕ, ◌+◌, ◌-◌, ◌<◌, ◌≤◌, Bool, true, false, List, [], ◌∷◌, ◌++◌, length, Option, Some, None, sym, ◌∙◌, ap, refl, subst, max, min, ⊎_elim, length-append, arith}
+use Rattle.std.specs.Prelude.{nat_le, nat_lt, slice_get, unwrap_or, ◌&&◌, ◌||◌}
+use Rattle.std.proofs.lemmas.Bool.{false≢true, ltb-true, ltb-false, or_cases, or_left, or_right, cases_lt, le-leb}
 use Rattle.base.specs.declared.item.Section.{Section}
-use Rattle.ranges.specs.Reach.{AreLeastRuns, IsLeastRun, cell_of}
+use Rattle.base.specs.Memory.{end_of}
+use Rattle.bits.specs.Sets.{IsEndOf, IsFirstAt}
+use Rattle.ranges.specs.Reach.{AreLeastRuns, IsFirstOr, IsLeastRun, cell_of}
 use Rattle.base.specs.declared.item.Cell.{Cell}
 use Rattle.base.proofs.Places.{get_left, get_right}
 use Rattle.std.proofs.lemmas.Option.{slice_get_within}
 
--- the places below i at which p holds are from first up to the end, and both are such places where there are some
-pub record RunSoFar (p : ℕ → Bool) (i first end : ℕ) : Type 0 where
-  pub order : first ≤ end
-  pub bound : end ≤ i
-  pub from : (k : ℕ) → k < i → p k ≡ true → first ≤ k
-  pub below : (k : ℕ) → k < i → p k ≡ true → k < end
-  pub first' : 1 ≤ end → (first < end) × (p first ≡ true)
-  pub last : 1 ≤ end → p (end - 1) ≡ true
-  pub none : end ≡ 0 → first ≡ 0
+from_none : (p : ℕ → Bool) (i : ℕ) → (nat_le 0 i && p i) ≡ p i
+from_none p i = ap (λ b. b && p i) (le-leb 0 i (omega arith))
+
+-- the first place, or the end
+pub first_or : (p : ℕ → Bool) (end : ℕ) (o : Option ℕ) → IsFirstAt (λ i. nat_le 0 i && p i) o →
+    ((i : ℕ) → p i ≡ true → i < end) → IsFirstOr p end (unwrap_or o end)
+first_or p end None none below = record {
+  within = omega arith;
+  from = λ i e. absurd (false≢true (sym (none i) ∙ from_none p i ∙ e));
+  holds = λ h. absurd (omega arith);
+}
+first_or p end (Some n) h below = record {
+  within = let lt : n < end = below n there in omega arith;
+  from = λ i e. ⊎_elim (λ (lt : i < n). absurd (false≢true (sym (h.1 i lt) ∙ from_none p i ∙ e))) (λ (le : n ≤ i). le)
+      (cases_lt i n);
+  holds = λ lt. there;
+}
+  where
+    there : p n ≡ true
+    there = sym (from_none p n) ∙ h.0
+
+-- the run from the first place of either of two sets up to the last one
+pub least_run : (p q : ℕ → Bool) (m n first second : ℕ) (s : Section) → IsEndOf p m → IsEndOf q n →
+    IsFirstOr p (max m n) first → IsFirstOr q (max m n) second → s.first ≡ min first second →
+    s.length ≡ max m n - min first second → IsLeastRun (λ i. p i || q i) s
+least_run p q m n first second s ends ends' begins begins' is length_is = record {
+  from = λ i e. ⊎_elim (λ (h : p i ≡ true). let le : first ≤ i = begins.from i h in omega arith)
+      (λ (h : q i ≡ true). let le : second ≤ i = begins'.from i h in omega arith) (or_cases (p i) (q i) e);
+  below = λ i e. ⊎_elim
+      (λ (h : p i ≡ true). let lt : i < m = ends.below i h in let le : first ≤ i = begins.from i h in omega arith)
+      (λ (h : q i ≡ true). let lt : i < n = ends'.below i h in let le : second ≤ i = begins'.from i h in omega arith)
+      (or_cases (p i) (q i) e);
+  first = λ some. ⊎_elim
+      (λ (lt : second < first).
+      let e : s.first ≡ second = omega arith in
+      or_right (p s.first) (q s.first) (ap q e ∙ begins'.holds (omega arith)))
+      (λ (le : first ≤ second).
+      let e : s.first ≡ first = omega arith in
+      or_left (p s.first) (q s.first) (ap p e ∙ begins.holds (omega arith))) (cases_lt second first);
+  last = λ some. ⊎_elim
+      (λ (lt : m < n).
+      let e : end_of s - 1 ≡ n - 1 = omega arith in
+      or_right (p (end_of s - 1)) (q (end_of s - 1)) (ap q e ∙ ends'.last (omega arith)))
+      (λ (le : n ≤ m).
+      let e : end_of s - 1 ≡ m - 1 = omega arith in
+      or_left (p (end_of s - 1)) (q (end_of s - 1)) (ap p e ∙ ends.last (omega arith))) (cases_lt m n);
+}
 
 same_one : {A : Type 0} (o : Option A) (x y : A) → o ≡ Some x → o ≡ Some y → x ≡ y
 same_one o x y e f = let g : Some x ≡ Some y = sym e ∙ f in cc

@@ -1,5 +1,5 @@
 -- What a cell's tests are once a touch was seen. e: it was exposed; u: it was surely written; m: the touch has it.
-use Rattle.std.proofs.Common.{◌≡◌, Bool, true, false, refl, sym, ap}
+use Rattle.std.proofs.Common.{◌≡◌, Bool, true, false, refl, sym}
 use Rattle.std.proofs.lemmas.Bool.{or_left, or_right}
 use Rattle.std.specs.Prelude.{not, ◌&&◌, ◌||◌}
 

@@ -7,20 +7,24 @@ use mathlib.Core.Path.{fun_ext}
 use Rattle.base.specs.declared.tree.ArrayId.{ArrayId}
 use Rattle.base.specs.declared.item.Cell.{Cell}
 use Rattle.ranges.specs.declared.row.Row.{Row}
-use Rattle.ranges.specs.Rows.{is_marked}
-use Rattle.ranges.specs.Cells.{row_at, marks_of}
+use Rattle.bits.specs.declared.set.BitSet.{BitSet}
+use Rattle.bits.specs.Sets.{has}
+use Rattle.ranges.specs.Cells.{row_at, cells_of}
 use Rattle.ranges.proofs.Marks.{number_is}
 
-one_row_more : (rows : List Row) (row : Row) → row.marks.items ≡ [] → (a : ℕ) → row_at
-    (rows ++ row ∷ []) a ≡ row_at rows a
-one_row_more [] row e zero = e
-one_row_more [] row e (suc a) = refl
-one_row_more (r ∷ rows) row e zero = refl
-one_row_more (r ∷ rows) row e (suc a) = one_row_more rows row e a
+module _ (none : BitSet) (empty : (i : ℕ) → has none i ≡ false) where
+  one_row_more : (rows : List Row) (row : Row) → ((i : ℕ) → has row.cells i ≡ false) → (a i : ℕ) →
+      has (row_at none (rows ++ row ∷ []) a) i ≡ has (row_at none rows a) i
+  one_row_more [] row e zero i = e i ∙ sym (empty i)
+  one_row_more [] row e (suc a) i = refl
+  one_row_more (r ∷ rows) row e zero i = refl
+  one_row_more (r ∷ rows) row e (suc a) i = one_row_more rows row e a i
 
-pub rows_more : (rows : List Row) (row : Row) → row.marks.items ≡ [] → row_at (rows ++ row ∷ []) ≡
-    row_at rows
-rows_more rows row e = fun_ext (λ a. one_row_more rows row e a)
+  -- one more array of which no cell is in the set
+  pub rows_more : (rows after : List Row) (row : Row) → after ≡ rows ++ row ∷ [] → ((i : ℕ) → has row.cells i ≡ false) →
+      ◌≡◌ {A = Cell → Bool} (λ c. has (row_at none after c.array.0) c.index) (λ c. has (row_at none rows c.array.0) c.index)
+  rows_more rows after row is e = ap (λ xs (c : Cell). has (row_at none xs c.array.0) c.index) is
+      ∙ fun_ext (λ (c : Cell). one_row_more rows row e c.array.0 c.index)
 
 get_in : {X : Type 0} (xs : List X) (i : ℕ) (v : X) → i < length xs → slice_get (slice_set xs i v) i ≡ Some v
 get_in [] i v h = absurd (omega arith)
@@ -38,25 +42,25 @@ differ : (a b : ℕ) → (a == b) ≡ false → a ≢ b
 differ a b h = grind (arith, nat_tests)
 
 -- one row has other marks
-pub row_changed : (rows : List Row) (a : ArrayId) (old new : Row) (now : Bool → ℕ → ℕ → Bool → Bool) →
+pub row_changed : (none : BitSet) (rows : List Row) (a : ArrayId) (old new : Row) (now : Bool → ℕ → ℕ → Bool → Bool) →
     a.0 < length rows →
     old ≡ get_or rows a.0 old →
     ((k i : ℕ) (m : Bool) → now false k i m ≡ m) →
-    ((i : ℕ) → is_marked new.marks.items i ≡ now true a.0 i (is_marked old.marks.items i)) →
-    (c : Cell) → is_marked (row_at (slice_set rows a.0 new) c.array.0) c.index
-    ≡ now (a.0 == c.array.0) c.array.0 c.index (is_marked (row_at rows c.array.0) c.index)
-row_changed rows a old new now within is other here c = go (a.0 == c.array.0) refl
+    ((i : ℕ) → has new.cells i ≡ now true a.0 i (has old.cells i)) →
+    (c : Cell) → has (row_at none (slice_set rows a.0 new) c.array.0) c.index
+    ≡ now (a.0 == c.array.0) c.array.0 c.index (has (row_at none rows c.array.0) c.index)
+row_changed none rows a old new now within is other here c = go (a.0 == c.array.0) refl
   where
-    go : (b : Bool) → (a.0 == c.array.0) ≡ b → is_marked (row_at (slice_set rows a.0 new) c.array.0) c.index
-        ≡ now b c.array.0 c.index (is_marked (row_at rows c.array.0) c.index)
+    go : (b : Bool) → (a.0 == c.array.0) ≡ b → has (row_at none (slice_set rows a.0 new) c.array.0) c.index
+        ≡ now b c.array.0 c.index (has (row_at none rows c.array.0) c.index)
     go true h =
         let same : a.0 ≡ c.array.0 = number_is a.0 c.array.0 h in
-        let held : row_at rows c.array.0 ≡ old.marks.items = ap (row_at rows) (sym same) ∙ ap marks_of
+        let held : row_at none rows c.array.0 ≡ old.cells = ap (row_at none rows) (sym same) ∙ ap (cells_of none)
         (slice_get-get_or rows a.0 old within ∙ ap Some (sym is)) in
-        ap (λ k. is_marked (row_at (slice_set rows a.0 new) k) c.index) (sym same)
-        ∙ ap (λ o. is_marked (marks_of o) c.index) (get_in rows a.0 new within)
+        ap (λ k. has (row_at none (slice_set rows a.0 new) k) c.index) (sym same)
+        ∙ ap (λ o. has (cells_of none o) c.index) (get_in rows a.0 new within)
         ∙ here c.index
-        ∙ (λ i. now true (same i) c.index (is_marked (sym held i) c.index))
+        ∙ (λ i. now true (same i) c.index (has (sym held i) c.index))
     go false h =
-        ap (λ o. is_marked (marks_of o) c.index) (get_else rows a.0 new c.array.0 (differ a.0 c.array.0 h))
-        ∙ sym (other c.array.0 c.index (is_marked (row_at rows c.array.0) c.index))
+        ap (λ o. has (cells_of none o) c.index) (get_else rows a.0 new c.array.0 (differ a.0 c.array.0 h))
+        ∙ sym (other c.array.0 c.index (has (row_at none rows c.array.0) c.index))

@@ -1,26 +1,30 @@
 -- Sets of cells.
-use Rattle.std.specs.Prelude.{ℕ, ◌≡◌, Bool, true, ◌&&◌, ◌||◌, ◌==◌, List, [], Option, Some, None, slice_get}
+use Rattle.std.specs.Prelude.{ℕ, ◌≡◌, Bool, true, ◌&&◌, ◌||◌, ◌==◌, List, Option, Some, None, slice_get}
 use Rattle.base.specs.declared.tree.ArrayId.{ArrayId}
 use Rattle.base.specs.declared.item.Cell.{Cell}
 use Rattle.base.specs.declared.fault.Interval.{Interval}
 use Rattle.ranges.specs.declared.row.Row.{Row}
 use Rattle.ranges.specs.declared.cells.CellSet.{CellSet}
 use Rattle.ranges.specs.declared.cells.Footprint.{Footprint}
-use Rattle.ranges.specs.Rows.{is_marked, is_within}
+use Rattle.bits.specs.declared.set.BitSet.{BitSet}
+use Rattle.bits.specs.Sets.{has as has_number}
+use Rattle.ranges.specs.Rows.{is_within}
 
-abbrev pub marks_of : Option Row → List Bool
-marks_of None = []
-marks_of (Some row) = row.marks.items
+-- the cells of a row, or none where there is no row
+abbrev pub cells_of : BitSet → Option Row → BitSet
+cells_of none None = none
+cells_of none (Some row) = row.cells
 
-abbrev pub row_at : List Row → ℕ → List Bool
-row_at rows a = marks_of (slice_get rows a)
+abbrev pub row_at : BitSet → List Row → ℕ → BitSet
+row_at none rows a = cells_of none (slice_get rows a)
 
-abbrev pub row_of : CellSet → ℕ → List Bool
-row_of s a = row_at s.rows.items a
+-- the cells of an array that are in the set, by their indices
+abbrev pub row_of : CellSet → ℕ → BitSet
+row_of s a = row_at s.none s.rows.items a
 
 -- whether the cell is in the set
 abbrev pub has : CellSet → Cell → Bool
-has s c = is_marked (row_of s c.array.0) c.index
+has s c = has_number (row_of s c.array.0) c.index
 
 -- whether the cell is one of these of the array
 abbrev pub is_among : ArrayId → Interval → Cell → Bool

@@ -25,6 +25,12 @@ pub record IsLeastRun (p : ℕ → Bool) (s : Section) : Type 0 where
   pub first : 1 ≤ s.length → p s.first ≡ true
   pub last : 1 ≤ s.length → p (end_of s - 1) ≡ true
 
+-- the first place at which a test holds, or the end where it holds at none
+pub record IsFirstOr (p : ℕ → Bool) (end n : ℕ) : Type 0 where
+  pub within : n ≤ end
+  pub from : (i : ℕ) → p i ≡ true → n ≤ i
+  pub holds : n < end → p n ≡ true
+
 -- each section is one of the array at its place
 abbrev pub AreOfArrays : List Section → Type 0
 AreOfArrays reach = (a : ℕ) (s : Section) → slice_get reach a ≡ Some s → s.array.0 ≡ a

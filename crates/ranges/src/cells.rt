@@ -1,17 +1,22 @@
 // Sets of cells.
 
-ghost use Rattle.std.specs.Prelude.{◌≤◌, ◌^◌, length};
+ghost use Rattle.std.specs.Prelude.{◌≡◌, ◌≤◌, ◌^◌, ℕ, false, length};
+ghost use Rattle.bits.specs.Sets.{has as has_number};
 
 use crate::row::Row;
+use bits::BitSet;
 use std::alloc::Global;
 
-/// A set of cells. Its size is that of the arrays up to the last cell that it has in each.
+/// A set of cells. It has a bit for each cell of an array up to the last one in it.
 #[derive(Drop)]
 pub struct CellSet {
     pub(crate) alloc: Global,
     // A row for each array.
     pub(crate) rows: Vec<Row>,
+    // No cell, for arrays beyond the rows.
+    pub(crate) none: BitSet,
     ghost few: { length rows.items ≤ 2 ^ 32 },
+    ghost empty: { (i : ℕ) → has_number none i ≡ false },
 }
 
 /// The cells that a region may touch.

@@ -4,6 +4,7 @@ ghost use Rattle.std.specs.Prelude.{◌≡◌};
 ghost use Rattle.ranges.specs.Cells.{HasSameCells, has};
 
 use crate::cells::{CellSet, Footprint};
+use bits::BitSet;
 use std::alloc::AllocError;
 
 impl Clone for CellSet {
@@ -13,6 +14,7 @@ impl Clone for CellSet {
         Ok(CellSet {
             alloc: self.alloc,
             rows: self.rows.clone()?,
+            none: BitSet::new(self.alloc),
         })
     }
 }

@@ -5,10 +5,11 @@ ghost use Rattle.base.specs.declared.item.Cell.{Cell};
 ghost use Rattle.ranges.specs.Cells.{AreKnown, HasAll, has, is_among, row_of};
 
 use crate::cells::{CellSet, Footprint};
-use crate::row::{Row, is_set};
+use crate::row::Row;
 use base::fault::Interval;
 use base::item::Cell;
 use base::tree::ArrayId;
+use bits::BitSet;
 use std::alloc::{AllocError, Global};
 
 impl CellSet {
@@ -19,16 +20,17 @@ impl CellSet {
         CellSet {
             alloc,
             rows: Vec::new(alloc),
+            none: BitSet::new(alloc),
         }
     }
 
-    /// The marks of the cells of an array, up to the last one that was ever reached. Past their end no cell is in the set.
-    pub fn row(&self, array: ArrayId) -> &[bool]
+    /// The cells of an array that are in the set, by their indices.
+    pub fn row(&self, array: ArrayId) -> &BitSet
         ensures { result.now ≡ row_of self.now array.0 }
     {
         match self.rows.get(array.0 as usize) {
-            Some(row) => &row.marks,
-            None => &[],
+            Some(row) => &row.cells,
+            None => &self.none,
         }
     }
 
@@ -44,7 +46,7 @@ impl CellSet {
     pub fn contains(&self, cell: Cell) -> bool
         ensures { result ≡ has self.now cell }
     {
-        is_set(self.row(cell.array), cell.index as usize)
+        self.row(cell.array).contains(cell.index as usize)
     }
 
     // Whether these cells of an array are known to be in the set.
@@ -59,7 +61,7 @@ impl CellSet {
 
     // Makes a row for an array.
     fn reach(&mut self, array: ArrayId) -> Result<(), AllocError>
-        ensures same { row_of self.new ≡ row_of self.old }
+        ensures same { has self.new ≡ has self.old }
         ensures long { OnOk result (array.0 < length self.new.rows.items) }
     {
         while self.rows.len() <= array.0 as usize {

@@ -32,8 +32,6 @@ mod reached;
 mod row;
 mod section;
 mod state;
-#[cfg(test)]
-mod tests;
 mod turns;
 mod walk;
 
@@ -84,7 +82,8 @@ pub fn sections(program: &Program, item: &Item) -> Result<(), RangeFault>
 /// its array. An array that the program does not have is left by each subscript.
 ///
 /// It takes time for each turn that is walked and each subscript, and for the cells of a subscript's interval, unless all
-/// of them lie in the one run of cells that is kept for an array. It takes memory for the cells up to the last one touched.
+/// of them lie in the one run of cells that is kept for an array. It takes four bits of memory for each cell of an array
+/// up to the last one touched.
 pub fn footprint(
     alloc: Global,
     program: &Program,

@@ -1,43 +1,30 @@
 // The cells that a region may touch, as a run of cells of each array.
 
-ghost use Rattle.std.specs.Prelude.{◌≡◌, ◌≤◌, ◌^◌, ◌||◌, false, IfOk, length};
-ghost use Rattle.ranges.specs.Reach.{AreLeastRuns, IsLeastRun, touched_by};
-ghost use Rattle.ranges.specs.Rows.{is_marked};
+ghost use Rattle.std.specs.Prelude.{◌≡◌, ◌<◌, ◌≤◌, ◌^◌, ◌||◌, ℕ, true, false, IfOk, length};
+ghost use Rattle.bits.specs.Sets.{has};
+ghost use Rattle.ranges.specs.Reach.{AreLeastRuns, IsFirstOr, IsLeastRun, touched_by};
 
 use crate::cells::Footprint;
 use base::item::Section;
 use base::tree::ArrayId;
+use bits::BitSet;
 use std::alloc::{AllocError, Global};
 
-// Whether a row marks a place.
-fn marks(row: &[bool], i: usize) -> bool
-    ensures { result ≡ is_marked row.now i }
+// The least number in a set, or the end where there is none.
+fn first_or(set: &BitSet, end: usize) -> usize
+    requires { (i : ℕ) → has set.now i ≡ true → i < end }
+    ensures { IsFirstOr (has set.now) end result }
 {
-    row.get(i).copied().unwrap_or(false)
+    set.first_from(0).unwrap_or(end)
 }
 
-// Whether one of two rows marks a place.
-fn is_either(read: &[bool], write: &[bool], i: usize) -> bool
-    ensures { result ≡ (is_marked read.now i || is_marked write.now i) }
-{
-    marks(read, i) || marks(write, i)
-}
-
-// The least run of places of an array that has each one that a row marks.
-fn run_of(array: ArrayId, read: &[bool], write: &[bool]) -> Section
+// The least run of places of an array that has each one that is in one of two sets.
+fn run_of(array: ArrayId, read: &BitSet, write: &BitSet) -> Section
     ensures array { result.array ≡ array }
-    ensures least { IsLeastRun (λ i. is_marked read.now i || is_marked write.now i) result }
+    ensures least { IsLeastRun (λ i. has read.now i || has write.now i) result }
 {
-    let mut first = 0;
-    let mut end = 0;
-    'places: for i in 0..read.len().max(write.len()) {
-        if is_either(read, write, i) {
-            if end == 0 {
-                first = i;
-            }
-            end = i + 1;
-        }
-    }
+    let end = read.end().max(write.end());
+    let first = first_or(read, end).min(first_or(write, end));
     Section {
         array,
         first: first as u64,
@@ -46,8 +33,8 @@ fn run_of(array: ArrayId, read: &[bool], write: &[bool]) -> Section
 }
 
 /// For each array the least run of cells that has all cells which the region may read or write, of length 0 where it
-/// touches none. A cell beyond the arrays of these lengths is in no run. It takes time for each cell up to the last one
-/// that is touched.
+/// touches none. A cell beyond the arrays of these lengths is in no run. It takes a few steps for each array, and one for 64
+/// cells that it does not touch.
 pub fn reach(
     alloc: Global,
     lengths: &[u32],

@@ -1,61 +1,57 @@
-// A row of marks, one for each cell of an array.
+// The cells of one array.
 
-ghost use Rattle.std.specs.Prelude.{◌≡◌, ◌+◌, ◌<◌, ◌≤◌, ◌^◌, ◌&&◌, ◌||◌, not, [], length, IsTrue, OnOk, OnErr};
-ghost use Rattle.ranges.specs.Rows.{AreMarked, AreWithin, is_marked, is_within};
+ghost use Rattle.std.specs.Prelude.{◌≡◌, ◌+◌, ◌<◌, ◌≤◌, ◌^◌, ◌&&◌, ◌||◌, ℕ, not, false, IsTrue, OnOk, OnErr};
+ghost use Rattle.bits.specs.Sets.{has};
+ghost use Rattle.ranges.specs.Rows.{HasFrom, HasWithin, is_within};
 
 use base::fault::Interval;
+use bits::BitSet;
 use std::alloc::{AllocError, Global};
 
-/// The marks of the cells of an array. Past their end no cell is marked.
+/// Cells of an array.
 #[derive(Drop)]
 pub struct Row {
-    pub marks: Vec<bool>,
-    // The cells of one run, all of them marked: from `first`, up to `end`.
+    pub cells: BitSet,
+    // One run, all of whose cells are in the row: from `first`, up to `end`.
     first: usize,
     end: usize,
-    ghost covered: { AreMarked marks.items first end },
+    ghost covered: { HasFrom cells first end },
 }
 
-// Whether a place is marked.
-pub fn is_set(row: &[bool], i: usize) -> bool
-    ensures { result ≡ is_marked row.now i }
-{
-    row.get(i).copied().unwrap_or(false)
-}
-
-// Makes a row so long.
-fn lengthen(row: &mut Vec<bool>, count: usize) -> Result<(), AllocError>
-    ensures same { is_marked row.new.items ≡ is_marked row.old.items }
-    ensures long { OnOk result (count ≤ length row.new.items) }
-{
-    while row.len() < count {
-        row.push(false)?;
-    }
-    Ok(())
-}
-
-// Marks the cells of an interval that are not excluded.
-fn mark(row: &mut Vec<bool>, cells: Interval, excluded: &[bool]) -> Result<(), AllocError>
+// Adds the cells of an interval that are not excluded.
+fn mark(row: &mut BitSet, cells: Interval, excluded: &BitSet) -> Result<(), AllocError>
     requires { cells.hi < 2 ^ 32 }
-    ensures ok { OnOk result (is_marked row.new.items ≡ (λ i. is_marked row.old.items i || (is_within cells i && not (is_marked excluded.now i)))) }
-    ensures err { OnErr result (is_marked row.new.items ≡ is_marked row.old.items) }
+    ensures ok { OnOk result (has row.new ≡ (λ i. has row.old i || (is_within cells i && not (has excluded.now i)))) }
+    ensures err { OnErr result (has row.new ≡ has row.old) }
 {
     let end = cells.hi as usize + 1;
-    lengthen(row, end)?;
+    row.grow(end)?;
     for i in cells.lo as usize..end {
-        if !is_set(excluded, i) {
-            row[i] = true;
+        if !excluded.contains(i) {
+            row.insert(i);
         }
     }
     Ok(())
 }
 
+// Adds the cells of an interval.
+fn mark_all(row: &mut BitSet, cells: Interval) -> Result<(), AllocError>
+    requires { cells.hi < 2 ^ 32 }
+    ensures ok { OnOk result (has row.new ≡ (λ i. has row.old i || is_within cells i)) }
+    ensures err { OnErr result (has row.new ≡ has row.old) }
+{
+    let end = cells.hi as usize + 1;
+    row.grow(end)?;
+    row.insert_range(cells.lo as usize, end);
+    Ok(())
+}
+
 impl Clone for Row {
-    ghost is_clone = { λ r s. s.marks.items ≡ r.marks.items };
+    ghost is_clone = { λ r s. (i : ℕ) → has s.cells i ≡ has r.cells i };
 
     fn clone(&self) -> Result<Row, AllocError> {
         Ok(Row {
-            marks: Vec::from_slice(*self.marks.allocator(), &self.marks)?,
+            cells: self.cells.clone()?,
             first: self.first,
             end: self.end,
         })
@@ -64,34 +60,43 @@ impl Clone for Row {
 
 impl Row {
     pub fn new(alloc: Global) -> Row
-        ensures { result.marks.items ≡ [] }
+        ensures { (i : ℕ) → has result.cells i ≡ false }
     {
         Row {
-            marks: Vec::new(alloc),
+            cells: BitSet::new(alloc),
             first: 0,
             end: 0,
         }
     }
 
-    // Marks the cells of an interval that are not excluded.
-    pub fn add_unless(&mut self, cells: Interval, excluded: &[bool]) -> Result<(), AllocError>
+    // Adds the cells of an interval that are not excluded.
+    pub fn add_unless(&mut self, cells: Interval, excluded: &BitSet) -> Result<(), AllocError>
         requires { cells.hi < 2 ^ 32 }
-        ensures ok { OnOk result (is_marked self.new.marks.items ≡ (λ i. is_marked self.old.marks.items i || (is_within cells i && not (is_marked excluded.now i)))) }
-        ensures err { OnErr result (is_marked self.new.marks.items ≡ is_marked self.old.marks.items) }
+        ensures ok { OnOk result (has self.new.cells ≡ (λ i. has self.old.cells i || (is_within cells i && not (has excluded.now i)))) }
+        ensures err { OnErr result (has self.new.cells ≡ has self.old.cells) }
     {
-        mark(&mut self.marks, cells, excluded)
+        mark(&mut self.cells, cells, excluded)
+    }
+
+    // Adds the cells of an interval, and keeps the run as it is.
+    fn add_all(&mut self, cells: Interval) -> Result<(), AllocError>
+        requires { cells.hi < 2 ^ 32 }
+        ensures ok { OnOk result (has self.new.cells ≡ (λ i. has self.old.cells i || is_within cells i)) }
+        ensures err { OnErr result (has self.new.cells ≡ has self.old.cells) }
+    {
+        mark_all(&mut self.cells, cells)
     }
 
     pub fn covers(&self, cells: Interval) -> bool
-        ensures { IsTrue result → AreWithin self.now.marks.items cells }
+        ensures { IsTrue result → HasWithin self.now.cells cells }
     {
         self.first as u64 <= cells.lo && cells.hi < self.end as u64
     }
 
     // Keeps the longer of two runs, or both where they meet.
     fn cover(&mut self, first: usize, end: usize)
-        requires { AreMarked self.now.marks.items first end }
-        ensures { self.new.marks ≡ self.old.marks }
+        requires { HasFrom self.now.cells first end }
+        ensures { self.new.cells ≡ self.old.cells }
     {
         if first <= self.end && self.first <= end {
             self.first = self.first.min(first);
@@ -102,16 +107,16 @@ impl Row {
         }
     }
 
-    // Marks the cells of an interval.
+    // Adds the cells of an interval.
     pub fn add(&mut self, cells: Interval) -> Result<(), AllocError>
         requires { cells.hi < 2 ^ 32 }
-        ensures ok { OnOk result (is_marked self.new.marks.items ≡ (λ i. is_marked self.old.marks.items i || is_within cells i)) }
-        ensures err { OnErr result (is_marked self.new.marks.items ≡ is_marked self.old.marks.items) }
+        ensures ok { OnOk result (has self.new.cells ≡ (λ i. has self.old.cells i || is_within cells i)) }
+        ensures err { OnErr result (has self.new.cells ≡ has self.old.cells) }
     {
         if self.covers(cells) {
             return Ok(());
         }
-        self.add_unless(cells, &[])?;
+        self.add_all(cells)?;
         self.cover(cells.lo as usize, cells.hi as usize + 1);
         Ok(())
     }

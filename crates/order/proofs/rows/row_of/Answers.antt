@@ -1,8 +1,10 @@
 use Rattle.std.proofs.Common.{◌≡◌, ◌-◌, ◌+◌, ◌<◌, true, false, length, sym, ap, ◌∙◌, subst, arith}
 use Rattle.std.proofs.lemmas.List.{length-map}
 use Rattle.order.specs.Bare.{bare, plan_of}
-use Rattle.order.specs.Rows.{leads_to}
-use Rattle.order.specs.Sets.{room_for}
+use Rattle.order.specs.Rows.{IsRow, leads_to}
+use Rattle.std.specs.Prelude.{◌||◌}
+use Rattle.bits.specs.Sets.{has, room, room_for}
+use Rattle.bits.proofs.Words.{within_room}
 use Rattle.order.proofs.Befores.{Leads, both_read}
 use Rattle.order.proofs.Reached.{Reached, starts, added, passed, all_looked, row_read}
 use Rattle.order.proofs.rows.row_of.Goals.{else-not-contains-via-then-not-contains+else-leads_to, else-not-contains-via-else-not-contains}
@@ -47,10 +49,14 @@ loop-earlier-preserved-then-leads_to c =
           c.index-items-earlier.is c.index-items-later.is
           ∙ sym c.leads_to.ensures ∙ c.if-leads_to.true;
     } in
-    added (plan_of its) c.args.later n k c.loop-earlier.found c.index-rows-earlier.result c.join.new.self c.add.new.self next
-    c.loop-earlier.invariant
-    (row_read (plan_of its) c.args.rows.now k c.index-rows-earlier.result c.requires.rows in_rows c.index-rows-earlier.is)
-    leads c.join.ensures.room c.join.ensures.joined c.add.ensures.room c.add.ensures.added
+    let s = c.loop-earlier.found in
+    let row = c.index-rows-earlier.result in
+    let is_row : IsRow (plan_of its) k row = row_read (plan_of its) c.args.rows.now k row c.requires.rows in_rows c.index-rows-earlier.is in
+    let as_roomy : room row ≡ room s = is_row.roomy ∙ sym c.loop-earlier.invariant.roomy in
+    added (plan_of its) c.args.later n k s row c.union_with.new.self c.insert.new.self next c.loop-earlier.invariant is_row
+    leads c.union_with.ensures.room
+    (λ i. c.union_with.ensures.united i ∙ ap (λ b. has s i || b) (within_room row.words.items (room s) i (omega arith)))
+    c.insert.ensures.room c.insert.ensures.added
 
 pub returns : goal.returns
 returns c =

@@ -1,7 +1,8 @@
-use Rattle.std.proofs.Common.{ap, subst, Bool, List}
+use Rattle.std.proofs.Common.{ap, subst}
 use Rattle.std.specs.Prelude.{◌||◌}
 use Rattle.base.specs.declared.tree.ArrayId.{ArrayId}
-use Rattle.ranges.specs.Rows.{is_marked}
+use Rattle.bits.specs.declared.set.BitSet.{BitSet}
+use Rattle.bits.specs.Sets.{has}
 use Rattle.ranges.specs.Cells.{row_of}
 use Rattle.ranges.specs.Reach.{IsLeastRun, touched_by}
 use Rattle.ranges.proofs.LeastRuns.{least_more}
@@ -13,7 +14,7 @@ arrays-preserved c =
     let f = c.args.footprint.now in
     least_more (touched_by f) c.arrays.a c.arrays.runs.items c.push.new.self.items s
     (ap (λ (a : ArrayId). a.0) c.run_of.ensures.array)
-    (subst (λ (w : List Bool). IsLeastRun (λ i. is_marked (row_of f.read c.arrays.a) i || is_marked w i) s) c.row-in-arrays.ensures
-    (subst (λ (r : List Bool). IsLeastRun (λ i. is_marked r i || is_marked c.row-in-arrays.result.now i) s) c.row.ensures
+    (subst (λ (w : BitSet). IsLeastRun (λ i. has (row_of f.read c.arrays.a) i || has w i) s) c.row-in-arrays.ensures
+    (subst (λ (r : BitSet). IsLeastRun (λ i. has r i || has c.row-in-arrays.result.now i) s) c.row.ensures
     c.run_of.ensures.least))
     c.in_ok-push.ensures.items c.arrays.invariant

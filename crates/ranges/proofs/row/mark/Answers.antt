@@ -1,42 +1,49 @@
-use Rattle.std.proofs.Common.{◌+◌, ◌≤◌, Bool, true, Vec, Global, arith, sym, subst}
-use Rattle.ranges.specs.Rows.{is_marked}
-use Rattle.ranges.proofs.Marks.{marks_begin, mark_passed, mark_set, marks_end, set_length, Marked}
-use Rattle.ranges.proofs.row.mark.Goals.{then-not-is_set, else-not-is_set}
+use Rattle.std.proofs.Common.{◌+◌, ◌≤◌, arith, sym, subst}
+use mathlib.Core.Path.{fun_ext}
+use Rattle.bits.specs.declared.set.BitSet.{BitSet}
+use Rattle.bits.specs.Sets.{has}
+use Rattle.ranges.proofs.Marks.{marks_begin, mark_passed, mark_set, marks_end, Marked}
+use Rattle.ranges.proofs.Outcomes.{always_err}
+use Rattle.ranges.proofs.row.mark.Goals.{then-not-contains, else-not-contains}
 use Rattle.ranges.proofs.row.mark.Goals as goal
 
 pub loop-i-init : goal.loop-i-init
 loop-i-init c = record {
-  long = c.in_ok-lengthen.ensures.long;
-  marked = marks_begin c.args.row.now.items c.lengthen.new.row.items c.args.cells.lo (c.args.cells.hi + 1)
-      (is_marked c.args.excluded.now) c.in_ok-lengthen.ensures.same;
+  long = omega (arith, c.in_ok-grow.ensures.ok);
+  marked = marks_begin (has c.args.row.now) (has c.grow.new.self) c.args.cells.lo (c.args.cells.hi + 1)
+      (has c.args.excluded.now) c.in_ok-grow.ensures.same;
 }
 
 pub loop-i-preserved : goal.loop-i-preserved
 loop-i-preserved c =
-    let before = is_marked c.args.row.now.items in
-    let excluded = is_marked c.args.excluded.now in
+    let before = has c.args.row.now in
+    let excluded = has c.args.excluded.now in
     let end = c.args.cells.hi + 1 in
-    let row = c.loop-i.row.items in
-    let done : Marked before excluded c.args.cells.lo (c.loop-i.i + 1) end c.if-not-is_set.row.items = elim c.if-not-is_set.branch [
-      | then-not-is_set w ↦
-          subst (λ (r : Vec Bool Global). Marked before excluded c.args.cells.lo (c.loop-i.i + 1) end r.items)
+    let row = c.loop-i.row in
+    let done : Marked before excluded c.args.cells.lo (c.loop-i.i + 1) end c.if-not-contains.row = elim c.if-not-contains.branch [
+      | then-not-contains w ↦
+          subst (λ (r : BitSet). Marked before excluded c.args.cells.lo (c.loop-i.i + 1) end r)
           (sym w.row-is)
           (record {
-            long = subst (λ n. end ≤ n) (sym (set_length row c.loop-i.i true)) c.loop-i.invariant.long;
-            marked = mark_set before excluded row c.args.cells.lo c.loop-i.i end (sym w.if-not-is_set.ensures)
-                c.loop-i.auto.i c.loop-i-test.true (omega arith) c.loop-i.invariant.marked;
+            long = subst (λ n. end ≤ n) (sym w.insert.ensures.room) c.loop-i.invariant.long;
+            marked = mark_set before excluded (has row) (has w.insert.new.self) c.args.cells.lo c.loop-i.i end
+                (sym w.if-not-contains.ensures) c.loop-i.auto.i c.loop-i-test.true w.insert.ensures.added
+                c.loop-i.invariant.marked;
           })
-      | else-not-is_set w ↦
-          subst (λ (r : Vec Bool Global). Marked before excluded c.args.cells.lo (c.loop-i.i + 1) end r.items)
+      | else-not-contains w ↦
+          subst (λ (r : BitSet). Marked before excluded c.args.cells.lo (c.loop-i.i + 1) end r)
           (sym w.row-is)
           (record {
             long = c.loop-i.invariant.long;
-            marked = mark_passed before excluded row c.args.cells.lo c.loop-i.i end (sym w.if-not-is_set.ensures)
+            marked = mark_passed before excluded (has row) c.args.cells.lo c.loop-i.i end (sym w.if-not-contains.ensures)
                 c.loop-i.invariant.marked;
           })
     ] in
     record { long = done.long; marked = done.marked }
 
 pub returns-clause-ok : goal.returns-clause-ok
-returns-clause-ok c = marks_end (is_marked c.args.row.now.items) (is_marked c.args.excluded.now) c.loop-i.row.items c.args.cells
+returns-clause-ok c = marks_end (has c.args.row.now) (has c.args.excluded.now) (has c.loop-i.row) c.args.cells
     c.loop-i.i c.loop-i-test.false c.loop-i.invariant.marked
+
+pub returns-in_err-grow-clause-err : goal.returns-in_err-grow-clause-err
+returns-in_err-grow-clause-err c = always_err c.from_residual.result (fun_ext c.grow.ensures.same)

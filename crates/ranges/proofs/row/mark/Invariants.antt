@@ -1,10 +1,10 @@
-use Rattle.std.proofs.Common.{◌≡◌, ◌≤◌, length}
-use Rattle.ranges.specs.Rows.{is_marked}
+use Rattle.std.proofs.Common.{◌≡◌, ◌≤◌}
+use Rattle.bits.specs.Sets.{has, room}
 use Rattle.ranges.proofs.Marks.{marked_to}
 use Rattle.ranges.proofs.row.mark.Given as goal
 
 abbrev pub invariant-loop-i : goal.invariant-loop-i
 invariant-loop-i l = record {
-  long : l.end ≤ length l.row.items;
-  marked : is_marked l.row.items ≡ marked_to (is_marked l.fn.row.items) l.fn.cells.lo l.i l.end (is_marked l.excluded);
+  long : l.end ≤ room l.row;
+  marked : has l.row ≡ marked_to (has l.fn.row) l.fn.cells.lo l.i l.end (has l.excluded);
 }

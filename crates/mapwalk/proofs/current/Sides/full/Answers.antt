@@ -2,9 +2,9 @@ use Rattle.std.proofs.Common.{◌≡◌, ℕ, ◌+◌, ◌<◌, List, Bool, true
 use Rattle.std.specs.Prelude.{filter, cond}
 use Rattle.std.specs.List.{list_all, range_with_len}
 use Rattle.std.proofs.lemmas.List.{map-append}
-use Rattle.ranges.specs.Rows.{is_marked}
-use Rattle.mapwalk.specs.Current.{array_number, is_full_in, row_in}
-use Rattle.mapwalk.proofs.SideRows.{filter_more, row_get}
+use Rattle.mapwalk.specs.Marks.{has_mark}
+use Rattle.mapwalk.specs.Current.{array_number, is_full_in}
+use Rattle.mapwalk.proofs.SideRows.{filter_more, full_row}
 use Rattle.mapwalk.proofs.current.Sides.full.Goals as goal
 use Rattle.mapwalk.proofs.current.Sides.full.Goals.{then-is_full+in_ok-push, else-is_full}
 
@@ -13,9 +13,9 @@ arrays-preserved c =
     let p = is_full_in c.args.self.now.host.items in
     let a = c.arrays.array in
     let there : a < length c.args.self.now.host.items = omega arith in
-    let row : c.deref.result.now ≡ row_in c.args.self.now.host.items a = c.deref.ensures.value
-    ∙ ap (λ r. r.items) c.index.ensures ∙ sym (row_get c.args.self.now.host.items a c.index.result.now there) in
-    let full : c.is_full.result ≡ p a = c.is_full.ensures ∙ ap (λ xs. list_all (is_marked xs) (range_with_len 0 (length xs))) row in
+    let full : c.is_full.result ≡ p a = c.is_full.ensures
+    ∙ ap (λ m. list_all (has_mark m) (range_with_len 0 m.length)) c.index.ensures
+    ∙ full_row c.args.self.now.host.items a c.index.result.now there in
     elim c.if-is_full.branch [
       | then-is_full+in_ok-push w ↦
           ap (λ v. map array_number v.items) w.full-is

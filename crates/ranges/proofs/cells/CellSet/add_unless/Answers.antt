@@ -2,7 +2,8 @@ use Rattle.std.proofs.Common.{◌≡◌, refl, ap, ◌∙◌}
 use Rattle.std.specs.Prelude.{not, ◌&&◌, ◌||◌}
 use mathlib.Core.Path.{fun_ext}
 use Rattle.base.specs.declared.item.Cell.{Cell}
-use Rattle.ranges.specs.Rows.{is_marked, is_within}
+use Rattle.bits.specs.Sets.{has as has_number}
+use Rattle.ranges.specs.Rows.{is_within}
 use Rattle.ranges.specs.Cells.{has, is_among, row_of}
 use Rattle.std.proofs.Math.Bool.{or-false}
 use Rattle.ranges.proofs.Sets.{row_changed}
@@ -11,18 +12,18 @@ use Rattle.ranges.proofs.cells.CellSet.add_unless.Goals as goal
 
 pub returns-in_err-reach-clause-err : goal.returns-in_err-reach-clause-err
 returns-in_err-reach-clause-err c = always_err c.from_residual.result
-    (ap (λ rows (d : Cell). is_marked (rows d.array.0) d.index) c.reach.ensures.same)
+    c.reach.ensures.same
 
 pub returns-clause-err : goal.returns-clause-err
 returns-clause-err c =
     let old = c.index_mut.result.now in
     let new = c.add_unless.new.self in
     mapped_err c.add_unless.result c.add_unless.ensures.err
-    (λ (e : is_marked new.marks.items ≡ is_marked old.marks.items).
+    (λ (e : has_number new.cells ≡ has_number old.cells).
     fun_ext (λ (d : Cell).
-    row_changed c.reach.new.self.rows.items c.args.array old new (λ b k i m. m) c.in_ok-reach.ensures.long
+    row_changed c.reach.new.self.none c.reach.new.self.rows.items c.args.array old new (λ b k i m. m) c.in_ok-reach.ensures.long
     c.index_mut.ensures.value (λ k i m. refl) (λ i. ap (λ f. f i) e) d)
-    ∙ ap (λ rows (d : Cell). is_marked (rows d.array.0) d.index) c.in_ok-reach.ensures.same)
+    ∙ c.in_ok-reach.ensures.same)
 
 pub returns-clause-ok : goal.returns-clause-ok
 returns-clause-ok c =
@@ -31,13 +32,12 @@ returns-clause-ok c =
     let cells = c.args.cells in
     let other = row_of c.args.other.now in
     mapped_ok c.add_unless.result c.add_unless.ensures.ok
-    (λ (e : is_marked new.marks.items ≡ (λ i. is_marked old.marks.items i || (is_within cells i && not (is_marked
+    (λ (e : has_number new.cells ≡ (λ i. has_number old.cells i || (is_within cells i && not (has_number
     c.row.result.now i)))).
     fun_ext (λ (d : Cell).
-    row_changed c.reach.new.self.rows.items c.args.array old new
-    (λ b k i m. m || ((b && is_within cells i) && not (is_marked (other k) i))) c.in_ok-reach.ensures.long
+    row_changed c.reach.new.self.none c.reach.new.self.rows.items c.args.array old new
+    (λ b k i m. m || ((b && is_within cells i) && not (has_number (other k) i))) c.in_ok-reach.ensures.long
     c.index_mut.ensures.value (λ k i m. or-false m)
-    (λ i. ap (λ f. f i) e ∙ ap (λ xs. is_marked old.marks.items i || (is_within cells i && not (is_marked xs i)))
+    (λ i. ap (λ f. f i) e ∙ ap (λ xs. has_number old.cells i || (is_within cells i && not (has_number xs i)))
     c.row.ensures) d)
-    ∙ ap (λ rows (d : Cell). is_marked (rows d.array.0) d.index || (is_among c.args.array cells d && not
-    (has c.args.other.now d))) c.in_ok-reach.ensures.same)
+    ∙ ap (λ f (d : Cell). f d || (is_among c.args.array cells d && not (has c.args.other.now d))) c.in_ok-reach.ensures.same)

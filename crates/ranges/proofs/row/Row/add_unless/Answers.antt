@@ -1,6 +1,7 @@
 use Rattle.std.proofs.Common.{◌≡◌, ℕ}
 use Rattle.std.specs.Prelude.{not, ◌&&◌, ◌||◌}
-use Rattle.ranges.specs.Rows.{is_marked, is_within}
+use Rattle.bits.specs.Sets.{has}
+use Rattle.ranges.specs.Rows.{is_within}
 use Rattle.ranges.proofs.Outcomes.{either}
 use Rattle.ranges.proofs.Runs.{run_kept, run_same}
 use Rattle.ranges.proofs.row.Row.add_unless.Goals as goal
@@ -8,12 +9,12 @@ use Rattle.ranges.proofs.row.Row.add_unless.Goals as goal
 pub invariant_of-self : goal.invariant_of-self
 invariant_of-self c =
     let row = c.args.self.now in
-    let old = row.marks.items in
-    let new = c.mark.new.row.items in
-    let more = λ (i : ℕ). is_within c.args.cells i && not (is_marked c.args.excluded.now i) in
+    let old = row.cells in
+    let new = c.mark.new.row in
+    let more = λ (i : ℕ). is_within c.args.cells i && not (has c.args.excluded.now i) in
     record {
       covered = either c.mark.result c.mark.ensures.ok c.mark.ensures.err
-          (λ (e : is_marked new ≡ (λ i. is_marked old i || (is_within c.args.cells i && not (is_marked
+          (λ (e : has new ≡ (λ i. has old i || (is_within c.args.cells i && not (has
           c.args.excluded.now i)))). run_kept old new row.first row.end more row.covered e)
-          (λ (e : is_marked new ≡ is_marked old). run_same old new row.first row.end row.covered e);
+          (λ (e : has new ≡ has old). run_same old new row.first row.end row.covered e);
     }

@@ -1,0 +1,215 @@
+-- Words that are changed, one or one after the other.
+use Rattle.std.proofs.Common.{◌≡◌, ℕ, ◌+◌, ◌*◌, ◌/◌, ◌%◌, ◌^◌, ◌<◌, ◌≤◌, Bool, true, false, List, length, get_or, refl, sym, ap, ap₂, ◌∙◌, subst, arith, w64, bit_and, bit_or, min, ◌⊎◌, inl, inr, ⊎_elim}
+use Rattle.std.specs.Prelude.{slice_set, not, ◌||◌, ◌&&◌, ◌==◌, nat_lt}
+use Rattle.std.specs.Int.{bit_at, bit_not}
+use Rattle.std.proofs.lemmas.Bool.{cases_eq, cases_lt, eq-eqb, ne_eqb, lt-ltb, le-ltb}
+use Rattle.std.proofs.lemmas.List.{length-set, get_or-set_same, get_or-set_other, get_or_past}
+use Rattle.std.proofs.lemmas.Grind.{get_or_default_zero}
+use Rattle.std.proofs.lemmas.Nat.Bits.{bit_at-zero, bit_at_set_same, bit_at_set_other, bit_at_clear_same, bit_at_clear_other}
+use Rattle.std.proofs.Math.Bool.{or-false, or-true}
+use Rattle.bits.specs.Sets.{has_bit}
+use Rattle.bits.proofs.Bits.{bits_or, bits_minus}
+
+low : (i : ℕ) → i % 64 < 64
+low i = omega arith
+
+same_number : (i k : ℕ) → i / 64 ≡ k / 64 → i % 64 ≡ k % 64 → i ≡ k
+same_number i k p q = omega arith
+
+pub past : (words : List ℕ) (i : ℕ) → length words ≤ i / 64 → has_bit words i ≡ false
+past words i h =
+    ap (λ word. bit_at word (i % 64) == 1) (get_or_past words (i / 64) 0 h)
+    ∙ ap (λ n. n == 1) (bit_at-zero (i % 64))
+
+-- no bit is set past the room
+pub within_room : (words : List ℕ) (n i : ℕ) → 64 * length words ≤ n → (nat_lt i n && has_bit words i) ≡ has_bit words i
+within_room words n i le = ⊎_elim (λ (lt : i < n). ap (λ b. b && has_bit words i) (lt-ltb i n lt))
+    (λ (above : n ≤ i). ap (λ b. b && has_bit words i) (le-ltb i n above) ∙ sym (past words i (omega arith)))
+    (cases_lt i n)
+
+-- one word is changed: its bits, and all others
+pub changed_here : (words : List ℕ) (w v i : ℕ) → w < length words → i / 64 ≡ w →
+    has_bit (slice_set words w v) i ≡ (bit_at v (i % 64) == 1)
+changed_here words w v i lt e =
+    ap (λ m. bit_at (get_or (slice_set words w v) m 0) (i % 64) == 1) e
+    ∙ ap (λ word. bit_at word (i % 64) == 1) (get_or-set_same words w v 0 lt)
+
+pub changed_there : (words : List ℕ) (w v i : ℕ) → (i / 64 ≡ w → ⊥) → has_bit (slice_set words w v) i ≡ has_bit words i
+changed_there words w v i ne = ap (λ word. bit_at word (i % 64) == 1) (get_or-set_other words w (i / 64) v 0 ne)
+
+-- a word that is read
+pub word_read : (words : List ℕ) (w word : ℕ) → w < length words → word ≡ get_or words w word → word ≡ get_or words w 0
+word_read words w word lt e = e ∙ get_or_default_zero words w word lt
+
+module _ (words : List ℕ) (i word : ℕ) (lt : i / 64 < length words) (is : word ≡ get_or words (i / 64) 0) where
+  at_same_word : (k : ℕ) → k / 64 ≡ i / 64 → (bit_at word (k % 64) == 1) ≡ has_bit words k
+  at_same_word k e =
+      ap (λ n. bit_at n (k % 64) == 1) is ∙ ap (λ m. bit_at (get_or words m 0) (k % 64) == 1) (sym e)
+
+  -- setting a bit
+  pub bit_set : (k : ℕ) →
+      has_bit (slice_set words (i / 64) (bit_or word (1 * 2 ^ (i % 64) % 2 ^ 64))) k ≡ (has_bit words k || (i == k))
+  bit_set k = ⊎_elim same_word other_word (cases_eq (k / 64) (i / 64))
+    where
+      same_word : k / 64 ≡ i / 64 → has_bit (slice_set words (i / 64) (bit_or word (1 * 2 ^ (i % 64) % 2 ^ 64))) k ≡
+          (has_bit words k || (i == k))
+      same_word e =
+          changed_here words (i / 64) (bit_or word (1 * 2 ^ (i % 64) % 2 ^ 64)) k lt e
+          ∙ ⊎_elim here there (cases_eq (k % 64) (i % 64))
+        where
+          here : k % 64 ≡ i % 64 → (bit_at (bit_or word (1 * 2 ^ (i % 64) % 2 ^ 64)) (k % 64) == 1) ≡
+              (has_bit words k || (i == k))
+          here q =
+              ap (λ b. bit_at (bit_or word (1 * 2 ^ (i % 64) % 2 ^ 64)) b == 1) q
+              ∙ ap (λ n. n == 1) (bit_at_set_same w64 word (i % 64) (low i))
+              ∙ sym (ap (λ b. has_bit words k || b) (eq-eqb i k (same_number i k (sym e) (sym q))) ∙ or-true
+              (has_bit words k))
+
+          there : (k % 64 ≡ i % 64 → ⊥) → (bit_at (bit_or word (1 * 2 ^ (i % 64) % 2 ^ 64)) (k % 64) == 1) ≡
+              (has_bit words k || (i == k))
+          there ne =
+              ap (λ n. n == 1) (bit_at_set_other w64 word (i % 64) (low i) (k % 64) ne)
+              ∙ at_same_word k e
+              ∙ sym (ap (λ b. has_bit words k || b) (ne_eqb i k (λ q. ne (ap (λ n. n % 64) (sym q)))) ∙ or-false
+              (has_bit words k))
+
+      other_word : (k / 64 ≡ i / 64 → ⊥) → has_bit
+          (slice_set words (i / 64) (bit_or word (1 * 2 ^ (i % 64) % 2 ^ 64))) k ≡ (has_bit words k || (i == k))
+      other_word ne =
+          changed_there words (i / 64) (bit_or word (1 * 2 ^ (i % 64) % 2 ^ 64)) k ne
+          ∙ sym (ap (λ b. has_bit words k || b) (ne_eqb i k (λ q. ne (ap (λ n. n / 64) (sym q)))) ∙ or-false
+          (has_bit words k))
+
+  -- clearing a bit
+  pub bit_cleared : (k : ℕ) →
+      has_bit (slice_set words (i / 64) (bit_and word (bit_not w64 (1 * 2 ^ (i % 64) % 2 ^ 64)))) k ≡
+      (not (i == k) && has_bit words k)
+  bit_cleared k = ⊎_elim same_word other_word (cases_eq (k / 64) (i / 64))
+    where
+      same_word : k / 64 ≡ i / 64 → has_bit (slice_set words (i / 64) (bit_and word (bit_not w64
+          (1 * 2 ^ (i % 64) % 2 ^ 64)))) k ≡ (not (i == k) && has_bit words k)
+      same_word e =
+          changed_here words (i / 64) (bit_and word (bit_not w64 (1 * 2 ^ (i % 64) % 2 ^ 64))) k lt e
+          ∙ ⊎_elim here there (cases_eq (k % 64) (i % 64))
+        where
+          here : k % 64 ≡ i % 64 → (bit_at (bit_and word (bit_not w64 (1 * 2 ^ (i % 64) % 2 ^ 64))) (k % 64) == 1) ≡
+              (not (i == k) && has_bit words k)
+          here q =
+              ap (λ b. bit_at (bit_and word (bit_not w64 (1 * 2 ^ (i % 64) % 2 ^ 64))) b == 1) q
+              ∙ ap (λ n. n == 1) (bit_at_clear_same w64 word (i % 64) (low i))
+              ∙ sym (ap (λ b. not b && has_bit words k) (eq-eqb i k (same_number i k (sym e) (sym q))))
+
+          there : (k % 64 ≡ i % 64 → ⊥) → (bit_at (bit_and word (bit_not w64 (1 * 2 ^ (i % 64) % 2 ^ 64))) (k % 64) == 1)
+              ≡ (not (i == k) && has_bit words k)
+          there ne =
+              ap (λ n. n == 1) (bit_at_clear_other w64 word (i % 64) (low i) (k % 64) (low k) ne)
+              ∙ at_same_word k e
+              ∙ sym (ap (λ b. not b && has_bit words k) (ne_eqb i k (λ q. ne (ap (λ n. n % 64) (sym q)))))
+
+      other_word : (k / 64 ≡ i / 64 → ⊥) → has_bit (slice_set words (i / 64) (bit_and word (bit_not w64
+          (1 * 2 ^ (i % 64) % 2 ^ 64)))) k ≡ (not (i == k) && has_bit words k)
+      other_word ne =
+          changed_there words (i / 64) (bit_and word (bit_not w64 (1 * 2 ^ (i % 64) % 2 ^ 64))) k ne
+          ∙ sym (ap (λ b. not b && has_bit words k) (ne_eqb i k (λ q. ne (ap (λ n. n / 64) (sym q)))))
+
+-- ---- word by word
+
+-- the words below k are what is made of them and another's, those from k on are as they were
+pub record Changed (made : ℕ → ℕ → ℕ) (old other : List ℕ) (k : ℕ) (new : List ℕ) : Type 0 where
+  pub same : length new ≡ length old
+  pub below : (w : ℕ) → w < k → get_or new w 0 ≡ made (get_or old w 0) (get_or other w 0)
+  pub above : (w : ℕ) → k ≤ w → get_or new w 0 ≡ get_or old w 0
+  pub fits : (w : ℕ) → w < k → get_or other w 0 < 2 ^ 64
+
+pub none_changed : (made : ℕ → ℕ → ℕ) (old other : List ℕ) → Changed made old other 0 old
+none_changed made old other = record { same = refl; below = λ w h. absurd (omega arith); above = λ w h. refl; fits = λ w h. absurd (omega arith) }
+
+pub one_changed : (made : ℕ → ℕ → ℕ) (old other new : List ℕ) (k a b : ℕ) → Changed made old other k new →
+    k < length new → k < length other → a ≡ get_or new k a → b ≡ get_or other k b → b < 2 ^ 64 →
+    Changed made old other (k + 1) (slice_set new k (made a b))
+one_changed made old other new k a b h lt in_other is_a is_b fit = record {
+  same = length-set new k (made a b) ∙ h.same;
+  below = λ w lt'. ⊎_elim (here w)
+      (λ differs. get_or-set_other new k w (made a b) 0 differs ∙ h.below w (omega arith)) (cases_eq w k);
+  above = λ w le. get_or-set_other new k w (made a b) 0 (omega arith) ∙ h.above w (omega arith);
+  fits = λ w lt'. ⊎_elim (λ e. subst (λ n. n < 2 ^ 64) (word_read other k b in_other is_b ∙ ap (λ m. get_or other m 0) (sym e)) fit)
+      (λ differs. h.fits w (omega arith)) (cases_eq w k);
+}
+  where
+    here : (w : ℕ) → w ≡ k → get_or (slice_set new k (made a b)) w 0 ≡ made (get_or old w 0) (get_or other w 0)
+    here w e = subst (λ m. get_or (slice_set new k (made a b)) m 0 ≡ made (get_or old m 0) (get_or other m 0)) (sym e)
+        (get_or-set_same new k (made a b) 0 lt
+        ∙ ap₂ made (word_read new k a lt is_a ∙ h.above k (omega arith)) (word_read other k b in_other is_b))
+
+module _ (made : ℕ → ℕ → ℕ) (old other new : List ℕ) (k : ℕ) (h : Changed made old other k new) where
+  made_below : (i : ℕ) → i / 64 < k →
+      has_bit new i ≡ (bit_at (made (get_or old (i / 64) 0) (get_or other (i / 64) 0)) (i % 64) == 1)
+  made_below i lt = ap (λ word. bit_at word (i % 64) == 1) (h.below (i / 64) lt)
+
+  kept_above : (i : ℕ) → k ≤ i / 64 → has_bit new i ≡ has_bit old i
+  kept_above i le = ap (λ word. bit_at word (i % 64) == 1) (h.above (i / 64) le)
+
+-- a loop up to the lesser of two lengths has come to the end of one of the two
+pub end_reached : (k m n : ℕ) → min m n ≤ k → (m ≤ k) ⊎ (n ≤ k)
+end_reached k m n h = ⊎_elim (λ (lt : m < n). inl (omega arith)) (λ (le : n ≤ m). inr (omega arith)) (cases_lt m n)
+
+in_room : (i k n : ℕ) → i / 64 < k → k ≤ n → i < 64 * n
+in_room i k n h l = omega arith
+
+no_room : (i n : ℕ) → n ≤ i / 64 → 64 * n ≤ i
+no_room i n h = omega arith
+
+-- all words that both have are joined
+pub united : (old other new : List ℕ) (k : ℕ) → Changed bit_or old other k new →
+    k ≤ length old → (length old ≤ k) ⊎ (length other ≤ k) →
+    (i : ℕ) → has_bit new i ≡ (has_bit old i || (nat_lt i (64 * length old) && has_bit other i))
+united old other new k h up end i = ⊎_elim below above (cases_lt (i / 64) k)
+  where
+    below : i / 64 < k → has_bit new i ≡ (has_bit old i || (nat_lt i (64 * length old) && has_bit other i))
+    below lt =
+        made_below bit_or old other new k h i lt
+        ∙ bits_or (get_or old (i / 64) 0) (get_or other (i / 64) 0) (i % 64)
+        ∙ sym (ap (λ b. has_bit old i || (b && has_bit other i))
+        (lt-ltb i (64 * length old) (in_room i k (length old) lt up)))
+
+    nothing : (b : Bool) → b ≡ false → has_bit old i ≡ (has_bit old i || b)
+    nothing b e = sym (ap (λ c. has_bit old i || c) e ∙ or-false (has_bit old i))
+
+    none_of : (b c : Bool) → c ≡ false → (b && c) ≡ false
+    none_of true c e = e
+    none_of false c e = refl
+
+    above : k ≤ i / 64 → has_bit new i ≡ (has_bit old i || (nat_lt i (64 * length old) && has_bit other i))
+    above le =
+        kept_above bit_or old other new k h i le
+        ∙ nothing (nat_lt i (64 * length old) && has_bit other i)
+        (⊎_elim
+        (λ (all : length old ≤ k). ap (λ b. b && has_bit other i)
+        (le-ltb i (64 * length old) (no_room i (length old) (omega arith))))
+        (λ (all : length other ≤ k). none_of (nat_lt i (64 * length old)) (has_bit other i)
+        (past other i (omega arith))) end)
+
+abbrev pub minus : ℕ → ℕ → ℕ
+minus a b = bit_and a (bit_not w64 b)
+
+-- all words that both have are cut
+pub rest_left : (old other new : List ℕ) (k : ℕ) → Changed minus old other k new →
+    (length old ≤ k) ⊎ (length other ≤ k) →
+    (i : ℕ) → has_bit new i ≡ (not (has_bit other i) && has_bit old i)
+rest_left old other new k h end i = ⊎_elim below above (cases_lt (i / 64) k)
+  where
+    below : i / 64 < k → has_bit new i ≡ (not (has_bit other i) && has_bit old i)
+    below lt =
+        made_below minus old other new k h i lt
+        ∙ bits_minus (get_or old (i / 64) 0) (get_or other (i / 64) 0) (i % 64) (h.fits (i / 64) lt) (low i)
+
+    none_of : (b c : Bool) → c ≡ false → c ≡ (b && c)
+    none_of true c e = refl
+    none_of false c e = e
+
+    above : k ≤ i / 64 → has_bit new i ≡ (not (has_bit other i) && has_bit old i)
+    above le =
+        kept_above minus old other new k h i le
+        ∙ ⊎_elim
+        (λ (all : length old ≤ k). none_of (not (has_bit other i)) (has_bit old i) (past old i (omega arith)))
+        (λ (all : length other ≤ k). sym (ap (λ b. not b && has_bit old i) (past other i (omega arith)))) end

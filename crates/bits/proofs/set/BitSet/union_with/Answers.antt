@@ -1,0 +1,20 @@
+use Rattle.std.proofs.Common.{◌≡◌, length, bit_or, arith}
+use Rattle.bits.proofs.Words.{none_changed, one_changed, end_reached, united}
+use Rattle.bits.proofs.set.BitSet.union_with.Goals as goal
+
+pub loop-k-init : goal.loop-k-init
+loop-k-init c = none_changed bit_or c.args.self.now.words.items c.args.other.now.words.items
+
+pub loop-k-preserved : goal.loop-k-preserved
+loop-k-preserved c =
+    let old = c.args.self.now.words.items in
+    let other = c.args.other.now.words.items in
+    let new = c.loop-k.self.words.items in
+    let same : length new ≡ length old = c.loop-k.invariant.same in
+    one_changed bit_or old other new c.loop-k.k c.index_mut.result.now c.index.result.now c.loop-k.invariant
+    (omega arith) (omega arith) c.index_mut.ensures.value c.index.ensures (omega arith)
+
+pub returns-clause-united : goal.returns-clause-united
+returns-clause-united c =
+    united c.args.self.now.words.items c.args.other.now.words.items c.loop-k.self.words.items c.loop-k.k c.loop-k.invariant
+    (omega arith) (end_reached c.loop-k.k (length c.args.self.now.words.items) (length c.args.other.now.words.items) (omega arith))
