@@ -53,11 +53,6 @@ as_many entries its ws e =
     sym (length-map its (shown entries)) ∙ ap (λ (xs : List (Option Work)). length xs) e
     ∙ length-map ws (λ w. Some w)
 
-zero_index : (n i : ℕ) → slice_index (replicate n 0) i ≡ 0
-zero_index zero i = refl
-zero_index (suc n) zero = refl
-zero_index (suc n) (suc i) = zero_index n i
-
 pub issue_none : (n : ℕ) → map issue_of (replicate n Nothing) ≡ replicate n None
 issue_none zero = refl
 issue_none (suc n) = ap (λ (xs : List (Option Issue)). None ∷ xs) (issue_none n)
@@ -68,7 +63,7 @@ pub record IsFresh (plan : Plan) (its : List Item) (input : List ℕ) (now : Sta
   pub empty : Shows now.table (record { blocks = []; cells = λ c. None })
   pub graph : IsNew its now.graph
   pub ended : now.ended ≡ false
-  pub scalars : now.scalars ≡ replicate 256 0
+  pub scalars : now.scalars ≡ []
   pub given : now.input.now ≡ input
   pub output : now.output.items ≡ []
   pub held : now.held.items ≡ replicate (length its) Nothing
@@ -85,7 +80,7 @@ started plan entries its input now e h =
       graph = record { items = stands.items; place = refl; conditions = stands.conditions };
       place = stands.place ∙ ap (λ b. place_of b now.graph.place) (sym h.ended);
       ended = λ d. absurd (true≢false (sym d ∙ h.ended));
-      scalars = fun_ext (λ (x : ℕ). sym (zero_index 256 x)) ∙ ap (λ (xs : List ℕ). slice_index xs) (sym h.scalars);
+      scalars = ap (λ (xs : List ℕ). slice_index xs) (sym h.scalars);
       input = sym h.given;
       output = sym h.output;
       slots = ap (λ (xs : List Held). length xs) h.held ∙ length-replicate (length its) Nothing

@@ -98,7 +98,7 @@ module _ (plan : Plan) (old : Standing) (s t : State) (at : IsAt plan old s) (go
       }
 
   pub generated : (i : ℕ) (b : _) (hs : Vec Held Global) → GraphFollows old.graph (event.Gen i) g →
-      hs.items ≡ slice_set old.held.items i (held.Captured b) → i < length old.held.items → b.value ≡ old.scalars →
+      hs.items ≡ slice_set old.held.items i (held.Captured b) → i < length old.held.items → b ≡ old.scalars →
       step plan (fill_from old) s (event.Gen i) ≡ Some t →
       IsAt plan (record old { graph = g; held = hs }) t
   generated i b hs follows set lt captured e =

@@ -76,7 +76,7 @@ pub record IsFrameOf (i : ℕ) (w : Work) (captured : Scalars) (snapshot : View)
 abbrev pub IsCaptured : Scalars → Option Held → Type 0
 IsCaptured captured None = ⊥
 IsCaptured captured (Some held.Nothing) = ⊥
-IsCaptured captured (Some (held.Captured scalars)) = captured ≡ slice_index scalars.value
+IsCaptured captured (Some (held.Captured scalars)) = captured ≡ slice_index scalars
 IsCaptured captured (Some (held.Issued frame)) = ⊥
 
 abbrev pub IsIssued : ℕ → Work → Scalars → View → List ℕ → Option Held → Type 0

@@ -32,7 +32,10 @@ impl<'a> RunState<'a> {
         let it = &self.image.items()[item as usize];
         let _lengths = self.image.lengths();
         note(&mut self.history, Event::Close(item))?;
-        match self.standing.close(it, item, scalars, rows, input, printed) {
+        match self
+            .standing
+            .close(self.alloc, it, item, scalars, rows, input, printed)
+        {
             Ok(()) => Ok(()),
             Err(_) => {
                 forget(&mut self.history);

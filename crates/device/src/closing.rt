@@ -15,13 +15,14 @@ use crate::moves::exit_all;
 use crate::standing::{Held, Standing};
 use base::item::{Item, ItemKind, MapItem};
 use frames::{store_host, store_kernel};
-use kernel::KeptRow;
-use std::alloc::AllocError;
+use kernel::{KeptRow, Scalars};
+use std::alloc::{AllocError, Global};
 
 impl<'a> Standing<'a> {
     // What a host region left is stored, and its numbers are printed.
     fn leave_host(
         &mut self,
+        alloc: Global,
         scalars: &[u64; 256],
         rows: &[KeptRow],
         input: &'a [u64],
@@ -36,9 +37,10 @@ impl<'a> Standing<'a> {
         ensures ended { self.new.ended ≡ self.old.ended }
         ensures table { self.new.table ≡ self.old.table }
     {
+        let scalars = Scalars::new(alloc, scalars)?;
         self.output.extend_from_slice(printed)?;
         store_host(&mut self.host, rows);
-        self.scalars = *scalars;
+        self.scalars = scalars;
         self.input = input;
         Ok(())
     }
@@ -60,6 +62,7 @@ impl<'a> Standing<'a> {
     // What an item left is stored, and its map items are left.
     fn leave(
         &mut self,
+        alloc: Global,
         it: &Item,
         scalars: &[u64; 256],
         rows: &[KeptRow],
@@ -79,7 +82,7 @@ impl<'a> Standing<'a> {
         ensures kept { IsKept self.old.table self.new.table }
     {
         match it.kind {
-            ItemKind::Host => self.leave_host(scalars, rows, input, printed),
+            ItemKind::Host => self.leave_host(alloc, scalars, rows, input, printed),
             ItemKind::Target => {
                 self.leave_kernel(rows, &it.maps);
                 Ok(())
@@ -96,6 +99,7 @@ impl<'a> Standing<'a> {
     /// The open item is closed, with what its region left. The error comes for want of memory.
     pub fn close(
         &mut self,
+        alloc: Global,
         it: &Item,
         item: u32,
         scalars: &[u64; 256],
@@ -117,7 +121,7 @@ impl<'a> Standing<'a> {
         ensures issued { OnOk result (map issue_of self.new.held.items ≡ slice_set (map issue_of self.old.held.items) item None) }
         ensures kept { IsKept self.old.table self.new.table }
     {
-        self.leave(it, scalars, rows, input, printed)?;
+        self.leave(alloc, it, scalars, rows, input, printed)?;
         self.held[item as usize] = Held::Nothing;
         self.graph.closed(item as usize);
         Ok(())

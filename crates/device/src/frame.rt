@@ -10,23 +10,23 @@ ghost use Rattle.device.specs.Framing.{Captures, FramesWell};
 use crate::standing::{Held, Standing};
 use base::item::{Item, ItemKind};
 use frames::{host_frame, kernel_frame};
-use kernel::Frame;
+use kernel::{Frame, Scalars};
 use lower::Image;
 use std::alloc::{AllocError, Global};
 
 impl<'a> Standing<'a> {
     // The scalars that an item has captured, or those of now where it is not deferred.
-    fn captured(&self, deferred: bool, item: u32) -> [u64; 256]
+    fn captured(&self, deferred: bool, item: u32) -> &Scalars
         requires { item < length self.now.held.items }
-        ensures { Captures self.now deferred item result }
+        ensures { Captures self.now deferred item result.now }
     {
         if !deferred {
-            return self.scalars;
+            return &self.scalars;
         }
         match &self.held[item as usize] {
-            Held::Captured(scalars) => **scalars,
-            Held::Nothing => self.scalars,
-            Held::Issued(_) => self.scalars,
+            Held::Captured(scalars) => scalars,
+            Held::Nothing => &self.scalars,
+            Held::Issued(_) => &self.scalars,
         }
     }
 
@@ -44,10 +44,11 @@ impl<'a> Standing<'a> {
         requires kind { it.now.kind ≡ ItemKind.Host }
         ensures serves { IfOk result (FramesWell image.now self.now item it.now) }
     {
-        let scalars = self.captured(it.deferred, item);
+        let held = self.captured(it.deferred, item);
+        let scalars = held.copy(alloc)?;
         let reach = image.reach(item as usize);
         let frame = host_frame(
-            alloc, item, &it.loops, &scalars, self.input, reach, &self.host,
+            alloc, item, &it.loops, scalars, self.input, reach, &self.host,
         )?;
         Ok(frame)
     }
@@ -66,27 +67,30 @@ impl<'a> Standing<'a> {
         ensures few { IfOk result (λ frame. length frame.rows.items ≤ 2 ^ 32) }
         ensures serves { IfOk result (FramesWell image.now self.now item it.now) }
     {
-        let scalars = self.captured(it.deferred, item);
+        let held = self.captured(it.deferred, item);
+        let scalars = held.copy(alloc)?;
         let reach = image.reach(item as usize);
         let _lengths = image.lengths();
-        let frame = kernel_frame(alloc, item, &it.loops, &scalars, reach)?;
+        let frame = kernel_frame(alloc, item, &it.loops, scalars, reach)?;
         Ok(frame)
     }
 
     // The frame of an item without a region.
-    fn frame_of_none(&self, alloc: Global, it: &'a Item, item: u32) -> Frame<'a>
+    fn frame_of_none(&self, alloc: Global, it: &'a Item, item: u32) -> Result<Frame<'a>, AllocError>
         requires inside { item < length self.now.held.items }
         requires host { is_host it.now.kind ≡ false }
         requires target { is_target it.now.kind ≡ false }
-        ensures serves { (p : Program) → FramesWell p self.now item it.now result }
+        ensures serves { (p : Program) → IfOk result (FramesWell p self.now item it.now) }
     {
-        Frame {
+        let held = self.captured(it.deferred, item);
+        let scalars = held.copy(alloc)?;
+        Ok(Frame {
             item,
             loops: &it.loops,
-            scalars: self.captured(it.deferred, item),
+            scalars,
             rows: Vec::new(alloc),
             input: &[],
-        }
+        })
     }
 
     /// The frame of an item that may be opened, before its entries are done.
@@ -106,12 +110,12 @@ impl<'a> Standing<'a> {
         match it.kind {
             ItemKind::Host => self.frame_of_host(alloc, image, it, item),
             ItemKind::Target => self.frame_of_target(alloc, image, it, item),
-            ItemKind::Begin => Ok(self.frame_of_none(alloc, it, item)),
-            ItemKind::End => Ok(self.frame_of_none(alloc, it, item)),
-            ItemKind::Enter => Ok(self.frame_of_none(alloc, it, item)),
-            ItemKind::Exit => Ok(self.frame_of_none(alloc, it, item)),
-            ItemKind::Update => Ok(self.frame_of_none(alloc, it, item)),
-            ItemKind::Wait => Ok(self.frame_of_none(alloc, it, item)),
+            ItemKind::Begin => self.frame_of_none(alloc, it, item),
+            ItemKind::End => self.frame_of_none(alloc, it, item),
+            ItemKind::Enter => self.frame_of_none(alloc, it, item),
+            ItemKind::Exit => self.frame_of_none(alloc, it, item),
+            ItemKind::Update => self.frame_of_none(alloc, it, item),
+            ItemKind::Wait => self.frame_of_none(alloc, it, item),
         }
     }
 }

@@ -16,8 +16,6 @@ mod enabled;
 mod frame;
 mod issued;
 mod jobs;
-#[cfg(test)]
-mod jobs_tests;
 mod moves;
 mod open;
 mod opening;
@@ -25,11 +23,7 @@ mod place;
 mod play;
 mod same;
 mod same_frame;
-#[cfg(test)]
-mod sources;
 mod standing;
 mod state;
 mod take;
-#[cfg(test)]
-mod tests;
 mod turns;

@@ -1,6 +1,6 @@
 // Whether two frames are the same by value, and a copy of a frame.
 
-ghost use Rattle.std.specs.Prelude.{◌≡◌, IfOk, false, map, true};
+ghost use Rattle.std.specs.Prelude.{◌≡◌, IfOk, IfSome, IsSome, false, map, true};
 ghost use Rattle.device.specs.Standing.{frame_parts, row_parts};
 
 use kernel::{Frame, Row};
@@ -33,7 +33,10 @@ pub fn is_same_frame(left: &Frame<'_>, right: &Frame<'_>) -> bool
     ensures yes { result ≡ true → frame_parts left.now ≡ frame_parts right.now }
     ensures no { result ≡ false → frame_parts left.now ≡ frame_parts right.now → ⊥ }
 {
-    if left.item != right.item || left.scalars != right.scalars || left.input != right.input {
+    if left.item != right.item || left.input != right.input {
+        return false;
+    }
+    if left.scalars.numbers() != right.scalars.numbers() {
         return false;
     }
     let loops = left.loops.values.as_slice();
@@ -57,15 +60,29 @@ fn copy_of_rows(alloc: Global, rows: &[Row]) -> Result<Vec<Row>, AllocError>
     Ok(copy)
 }
 
-/// The same frame once more.
-pub fn copy_of<'a>(alloc: Global, frame: &Frame<'a>) -> Result<Frame<'a>, AllocError>
+/// The same frame once more, if it is wanted.
+pub fn copy_if<'a>(
+    alloc: Global,
+    frame: &Frame<'a>,
+    wanted: bool,
+) -> Result<Option<Frame<'a>>, AllocError>
+    ensures wanted { IfOk result (λ copy. wanted ≡ true → IsSome copy) }
+    ensures same { IfOk result (λ copy. IfSome copy (λ f. frame_parts f ≡ frame_parts frame.now)) }
+{
+    if !wanted {
+        return Ok(None);
+    }
+    Ok(Some(copy_of(alloc, frame)?))
+}
+
+fn copy_of<'a>(alloc: Global, frame: &Frame<'a>) -> Result<Frame<'a>, AllocError>
     ensures { IfOk result (λ copy. frame_parts copy ≡ frame_parts frame.now) }
 {
     let rows = copy_of_rows(alloc, &frame.rows)?;
     Ok(Frame {
         item: frame.item,
         loops: frame.loops,
-        scalars: frame.scalars,
+        scalars: frame.scalars.copy(alloc)?,
         rows,
         input: frame.input,
     })

@@ -11,18 +11,17 @@ ghost use Rattle.present.specs.Table.{capacity_of};
 ghost use Rattle.device.specs.Standing.{IsAt, Follows, Stays, issue_of};
 
 use base::memory::Memory;
-use kernel::Frame;
+use kernel::{Frame, Scalars};
 use lower::Image;
 use present::Table;
 use std::alloc::{AllocError, Global};
-use std::boxed::Box;
 use taskgraph::Graph;
 
 /// What is kept for an item: nothing, the scalars that it captured, or the frame that its opening issued.
 #[derive(Drop)]
 pub enum Held<'a> {
     Nothing,
-    Captured(Box<[u64; 256]>),
+    Captured(Scalars),
     Issued(Frame<'a>),
 }
 
@@ -34,7 +33,7 @@ pub struct Standing<'a> {
     pub table: Table,
     pub graph: Graph,
     pub ended: bool,
-    pub scalars: [u64; 256],
+    pub scalars: Scalars,
     pub input: &'a [u64],
     pub output: Vec<u64>,
     pub held: Vec<Held<'a>>,
@@ -76,7 +75,7 @@ impl<'a> Standing<'a> {
             table,
             graph,
             ended: false,
-            scalars: [0; 256],
+            scalars: Scalars::zeros(alloc),
             input,
             output: Vec::new(alloc),
             held,
@@ -94,10 +93,7 @@ impl<'a> Standing<'a> {
         ensures issued { OnOk result (map issue_of self.new.held.items ≡ slice_set (map issue_of self.old.held.items) item None) }
         ensures table { self.new.table ≡ self.old.table }
     {
-        let captured = match Box::new(alloc, self.scalars) {
-            Ok(captured) => captured,
-            Err(_) => return Err(AllocError),
-        };
+        let captured = self.scalars.copy(alloc)?;
         self.held[item as usize] = Held::Captured(captured);
         self.graph.generate(item as usize);
         Ok(())

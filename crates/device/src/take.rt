@@ -20,7 +20,7 @@ impl<'a> RunState<'a> {
         ensures fault { IfErr result (IsOpenFault self.old item) }
         ensures unchanged { OnErr result (self.new ≡ self.old) }
     {
-        match self.open(item) {
+        match self.open_with(item, false) {
             Ok(_) => Ok(()),
             Err(fault) => Err(fault),
         }

@@ -14,7 +14,7 @@ ghost use Rattle.regions.specs.Footprints.{BoundedScalars, BoundedView};
 
 use base::item::{LoopValues, Section};
 use base::tree::ArrayId;
-use kernel::{Frame, KeptRow, Row};
+use kernel::{Frame, KeptRow, Row, Scalars};
 use present::Table;
 use std::alloc::{AllocError, Global};
 
@@ -45,22 +45,23 @@ pub fn kernel_frame<'i>(
     alloc: Global,
     item: u32,
     loops: &'i LoopValues,
-    scalars: &[u64; 256],
+    scalars: Scalars,
     reach: &[Section],
 ) -> Result<Frame<'i>, AllocError>
     requires { AreOfArrays reach.now }
     ensures item { IfOk result (λ f. f.item ≡ item) }
     ensures loops { IfOk result (λ f. f.loops.now ≡ loops.now) }
-    ensures scalars { IfOk result (λ f. f.scalars ≡ scalars.now) }
+    ensures scalars { IfOk result (λ f. f.scalars ≡ scalars) }
     ensures input { IfOk result (λ f. f.input.now ≡ []) }
     ensures cells { IfOk result (λ f. cells_of f.rows.items ≡ in_reach reach.now (every 0)) }
     ensures rows { IfOk result (λ f. length f.rows.items ≡ length reach.now) }
-    ensures small_scalars { BoundedScalars (slice_index scalars.now) }
+    ensures small_scalars { BoundedScalars (slice_index scalars) }
 {
+    let _numbers = scalars.numbers();
     Ok(Frame {
         item,
         loops,
-        scalars: *scalars,
+        scalars,
         rows: zero_rows(alloc, reach)?,
         input: &[],
     })

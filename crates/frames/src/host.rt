@@ -13,7 +13,7 @@ ghost use Rattle.regions.specs.Footprints.{BoundedScalars, BoundedView};
 use base::item::{LoopValues, Section};
 use base::memory::Memory;
 use base::tree::ArrayId;
-use kernel::{Frame, KeptRow, Row};
+use kernel::{Frame, KeptRow, Row, Scalars};
 use std::alloc::{AllocError, Global};
 
 // These numbers, each of which is below 2^64.
@@ -57,7 +57,7 @@ pub fn host_frame<'i>(
     alloc: Global,
     item: u32,
     loops: &'i LoopValues,
-    scalars: &[u64; 256],
+    scalars: Scalars,
     input: &'i [u64],
     reach: &[Section],
     host: &Memory,
@@ -65,17 +65,18 @@ pub fn host_frame<'i>(
     requires { AreRuns (lengths_of host.now) reach.now }
     ensures item { IfOk result (λ f. f.item ≡ item) }
     ensures loops { IfOk result (λ f. f.loops.now ≡ loops.now) }
-    ensures scalars { IfOk result (λ f. f.scalars ≡ scalars.now) }
+    ensures scalars { IfOk result (λ f. f.scalars ≡ scalars) }
     ensures input { IfOk result (λ f. f.input.now ≡ input.now) }
     ensures cells { IfOk result (λ f. cells_of f.rows.items ≡ in_reach reach.now (view_of (lengths_of host.now) (memory_of host.now))) }
     ensures bounded { IfOk result (λ f. BoundedView (cells_of f.rows.items)) }
-    ensures small_scalars { BoundedScalars (slice_index scalars.now) }
+    ensures small_scalars { BoundedScalars (slice_index scalars) }
     ensures small_input { All (λ n. n < 2 ^ 64) input.now }
 {
+    let _numbers = scalars.numbers();
     Ok(Frame {
         item,
         loops,
-        scalars: *scalars,
+        scalars,
         rows: host_rows(alloc, reach, host)?,
         input,
     })

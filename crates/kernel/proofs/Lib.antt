@@ -12,7 +12,6 @@ pub mod RowStores
 pub mod Advance
 pub mod FreshRows
 pub mod RegionRuns
-pub mod SafeBodies
-pub mod SafeRuns
 pub mod Advancing
 pub mod Runnables
+pub mod TrimmedScalars

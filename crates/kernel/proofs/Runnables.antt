@@ -32,7 +32,7 @@ row_number (r ∷ rs) (suc a) i n h e = row_number rs a i n h.1 e
 bounded : (rows : List Row) → HaveNumbers rows → BoundedView (cells_of rows)
 bounded rows h c n e = row_number rows c.array.0 c.index n h e
 
-scalar : (xs : List ℕ) (k : ℕ) → AreNumbers xs → slice_index xs k < 2 ^ 64
+pub scalar : (xs : List ℕ) (k : ℕ) → AreNumbers xs → slice_index xs k < 2 ^ 64
 scalar [] k h = omega arith
 scalar (x ∷ xs) zero h = h 0 0 (omega arith)
 scalar (x ∷ xs) (suc k) h = scalar xs k (behind x xs h)

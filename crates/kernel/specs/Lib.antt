@@ -3,5 +3,4 @@ pub mod Machine
 pub mod Codes
 pub mod Kept
 pub mod States
-pub mod Safe
 pub mod Runnable

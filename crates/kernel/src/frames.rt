@@ -2,6 +2,7 @@
 
 ghost use Rattle.std.specs.Prelude.{◌≡◌, length};
 
+use crate::scalars::Scalars;
 use base::item::LoopValues;
 
 /// A run of cells of an array, from the index `first` on.
@@ -18,7 +19,7 @@ pub struct Frame<'i> {
     /// The item that the region is run for.
     pub item: u32,
     pub loops: &'i LoopValues,
-    pub scalars: [u64; 256],
+    pub scalars: Scalars,
     pub rows: Vec<Row>,
     pub input: &'i [u64],
 }

@@ -5,6 +5,7 @@ pub use crate::emit::{Code, compile};
 pub use crate::execute::{Done, run};
 pub use crate::frames::{Frame, KeptRow, Row};
 pub use crate::runnable::frame_runs;
+pub use crate::scalars::Scalars;
 
 mod emit;
 mod execute;
@@ -12,9 +13,6 @@ mod follow;
 mod frames;
 mod op;
 mod runnable;
-#[cfg(test)]
-mod safe;
+mod scalars;
 mod state;
 mod step;
-#[cfg(test)]
-mod tests;

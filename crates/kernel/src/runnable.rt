@@ -8,7 +8,7 @@ use crate::frames::{Frame, Row};
 use regions::region_runs;
 
 // What every slice of numbers is.
-fn are_numbers(numbers: &[u64])
+pub(crate) fn are_numbers(numbers: &[u64])
     ensures { AreNumbers numbers.now }
 {
     let _numbers = numbers;
@@ -32,6 +32,6 @@ pub fn frame_runs(frame: &Frame<'_>)
     region_runs();
     have_numbers(&frame.rows);
     are_numbers(frame.loops.values.as_slice());
-    are_numbers(&frame.scalars);
+    are_numbers(frame.scalars.numbers());
     are_numbers(frame.input);
 }

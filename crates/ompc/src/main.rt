@@ -3,7 +3,7 @@
 
 use driver::{SourceError, Sources, drive};
 use std::alloc::Global;
-use std::io::Write;
+use std::io::{BufWriter, Write};
 use std::process::ExitCode;
 use std::{fs, io};
 
@@ -22,8 +22,8 @@ impl Sources for Disk<'_> {
     }
 }
 
-/// Memory ran out before the command was known.
-const OUT_OF_MEMORY: u8 = 3;
+/// Memory ran out before the command was known, or the output cannot be written.
+const FAILED: u8 = 3;
 
 /// The words of the command line cannot be read.
 const MISUSED: u8 = 2;
@@ -39,17 +39,25 @@ fn texts(alloc: Global, words: &[String]) -> io::Result<Vec<&str>> {
     Ok(texts)
 }
 
-/// The status of a command whose words could not be had, with its text.
+/// The status of a command that could not begin, with its text.
 fn no_words<E: Write>(error: &io::Error, err: &mut E) -> u8 {
     match error.kind() {
         io::ErrorKind::OutOfMemory => {
             let _ = writeln!(err, "F1");
-            OUT_OF_MEMORY
+            FAILED
         }
         _ => {
             let _ = writeln!(err, "an argument is not UTF-8");
             MISUSED
         }
+    }
+}
+
+/// The status of a command, once all that it printed is written.
+fn flushed<W: Write>(status: u8, out: &mut W) -> u8 {
+    match out.flush() {
+        Ok(()) => status,
+        Err(_) => FAILED,
     }
 }
 
@@ -62,13 +70,18 @@ fn main(rt: HostRuntime) -> ExitCode {
         Ok(words) => words,
         Err(error) => return ExitCode::from(no_words(&error, &mut rt.stderr())),
     };
-    ExitCode::from(drive(
+    let mut out = match BufWriter::new(rt.alloc(), io::writer(&rt)) {
+        Ok(out) => out,
+        Err(error) => return ExitCode::from(no_words(&error, &mut rt.stderr())),
+    };
+    let status = drive(
         &rt,
         rt.alloc(),
         words.as_slice(),
         &mut Disk { rt: &rt },
         &mut rt.reader(),
-        &mut io::writer(&rt),
+        &mut out,
         &mut rt.stderr(),
-    ))
+    );
+    ExitCode::from(flushed(status, &mut out))
 }

@@ -10,7 +10,7 @@ ghost use Rattle.region_bench.specs.Rows.{AreWhole};
 use base::item::LoopValues;
 use base::tree::Region;
 use c_read::read_program;
-use kernel::{Code, Done, Frame, KeptRow, Row, compile, frame_runs, run};
+use kernel::{Code, Done, Frame, KeptRow, Row, Scalars, compile, frame_runs, run};
 use outline::{Outlined, outline};
 use ranges::footprint;
 use smallvec::SmallVec;
@@ -48,7 +48,7 @@ fn total(done: &Done<'_, '_, '_>) -> u64 {
     for row in &done.rows {
         sum = sum.wrapping_add(sum_of(row));
     }
-    for number in &done.scalars {
+    for number in done.scalars.iter() {
         sum = sum.wrapping_add(*number);
     }
     sum
@@ -86,7 +86,7 @@ fn run_on_zeros(
     let frame = Frame {
         item: 0,
         loops,
-        scalars: [0; 256],
+        scalars: Scalars::zeros(alloc),
         rows: zero_rows(alloc, outlined.lengths())?,
         input: &[],
     };

@@ -1,5 +1,5 @@
 use Rattle.std.proofs.Common.{◌≡◌, ℕ, List, [], Some, sym, subst}
-use Rattle.std.specs.Prelude.{IsSome}
+use Rattle.std.specs.Prelude.{IsSome, slice_index}
 use Rattle.base.specs.declared.tree.Program.{Program}
 use Rattle.base.specs.declared.tree.Region.{Region}
 use Rattle.base.specs.Meaning.{lengths_of, run_region}
@@ -16,6 +16,6 @@ run_often-requires c =
     let loops = c.args.loops.now.values.items in
     let whole : AreWhole (lengths_of p) rows =
     subst (λ (ls : List ℕ). AreWhole ls rows) c.lengths.ensures.lengths c.in_ok-zero_rows.ensures in
-    subst (λ (r : Region). IsSome (run_region r loops (cells_of rows) _ _)) (sym c.in_ok-code.ensures)
-    (runs c.args.region.now (lengths_of p) loops rows _ _ whole
+    subst (λ (r : Region). IsSome (run_region r loops (cells_of rows) (slice_index c.zeros.result) [])) (sym c.in_ok-code.ensures)
+    (runs c.args.region.now (lengths_of p) loops rows (slice_index c.zeros.result) [] whole
     (subst (λ (q : Program). region_faults (lengths_of q) loops (Some c.args.region.now) ≡ []) c.program.ensures c.in-Ok.ensures.fine) c.frame_runs.ensures)

@@ -10,4 +10,4 @@ returns c =
     runs_on c.region_runs.ensures f.loops.now.values.items f.rows.items f.scalars f.input.now
     (subst (λ (rows : List Row). HaveNumbers rows) c.deref.ensures.value c.have_numbers.ensures)
     (subst (λ (xs : List ℕ). AreNumbers xs) c.as_slice.ensures c.are_numbers.ensures)
-    c.are_numbers-2.ensures c.are_numbers-3.ensures
+    (subst (λ (xs : List ℕ). AreNumbers xs) c.numbers.ensures.same c.are_numbers-2.ensures) c.are_numbers-3.ensures

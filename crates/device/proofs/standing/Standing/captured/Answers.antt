@@ -1,5 +1,5 @@
 use Rattle.std.proofs.Common.{◌≡◌, ◌∙◌, Some, sym, ap, subst}
-use Rattle.std.specs.Prelude.{slice_get, slice_index}
+use Rattle.std.specs.Prelude.{slice_get}
 use Rattle.std.proofs.lemmas.Option.{slice_get-get_or}
 use Rattle.base.specs.Machine.{captured_by}
 use Rattle.device.specs.declared.standing.Held.{Held}
@@ -15,7 +15,7 @@ returns-in-Captured c p s w at is d waits =
     let kept =
     subst (IsCaptured (captured_by (s.condition c.args.item) s.scalars)) (at_i ∙ ap (λ (x : Held). Some x) c.in-Captured.is)
     (captures_kept c.args.self.now c.args.item p s w at is (d ∙ c.if-not-deferred.false) waits) in
-    ap (λ xs. slice_index xs) c.deref.ensures ∙ sym kept
+    sym kept
 
 pub returns-in-Nothing : goal.returns-in-Nothing
 returns-in-Nothing c p s w at is d waits =

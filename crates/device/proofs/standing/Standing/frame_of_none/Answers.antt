@@ -7,8 +7,8 @@ use Rattle.device.proofs.standing.Standing.frame_of_none.Goals as goal
 pub returns : goal.returns
 returns c = record {
   serves = λ p s w at b fine is of waits.
-      plain_serves p c.args.self.now c.args.item c.captured.result [] _
-      s w at b fine is waits (subst (λ d. Captures c.args.self.now d c.args.item c.captured.result) (sym of.deferred) c.captured.ensures)
+      plain_serves p c.args.self.now c.args.item c.captured-held.result.now [] _
+      s w at b fine is waits (subst (λ d. Captures c.args.self.now d c.args.item c.captured-held.result.now) (sym of.deferred) c.captured-held.ensures)
       (ap is_host of.kind ∙ c.requires.host) (ap is_target of.kind ∙ c.requires.target)
-      (record { item = refl; loops' = sym of.loops; scalars' = refl }) refl c.new.ensures.items;
+      (record { item = refl; loops' = sym of.loops; scalars' = c.in_ok-scalars.ensures }) refl c.new.ensures.items;
 }

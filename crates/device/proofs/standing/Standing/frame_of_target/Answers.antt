@@ -20,8 +20,8 @@ returns-clause-few c =
 
 pub returns-clause-serves : goal.returns-clause-serves
 returns-clause-serves c s w at b fine is of waits =
-    kernel_serves c.args.image.now c.args.self.now c.args.item c.captured-scalars.result c.reach-reach.result.now c.in_ok-frame.frame
-    s w at b fine is waits (subst (λ d. Captures c.args.self.now d c.args.item c.captured-scalars.result) (sym of.deferred) c.captured-scalars.ensures)
+    kernel_serves c.args.image.now c.args.self.now c.args.item c.captured-held.result.now c.reach-reach.result.now c.in_ok-frame.frame
+    s w at b fine is waits (subst (λ d. Captures c.args.self.now d c.args.item c.captured-held.result.now) (sym of.deferred) c.captured-held.ensures)
     (of.kind ∙ c.requires.kind) (c.reach-reach.ensures w is)
-    (record { item = c.in_ok-frame.ensures.item; loops' = ap (λ l. l.values.items) c.in_ok-frame.ensures.loops ∙ sym of.loops; scalars' = c.in_ok-frame.ensures.scalars })
+    (record { item = c.in_ok-frame.ensures.item; loops' = ap (λ l. l.values.items) c.in_ok-frame.ensures.loops ∙ sym of.loops; scalars' = c.in_ok-frame.ensures.scalars ∙ c.in_ok-scalars.ensures })
     c.in_ok-frame.ensures.input c.in_ok-frame.ensures.cells

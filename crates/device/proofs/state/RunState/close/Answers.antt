@@ -13,7 +13,8 @@ finish-requires c =
       of_item = refl;
       issued = c.is_issued.ensures.yes c.if-not-is_issued.false;
       kept =
-          subst (λ xs. IsKept (done_on d.region.now d.frame.now) (left_in d.scalars xs d.input.now c.deref-2.result.now)) (sym c.deref.ensures.value)
-          (subst (λ xs. IsKept (done_on d.region.now d.frame.now) (left_in d.scalars d.rows.items d.input.now xs)) (sym c.deref-2.ensures.value)
-          d.is_meaning);
+          subst (λ xs. IsKept (done_on d.region.now d.frame.now) (left_in xs c.deref-2.result.now d.input.now c.deref-3.result.now)) (sym c.deref.ensures)
+          (subst (λ xs. IsKept (done_on d.region.now d.frame.now) (left_in d.scalars.value xs d.input.now c.deref-3.result.now)) (sym c.deref-2.ensures.value)
+          (subst (λ xs. IsKept (done_on d.region.now d.frame.now) (left_in d.scalars.value d.rows.items d.input.now xs)) (sym c.deref-3.ensures.value)
+          d.is_meaning));
     }

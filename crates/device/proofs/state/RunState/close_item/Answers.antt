@@ -45,8 +45,9 @@ finish-requires c =
           (is_issued_done s c.args.item it c.self.invariant f c.code-code.result.now c.in-Issued.frame of e
           (asked s c.args.self.now (event.Close c.args.item) c.self.view_is c.requires));
       kept =
-          subst (λ xs. IsKept (done_on c.code-code.result.now c.in-Issued.frame) (left_in d.scalars xs d.input.now c.deref-2.result.now)) (sym c.deref.ensures.value)
-          (subst (λ xs. IsKept (done_on c.code-code.result.now c.in-Issued.frame) (left_in d.scalars d.rows.items d.input.now xs)) (sym c.deref-2.ensures.value)
-          (subst (λ r. IsKept (done_on r c.in-Issued.frame) (left_in d.scalars d.rows.items d.input.now d.printed.items)) c.in-Ok.ensures.region
-          (subst (λ g. IsKept (done_on d.region.now g) (left_in d.scalars d.rows.items d.input.now d.printed.items)) c.in-Ok.ensures.frame d.is_meaning)));
+          subst (λ xs. IsKept (done_on c.code-code.result.now c.in-Issued.frame) (left_in xs c.deref-2.result.now d.input.now c.deref-3.result.now)) (sym c.deref.ensures)
+          (subst (λ xs. IsKept (done_on c.code-code.result.now c.in-Issued.frame) (left_in d.scalars.value xs d.input.now c.deref-3.result.now)) (sym c.deref-2.ensures.value)
+          (subst (λ xs. IsKept (done_on c.code-code.result.now c.in-Issued.frame) (left_in d.scalars.value d.rows.items d.input.now xs)) (sym c.deref-3.ensures.value)
+          (subst (λ r. IsKept (done_on r c.in-Issued.frame) (left_in d.scalars.value d.rows.items d.input.now d.printed.items)) c.in-Ok.ensures.region
+          (subst (λ g. IsKept (done_on d.region.now g) (left_in d.scalars.value d.rows.items d.input.now d.printed.items)) c.in-Ok.ensures.frame d.is_meaning))));
     }

@@ -6,7 +6,7 @@ use Rattle.device.specs.Standing.{frame_parts, issue_of}
 use Rattle.device.proofs.MayOpen.{facts, has_room, is_full, open_fault, same_but, same_work, unchanged}
 use Rattle.device.proofs.OpenedItems.{is_held, may_close}
 use Rattle.device.proofs.Reaching.{goes_to, same_fresh}
-use Rattle.device.proofs.state.RunState.open.Goals as goal
+use Rattle.device.proofs.state.RunState.open_with.Goals as goal
 
 pub open-requires-clause-here : goal.open-requires-clause-here
 open-requires-clause-here c =
@@ -151,5 +151,46 @@ job-requires-clause-held c =
     let s = c.self.inside in
     let f = facts s c.args.self.now c.args.item _ c.items.result.now c.index-items-item.result c.self.view_is c.self.invariant c.requires
     c.items.ensures.shown c.index-items-item.is in
-    is_held c.index-items-item.result.kind c.in-Ok.frame c.in-Ok-copy_of.issued c.fill.new.frame c.args.item s.standing c.open.new.self
-    c.in-Ok-open.ensures.issued f.item.inside c.in-Ok-copy_of.ensures c.fill.ensures.filled c.fill.ensures.rows
+    is_held c.index-items-item.result.kind c.in-Ok.frame c.in-Some.issued c.fill.new.frame c.args.item s.standing c.open.new.self
+    c.in-Ok-open.ensures.issued f.item.inside (rw c.in-Some.is at c.in-Ok-copy_if.ensures.same) c.fill.ensures.filled c.fill.ensures.rows
+
+pub invariant_of-self-in_default-copy : goal.invariant_of-self-in_default-copy
+invariant_of-self-in_default-copy c =
+    let s = c.self.inside in
+    let f = facts s c.args.self.now c.args.item _ c.items.result.now c.index-items-item.result c.self.view_is c.self.invariant c.requires
+    c.items.ensures.shown c.index-items-item.is in
+    goes_to (run_of s) _ s.standing c.open.new.self (event.Open c.args.item) c.self.invariant f.open'.next
+    (c.in-Ok-open.ensures.opened _ (state_of (run_of s)) f.open'.next.state f.item.work c.self.invariant.at f.item.is f.item.of
+    (c.in-Ok.ensures.serves (state_of (run_of s)) f.item.work c.self.invariant.at f.item.bounded f.item.fine f.item.is f.item.of
+    (same_work s c.args.item c.index-items-item.result f))
+    f.open'.next.step)
+    (record {
+      program = refl;
+      input = refl;
+      capacity = refl;
+      fresh = same_fresh s.standing.table c.open.new.self.table c.in-Ok-open.ensures.kept.fill;
+      history = c.in_ok-note.ensures.noted;
+    })
+    c.in-Ok-open.ensures.kept.capacity
+
+pub returns-in_default-copy-clause-opened : goal.returns-in_default-copy-clause-opened
+returns-in_default-copy-clause-opened c =
+    let s = c.self.inside in
+    let f = facts s c.args.self.now c.args.item _ c.items.result.now c.index-items-item.result c.self.view_is c.self.invariant c.requires
+    c.items.ensures.shown c.index-items-item.is in
+    record {
+      frame = frame_parts c.in-Ok-open.ensures.issued.frame;
+      is =
+          same_but (run_of (record s { standing = c.open.new.self; history = c.note.new.history }))
+          (opened (run_of s) c.args.item (frame_parts c.in-Ok-open.ensures.issued.frame)) refl refl refl
+          (same_fresh s.standing.table c.open.new.self.table c.in-Ok-open.ensures.kept.fill)
+          c.in_ok-note.ensures.noted c.in-Ok-open.ensures.issued.is
+          ∙ ap (λ r. opened r c.args.item (frame_parts c.in-Ok-open.ensures.issued.frame)) c.self.view_is;
+    }
+
+pub returns-in_default-copy-clause-room : goal.returns-in_default-copy-clause-room
+returns-in_default-copy-clause-room c =
+    let s = c.self.inside in
+    let f = facts s c.args.self.now c.args.item _ c.items.result.now c.index-items-item.result c.self.view_is c.self.invariant c.requires
+    c.items.ensures.shown c.index-items-item.is in
+    ap (λ r. is_over r c.args.item) (sym c.self.view_is) ∙ has_room (run_of s) s.standing c.args.item c.index-items-item.result c.self.invariant f.item c.in-Ok-open.ensures.room
