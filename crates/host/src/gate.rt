@@ -14,8 +14,17 @@ pub enum Phase {
     Closed,
 }
 
+// The stack of a worker, as large as that of a thread of Rust.
+const STACK_SIZE: usize = 2 * 1024 * 1024;
+
 /// Where threads stop between the steps of an item, for tests. It is asked outside the lock.
 pub trait Gate {
+    /// How large the stack of a worker is, in bytes, by the worker's number from 0 on. A worker for whose stack there is no
+    /// room is not started.
+    fn stack_size(&self, _worker: usize) -> usize {
+        STACK_SIZE
+    }
+
     /// The thread that has the item passes.
     fn pass(&self, item: u32, phase: Phase);
 

@@ -8,8 +8,4 @@ mod board;
 mod gate;
 mod origin;
 mod run;
-#[cfg(test)]
-mod sources;
-#[cfg(test)]
-mod tests;
 mod work;

@@ -9,7 +9,7 @@ use device::Job;
 use std::alloc::Global;
 use std::sync::{Condvar, Mutex, Wait};
 use std::thread;
-use std::thread::Threads;
+use std::thread::{Builder, Threads};
 
 /// Which items a thread opens.
 #[derive(Clone, Copy, PartialEq, Eq)]
@@ -142,9 +142,13 @@ pub fn work_on_threads<'a, B: Origin + Send, R: Threads + Wait + Sync, G: Gate +
     workers: usize,
 ) {
     thread::scope(thread::scope_env(), rt, move |scope| {
-        for _ in 0..workers {
-            if scope
-                .spawn(move || work(rt, alloc, board, calls, gate, Role::Worker))
+        for worker in 0..workers {
+            if Builder::new()
+                .stack_size(gate.stack_size(worker))
+                .spawn_scoped(
+                    scope,
+                    move || work(rt, alloc, board, calls, gate, Role::Worker),
+                )
                 .is_err()
             {
                 stop_all(rt, board, calls, Stop::ThreadNotStarted);

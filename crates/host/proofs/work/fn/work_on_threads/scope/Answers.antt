@@ -7,8 +7,8 @@ use Rattle.host.proofs.Crossing.{board_send}
 use Rattle.host.proofs.work.Calls.TheSendSync as calls
 use Rattle.host.proofs.work.fn.work_on_threads.scope.Goals as goal
 
-pub spawn-requires-send-F : goal.spawn-requires-send-F
-spawn-requires-send-F g c κs within =
+pub spawn_scoped-requires-send-F : goal.spawn_scoped-requires-send-F
+spawn_scoped-requires-send-F g c κs within =
     let r : IsSync g.row.R = search (rules, c.requires) in
     let s : IsSync g.row.G = search (rules, c.requires) in
     search (board_send, global.the_send, calls.the_sync, mutex.the_sync, crossing.crosses, sendable) depth 60 fits 20000
