@@ -13,6 +13,3 @@ mod sections;
 
 pub use next::directive;
 pub use resolved::{Construct, Resolved};
-
-#[cfg(test)]
-mod tests;

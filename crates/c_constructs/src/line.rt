@@ -12,15 +12,13 @@ ghost use Rattle.c_expressions.specs.Scopes.{context_of};
 ghost use Rattle.c_expressions.specs.Seen.{columns_on, kinds_on};
 ghost use Rattle.directives.specs.Names.{IsInSource};
 ghost use Rattle.directives.specs.Spells.{SpellsLine, line_answer};
-ghost use Rattle.c_constructs.specs.declared.line.TheConstants.{MAX_STATEMENTS};
+ghost use Rattle.c_tokens.specs.declared.limits.TheConstants.{MAX_STATEMENTS};
 ghost use Rattle.c_constructs.specs.Steps.{act_of, seen_error};
 
 use base::fault::{ReadCode, TextFault};
 use c_expressions::{Cursor, ReadError, Scope};
+use c_tokens::limits::MAX_STATEMENTS;
 use directives::{Directive, DirectiveFault, read_directive_at};
-
-/// How many statements a source may have.
-pub const MAX_STATEMENTS: u32 = 16384;
 
 /// A fault of a line of the source.
 pub fn text_fault(fault: DirectiveFault, line: usize) -> ReadError

@@ -16,15 +16,16 @@ ghost use Rattle.directives.specs.Kinds.{seen_kind};
 ghost use Rattle.directives.specs.Names.{names_in};
 ghost use Rattle.directives.specs.Reading.{Outcome};
 ghost use Rattle.directives.specs.Trees.{text_of};
-ghost use Rattle.c_constructs.specs.declared.line.TheConstants.{MAX_STATEMENTS};
+ghost use Rattle.c_tokens.specs.declared.limits.TheConstants.{MAX_STATEMENTS};
 ghost use Rattle.c_constructs.specs.Directives.{IsResolvedAt};
 ghost use Rattle.c_constructs.specs.LineMeaning.{IsRead, is_over, is_target, lexemes_on, scope_behind};
 ghost use Rattle.c_constructs.specs.Steps.{act_of};
 ghost use Rattle.c_constructs.specs.Uses.{fault_in};
 
-use crate::line::{MAX_STATEMENTS, directive_at, refuse_inside, refuse_under, text_fault};
+use crate::line::{directive_at, refuse_inside, refuse_under, text_fault};
 use crate::resolved::{Construct, Resolved, alone_at, construct_at};
 use c_expressions::{Cursor, ReadError, Scope, Terminal};
+use c_tokens::limits::MAX_STATEMENTS;
 use directives::{Directive, DirectiveFault, DirectiveKind};
 
 /// Whether a block or loop follows a directive of that kind.

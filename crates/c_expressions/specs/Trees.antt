@@ -15,7 +15,7 @@ use Rattle.c_grammar.specs.Terminal.{Mark}
 use Rattle.c_grammar.specs.Texts.{next_of}
 use Rattle.c_grammar.specs.Grammar.{Term, Operator, LogicOr, LogicAnd, term, level_of, IsRanked}
 use Rattle.c_grammar.specs.Rules.{source_grammar}
-use Rattle.c_expressions.specs.declared.scope.TheConstants.{MAX_TOKENS}
+use Rattle.c_tokens.specs.declared.limits.TheConstants.{MAX_TOKENS}
 use Rattle.c_expressions.specs.declared.spend.Tally.{Tally}
 use Rattle.c_expressions.specs.Means.{Items, Names, operator_of, term_size, IsExpr}
 use Rattle.c_expressions.specs.Reading.{terminals, kinds}

@@ -6,10 +6,10 @@ ghost use Rattle.c_grammar.specs.Source.{end_of};
 
 use crate::fault::ReadError;
 use crate::line::words_misfit;
-use crate::scope::MAX_NAME;
 use crate::terminal::{Terminal, terminal_of};
 use base::fault::{ReadCode, TextFault};
 use base::tree::Place;
+use c_tokens::limits::MAX_NAME;
 use c_tokens::{Sign, Token, Tokens, tokens};
 use directives::{Word, is_directive_at, lower};
 
@@ -25,7 +25,7 @@ pub struct Cursor<'a> {
 
 impl<'a> Cursor<'a> {
     ghost use Rattle.std.specs.Prelude.{◌≡◌, ◌≢◌, ◌≤◌, ◌+◌, ◌^◌, ◌∷◌, [], length, OnOk, IfOk, IfErr, Some, None, true};
-    ghost use Rattle.c_expressions.specs.declared.scope.TheConstants.{MAX_NAME};
+    ghost use Rattle.c_tokens.specs.declared.limits.TheConstants.{MAX_NAME};
     ghost use Rattle.c_tokens.specs.declared.kind.Sign.TheVariants as sign;
     ghost use Rattle.base.specs.declared.fault.ReadCode.TheVariants.{Unexpected};
     ghost use Rattle.c_grammar.specs.Terminal.{End, Mark, Fixed, Name, Num, same};

@@ -68,7 +68,7 @@ impl Scope<'_> {
     ghost use Rattle.c_grammar.specs.Terminal.{Mark, Name, Num, same};
     ghost use Rattle.c_grammar.specs.Grammar.{Act, OpensBracket, ClosesBracket, for, operator_sign, fraction_sign, prefix_sign, level, fraction_level};
     ghost use Rattle.c_grammar.specs.Program.{Stack, Want, Atom, Tail, m};
-    ghost use Rattle.c_expressions.specs.declared.scope.TheConstants.{MAX_BRACKETS, MAX_TOKENS};
+    ghost use Rattle.c_tokens.specs.declared.limits.TheConstants.{MAX_BRACKETS, MAX_TOKENS};
     ghost use Rattle.c_expressions.specs.Means.{Items, prefix_of, shift_of, divide_of};
     ghost use Rattle.c_expressions.specs.Cursor.{items, first_item, behind};
     ghost use Rattle.c_expressions.specs.Reading.{run, took, Outcome};

@@ -7,8 +7,8 @@ ghost use Rattle.c_grammar.specs.LineMachine.{line_first_wrong};
 ghost use Rattle.directives.specs.Seen.{seen_lexeme, seen_placed};
 ghost use Rattle.c_expressions.specs.Lines.{misfit_on, seen_misfit, words_misfit};
 
-use crate::scope::MAX_NAME;
 use base::fault::ReadCode;
+use c_tokens::limits::MAX_NAME;
 use directives::{Lexeme, Lexemes, PlacedLexeme, lower, same_lexeme};
 
 /// A token that does not fit.

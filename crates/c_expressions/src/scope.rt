@@ -5,15 +5,6 @@ ghost use Rattle.std.specs.Prelude.{◌≤◌};
 use base::tree::{ArrayId, ScalarId};
 use std::alloc::Global;
 
-/// How many bytes a name may have.
-pub const MAX_NAME: usize = 64;
-
-/// How many brackets may be open in an expression.
-pub const MAX_BRACKETS: u32 = 16;
-
-/// How many tokens an expression may have.
-pub const MAX_TOKENS: u32 = 256;
-
 /// What a visible name means.
 #[derive(Clone, Copy, Debug)]
 pub enum Meaning {

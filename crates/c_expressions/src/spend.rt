@@ -2,11 +2,12 @@
 
 use crate::cursor::Cursor;
 use crate::fault::ReadError;
-use crate::scope::{MAX_BRACKETS, MAX_NAME, MAX_TOKENS, Meaning, Scope};
+use crate::scope::{Meaning, Scope};
 use crate::terminal::Terminal;
 use base::fault::ReadCode;
 use base::tree::{Divisor, ShiftCount};
 use c_tokens::Sign;
+use c_tokens::limits::{MAX_BRACKETS, MAX_NAME, MAX_TOKENS};
 
 /// By how many bits a number is shifted at most.
 const MAX_SHIFT: u64 = 63;
@@ -40,7 +41,7 @@ impl Scope<'_> {
     ghost use Rattle.c_grammar.specs.Grammar.{Inner, Operand, OpensBracket, ClosesBracket, for};
     ghost use Rattle.c_grammar.specs.Rules.{sort_of};
     ghost use Rattle.c_grammar.specs.Program.{Stack, Want, Fractional};
-    ghost use Rattle.c_expressions.specs.declared.scope.TheConstants.{MAX_BRACKETS, MAX_TOKENS};
+    ghost use Rattle.c_tokens.specs.declared.limits.TheConstants.{MAX_BRACKETS, MAX_TOKENS};
     ghost use Rattle.c_expressions.specs.Means.{meaning_of, shift_of, divide_of};
     ghost use Rattle.c_expressions.specs.Cursor.{items, first_item, behind};
     ghost use Rattle.c_expressions.specs.Reading.{run, took, Outcome, IsSound};

@@ -15,12 +15,12 @@ ghost use Rattle.c_expressions.specs.Scopes.{names_of};
 ghost use Rattle.c_statements.specs.Loops.{IsGone};
 ghost use Rattle.c_read.specs.Globals.{global_code, is_over, naming, with_cells, IsArrayNamed, IsScalarNamed};
 
-use crate::limits::{MAX_ARRAYS, MAX_CELLS, MAX_NAME, MAX_SCALARS};
 use base::fault::{ReadCode, TextFault};
 use base::tree::{ArrayId, ScalarId};
 use c_expressions::{Cursor, Meaning, ReadError, Scope, Terminal};
 use c_statements::new_scalar;
 use c_tokens::Sign;
+use c_tokens::limits::{MAX_ARRAYS, MAX_CELLS, MAX_NAME, MAX_SCALARS};
 
 /// Whether a limit is met at the name of a global, before the sign that stands next.
 fn is_over(scope: &Scope<'_>, next: &Cursor<'_>, name: &[u8]) -> bool

@@ -21,13 +21,13 @@ ghost use Rattle.c_read.specs.Spells.{main_tokens, IsTextRead, Spells, OnText};
 ghost use Rattle.c_read.specs.Starts.{IsStart};
 
 use crate::globals::globals;
-use crate::limits::MAX_SOURCE;
 use crate::parts::gather;
 use base::fault::{ReadCode, ReadFault, TextFault};
 use base::tree::Program;
 use c_expressions::{Cursor, Frame, ReadError, Scope};
 use c_statements::open_body;
 use c_tokens::Sign;
+use c_tokens::limits::MAX_SOURCE;
 use directives::Word;
 use std::alloc::{AllocError, Global};
 

@@ -13,12 +13,12 @@ ghost use Rattle.c_expressions.specs.Reading.{run, took, Outcome};
 ghost use Rattle.c_expressions.specs.Scopes.{context_of, names_of, sort_of_meaning};
 ghost use Rattle.c_statements.specs.Simple.{assign_code, code_at, env_of, counted, is_over, IsKept, IsAssignRead, IsStoreRead, IsStmtRead};
 
-use crate::limits::{MAX_NAME, MAX_STATEMENTS};
 use crate::right_side::{ended_source, is_inside};
 use base::fault::{ReadCode, TextFault};
 use base::tree::{Expr, Source, Stmt};
 use c_expressions::{Cursor, Meaning, ReadError, Scope};
 use c_tokens::Sign;
+use c_tokens::limits::{MAX_NAME, MAX_STATEMENTS};
 
 /// The fault of a scalar's name before an equals sign.
 fn scalar_fault(local: bool, equal: bool, over: bool, within: bool) -> Option<ReadCode>

@@ -14,10 +14,10 @@ ghost use Rattle.c_expressions.specs.Scopes.{context_of, frames_of, names_of};
 ghost use Rattle.c_statements.specs.Simple.{counted};
 ghost use Rattle.c_statements.specs.Blocks.{turned, choosing, under_if};
 
-use crate::limits::{MAX_BRACES, MAX_STATEMENTS};
 use base::fault::ReadCode;
 use c_expressions::{Cursor, ReadError, Scope, Turn};
 use c_tokens::Sign;
+use c_tokens::limits::{MAX_BRACES, MAX_STATEMENTS};
 
 /// Goes past the brace with which a body begins, that of a loop with its name.
 #[tactic(auto, using(crate::proofs::Braces::stop_opens, crate::proofs::Braces::deep_opens, c_expressions::proofs::Going::was_mark))]

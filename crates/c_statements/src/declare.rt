@@ -12,17 +12,17 @@ ghost use Rattle.c_expressions.specs.declared.scope.Meaning.TheVariants as meani
 ghost use Rattle.c_expressions.specs.Cursor.{items, first_item, behind};
 ghost use Rattle.c_expressions.specs.Reading.{run, took, Outcome};
 ghost use Rattle.c_expressions.specs.Scopes.{context_of, names_of};
-ghost use Rattle.c_statements.specs.declared.limits.TheConstants.{MAX_SCALARS};
+ghost use Rattle.c_tokens.specs.declared.limits.TheConstants.{MAX_SCALARS};
 ghost use Rattle.c_statements.specs.Bodies.{naming, IsSameBlock};
 ghost use Rattle.c_statements.specs.Simple.{counted, env_of, ending, IsStmtRead};
 
 use crate::head::is_visible;
-use crate::limits::{MAX_NAME, MAX_SCALARS, MAX_STATEMENTS};
 use crate::right_side::{is_inside, source};
 use base::fault::ReadCode;
 use base::tree::{ScalarId, Stmt};
 use c_expressions::{Cursor, Meaning, ReadError, Scope, Terminal};
 use c_tokens::Sign;
+use c_tokens::limits::{MAX_NAME, MAX_SCALARS, MAX_STATEMENTS};
 
 /// Goes past the word `uint64_t`.
 #[tactic(auto, using(crate::proofs::Braces::many_starts, crate::proofs::Braces::go_starts))]

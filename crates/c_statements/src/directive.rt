@@ -8,10 +8,10 @@ ghost use Rattle.c_expressions.specs.Reading.{run, is_directive};
 ghost use Rattle.c_expressions.specs.Scopes.{context_of};
 ghost use Rattle.c_statements.specs.Blocks.{line_code};
 
-use crate::limits::MAX_STATEMENTS;
 use crate::right_side::is_inside;
 use base::fault::{ReadCode, TextFault};
 use c_expressions::{Cursor, Scope};
+use c_tokens::limits::MAX_STATEMENTS;
 
 /// The code of the fault of a directive inside a target or under an `if`.
 fn line_code(scope: &Scope<'_>) -> ReadCode

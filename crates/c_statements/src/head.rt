@@ -10,14 +10,14 @@ ghost use Rattle.c_grammar.specs.Program.{Stack, Want, WantNum, Turn, m, head_of
 ghost use Rattle.c_expressions.specs.Cursor.{items};
 ghost use Rattle.c_expressions.specs.Reading.{run, Outcome, OutcomeBy};
 ghost use Rattle.c_expressions.specs.Scopes.{context_of, limited};
-ghost use Rattle.c_statements.specs.declared.limits.TheConstants.{MAX_NAME, MAX_SCALARS};
+ghost use Rattle.c_tokens.specs.declared.limits.TheConstants.{MAX_NAME, MAX_SCALARS};
 ghost use Rattle.c_statements.specs.Loops.{waiting, with_limit, IsNamedMore, IsGone, bounds_tokens};
 
-use crate::limits::{MAX_NAME, MAX_SCALARS};
 use base::fault::ReadCode;
 use base::tree::Bounds;
 use c_expressions::{Cursor, ReadError, Scope, Terminal};
 use c_tokens::Sign;
+use c_tokens::limits::{MAX_NAME, MAX_SCALARS};
 use directives::Word;
 
 /// Whether a name is declared.

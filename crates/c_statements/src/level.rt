@@ -2,7 +2,7 @@
 
 ghost use Rattle.std.specs.Prelude.{◌≡◌, ◌≤◌, ◌+◌};
 ghost use Rattle.c_expressions.specs.Scopes.{names_in, names_of};
-ghost use Rattle.c_statements.specs.declared.limits.TheConstants.{MAX_SCALARS};
+ghost use Rattle.c_tokens.specs.declared.limits.TheConstants.{MAX_SCALARS};
 ghost use Rattle.c_statements.specs.Simple.{loops_in};
 
 use c_expressions::{Frame, Meaning, Scope};

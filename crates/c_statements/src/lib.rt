@@ -8,7 +8,6 @@ mod directive;
 mod head;
 mod if_head;
 mod level;
-mod limits;
 mod print;
 mod right_side;
 mod stmt;
@@ -23,6 +22,3 @@ pub use level::loops_around;
 pub use print::printed;
 pub use right_side::{ended_source, source};
 pub use stmt::{body, choice, statement, statements};
-
-#[cfg(test)]
-mod tests;

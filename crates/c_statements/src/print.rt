@@ -10,12 +10,12 @@ ghost use Rattle.c_expressions.specs.Reading.{run, took, Outcome};
 ghost use Rattle.c_expressions.specs.Scopes.{context_of, names_of};
 ghost use Rattle.c_statements.specs.Simple.{env_of, counted, print_rest, IsPrintRead, IsStmtRead};
 
-use crate::limits::MAX_STATEMENTS;
 use crate::right_side::is_inside;
 use base::fault::ReadCode;
 use base::tree::{Expr, Stmt};
 use c_expressions::{Cursor, ReadError, Scope};
 use c_tokens::Sign;
+use c_tokens::limits::MAX_STATEMENTS;
 
 /// Goes past the word `print`.
 #[tactic(auto, using(crate::proofs::Prints::many_prints))]

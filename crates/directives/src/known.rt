@@ -8,16 +8,8 @@ ghost use Rattle.directives.specs.Known.{own_code};
 
 use crate::lexeme::Lexeme;
 use base::fault::ReadCode;
+use c_tokens::limits::{MAX_DEPENDS, MAX_NAME, MAX_TERMS};
 use std::alloc::{AllocError, Global};
-
-/// How many bytes a name may have.
-pub const MAX_NAME: usize = 64;
-
-/// How many depend items a directive may have.
-pub const MAX_DEPENDS: u32 = 64;
-
-/// How many terms a bound may have.
-pub const MAX_TERMS: u32 = 8;
 
 /// What a token is there for.
 #[derive(Clone, Copy, Debug)]

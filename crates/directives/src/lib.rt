@@ -28,6 +28,3 @@ pub use tree::{
     MotionClause, MotionType, Name, Section, Sections, Term,
 };
 pub use word::{Word, word_of};
-
-#[cfg(test)]
-mod tests;

@@ -1,6 +1,6 @@
 use Rattle.std.proofs.Common.{◌≡◌, ◌+◌, ◌-◌, ◌*◌, ◌∷◌}
 use Rattle.c_grammar.specs.Program.{Stack, Atom, Tail}
-use Rattle.c_expressions.specs.declared.scope.TheConstants.{MAX_TOKENS}
+use Rattle.c_tokens.specs.declared.limits.TheConstants.{MAX_TOKENS}
 use Rattle.c_expressions.specs.Reading.{run}
 use Rattle.c_expressions.specs.Cursor.{items}
 use Rattle.c_expressions.specs.Scopes.{context_of, names_of}
