@@ -14,10 +14,3 @@ pub use listing::list_source;
 pub use perform::{SourceError, Sources, drive};
 pub use source::run_source;
 pub use threads::run_source_on_threads;
-
-#[cfg(test)]
-mod check_tests;
-#[cfg(test)]
-mod step_tests;
-#[cfg(test)]
-mod tests;

@@ -6,8 +6,6 @@ ghost use Rattle.erased_meaning.specs.Laws.{ErasedTextRuns};
 pub use crate::read::read_erased;
 
 mod read;
-#[cfg(test)]
-mod tests;
 
 /// Of every source and every program that it spells: a program that its text without directive lines spells has no
 /// directive and the same arrays. On the host alone it prints the same numbers and leaves the same memory and the same

@@ -1,3 +1,4 @@
+pub mod Bare
 pub mod Captures
 pub mod Regions
 pub mod Counts

@@ -1,14 +1,15 @@
 // One item.
 
 ghost use Rattle.std.specs.Prelude.{◌≡◌, ◌++◌, false, true, map, IfOk, OnOk, Some};
-ghost use Rattle.base.specs.Items.{alone_work, data_work, host_work, map_of, region_kind, target_work};
+ghost use Rattle.base.specs.Items.{alone_work, data_work, depends_of, host_work, map_of, region_kind, target_work};
+ghost use Rattle.outline.specs.Bare.{bare_work};
 ghost use Rattle.outline.specs.Shown.{shown};
 ghost use Rattle.outline.specs.Walk.{RegionIsAt, entries_in, implicit_of, is_named};
 
 use crate::known::Known;
 use crate::maps::{depend_items, enter_maps, exit_maps, region_maps, update_maps};
 use base::item::{Item, ItemKind, LoopValues, MapItem, MapKind, Section};
-use base::tree::{ArrayId, Directive, MapText, Place, Region, RegionKind, Target};
+use base::tree::{ArrayId, DependText, Directive, MapText, Place, Region, RegionKind, Target};
 use smallvec::SmallVec;
 use std::alloc::{AllocError, Global};
 
@@ -116,6 +117,27 @@ pub fn target_item(
     })
 }
 
+// An item that has no region.
+fn bare_item(
+    known: &Known<'_, '_>,
+    kind: ItemKind,
+    deferred: bool,
+    maps: SmallVec<MapItem, 2>,
+    depends: &[DependText],
+    loops: &[u64],
+) -> Result<Item, AllocError>
+    ensures { IfOk result (λ i. shown (entries_in known.now) i ≡ Some (bare_work kind deferred maps.items (depends_of known.now.lengths.now loops.now depends.now) loops.now)) }
+{
+    Ok(Item {
+        kind,
+        deferred,
+        maps,
+        depends: depend_items(known.alloc, depends, known.lengths, loops)?,
+        region: None,
+        loops: loop_values(known.alloc, loops)?,
+    })
+}
+
 /// The beginning or the end of a `target data`.
 pub fn data_item(
     known: &Known<'_, '_>,
@@ -145,37 +167,48 @@ pub fn alone_item(
 {
     let (alloc, lengths) = (known.alloc, known.lengths);
     match directive {
-        Directive::Enter(maps, tasking) => Ok(Item {
-            kind: ItemKind::Enter,
-            deferred: tasking.nowait,
-            maps: enter_maps(alloc, maps, lengths, loops)?,
-            depends: depend_items(alloc, &tasking.depends, lengths, loops)?,
-            region: None,
-            loops: loop_values(alloc, loops)?,
-        }),
-        Directive::Exit(maps, tasking) => Ok(Item {
-            kind: ItemKind::Exit,
-            deferred: tasking.nowait,
-            maps: exit_maps(alloc, maps, lengths, loops)?,
-            depends: depend_items(alloc, &tasking.depends, lengths, loops)?,
-            region: None,
-            loops: loop_values(alloc, loops)?,
-        }),
-        Directive::Update(sections, tasking) => Ok(Item {
-            kind: ItemKind::Update,
-            deferred: tasking.nowait,
-            maps: update_maps(alloc, sections, lengths, loops)?,
-            depends: depend_items(alloc, &tasking.depends, lengths, loops)?,
-            region: None,
-            loops: loop_values(alloc, loops)?,
-        }),
-        Directive::Wait(depends) => Ok(Item {
-            kind: ItemKind::Wait,
-            deferred: false,
-            maps: SmallVec::new(alloc),
-            depends: depend_items(alloc, depends, lengths, loops)?,
-            region: None,
-            loops: loop_values(alloc, loops)?,
-        }),
+        Directive::Enter(maps, tasking) => {
+            let maps = enter_maps(alloc, maps, lengths, loops)?;
+            bare_item(
+                known,
+                ItemKind::Enter,
+                tasking.nowait,
+                maps,
+                &tasking.depends,
+                loops,
+            )
+        }
+        Directive::Exit(maps, tasking) => {
+            let maps = exit_maps(alloc, maps, lengths, loops)?;
+            bare_item(
+                known,
+                ItemKind::Exit,
+                tasking.nowait,
+                maps,
+                &tasking.depends,
+                loops,
+            )
+        }
+        Directive::Update(sections, tasking) => {
+            let maps = update_maps(alloc, sections, lengths, loops)?;
+            bare_item(
+                known,
+                ItemKind::Update,
+                tasking.nowait,
+                maps,
+                &tasking.depends,
+                loops,
+            )
+        }
+        Directive::Wait(depends) => {
+            bare_item(
+                known,
+                ItemKind::Wait,
+                false,
+                SmallVec::new(alloc),
+                depends,
+                loops,
+            )
+        }
     }
 }

@@ -27,8 +27,6 @@ mod entries;
 mod items;
 mod known;
 mod maps;
-#[cfg(test)]
-mod tests;
 mod uses;
 mod walk;
 

@@ -14,12 +14,8 @@ mod exit;
 mod find;
 mod fresh;
 mod needed;
-#[cfg(test)]
-mod row_tests;
 mod rows;
 mod several;
-#[cfg(test)]
-mod tests;
 mod update;
 
 /// The storage of a device with room for so many cells: blocks, each a section with the numbers of its cells, and how

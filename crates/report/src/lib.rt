@@ -5,8 +5,6 @@ mod checked;
 mod listing;
 mod refusal;
 mod run;
-#[cfg(test)]
-mod tests;
 
 pub use checked::accepted_text;
 pub use listing::list_text;

@@ -1,0 +1,19 @@
+//! Tests of the crates of the run and of the commands, each of which calls public functions alone.
+#![tactic(auto)]
+
+#[cfg(test)]
+mod check;
+#[cfg(test)]
+mod commands;
+#[cfg(test)]
+mod device_tests;
+#[cfg(test)]
+mod jobs;
+#[cfg(test)]
+mod kernel_tests;
+#[cfg(test)]
+mod sources;
+#[cfg(test)]
+mod step;
+#[cfg(test)]
+mod threads;

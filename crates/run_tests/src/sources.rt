@@ -1,0 +1,181 @@
+// Sources that are read, checked and lowered, and what is done with their images.
+
+ghost use Rattle.std.specs.Prelude.{◌≤◌};
+ghost use Rattle.base.specs.Limits.{AreShort};
+
+use base::fault::{CheckFault, OutlineFault, ReadFault, RunFault};
+use base::item::Answer;
+use c_read::read_program;
+use device::run_choices;
+use host::{Gate, run_threads};
+use lower::{Image, lower};
+use mapcheck::{Accepted, check};
+use outline::{Outlined, outline};
+use std::alloc::Global;
+use std::process::Abort;
+use std::sync::Wait;
+use std::test::Fail;
+use std::thread::Threads;
+
+/// What is done with the image of a source.
+pub trait Look {
+    fn look<R: Abort>(&self, rt: &R, alloc: Global, image: &Image<'_>) -> Result<(), Fail>;
+}
+
+fn look_accepted<R: Abort, L: Look>(
+    rt: &R,
+    alloc: Global,
+    accepted: &Accepted<'_>,
+    by: &L,
+) -> Result<(), Fail>
+    requires { AreShort accepted.now }
+{
+    let image = lower(alloc, accepted)?;
+    by.look(rt, alloc, &image)
+}
+
+fn look_outlined<R: Abort, L: Look>(
+    rt: &R,
+    alloc: Global,
+    outlined: &Outlined<'_>,
+    by: &L,
+) -> Result<(), Fail>
+    requires { AreShort outlined.now }
+{
+    let accepted = check(alloc, outlined).map_err(Fail::new)?;
+    look_accepted(rt, alloc, &accepted, by)
+}
+
+/// Reads, checks and lowers a source, and does that with its image.
+pub fn look_at<R: Abort, L: Look>(rt: &R, alloc: Global, text: &str, by: &L) -> Result<(), Fail> {
+    let program = read_program(alloc, text.as_bytes()).map_err(Fail::new)?;
+    let outlined = outline(alloc, &program).map_err(Fail::new)?;
+    look_outlined(rt, alloc, &outlined, by)
+}
+
+/// Why there is no answer.
+#[derive(Debug, Drop)]
+pub enum Fault {
+    Read(ReadFault),
+    Outline(OutlineFault),
+    Check(CheckFault),
+    Run(RunFault),
+}
+
+// Runs an accepted program on threads.
+fn run_accepted<R: Threads + Wait + Sync, G: Gate + Sync>(
+    rt: &R,
+    alloc: Global,
+    accepted: &Accepted<'_>,
+    input: &[u64],
+    workers: usize,
+    capacity: u64,
+    gate: &G,
+) -> Result<Answer, Fault>
+    requires some { 1 ≤ workers }
+    requires few { workers ≤ 16 }
+    requires short { AreShort accepted.now }
+{
+    let Ok(image) = lower(alloc, accepted) else {
+        return Err(Fault::Run(RunFault::OutOfMemory));
+    };
+    match run_threads(rt, alloc, &image, input, workers, capacity, gate) {
+        Ok(answer) => Ok(answer),
+        Err(fault) => Err(Fault::Run(fault)),
+    }
+}
+
+// Runs it by choices.
+fn run_accepted_in_turn(
+    alloc: Global,
+    accepted: &Accepted<'_>,
+    input: &[u64],
+    capacity: u64,
+) -> Result<Answer, Fault>
+    requires { AreShort accepted.now }
+{
+    let Ok(image) = lower(alloc, accepted) else {
+        return Err(Fault::Run(RunFault::OutOfMemory));
+    };
+    match run_choices(alloc, &image, input, &[], capacity) {
+        Ok(answer) => Ok(answer),
+        Err(fault) => Err(Fault::Run(fault)),
+    }
+}
+
+// Runs a program on threads, if it is accepted.
+fn run_outlined<R: Threads + Wait + Sync, G: Gate + Sync>(
+    rt: &R,
+    alloc: Global,
+    outlined: &Outlined<'_>,
+    input: &[u64],
+    workers: usize,
+    capacity: u64,
+    gate: &G,
+) -> Result<Answer, Fault>
+    requires some { 1 ≤ workers }
+    requires few { workers ≤ 16 }
+    requires short { AreShort outlined.now }
+{
+    match check(alloc, outlined) {
+        Ok(accepted) => run_accepted(rt, alloc, &accepted, input, workers, capacity, gate),
+        Err(fault) => Err(Fault::Check(fault)),
+    }
+}
+
+// Runs it by choices.
+fn run_outlined_in_turn(
+    alloc: Global,
+    outlined: &Outlined<'_>,
+    input: &[u64],
+    capacity: u64,
+) -> Result<Answer, Fault>
+    requires { AreShort outlined.now }
+{
+    match check(alloc, outlined) {
+        Ok(accepted) => run_accepted_in_turn(alloc, &accepted, input, capacity),
+        Err(fault) => Err(Fault::Check(fault)),
+    }
+}
+
+/// Runs a source on threads.
+pub fn run_source<R: Threads + Wait + Sync, G: Gate + Sync>(
+    rt: &R,
+    alloc: Global,
+    text: &str,
+    input: &[u64],
+    workers: usize,
+    capacity: u64,
+    gate: &G,
+) -> Result<Answer, Fault>
+    requires some { 1 ≤ workers }
+    requires few { workers ≤ 16 }
+{
+    let program = match read_program(alloc, text.as_bytes()) {
+        Ok(program) => program,
+        Err(fault) => return Err(Fault::Read(fault)),
+    };
+    let outlined = match outline(alloc, &program) {
+        Ok(outlined) => outlined,
+        Err(fault) => return Err(Fault::Outline(fault)),
+    };
+    run_outlined(rt, alloc, &outlined, input, workers, capacity, gate)
+}
+
+/// Runs a source by choices, of which there are none.
+pub fn run_in_turn(
+    alloc: Global,
+    text: &str,
+    input: &[u64],
+    capacity: u64,
+) -> Result<Answer, Fault> {
+    let program = match read_program(alloc, text.as_bytes()) {
+        Ok(program) => program,
+        Err(fault) => return Err(Fault::Read(fault)),
+    };
+    let outlined = match outline(alloc, &program) {
+        Ok(outlined) => outlined,
+        Err(fault) => return Err(Fault::Outline(fault)),
+    };
+    run_outlined_in_turn(alloc, &outlined, input, capacity)
+}

@@ -1,0 +1,334 @@
+// Runs of sources on threads.
+
+ghost use Rattle.std.specs.Prelude.{◌≤◌};
+
+use crate::sources::{Fault, run_in_turn, run_source};
+use base::fault::RunFault;
+use base::item::Event;
+use device::Job;
+use host::{Gate, OpenGate, Phase};
+use kernel::{Done, run};
+use std::alloc::{AllocError, Global};
+use std::process::Abort;
+use std::sync::Wait;
+use std::sync::atomic::{AtomicU64, Ordering};
+use std::test::Fail;
+use std::thread;
+use std::thread::Threads;
+
+const TWO_KERNELS: &str =
+    "uint64_t A[8];\nuint64_t B[8];\nint main(void) {\nB[0] = 3;\n#pragma omp target map(tofrom: A) nowait\nfor (uint64_t i = 0; i < 8; i += 1) { A[i] = i; }\n#pragma omp target map(tofrom: B) nowait\nfor (uint64_t i = 0; i < 8; i += 1) { B[i] = B[i] + 10; }\n#pragma omp taskwait\nprint(A[7]); print(B[0]);\n}\n";
+
+const FOUR_KERNELS: &str =
+    "uint64_t A[1];\nuint64_t B[1];\nuint64_t C[1];\nuint64_t D[1];\nint main(void) {\n#pragma omp target map(tofrom: A) nowait\n{ A[0] = 1; }\n#pragma omp target map(tofrom: B) nowait\n{ B[0] = 2; }\n#pragma omp target map(tofrom: C) nowait\n{ C[0] = 3; }\n#pragma omp target map(tofrom: D) nowait\n{ D[0] = 4; }\n#pragma omp taskwait\nprint(A[0]); print(B[0]); print(C[0]); print(D[0]);\n}\n";
+
+const THREE_KERNELS_AND_THE_HOST: &str =
+    "uint64_t A[1];\nuint64_t B[1];\nuint64_t C[1];\nuint64_t D[1];\nint main(void) {\n#pragma omp target map(tofrom: A) nowait\n{ A[0] = 1; }\n#pragma omp target map(tofrom: B) nowait\n{ B[0] = 2; }\n#pragma omp target map(tofrom: C) nowait\n{ C[0] = 3; }\nD[0] = 4;\n#pragma omp taskwait\nprint(A[0]); print(B[0]); print(C[0]); print(D[0]);\n}\n";
+
+const HALVES: &str =
+    "uint64_t A[8];\nint main(void) {\n#pragma omp target enter data map(to: A)\n#pragma omp target map(tofrom: A[0:4]) nowait\nfor (uint64_t i = 0; i < 4; i += 1) { A[i] = i + 1; }\n#pragma omp target map(tofrom: A[4:4]) nowait\nfor (uint64_t i = 4; i < 8; i += 1) { A[i] = i * 10; }\n#pragma omp taskwait\n#pragma omp target update from(A)\nfor (uint64_t i = 0; i < 8; i += 1) { print(A[i]); }\n}\n";
+
+const CHAIN: &str =
+    "uint64_t A[1];\nuint64_t B[1];\nuint64_t C[1];\nint main(void) {\n#pragma omp target map(tofrom: C) nowait depend(out: A)\n{ C[0] = 1; }\n#pragma omp target map(tofrom: B) nowait depend(in: A) depend(out: B)\n{ B[0] = 2; }\n#pragma omp target map(tofrom: C) nowait depend(in: B)\n{ C[0] = C[0] + 5; }\n#pragma omp taskwait\nprint(C[0]); print(B[0]);\n}\n";
+
+const DEFERRED_DATA: &str =
+    "uint64_t A[4];\nint main(void) {\nuint64_t s = read();\nfor (uint64_t i = 0; i < 4; i += 1) { A[i] = i + s; }\n#pragma omp target enter data map(to: A) nowait depend(out: A)\n#pragma omp target map(tofrom: A) nowait depend(inout: A)\nfor (uint64_t i = 0; i < 4; i += 1) { A[i] = A[i] * 2; }\n#pragma omp target exit data map(from: A) nowait depend(inout: A)\n#pragma omp taskwait\nfor (uint64_t i = 0; i < 4; i += 1) { print(A[i]); }\nuint64_t t = read();\nprint(t);\n}\n";
+
+const DATA: &str =
+    "uint64_t A[4];\nint main(void) {\n#pragma omp target data map(alloc: A[0:4])\n{\n#pragma omp target\nfor (uint64_t i = 0; i < 4; i += 1) { A[i] = i + 5; }\n#pragma omp target update from(A[0:2])\nprint(A[1]);\n}\n}\n";
+
+// So many workers print this, and leave what the run by choices leaves.
+fn prints_with<R: Threads + Wait + Abort + Sync>(
+    rt: &R,
+    alloc: Global,
+    text: &str,
+    input: &[u64],
+    workers: usize,
+    capacity: u64,
+    printed: &str,
+) -> Result<(), Fail>
+    requires some { 1 ≤ workers }
+    requires few { workers ≤ 16 }
+{
+    let in_turn = run_in_turn(alloc, text, input, capacity)?;
+    let answer = run_source(rt, alloc, text, input, workers, capacity, &OpenGate)?;
+    assert_eq!(rt; in_turn.out.as_slice(), printed.as_bytes());
+    assert_eq!(rt;
+        answer.out.as_slice(),
+        printed.as_bytes(),
+        "{workers} workers"
+    );
+    assert_eq!(rt; answer.finals, in_turn.finals, "{workers} workers");
+    assert_eq!(rt; answer.history.len(), in_turn.history.len());
+    Ok(())
+}
+
+// The same with 1, 2, 4 and 16 workers.
+fn prints<R: Threads + Wait + Abort + Sync>(
+    rt: &R,
+    alloc: Global,
+    text: &str,
+    input: &[u64],
+    capacity: u64,
+    printed: &str,
+) -> Result<(), Fail> {
+    prints_with(rt, alloc, text, input, 1, capacity, printed)?;
+    prints_with(rt, alloc, text, input, 2, capacity, printed)?;
+    prints_with(rt, alloc, text, input, 4, capacity, printed)?;
+    prints_with(rt, alloc, text, input, 16, capacity, printed)
+}
+
+#[test]
+fn prints_what_a_run_in_turn_prints(rt: HostRuntime) -> Result<(), Fail> {
+    let alloc = rt.alloc();
+    prints(&rt, alloc, "int main(void) {}", &[], 0, "")?;
+    prints(&rt, alloc, TWO_KERNELS, &[], 16, "7\n13\n")?;
+    prints(&rt, alloc, FOUR_KERNELS, &[], 4, "1\n2\n3\n4\n")?;
+    prints(&rt, alloc, HALVES, &[], 8, "1\n2\n3\n4\n40\n50\n60\n70\n")?;
+    prints(&rt, alloc, DATA, &[], 4, "6\n")
+}
+
+#[test]
+fn follows_dependences(rt: HostRuntime) -> Result<(), Fail> {
+    let alloc = rt.alloc();
+    prints(&rt, alloc, CHAIN, &[], 3, "6\n2\n")?;
+    prints(&rt, alloc, DEFERRED_DATA, &[7, 9], 4, "14\n16\n18\n20\n9\n")
+}
+
+#[test]
+fn one_worker_needs_room_for_one_kernel(rt: HostRuntime) -> Result<(), Fail> {
+    prints_with(&rt, rt.alloc(), TWO_KERNELS, &[], 1, 8, "7\n13\n")
+}
+
+// Whether the run answers that the device is full.
+fn is_full<R: Threads + Wait + Sync>(rt: &R, alloc: Global, workers: usize, capacity: u64) -> bool
+    requires some { 1 ≤ workers }
+    requires few { workers ≤ 16 }
+{
+    let answer = run_source(rt, alloc, TWO_KERNELS, &[], workers, capacity, &OpenGate);
+    matches!(answer, Err(Fault::Run(RunFault::DeviceFull)))
+}
+
+#[test]
+fn a_small_device_is_full(rt: HostRuntime) -> Result<(), Fail> {
+    assert!(rt; is_full(&rt, rt.alloc(), 1, 7));
+    assert!(rt; is_full(&rt, rt.alloc(), 2, 7));
+    assert!(rt; is_full(&rt, rt.alloc(), 16, 0));
+    Ok(())
+}
+
+// Turns in which others run, up to a limit, until so many have come.
+fn wait_for(came: &AtomicU64, late: &AtomicU64, wanted: u64) {
+    for _ in 0..5_000_000u64 {
+        if came.load(Ordering::SeqCst) >= wanted {
+            return;
+        }
+        thread::yield_now();
+    }
+    late.fetch_add(1, Ordering::SeqCst);
+}
+
+// Holds the first four items once they are open until all four are.
+#[derive(Drop)]
+struct FourAtOnce {
+    came: AtomicU64,
+    late: AtomicU64,
+}
+
+impl Gate for FourAtOnce {
+    fn pass(&self, item: u32, phase: Phase) {
+        if item < 4 && phase == Phase::Opened {
+            self.came.fetch_add(1, Ordering::SeqCst);
+            wait_for(&self.came, &self.late, 4);
+        }
+    }
+}
+
+#[test]
+fn four_kernels_are_open_at_once(rt: HostRuntime) -> Result<(), Fail> {
+    let gate = FourAtOnce {
+        came: AtomicU64::new(0),
+        late: AtomicU64::new(0),
+    };
+    let answer = run_source(&rt, rt.alloc(), FOUR_KERNELS, &[], 4, 4, &gate)?;
+    assert_eq!(rt; answer.out.as_slice(), b"1\n2\n3\n4\n".as_slice());
+    assert_eq!(rt; gate.late.load(Ordering::SeqCst), 0);
+    assert_eq!(rt; gate.came.load(Ordering::SeqCst), 4);
+    Ok(())
+}
+
+// Computes items 1 and 2 once both are being computed, and counts what passes.
+#[derive(Drop)]
+struct TwoAtOnce {
+    came: AtomicU64,
+    late: AtomicU64,
+    passed: AtomicU64,
+}
+
+impl Gate for TwoAtOnce {
+    fn pass(&self, _item: u32, _phase: Phase) {
+        self.passed.fetch_add(1, Ordering::SeqCst);
+    }
+
+    fn compute<'f, 'a>(
+        &self,
+        alloc: Global,
+        item: u32,
+        job: &'f Job<'a>,
+    ) -> Result<Done<'a, 'f, 'a>, AllocError> {
+        if item == 1 || item == 2 {
+            self.came.fetch_add(1, Ordering::SeqCst);
+            wait_for(&self.came, &self.late, 2);
+        }
+        run(alloc, job.code, &job.frame)
+    }
+}
+
+#[test]
+fn two_kernels_are_computed_at_once(rt: HostRuntime) -> Result<(), Fail> {
+    let gate = TwoAtOnce {
+        came: AtomicU64::new(0),
+        late: AtomicU64::new(0),
+        passed: AtomicU64::new(0),
+    };
+    let answer = run_source(&rt, rt.alloc(), TWO_KERNELS, &[], 2, 16, &gate)?;
+    assert_eq!(rt; answer.out.as_slice(), b"7\n13\n".as_slice());
+    assert_eq!(rt; gate.late.load(Ordering::SeqCst), 0);
+    // four items, each opened, computed and closed
+    assert_eq!(rt; gate.passed.load(Ordering::SeqCst), 12);
+    Ok(())
+}
+
+// Holds item 0 once it is open until the host has closed item 3.
+#[derive(Drop)]
+struct HostFirst {
+    closed: AtomicU64,
+    late: AtomicU64,
+}
+
+impl Gate for HostFirst {
+    fn pass(&self, item: u32, phase: Phase) {
+        if item == 3 && phase == Phase::Closed {
+            self.closed.fetch_add(1, Ordering::SeqCst);
+        }
+        if item == 0 && phase == Phase::Opened {
+            wait_for(&self.closed, &self.late, 1);
+        }
+    }
+}
+
+// Whether the items are opened in ascending order, but for item 3.
+fn are_in_order(history: &[Event]) -> bool {
+    let mut last = 0;
+    for event in history {
+        match event {
+            Event::Open(item) if *item != 3 => {
+                if *item < last {
+                    return false;
+                }
+                last = *item;
+            }
+            _ => {}
+        }
+    }
+    true
+}
+
+#[test]
+fn a_worker_takes_the_lowest_item(rt: HostRuntime) -> Result<(), Fail> {
+    let gate = HostFirst {
+        closed: AtomicU64::new(0),
+        late: AtomicU64::new(0),
+    };
+    let answer = run_source(
+        &rt,
+        rt.alloc(),
+        THREE_KERNELS_AND_THE_HOST,
+        &[],
+        1,
+        4,
+        &gate,
+    )?;
+    assert_eq!(rt; answer.out.as_slice(), b"1\n2\n3\n4\n".as_slice());
+    assert_eq!(rt; gate.late.load(Ordering::SeqCst), 0);
+    assert!(rt; are_in_order(&answer.history));
+    Ok(())
+}
+
+// Refuses to compute one item.
+#[derive(Drop)]
+struct NoMemory {
+    item: u32,
+}
+
+impl Gate for NoMemory {
+    fn pass(&self, _item: u32, _phase: Phase) {}
+
+    fn compute<'f, 'a>(
+        &self,
+        alloc: Global,
+        item: u32,
+        job: &'f Job<'a>,
+    ) -> Result<Done<'a, 'f, 'a>, AllocError> {
+        if item == self.item {
+            return Err(AllocError);
+        }
+        run(alloc, job.code, &job.frame)
+    }
+}
+
+#[test]
+fn a_fault_stops_all_threads(rt: HostRuntime) -> Result<(), Fail> {
+    let alloc = rt.alloc();
+    let by_host = run_source(&rt, alloc, TWO_KERNELS, &[], 4, 16, &NoMemory { item: 0 });
+    assert!(rt; matches!(by_host, Err(Fault::Run(RunFault::OutOfMemory))));
+    let by_worker = run_source(&rt, alloc, TWO_KERNELS, &[], 4, 16, &NoMemory { item: 2 });
+    assert!(rt; matches!(by_worker, Err(Fault::Run(RunFault::OutOfMemory))));
+    let at_the_end = run_source(&rt, alloc, TWO_KERNELS, &[], 1, 16, &NoMemory { item: 4 });
+    assert!(rt; matches!(at_the_end, Err(Fault::Run(RunFault::OutOfMemory))));
+    Ok(())
+}
+
+// Wants a stack for one worker that no system has.
+#[derive(Drop)]
+struct NoRoom {
+    worker: usize,
+}
+
+impl Gate for NoRoom {
+    fn stack_size(&self, worker: usize) -> usize {
+        if worker == self.worker {
+            usize::MAX
+        } else {
+            1 << 20
+        }
+    }
+
+    fn pass(&self, _item: u32, _phase: Phase) {}
+}
+
+// Whether the run answers that a worker was not started.
+fn lacks_worker<R: Threads + Wait + Sync>(
+    rt: &R,
+    alloc: Global,
+    workers: usize,
+    lacking: usize,
+) -> bool
+    requires some { 1 ≤ workers }
+    requires few { workers ≤ 16 }
+{
+    let gate = NoRoom { worker: lacking };
+    let answer = run_source(rt, alloc, TWO_KERNELS, &[], workers, 16, &gate);
+    matches!(answer, Err(Fault::Run(RunFault::ThreadNotStarted)))
+}
+
+#[test]
+fn a_worker_is_not_started(rt: HostRuntime) -> Result<(), Fail> {
+    let alloc = rt.alloc();
+    assert!(rt; lacks_worker(&rt, alloc, 1, 0));
+    assert!(rt; lacks_worker(&rt, alloc, 4, 0));
+    assert!(rt; lacks_worker(&rt, alloc, 4, 3));
+    assert!(rt; lacks_worker(&rt, alloc, 16, 7));
+    assert!(rt; !lacks_worker(&rt, alloc, 4, 4));
+    Ok(())
+}
