@@ -1,5 +1,5 @@
 -- The first and the last of the numbers at which a test holds, word by word.
-use Rattle.std.proofs.Common.{◌≡◌, ℕ, suc, ◌+◌, ◌-◌, ◌*◌, ◌/◌, ◌%◌, ◌^◌, ◌<◌, ◌≤◌, Bool, true, false, List, length, get_or, refl, sym, ap, ap₂, ◌∙◌, arith, w64, bit_and, ◌⊎◌, ⊎_elim}
+use Rattle.std.proofs.Common.{◌≡◌, ℕ, suc, ◌+◌, ◌-◌, ◌*◌, ◌/◌, ◌%◌, ◌^◌, ◌<◌, ◌≤◌, max, Bool, true, false, List, length, get_or, refl, sym, ap, ap₂, ◌∙◌, arith, w64, bit_and, ◌⊎◌, ⊎_elim}
 use Rattle.std.specs.Prelude.{Some, not, ◌&&◌, ◌==◌, nat_le}
 use Rattle.std.specs.Int.{bit_at, bit_not, trailing_zeros, leading_zeros}
 use Rattle.std.proofs.lemmas.Bool.{cases_lt, true≢false, and_left, and_right, le-leb, lt-leb}
@@ -8,9 +8,11 @@ use Rattle.std.proofs.lemmas.Nat.{leading_top, div-mul-add}
 use Rattle.std.proofs.Math.Nat.{two-pow-succ, zero-div}
 use Rattle.std.proofs.Math.Pow.{shr-shr}
 use Rattle.std.proofs.lemmas.List.{get_or_past}
-use Rattle.bits.specs.Sets.{IsFirstAt, IsEndOf, has_bit}
+use Rattle.bits.specs.declared.set.BitSet.{BitSet}
+use Rattle.bits.specs.Sets.{IsFirstAt, IsEndOf, all_words, has, has_bit}
 use Rattle.bits.proofs.Bits.{bits_and, bits_minus}
 use Rattle.bits.proofs.Words.{past}
+use Rattle.bits.proofs.Zeros.{below_start}
 
 pub no_bit : (word r : ℕ) → word ≡ 0 → (bit_at word r == 1) ≡ false
 no_bit word r e = ap (λ n. bit_at n r == 1) e ∙ ap (λ n. n == 1) (bit_at-zero r)
@@ -186,6 +188,14 @@ module _ (words : List ℕ) (from rest : ℕ) (is : rest ≡ get_or words (from 
           (λ (le : from ≤ j). and_right (nat_le from j) (has_bit words j)
           (at_from j le (omega arith) ∙ ap (λ n. n == 1) (t.2 (j - from) (omega arith)))) (cases_lt j from)
 
+-- no number below the start is in the set either
+pub none_from_or_before : (s : BitSet) (from rest : ℕ) → rest ≡ get_or (all_words s) (from / 64) 0 / 2 ^ (from % 64) → rest ≡ 0 →
+    (i : ℕ) → i < 64 * max (from / 64 + 1) s.skipped → (nat_le from i && has s i) ≡ false
+none_from_or_before s from rest is e i lt =
+    ⊎_elim (none_from (all_words s) from rest is e i)
+    (λ (le : 64 * (from / 64 + 1) ≤ i). and_right (nat_le from i) (has s i) (below_start s i (omega arith)))
+    (cases_lt i (64 * (from / 64 + 1)))
+
 -- a word above it
 pub above_from : (words : List ℕ) (from k word : ℕ) → from / 64 + 1 ≤ k → word ≡ get_or words k 0 → (i : ℕ) →
     i / 64 ≡ k → (nat_le from i && has_bit words i) ≡ (bit_at word (i % 64) == 1)
@@ -203,8 +213,8 @@ none_after words k test end none i =
 pub past_words : (words : List ℕ) (n : ℕ) → length words ≤ n → (i : ℕ) → 64 * n ≤ i → has_bit words i ≡ false
 past_words words n h i le = past words i (omega arith)
 
-pub no_end : (p : ℕ → Bool) → ((i : ℕ) → 0 ≤ i → p i ≡ false) → IsEndOf p 0
+pub no_end : (p : ℕ → Bool) → ((i : ℕ) → p i ≡ false) → IsEndOf p 0
 no_end p none = record {
-  below = λ i holds. absurd (true≢false (sym holds ∙ none i (omega arith)));
+  below = λ i holds. absurd (true≢false (sym holds ∙ none i));
   last = λ h. absurd (omega arith);
 }

@@ -49,11 +49,13 @@ module _ (f before : ℕ → Bool) (first i : ℕ) (low : first ≤ i) where
           (⊎_elim (λ (lt : k < i). inl lt) (λ (le : i ≤ k). inr (omega arith)) (cases_lt k i))))
 
   -- one word more
-  pub one_word_more : (words : List ℕ) (word : ℕ) → i % 64 ≡ 0 → i / 64 < length words →
+  pub one_word_more : (words next : List ℕ) (word : ℕ) → next ≡ slice_set words (i / 64) word →
+      i % 64 ≡ 0 → i / 64 < length words →
       ((k : ℕ) → k / 64 ≡ i / 64 → (bit_at word (k % 64) == 1) ≡ f k) →
       ((k : ℕ) → has_bit words k ≡ spanned f before first i k) →
-      (k : ℕ) → has_bit (slice_set words (i / 64) word) k ≡ spanned f before first (i + 64) k
-  one_word_more words word whole lt is h k = ⊎_elim here there (cases_eq (k / 64) (i / 64))
+      (k : ℕ) → has_bit next k ≡ spanned f before first (i + 64) k
+  one_word_more words next word is_next whole lt is h k =
+      ap (λ words. has_bit words k) is_next ∙ ⊎_elim here there (cases_eq (k / 64) (i / 64))
     where
       here : k / 64 ≡ i / 64 → has_bit (slice_set words (i / 64) word) k ≡ spanned f before first (i + 64) k
       here e =

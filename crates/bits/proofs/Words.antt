@@ -4,7 +4,6 @@ use Rattle.std.specs.Prelude.{slice_set, not, ◌||◌, ◌&&◌, ◌==◌, nat_
 use Rattle.std.specs.Int.{bit_at, bit_not}
 use Rattle.std.proofs.lemmas.Bool.{cases_eq, cases_lt, eq-eqb, ne_eqb, lt-ltb, le-ltb}
 use Rattle.std.proofs.lemmas.List.{length-set, get_or-set_same, get_or-set_other, get_or_past}
-use Rattle.std.proofs.lemmas.Grind.{get_or_default_zero}
 use Rattle.std.proofs.lemmas.Nat.Bits.{bit_at-zero, bit_at_set_same, bit_at_set_other, bit_at_clear_same, bit_at_clear_other}
 use Rattle.std.proofs.Math.Bool.{or-false, or-true}
 use Rattle.bits.specs.Sets.{has_bit}
@@ -36,10 +35,6 @@ changed_here words w v i lt e =
 
 pub changed_there : (words : List ℕ) (w v i : ℕ) → (i / 64 ≡ w → ⊥) → has_bit (slice_set words w v) i ≡ has_bit words i
 changed_there words w v i ne = ap (λ word. bit_at word (i % 64) == 1) (get_or-set_other words w (i / 64) v 0 ne)
-
--- a word that is read
-pub word_read : (words : List ℕ) (w word : ℕ) → w < length words → word ≡ get_or words w word → word ≡ get_or words w 0
-word_read words w word lt e = e ∙ get_or_default_zero words w word lt
 
 module _ (words : List ℕ) (i word : ℕ) (lt : i / 64 < length words) (is : word ≡ get_or words (i / 64) 0) where
   at_same_word : (k : ℕ) → k / 64 ≡ i / 64 → (bit_at word (k % 64) == 1) ≡ has_bit words k
@@ -114,40 +109,54 @@ module _ (words : List ℕ) (i word : ℕ) (lt : i / 64 < length words) (is : wo
 
 -- ---- word by word
 
--- the words below k are what is made of them and another's, those from k on are as they were
-pub record Changed (made : ℕ → ℕ → ℕ) (old other : List ℕ) (k : ℕ) (new : List ℕ) : Type 0 where
+-- the words from the first up to k are what is made of them and another's, the others are as they were
+pub record Changed (made : ℕ → ℕ → ℕ) (old other : List ℕ) (first k : ℕ) (new : List ℕ) : Type 0 where
   pub same : length new ≡ length old
-  pub below : (w : ℕ) → w < k → get_or new w 0 ≡ made (get_or old w 0) (get_or other w 0)
-  pub above : (w : ℕ) → k ≤ w → get_or new w 0 ≡ get_or old w 0
-  pub fits : (w : ℕ) → w < k → get_or other w 0 < 2 ^ 64
+  pub within : first < k → k ≤ length old
+  pub between : (w : ℕ) → first ≤ w → w < k → get_or new w 0 ≡ made (get_or old w 0) (get_or other w 0)
+  pub kept : (w : ℕ) → (w < first) ⊎ (k ≤ w) → get_or new w 0 ≡ get_or old w 0
+  pub fits : (w : ℕ) → first ≤ w → w < k → get_or other w 0 < 2 ^ 64
 
-pub none_changed : (made : ℕ → ℕ → ℕ) (old other : List ℕ) → Changed made old other 0 old
-none_changed made old other = record { same = refl; below = λ w h. absurd (omega arith); above = λ w h. refl; fits = λ w h. absurd (omega arith) }
-
-pub one_changed : (made : ℕ → ℕ → ℕ) (old other new : List ℕ) (k a b : ℕ) → Changed made old other k new →
-    k < length new → k < length other → a ≡ get_or new k a → b ≡ get_or other k b → b < 2 ^ 64 →
-    Changed made old other (k + 1) (slice_set new k (made a b))
-one_changed made old other new k a b h lt in_other is_a is_b fit = record {
-  same = length-set new k (made a b) ∙ h.same;
-  below = λ w lt'. ⊎_elim (here w)
-      (λ differs. get_or-set_other new k w (made a b) 0 differs ∙ h.below w (omega arith)) (cases_eq w k);
-  above = λ w le. get_or-set_other new k w (made a b) 0 (omega arith) ∙ h.above w (omega arith);
-  fits = λ w lt'. ⊎_elim (λ e. subst (λ n. n < 2 ^ 64) (word_read other k b in_other is_b ∙ ap (λ m. get_or other m 0) (sym e)) fit)
-      (λ differs. h.fits w (omega arith)) (cases_eq w k);
+pub none_changed : (made : ℕ → ℕ → ℕ) (old other : List ℕ) (first k : ℕ) → k ≡ first → Changed made old other first k old
+none_changed made old other first k begins = record {
+  same = refl;
+  within = λ h. absurd (omega arith);
+  between = λ w le lt. absurd (omega arith);
+  kept = λ w h. refl;
+  fits = λ w le lt. absurd (omega arith);
 }
+
+pub one_changed : (made : ℕ → ℕ → ℕ) (old other new next : List ℕ) (first k a b : ℕ) → Changed made old other first k new →
+    first ≤ k → k < length new → a ≡ get_or new k 0 → b ≡ get_or other k 0 → b < 2 ^ 64 →
+    next ≡ slice_set new k (made a b) → Changed made old other first (k + 1) next
+one_changed made old other new next first k a b h begun lt is_a is_b fit is_next =
+    subst (Changed made old other first (k + 1)) (sym is_next) (record {
+      same = length-set new k (made a b) ∙ h.same;
+      within = λ begun'. let same : length new ≡ length old = h.same in omega arith;
+      between = λ w le lt'. ⊎_elim (here w) (λ differs. get_or-set_other new k w (made a b) 0 differs ∙ h.between w le (omega arith))
+          (cases_eq w k);
+      kept = λ w out. get_or-set_other new k w (made a b) 0 (apart w out) ∙ h.kept w (outside w out);
+      fits = λ w le lt'. ⊎_elim (λ e. subst (λ n. n < 2 ^ 64) (is_b ∙ ap (λ m. get_or other m 0) (sym e)) fit)
+          (λ differs. h.fits w le (omega arith)) (cases_eq w k);
+    })
   where
     here : (w : ℕ) → w ≡ k → get_or (slice_set new k (made a b)) w 0 ≡ made (get_or old w 0) (get_or other w 0)
     here w e = subst (λ m. get_or (slice_set new k (made a b)) m 0 ≡ made (get_or old m 0) (get_or other m 0)) (sym e)
-        (get_or-set_same new k (made a b) 0 lt
-        ∙ ap₂ made (word_read new k a lt is_a ∙ h.above k (omega arith)) (word_read other k b in_other is_b))
+        (get_or-set_same new k (made a b) 0 lt ∙ ap₂ made (is_a ∙ h.kept k (inr (omega arith))) is_b)
 
-module _ (made : ℕ → ℕ → ℕ) (old other new : List ℕ) (k : ℕ) (h : Changed made old other k new) where
-  made_below : (i : ℕ) → i / 64 < k →
+    apart : (w : ℕ) → (w < first) ⊎ (k + 1 ≤ w) → w ≡ k → ⊥
+    apart w out e = ⊎_elim (λ (low : w < first). absurd (omega arith)) (λ (high : k + 1 ≤ w). absurd (omega arith)) out
+
+    outside : (w : ℕ) → (w < first) ⊎ (k + 1 ≤ w) → (w < first) ⊎ (k ≤ w)
+    outside w out = ⊎_elim (λ (low : w < first). inl low) (λ (high : k + 1 ≤ w). inr (omega arith)) out
+
+module _ (made : ℕ → ℕ → ℕ) (old other new : List ℕ) (first k : ℕ) (h : Changed made old other first k new) where
+  made_from : (i : ℕ) → first ≤ i / 64 → i / 64 < k →
       has_bit new i ≡ (bit_at (made (get_or old (i / 64) 0) (get_or other (i / 64) 0)) (i % 64) == 1)
-  made_below i lt = ap (λ word. bit_at word (i % 64) == 1) (h.below (i / 64) lt)
+  made_from i le lt = ap (λ word. bit_at word (i % 64) == 1) (h.between (i / 64) le lt)
 
-  kept_above : (i : ℕ) → k ≤ i / 64 → has_bit new i ≡ has_bit old i
-  kept_above i le = ap (λ word. bit_at word (i % 64) == 1) (h.above (i / 64) le)
+  kept_bit : (i : ℕ) → (i / 64 < first) ⊎ (k ≤ i / 64) → has_bit new i ≡ has_bit old i
+  kept_bit i out = ap (λ word. bit_at word (i % 64) == 1) (h.kept (i / 64) out)
 
 -- a loop up to the lesser of two lengths has come to the end of one of the two
 pub end_reached : (k m n : ℕ) → min m n ≤ k → (m ≤ k) ⊎ (n ≤ k)
@@ -159,29 +168,36 @@ in_room i k n h l = omega arith
 no_room : (i n : ℕ) → n ≤ i / 64 → 64 * n ≤ i
 no_room i n h = omega arith
 
--- all words that both have are joined
-pub united : (old other new : List ℕ) (k : ℕ) → Changed bit_or old other k new →
-    k ≤ length old → (length old ≤ k) ⊎ (length other ≤ k) →
-    (i : ℕ) → has_bit new i ≡ (has_bit old i || (nat_lt i (64 * length old) && has_bit other i))
-united old other new k h up end i = ⊎_elim below above (cases_lt (i / 64) k)
-  where
-    below : i / 64 < k → has_bit new i ≡ (has_bit old i || (nat_lt i (64 * length old) && has_bit other i))
-    below lt =
-        made_below bit_or old other new k h i lt
-        ∙ bits_or (get_or old (i / 64) 0) (get_or other (i / 64) 0) (i % 64)
-        ∙ sym (ap (λ b. has_bit old i || (b && has_bit other i))
-        (lt-ltb i (64 * length old) (in_room i k (length old) lt up)))
+none_of : (b c : Bool) → c ≡ false → (b && c) ≡ false
+none_of true c e = e
+none_of false c e = refl
 
+-- all words that both have are joined; the other has no bits in those before
+pub united : (old other new : List ℕ) (first k : ℕ) → Changed bit_or old other first k new →
+    ((i : ℕ) → i < 64 * first → has_bit other i ≡ false) → (length old ≤ k) ⊎ (length other ≤ k) →
+    (i : ℕ) → has_bit new i ≡ (has_bit old i || (nat_lt i (64 * length old) && has_bit other i))
+united old other new first k h none end i = ⊎_elim before from (cases_lt (i / 64) first)
+  where
     nothing : (b : Bool) → b ≡ false → has_bit old i ≡ (has_bit old i || b)
     nothing b e = sym (ap (λ c. has_bit old i || c) e ∙ or-false (has_bit old i))
 
-    none_of : (b c : Bool) → c ≡ false → (b && c) ≡ false
-    none_of true c e = e
-    none_of false c e = refl
+    before : i / 64 < first → has_bit new i ≡ (has_bit old i || (nat_lt i (64 * length old) && has_bit other i))
+    before lt =
+        kept_bit bit_or old other new first k h i (inl lt)
+        ∙ nothing (nat_lt i (64 * length old) && has_bit other i)
+        (none_of (nat_lt i (64 * length old)) (has_bit other i) (none i (omega arith)))
+
+    joined : first ≤ i / 64 → i / 64 < k →
+        has_bit new i ≡ (has_bit old i || (nat_lt i (64 * length old) && has_bit other i))
+    joined le lt =
+        made_from bit_or old other new first k h i le lt
+        ∙ bits_or (get_or old (i / 64) 0) (get_or other (i / 64) 0) (i % 64)
+        ∙ sym (ap (λ b. has_bit old i || (b && has_bit other i))
+        (lt-ltb i (64 * length old) (in_room i k (length old) lt (h.within (omega arith)))))
 
     above : k ≤ i / 64 → has_bit new i ≡ (has_bit old i || (nat_lt i (64 * length old) && has_bit other i))
     above le =
-        kept_above bit_or old other new k h i le
+        kept_bit bit_or old other new first k h i (inr le)
         ∙ nothing (nat_lt i (64 * length old) && has_bit other i)
         (⊎_elim
         (λ (all : length old ≤ k). ap (λ b. b && has_bit other i)
@@ -189,27 +205,37 @@ united old other new k h up end i = ⊎_elim below above (cases_lt (i / 64) k)
         (λ (all : length other ≤ k). none_of (nat_lt i (64 * length old)) (has_bit other i)
         (past other i (omega arith))) end)
 
+    from : first ≤ i / 64 → has_bit new i ≡ (has_bit old i || (nat_lt i (64 * length old) && has_bit other i))
+    from le = ⊎_elim (joined le) above (cases_lt (i / 64) k)
+
 abbrev pub minus : ℕ → ℕ → ℕ
 minus a b = bit_and a (bit_not w64 b)
 
--- all words that both have are cut
-pub rest_left : (old other new : List ℕ) (k : ℕ) → Changed minus old other k new →
-    (length old ≤ k) ⊎ (length other ≤ k) →
+-- all words that both have are cut; one of the two has no bits in those before
+pub rest_left : (old other new : List ℕ) (first k : ℕ) → Changed minus old other first k new →
+    ((i : ℕ) → i < 64 * first → (has_bit old i && has_bit other i) ≡ false) → (length old ≤ k) ⊎ (length other ≤ k) →
     (i : ℕ) → has_bit new i ≡ (not (has_bit other i) && has_bit old i)
-rest_left old other new k h end i = ⊎_elim below above (cases_lt (i / 64) k)
+rest_left old other new first k h none end i = ⊎_elim before from (cases_lt (i / 64) first)
   where
-    below : i / 64 < k → has_bit new i ≡ (not (has_bit other i) && has_bit old i)
-    below lt =
-        made_below minus old other new k h i lt
-        ∙ bits_minus (get_or old (i / 64) 0) (get_or other (i / 64) 0) (i % 64) (h.fits (i / 64) lt) (low i)
+    apart : (b c : Bool) → (c && b) ≡ false → c ≡ (not b && c)
+    apart true true e = e
+    apart true false e = refl
+    apart false c e = refl
 
-    none_of : (b c : Bool) → c ≡ false → c ≡ (b && c)
-    none_of true c e = refl
-    none_of false c e = e
+    before : i / 64 < first → has_bit new i ≡ (not (has_bit other i) && has_bit old i)
+    before lt = kept_bit minus old other new first k h i (inl lt) ∙ apart (has_bit other i) (has_bit old i) (none i (omega arith))
+
+    made : first ≤ i / 64 → i / 64 < k → has_bit new i ≡ (not (has_bit other i) && has_bit old i)
+    made le lt =
+        made_from minus old other new first k h i le lt
+        ∙ bits_minus (get_or old (i / 64) 0) (get_or other (i / 64) 0) (i % 64) (h.fits (i / 64) le lt) (low i)
 
     above : k ≤ i / 64 → has_bit new i ≡ (not (has_bit other i) && has_bit old i)
     above le =
-        kept_above minus old other new k h i le
-        ∙ ⊎_elim
-        (λ (all : length old ≤ k). none_of (not (has_bit other i)) (has_bit old i) (past old i (omega arith)))
-        (λ (all : length other ≤ k). sym (ap (λ b. not b && has_bit old i) (past other i (omega arith)))) end
+        kept_bit minus old other new first k h i (inr le)
+        ∙ apart (has_bit other i) (has_bit old i) (⊎_elim
+        (λ (all : length old ≤ k). ap (λ b. b && has_bit other i) (past old i (omega arith)))
+        (λ (all : length other ≤ k). none_of (has_bit old i) (has_bit other i) (past other i (omega arith))) end)
+
+    from : first ≤ i / 64 → has_bit new i ≡ (not (has_bit other i) && has_bit old i)
+    from le = ⊎_elim (made le) above (cases_lt (i / 64) k)

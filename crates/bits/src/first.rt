@@ -14,8 +14,8 @@ impl BitSet {
         if rest != 0 {
             return Some(from + rest.trailing_zeros() as usize);
         }
-        for k in from / 64 + 1..self.words.len() {
-            let word = self.words[k];
+        for k in (from / 64 + 1).max(self.skipped)..self.end_word() {
+            let word = self.word(k);
             if word != 0 {
                 return Some(64 * k + word.trailing_zeros() as usize);
             }
@@ -27,8 +27,8 @@ impl BitSet {
     pub fn end(&self) -> usize
         ensures { IsEndOf (has self.now) result }
     {
-        for k in (0..self.words.len()).rev() {
-            let word = self.words[k];
+        for k in (self.skipped..self.end_word()).rev() {
+            let word = self.word(k);
             if word != 0 {
                 return 64 * k + (64 - word.leading_zeros() as usize);
             }

@@ -1,7 +1,7 @@
 // The members of a set from one number up to another.
 
 ghost use Rattle.std.specs.Prelude.{◌≡◌, ◌+◌, ◌-◌, ◌%◌, ◌^◌, ◌<◌, ◌≤◌, ◌==◌, ◌&&◌, ◌||◌, ◌↔◌, not, ℕ, true, if◌then◌else◌, IsTrue};
-ghost use Rattle.bits.specs.Sets.{has, is_from, room};
+ghost use Rattle.bits.specs.Sets.{has, is_from, room, start};
 
 use crate::BitSet;
 
@@ -25,8 +25,10 @@ impl BitSet {
     // Adds a number, or takes it out.
     #[inline]
     fn put(&mut self, i: usize, on: bool)
-        requires { i < room self.old }
+        requires start { start self.old ≤ i }
+        requires room { i < room self.old }
         ensures put { (k : ℕ) → has self.new k ≡ (if i == k then on else has self.old k) }
+        ensures start { start self.new ≡ start self.old }
         ensures room { room self.new ≡ room self.old }
     {
         if on {
@@ -38,15 +40,17 @@ impl BitSet {
 
     // Adds the numbers from the first up to the end, or takes them out. A word that is whole in it takes one step.
     fn fill(&mut self, first: usize, end: usize, on: bool)
-        requires { end ≤ room self.old }
+        requires start { start self.old ≤ first }
+        requires room { end ≤ room self.old }
         ensures filled { (k : ℕ) → has self.new k ≡ (if is_from first end k then on else has self.old k) }
+        ensures start { start self.new ≡ start self.old }
         ensures room { room self.new ≡ room self.old }
     {
         let word = word_of(on);
         let mut i = first;
         while i < end {
             if is_whole(i, end) {
-                self.words[i / 64] = word;
+                self.set_word(i / 64, word);
                 i += 64;
             } else {
                 self.put(i, on);
@@ -57,8 +61,10 @@ impl BitSet {
 
     /// Adds the numbers from the first up to the end.
     pub fn insert_range(&mut self, first: usize, end: usize)
-        requires { end ≤ room self.old }
+        requires start { start self.old ≤ first }
+        requires room { end ≤ room self.old }
         ensures added { (k : ℕ) → has self.new k ≡ (has self.old k || is_from first end k) }
+        ensures start { start self.new ≡ start self.old }
         ensures room { room self.new ≡ room self.old }
     {
         self.fill(first, end, true);
@@ -66,8 +72,10 @@ impl BitSet {
 
     /// Takes the numbers from the first up to the end out.
     pub fn remove_range(&mut self, first: usize, end: usize)
-        requires { end ≤ room self.old }
+        requires start { start self.old ≤ first }
+        requires room { end ≤ room self.old }
         ensures removed { (k : ℕ) → has self.new k ≡ (not (is_from first end k) && has self.old k) }
+        ensures start { start self.new ≡ start self.old }
         ensures room { room self.new ≡ room self.old }
     {
         self.fill(first, end, false);
@@ -75,14 +83,16 @@ impl BitSet {
 
     /// Makes each number from the first up to the end a member exactly where it is one of another set.
     pub fn copy_range(&mut self, from: &BitSet, first: usize, end: usize)
-        requires { end ≤ room self.old }
+        requires start { start self.old ≤ first }
+        requires room { end ≤ room self.old }
         ensures copied { (k : ℕ) → has self.new k ≡ (if is_from first end k then has from.now k else has self.old k) }
+        ensures start { start self.new ≡ start self.old }
         ensures room { room self.new ≡ room self.old }
     {
         let mut i = first;
         while i < end {
             if is_whole(i, end) {
-                self.words[i / 64] = from.word(i / 64);
+                self.set_word(i / 64, from.word(i / 64));
                 i += 64;
             } else {
                 self.put(i, from.contains(i));
@@ -95,8 +105,8 @@ impl BitSet {
     pub fn has_all(&self, count: usize) -> bool
         ensures { IsTrue result ↔ ((i : ℕ) → i < count → has self.now i ≡ true) }
     {
-        for k in 0..self.words.len() {
-            let word = self.words[k];
+        for k in 0..self.end_word() {
+            let word = self.word(k);
             if word != u64::MAX {
                 return count <= 64 * k + word.trailing_ones() as usize;
             }

@@ -6,20 +6,22 @@ use Rattle.std.proofs.lemmas.Option.{slice_get_read, slice_get_within}
 use Rattle.base.specs.Items.{Plan}
 use Rattle.base.specs.Order.{Before, through}
 use Rattle.bits.specs.declared.set.BitSet.{BitSet}
-use Rattle.bits.specs.Sets.{has, room, room_for}
+use Rattle.bits.specs.Sets.{has, room, room_for, start}
 use Rattle.order.specs.Rows.{IsRow, IsRowThere, AreRows, IsOrder, is_in_row}
 use Rattle.order.proofs.Befores.{Leads, LastStep, last_step, led, later_inside}
 
 -- what is found of the items before item j, where those from k on were looked at
 pub record Reached (plan : Plan) (j k : ℕ) (s : BitSet) : Type 0 where
-  pub roomy : room s ≡ room_for (length plan.items)
+  pub starts : start s ≡ 0
+  pub roomy : room s ≡ room_for j
   pub holds : (i : ℕ) → has s i ≡ true → Before plan i j
   pub closed : (i m : ℕ) → has s m ≡ true → Before plan i m → has s i ≡ true
   pub looked : (m : ℕ) → k ≤ m → Leads plan m j → has s m ≡ true
 
-pub starts : (plan : Plan) (j : ℕ) (s : BitSet) → room s ≡ room_for (length plan.items) →
+pub starts : (plan : Plan) (j : ℕ) (s : BitSet) → start s ≡ 0 → room s ≡ room_for j →
     ((i : ℕ) → has s i ≡ false) → Reached plan j j s
-starts plan j s roomy none = record {
+starts plan j s begins roomy none = record {
+  starts = begins;
   roomy = roomy;
   holds = λ i h. absurd (let bad : true ≡ false = sym h ∙ none i in cc);
   closed = λ i m h b. absurd (let bad : true ≡ false = sym h ∙ none m in cc);
@@ -29,10 +31,11 @@ starts plan j s roomy none = record {
 -- an item that leads to item j is added, with those before it
 pub added : (plan : Plan) (j n k : ℕ) (s row joined s' : BitSet) → n ≡ k + 1 → Reached plan j n s → IsRow plan k row →
     Leads plan k j →
-    room joined ≡ room s → ((i : ℕ) → has joined i ≡ (has s i || has row i)) →
-    room s' ≡ room joined → ((i : ℕ) → has s' i ≡ (has joined i || (k == i))) →
+    start joined ≡ start s → room joined ≡ room s → ((i : ℕ) → has joined i ≡ (has s i || has row i)) →
+    start s' ≡ start joined → room s' ≡ room joined → ((i : ℕ) → has s' i ≡ (has joined i || (k == i))) →
     Reached plan j k s'
-added plan j n k s row joined s' next h r leads joined_room joined_is new_room new_is = record {
+added plan j n k s row joined s' next h r leads joined_start joined_room joined_is new_start new_room new_is = record {
+  starts = new_start ∙ joined_start ∙ h.starts;
   roomy = new_room ∙ joined_room ∙ h.roomy;
   holds = λ i e. ⊎_elim (λ (old : has s i ≡ true). h.holds i old)
       (λ (new : (has row i ≡ true) ⊎ (k ≡ i)). ⊎_elim
@@ -66,6 +69,7 @@ added plan j n k s row joined s' next h r leads joined_room joined_is new_room n
 pub passed : (plan : Plan) (j n k : ℕ) (s : BitSet) → n ≡ k + 1 → Reached plan j n s →
     (Leads plan k j → has s k ≡ true) → Reached plan j k s
 passed plan j n k s next h there = record {
+  starts = h.starts;
   roomy = h.roomy;
   holds = h.holds;
   closed = h.closed;
@@ -76,7 +80,7 @@ passed plan j n k s next h there = record {
 
 -- all earlier items were looked at
 pub all_looked : (plan : Plan) (j : ℕ) (s : BitSet) → Reached plan j 0 s → IsRow plan j s
-all_looked plan j s h = record { roomy = h.roomy; holds = h.holds; found = λ i b. go i (last_step plan i j b) }
+all_looked plan j s h = record { starts = h.starts; roomy = h.roomy; holds = h.holds; found = λ i b. go i (last_step plan i j b) }
   where
     go : (i : ℕ) → LastStep plan i j → has s i ≡ true
     go i last =

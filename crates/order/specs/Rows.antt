@@ -4,7 +4,7 @@ use Rattle.base.specs.Items.{Work, Plan}
 use Rattle.base.specs.Machine.{is_predecessor}
 use Rattle.base.specs.Order.{Before}
 use Rattle.bits.specs.declared.set.BitSet.{BitSet}
-use Rattle.bits.specs.Sets.{has, room, room_for}
+use Rattle.bits.specs.Sets.{has, room, room_for, start}
 
 -- the earlier of two items is not deferred, or a predecessor of the later
 abbrev pub leads_to : Work → Work → Bool
@@ -12,7 +12,8 @@ leads_to earlier later = not earlier.deferred || is_predecessor earlier later
 
 -- the set has the items before item j
 pub record IsRow (plan : Plan) (j : ℕ) (s : BitSet) : Type 0 where
-  pub roomy : room s ≡ room_for (length plan.items)
+  pub starts : start s ≡ 0
+  pub roomy : room s ≡ room_for j
   pub holds : (i : ℕ) → has s i ≡ true → Before plan i j
   pub found : (i : ℕ) → Before plan i j → has s i ≡ true
 

@@ -39,7 +39,7 @@ fn row_of(
     requires rows { AreRows (plan_of items.now) rows.now }
     ensures { IfOk result (IsRow (plan_of items.now) later) }
 {
-    let mut found = BitSet::with_room(alloc, items.len())?;
+    let mut found = BitSet::with_room(alloc, later)?;
     for earlier in (0..later).rev() {
         if !found.contains(earlier) && leads_to(&items[earlier], &items[later]) {
             found.union_with(&rows[earlier]);

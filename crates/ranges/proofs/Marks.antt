@@ -5,7 +5,7 @@ use Rattle.std.proofs.Math.Bool.{or-false, or-true}
 use Rattle.std.proofs.lemmas.Bool.Decides.{nat_tests}
 use mathlib.Core.Path.{fun_ext}
 use Rattle.bits.specs.declared.set.BitSet.{BitSet}
-use Rattle.bits.specs.Sets.{has, is_from, room}
+use Rattle.bits.specs.Sets.{has, is_from, room, start}
 use Rattle.ranges.specs.Rows.{is_within}
 use Rattle.base.specs.declared.fault.Interval.{Interval}
 
@@ -15,6 +15,7 @@ marked_to before lo i end excluded j = before j || ((nat_le lo j && (nat_lt j i 
 
 -- a row with room enough, marked up to i
 pub record Marked (before excluded : ℕ → Bool) (lo i end : ℕ) (row : BitSet) : Type 0 where
+  pub begins : start row ≤ lo
   pub long : end ≤ room row
   pub marked : has row ≡ marked_to before lo i end excluded
 

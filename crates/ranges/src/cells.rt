@@ -7,7 +7,7 @@ use crate::row::Row;
 use bits::BitSet;
 use std::alloc::Global;
 
-/// A set of cells. It has a bit for each cell of an array up to the last one in it.
+/// A set of cells. It has a bit for each cell of an array from the first one in it up to the last one.
 #[derive(Drop)]
 pub struct CellSet {
     pub(crate) alloc: Global,

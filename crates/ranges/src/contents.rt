@@ -59,11 +59,22 @@ impl CellSet {
         }
     }
 
+    // Makes room for the rows of the first arrays up to this one, and no more, where there is none yet.
+    fn reserve(&mut self, array: ArrayId) -> Result<(), AllocError>
+        ensures { has self.new ≡ has self.old }
+    {
+        if self.rows.is_empty() {
+            self.rows.reserve_exact(array.0 as usize + 1)?;
+        }
+        Ok(())
+    }
+
     // Makes a row for an array.
     fn reach(&mut self, array: ArrayId) -> Result<(), AllocError>
         ensures same { has self.new ≡ has self.old }
         ensures long { OnOk result (array.0 < length self.new.rows.items) }
     {
+        self.reserve(array)?;
         while self.rows.len() <= array.0 as usize {
             self.rows.push(Row::new(self.alloc))?;
         }

@@ -34,7 +34,7 @@ fn run_of(array: ArrayId, read: &BitSet, write: &BitSet) -> Section
 
 /// For each array the least run of cells that has all cells which the region may read or write, of length 0 where it
 /// touches none. A cell beyond the arrays of these lengths is in no run. It takes a few steps for each array, and one for 64
-/// cells that it does not touch.
+/// cells between those that it touches.
 pub fn reach(
     alloc: Global,
     lengths: &[u32],

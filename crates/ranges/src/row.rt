@@ -24,9 +24,10 @@ fn mark(row: &mut BitSet, cells: Interval, excluded: &BitSet) -> Result<(), Allo
     ensures ok { OnOk result (has row.new ≡ (λ i. has row.old i || (is_within cells i && not (has excluded.now i)))) }
     ensures err { OnErr result (has row.new ≡ has row.old) }
 {
+    let first = cells.lo as usize;
     let end = cells.hi as usize + 1;
-    row.grow(end)?;
-    for i in cells.lo as usize..end {
+    row.make_room(first, end)?;
+    for i in first..end {
         if !excluded.contains(i) {
             row.insert(i);
         }
@@ -40,9 +41,10 @@ fn mark_all(row: &mut BitSet, cells: Interval) -> Result<(), AllocError>
     ensures ok { OnOk result (has row.new ≡ (λ i. has row.old i || is_within cells i)) }
     ensures err { OnErr result (has row.new ≡ has row.old) }
 {
+    let first = cells.lo as usize;
     let end = cells.hi as usize + 1;
-    row.grow(end)?;
-    row.insert_range(cells.lo as usize, end);
+    row.make_room(first, end)?;
+    row.insert_range(first, end);
     Ok(())
 }
 

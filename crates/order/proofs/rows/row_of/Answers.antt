@@ -1,9 +1,8 @@
-use Rattle.std.proofs.Common.{◌≡◌, ◌-◌, ◌+◌, ◌<◌, true, false, length, sym, ap, ◌∙◌, subst, arith}
-use Rattle.std.proofs.lemmas.List.{length-map}
-use Rattle.order.specs.Bare.{bare, plan_of}
+use Rattle.std.proofs.Common.{◌≡◌, ◌-◌, ◌+◌, ◌<◌, ◌≤◌, true, false, length, sym, ap, ◌∙◌, subst, arith}
+use Rattle.order.specs.Bare.{plan_of}
 use Rattle.order.specs.Rows.{IsRow, leads_to}
 use Rattle.std.specs.Prelude.{◌||◌}
-use Rattle.bits.specs.Sets.{has, room, room_for}
+use Rattle.bits.specs.Sets.{all_words, has, room, room_for}
 use Rattle.bits.proofs.Words.{within_room}
 use Rattle.order.proofs.Befores.{Leads, both_read}
 use Rattle.order.proofs.Reached.{Reached, starts, added, passed, all_looked, row_read}
@@ -14,7 +13,7 @@ pub loop-earlier-init : goal.loop-earlier-init
 loop-earlier-init c =
     let its = c.args.items.now in
     let h = c.in_ok-found.ensures in
-    starts (plan_of its) c.args.later c.in_ok-found.found (h.roomy ∙ ap room_for (sym (length-map its bare))) h.empty
+    starts (plan_of its) c.args.later c.in_ok-found.found h.start h.roomy h.empty
 
 pub loop-earlier-preserved : goal.loop-earlier-preserved
 loop-earlier-preserved c =
@@ -52,11 +51,13 @@ loop-earlier-preserved-then-leads_to c =
     let s = c.loop-earlier.found in
     let row = c.index-rows-earlier.result in
     let is_row : IsRow (plan_of its) k row = row_read (plan_of its) c.args.rows.now k row c.requires.rows in_rows c.index-rows-earlier.is in
-    let as_roomy : room row ≡ room s = is_row.roomy ∙ sym c.loop-earlier.invariant.roomy in
+    let row_room : room row ≡ room_for k = is_row.roomy in
+    let set_room : room s ≡ room_for c.args.later = c.loop-earlier.invariant.roomy in
+    let less : room row ≤ room s = omega (arith, row_room, set_room, before) in
     added (plan_of its) c.args.later n k s row c.union_with.new.self c.insert.new.self next c.loop-earlier.invariant is_row
-    leads c.union_with.ensures.room
-    (λ i. c.union_with.ensures.united i ∙ ap (λ b. has s i || b) (within_room row.words.items (room s) i (omega arith)))
-    c.insert.ensures.room c.insert.ensures.added
+    leads c.union_with.ensures.start c.union_with.ensures.room
+    (λ i. c.union_with.ensures.united i ∙ ap (λ b. has s i || b) (within_room (all_words row) (room s) i less))
+    c.insert.ensures.start c.insert.ensures.room c.insert.ensures.added
 
 pub returns : goal.returns
 returns c =

@@ -5,6 +5,9 @@ use Rattle.ranges.specs.Cells.{row_at}
 use Rattle.ranges.proofs.Sets.{rows_more}
 use Rattle.ranges.proofs.cells.CellSet.reach.Goals as goal
 
+pub loop-array-init : goal.loop-array-init
+loop-array-init c = c.reserve.ensures
+
 pub loop-array-preserved : goal.loop-array-preserved
 loop-array-preserved c =
     rows_more c.loop-array.self.none c.loop-array.self.empty c.loop-array.self.rows.items c.push.new.self.items c.new.result
