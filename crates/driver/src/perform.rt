@@ -3,12 +3,8 @@
 ghost use Rattle.std.specs.Prelude.{◌≡◌, ◌≤◌, ◌⊎◌, IfOk, OnErr};
 ghost use Rattle.base.specs.Limits.{AreShort};
 
-use crate::checking::{check_source, tell};
 use crate::command::{Request, Run, Step, Workers, parse};
-use crate::listing::list_source;
 use crate::numbers::{NumbersFault, choice_list, input_numbers};
-use crate::source::run_accepted;
-use crate::threads::run_accepted_on_threads;
 use base::fault::{CheckFault, OutlineFault, ReadFault, RunFault, SourceFault};
 use base::item::Answer;
 use base::tree::Program;
@@ -16,6 +12,7 @@ use c_read::read_program;
 use clap::error::ErrorKind;
 use mapcheck::{Accepted, check};
 use outline::{Outlined, outline};
+use pipeline::{check_source, list_source, run_accepted, run_accepted_on_threads, tell};
 use report::{finals_text, log_text};
 use std::alloc::Global;
 use std::io;
@@ -194,7 +191,7 @@ fn run_by<T: Threads + Wait + Sync>(
 }
 
 /// Checks a program, reads its input and runs it.
-#[tactic(auto, using(crate::proofs::Runs::short_too))]
+#[tactic(auto, using(pipeline::proofs::Runs::short_too))]
 fn answer_outlined<'a, T: Threads + Wait + Sync, R: Read, E: Write>(
     rt: &T,
     alloc: Global,
@@ -217,7 +214,7 @@ fn answer_outlined<'a, T: Threads + Wait + Sync, R: Read, E: Write>(
 }
 
 /// The answer of a run of a program.
-#[tactic(auto, using(crate::proofs::Runs::short_too))]
+#[tactic(auto, using(pipeline::proofs::Runs::short_too))]
 fn answer<'a, T: Threads + Wait + Sync, R: Read, E: Write>(
     rt: &T,
     alloc: Global,

@@ -2,18 +2,14 @@
 #![tactic(auto)]
 
 #[cfg(test)]
-mod check;
-#[cfg(test)]
 mod commands;
 #[cfg(test)]
 mod device_tests;
 #[cfg(test)]
 mod jobs;
 #[cfg(test)]
-mod kernel_tests;
+mod orders;
 #[cfg(test)]
 mod sources;
-#[cfg(test)]
-mod step;
 #[cfg(test)]
 mod threads;

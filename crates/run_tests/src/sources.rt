@@ -6,7 +6,6 @@ ghost use Rattle.base.specs.Limits.{AreShort};
 use base::fault::{CheckFault, OutlineFault, ReadFault, RunFault};
 use base::item::Answer;
 use c_read::read_program;
-use device::run_choices;
 use host::{Gate, run_threads};
 use lower::{Image, lower};
 use mapcheck::{Accepted, check};
@@ -85,24 +84,6 @@ fn run_accepted<R: Threads + Wait + Sync, G: Gate + Sync>(
     }
 }
 
-// Runs it by choices.
-fn run_accepted_in_turn(
-    alloc: Global,
-    accepted: &Accepted<'_>,
-    input: &[u64],
-    capacity: u64,
-) -> Result<Answer, Fault>
-    requires { AreShort accepted.now }
-{
-    let Ok(image) = lower(alloc, accepted) else {
-        return Err(Fault::Run(RunFault::OutOfMemory));
-    };
-    match run_choices(alloc, &image, input, &[], capacity) {
-        Ok(answer) => Ok(answer),
-        Err(fault) => Err(Fault::Run(fault)),
-    }
-}
-
 // Runs a program on threads, if it is accepted.
 fn run_outlined<R: Threads + Wait + Sync, G: Gate + Sync>(
     rt: &R,
@@ -119,21 +100,6 @@ fn run_outlined<R: Threads + Wait + Sync, G: Gate + Sync>(
 {
     match check(alloc, outlined) {
         Ok(accepted) => run_accepted(rt, alloc, &accepted, input, workers, capacity, gate),
-        Err(fault) => Err(Fault::Check(fault)),
-    }
-}
-
-// Runs it by choices.
-fn run_outlined_in_turn(
-    alloc: Global,
-    outlined: &Outlined<'_>,
-    input: &[u64],
-    capacity: u64,
-) -> Result<Answer, Fault>
-    requires { AreShort outlined.now }
-{
-    match check(alloc, outlined) {
-        Ok(accepted) => run_accepted_in_turn(alloc, &accepted, input, capacity),
         Err(fault) => Err(Fault::Check(fault)),
     }
 }
@@ -160,22 +126,4 @@ pub fn run_source<R: Threads + Wait + Sync, G: Gate + Sync>(
         Err(fault) => return Err(Fault::Outline(fault)),
     };
     run_outlined(rt, alloc, &outlined, input, workers, capacity, gate)
-}
-
-/// Runs a source by choices, of which there are none.
-pub fn run_in_turn(
-    alloc: Global,
-    text: &str,
-    input: &[u64],
-    capacity: u64,
-) -> Result<Answer, Fault> {
-    let program = match read_program(alloc, text.as_bytes()) {
-        Ok(program) => program,
-        Err(fault) => return Err(Fault::Read(fault)),
-    };
-    let outlined = match outline(alloc, &program) {
-        Ok(outlined) => outlined,
-        Err(fault) => return Err(Fault::Outline(fault)),
-    };
-    run_outlined_in_turn(alloc, &outlined, input, capacity)
 }

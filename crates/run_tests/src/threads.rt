@@ -2,7 +2,7 @@
 
 ghost use Rattle.std.specs.Prelude.{◌≤◌};
 
-use crate::sources::{Fault, run_in_turn, run_source};
+use crate::sources::{Fault, run_source};
 use base::fault::RunFault;
 use base::item::Event;
 use device::Job;
@@ -24,98 +24,6 @@ const FOUR_KERNELS: &str =
 
 const THREE_KERNELS_AND_THE_HOST: &str =
     "uint64_t A[1];\nuint64_t B[1];\nuint64_t C[1];\nuint64_t D[1];\nint main(void) {\n#pragma omp target map(tofrom: A) nowait\n{ A[0] = 1; }\n#pragma omp target map(tofrom: B) nowait\n{ B[0] = 2; }\n#pragma omp target map(tofrom: C) nowait\n{ C[0] = 3; }\nD[0] = 4;\n#pragma omp taskwait\nprint(A[0]); print(B[0]); print(C[0]); print(D[0]);\n}\n";
-
-const HALVES: &str =
-    "uint64_t A[8];\nint main(void) {\n#pragma omp target enter data map(to: A)\n#pragma omp target map(tofrom: A[0:4]) nowait\nfor (uint64_t i = 0; i < 4; i += 1) { A[i] = i + 1; }\n#pragma omp target map(tofrom: A[4:4]) nowait\nfor (uint64_t i = 4; i < 8; i += 1) { A[i] = i * 10; }\n#pragma omp taskwait\n#pragma omp target update from(A)\nfor (uint64_t i = 0; i < 8; i += 1) { print(A[i]); }\n}\n";
-
-const CHAIN: &str =
-    "uint64_t A[1];\nuint64_t B[1];\nuint64_t C[1];\nint main(void) {\n#pragma omp target map(tofrom: C) nowait depend(out: A)\n{ C[0] = 1; }\n#pragma omp target map(tofrom: B) nowait depend(in: A) depend(out: B)\n{ B[0] = 2; }\n#pragma omp target map(tofrom: C) nowait depend(in: B)\n{ C[0] = C[0] + 5; }\n#pragma omp taskwait\nprint(C[0]); print(B[0]);\n}\n";
-
-const DEFERRED_DATA: &str =
-    "uint64_t A[4];\nint main(void) {\nuint64_t s = read();\nfor (uint64_t i = 0; i < 4; i += 1) { A[i] = i + s; }\n#pragma omp target enter data map(to: A) nowait depend(out: A)\n#pragma omp target map(tofrom: A) nowait depend(inout: A)\nfor (uint64_t i = 0; i < 4; i += 1) { A[i] = A[i] * 2; }\n#pragma omp target exit data map(from: A) nowait depend(inout: A)\n#pragma omp taskwait\nfor (uint64_t i = 0; i < 4; i += 1) { print(A[i]); }\nuint64_t t = read();\nprint(t);\n}\n";
-
-const DATA: &str =
-    "uint64_t A[4];\nint main(void) {\n#pragma omp target data map(alloc: A[0:4])\n{\n#pragma omp target\nfor (uint64_t i = 0; i < 4; i += 1) { A[i] = i + 5; }\n#pragma omp target update from(A[0:2])\nprint(A[1]);\n}\n}\n";
-
-// So many workers print this, and leave what the run by choices leaves.
-fn prints_with<R: Threads + Wait + Abort + Sync>(
-    rt: &R,
-    alloc: Global,
-    text: &str,
-    input: &[u64],
-    workers: usize,
-    capacity: u64,
-    printed: &str,
-) -> Result<(), Fail>
-    requires some { 1 ≤ workers }
-    requires few { workers ≤ 16 }
-{
-    let in_turn = run_in_turn(alloc, text, input, capacity)?;
-    let answer = run_source(rt, alloc, text, input, workers, capacity, &OpenGate)?;
-    assert_eq!(rt; in_turn.out.as_slice(), printed.as_bytes());
-    assert_eq!(rt;
-        answer.out.as_slice(),
-        printed.as_bytes(),
-        "{workers} workers"
-    );
-    assert_eq!(rt; answer.finals, in_turn.finals, "{workers} workers");
-    assert_eq!(rt; answer.history.len(), in_turn.history.len());
-    Ok(())
-}
-
-// The same with 1, 2, 4 and 16 workers.
-fn prints<R: Threads + Wait + Abort + Sync>(
-    rt: &R,
-    alloc: Global,
-    text: &str,
-    input: &[u64],
-    capacity: u64,
-    printed: &str,
-) -> Result<(), Fail> {
-    prints_with(rt, alloc, text, input, 1, capacity, printed)?;
-    prints_with(rt, alloc, text, input, 2, capacity, printed)?;
-    prints_with(rt, alloc, text, input, 4, capacity, printed)?;
-    prints_with(rt, alloc, text, input, 16, capacity, printed)
-}
-
-#[test]
-fn prints_what_a_run_in_turn_prints(rt: HostRuntime) -> Result<(), Fail> {
-    let alloc = rt.alloc();
-    prints(&rt, alloc, "int main(void) {}", &[], 0, "")?;
-    prints(&rt, alloc, TWO_KERNELS, &[], 16, "7\n13\n")?;
-    prints(&rt, alloc, FOUR_KERNELS, &[], 4, "1\n2\n3\n4\n")?;
-    prints(&rt, alloc, HALVES, &[], 8, "1\n2\n3\n4\n40\n50\n60\n70\n")?;
-    prints(&rt, alloc, DATA, &[], 4, "6\n")
-}
-
-#[test]
-fn follows_dependences(rt: HostRuntime) -> Result<(), Fail> {
-    let alloc = rt.alloc();
-    prints(&rt, alloc, CHAIN, &[], 3, "6\n2\n")?;
-    prints(&rt, alloc, DEFERRED_DATA, &[7, 9], 4, "14\n16\n18\n20\n9\n")
-}
-
-#[test]
-fn one_worker_needs_room_for_one_kernel(rt: HostRuntime) -> Result<(), Fail> {
-    prints_with(&rt, rt.alloc(), TWO_KERNELS, &[], 1, 8, "7\n13\n")
-}
-
-// Whether the run answers that the device is full.
-fn is_full<R: Threads + Wait + Sync>(rt: &R, alloc: Global, workers: usize, capacity: u64) -> bool
-    requires some { 1 ≤ workers }
-    requires few { workers ≤ 16 }
-{
-    let answer = run_source(rt, alloc, TWO_KERNELS, &[], workers, capacity, &OpenGate);
-    matches!(answer, Err(Fault::Run(RunFault::DeviceFull)))
-}
-
-#[test]
-fn a_small_device_is_full(rt: HostRuntime) -> Result<(), Fail> {
-    assert!(rt; is_full(&rt, rt.alloc(), 1, 7));
-    assert!(rt; is_full(&rt, rt.alloc(), 2, 7));
-    assert!(rt; is_full(&rt, rt.alloc(), 16, 0));
-    Ok(())
-}
 
 // Turns in which others run, up to a limit, until so many have come.
 fn wait_for(came: &AtomicU64, late: &AtomicU64, wanted: u64) {

@@ -1,0 +1,12 @@
+//! From the bytes of a source to whether it is accepted, its items, or what its run answers: the layers, one after the other.
+#![tactic(auto)]
+
+mod checking;
+mod listing;
+mod source;
+mod threads;
+
+pub use checking::{check_source, tell};
+pub use listing::list_source;
+pub use source::{run_accepted, run_source};
+pub use threads::{run_accepted_on_threads, run_source_on_threads};

@@ -1,0 +1,7 @@
+uint64_t A[8];
+int main(void) {
+#pragma omp target enter data map(to: A)
+#pragma omp target update to(A[4:4]) nowait
+A[1] = 1; print(A[6]); A[5] = 1;
+#pragma omp taskwait
+}

@@ -1,0 +1,6 @@
+uint64_t A[8];
+int main(void) {
+#pragma omp target enter data map(alloc: A) nowait
+A[1] = 1; print(A[6]); A[5] = 1;
+#pragma omp taskwait
+}

@@ -1,0 +1,7 @@
+int main(void) {
+for (uint64_t k = 0; k < 18446744073709551615; k += 1) {
+for (uint64_t i = 0; i < 0; i += 1) {
+#pragma omp taskwait
+}
+}
+}

@@ -1,0 +1,295 @@
+# the same with 1, 2, 4 and 16 workers, on devices that are just large enough for all that may be open at once
+$ ompc run nothing.c --workers 1 --capacity 0 --finals
+$ ompc run nothing.c --workers 2 --capacity 0 --finals
+$ ompc run nothing.c --workers 4 --capacity 0 --finals
+$ ompc run nothing.c --workers 16 --capacity 0 --finals
+$ ompc run double.c --workers 1 --capacity 4 --finals
+1
+3
+5
+7
+A: 1 3 5 7
+$ ompc run double.c --workers 2 --capacity 4 --finals
+1
+3
+5
+7
+A: 1 3 5 7
+$ ompc run double.c --workers 4 --capacity 4 --finals
+1
+3
+5
+7
+A: 1 3 5 7
+$ ompc run double.c --workers 16 --capacity 4 --finals
+1
+3
+5
+7
+A: 1 3 5 7
+$ ompc run part_updated.c --workers 1 --capacity 4 --finals
+6
+$ ompc run part_updated.c --workers 2 --capacity 4 --finals
+6
+$ ompc run part_updated.c --workers 4 --capacity 4 --finals
+6
+$ ompc run part_updated.c --workers 16 --capacity 4 --finals
+6
+$ ompc run halves.c --workers 1 --capacity 8 --finals
+1
+2
+3
+4
+40
+50
+60
+70
+A: 1 2 3 4 40 50 60 70
+$ ompc run halves.c --workers 2 --capacity 8 --finals
+1
+2
+3
+4
+40
+50
+60
+70
+A: 1 2 3 4 40 50 60 70
+$ ompc run halves.c --workers 4 --capacity 8 --finals
+1
+2
+3
+4
+40
+50
+60
+70
+A: 1 2 3 4 40 50 60 70
+$ ompc run halves.c --workers 16 --capacity 8 --finals
+1
+2
+3
+4
+40
+50
+60
+70
+A: 1 2 3 4 40 50 60 70
+$ ompc run readers_in_order.c --workers 1 --capacity 8 --finals
+1
+2
+A: 0 0 0 0
+B: 1 1 1 1
+C: 2 2 2 2
+$ ompc run readers_in_order.c --workers 2 --capacity 8 --finals
+1
+2
+A: 0 0 0 0
+B: 1 1 1 1
+C: 2 2 2 2
+$ ompc run readers_in_order.c --workers 4 --capacity 8 --finals
+1
+2
+A: 0 0 0 0
+B: 1 1 1 1
+C: 2 2 2 2
+$ ompc run readers_in_order.c --workers 16 --capacity 8 --finals
+1
+2
+A: 0 0 0 0
+B: 1 1 1 1
+C: 2 2 2 2
+$ ompc run written_or_not.c --workers 1 --capacity 2 --finals < one.txt
+1
+$ ompc run written_or_not.c --workers 2 --capacity 2 --finals < one.txt
+1
+$ ompc run written_or_not.c --workers 4 --capacity 2 --finals < one.txt
+1
+$ ompc run written_or_not.c --workers 16 --capacity 2 --finals < one.txt
+1
+$ ompc run captured.c --workers 1 --capacity 1 --finals
+5
+A: 5
+$ ompc run captured.c --workers 2 --capacity 1 --finals
+5
+A: 5
+$ ompc run captured.c --workers 4 --capacity 1 --finals
+5
+A: 5
+$ ompc run captured.c --workers 16 --capacity 1 --finals
+5
+A: 5
+$ ompc run inside_the_array.c --workers 1 --capacity 0 --finals
+3
+A: 1 2 3 0
+$ ompc run inside_the_array.c --workers 2 --capacity 0 --finals
+3
+A: 1 2 3 0
+$ ompc run inside_the_array.c --workers 4 --capacity 0 --finals
+3
+A: 1 2 3 0
+$ ompc run inside_the_array.c --workers 16 --capacity 0 --finals
+3
+A: 1 2 3 0
+$ ompc run reads_three.c --workers 1 --capacity 0 --finals < seven_eight.txt
+7
+8
+0
+$ ompc run reads_three.c --workers 2 --capacity 0 --finals < seven_eight.txt
+7
+8
+0
+$ ompc run reads_three.c --workers 4 --capacity 0 --finals < seven_eight.txt
+7
+8
+0
+$ ompc run reads_three.c --workers 16 --capacity 0 --finals < seven_eight.txt
+7
+8
+0
+$ ompc run copied_again.c --workers 1 --capacity 4 --finals
+6
+A: 5 0
+B: 6 1
+$ ompc run copied_again.c --workers 2 --capacity 4 --finals
+6
+A: 5 0
+B: 6 1
+$ ompc run copied_again.c --workers 4 --capacity 4 --finals
+6
+A: 5 0
+B: 6 1
+$ ompc run copied_again.c --workers 16 --capacity 4 --finals
+6
+A: 5 0
+B: 6 1
+$ ompc run chain.c --workers 1 --capacity 3 --finals
+6
+2
+A: 0
+B: 2
+C: 6
+$ ompc run chain.c --workers 2 --capacity 3 --finals
+6
+2
+A: 0
+B: 2
+C: 6
+$ ompc run chain.c --workers 4 --capacity 3 --finals
+6
+2
+A: 0
+B: 2
+C: 6
+$ ompc run chain.c --workers 16 --capacity 3 --finals
+6
+2
+A: 0
+B: 2
+C: 6
+$ ompc run two_kernels.c --workers 1 --capacity 16 --finals
+7
+13
+A: 0 1 2 3 4 5 6 7
+B: 13 10 10 10 10 10 10 10
+$ ompc run two_kernels.c --workers 2 --capacity 16 --finals
+7
+13
+A: 0 1 2 3 4 5 6 7
+B: 13 10 10 10 10 10 10 10
+$ ompc run two_kernels.c --workers 4 --capacity 16 --finals
+7
+13
+A: 0 1 2 3 4 5 6 7
+B: 13 10 10 10 10 10 10 10
+$ ompc run two_kernels.c --workers 16 --capacity 16 --finals
+7
+13
+A: 0 1 2 3 4 5 6 7
+B: 13 10 10 10 10 10 10 10
+$ ompc run four_kernels.c --workers 1 --capacity 4 --finals
+1
+2
+3
+4
+A: 1
+B: 2
+C: 3
+D: 4
+$ ompc run four_kernels.c --workers 2 --capacity 4 --finals
+1
+2
+3
+4
+A: 1
+B: 2
+C: 3
+D: 4
+$ ompc run four_kernels.c --workers 4 --capacity 4 --finals
+1
+2
+3
+4
+A: 1
+B: 2
+C: 3
+D: 4
+$ ompc run four_kernels.c --workers 16 --capacity 4 --finals
+1
+2
+3
+4
+A: 1
+B: 2
+C: 3
+D: 4
+$ ompc run deferred_data.c --workers 1 --capacity 4 --finals < seven_nine.txt
+14
+16
+18
+20
+9
+A: 14 16 18 20
+$ ompc run deferred_data.c --workers 2 --capacity 4 --finals < seven_nine.txt
+14
+16
+18
+20
+9
+A: 14 16 18 20
+$ ompc run deferred_data.c --workers 4 --capacity 4 --finals < seven_nine.txt
+14
+16
+18
+20
+9
+A: 14 16 18 20
+$ ompc run deferred_data.c --workers 16 --capacity 4 --finals < seven_nine.txt
+14
+16
+18
+20
+9
+A: 14 16 18 20
+
+# one worker needs room for one kernel at a time
+$ ompc run two_kernels.c --workers 1 --capacity 8
+7
+13
+
+# what is asked for
+$ ompc run double.c --log --finals
+1
+3
+5
+7
+open 0
+close 0
+open 1
+close 1
+open 2
+close 2
+end
+A: 1 3 5 7
+$ ompc run written_or_not.c --finals
+0
