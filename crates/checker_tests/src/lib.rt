@@ -2,20 +2,26 @@
 #![tactic(auto)]
 
 #[cfg(test)]
-mod mapcheck_tests;
+mod fit;
 #[cfg(test)]
-mod mapwalk_tests;
+mod mapcheck_cases;
 #[cfg(test)]
-mod order_tests;
+mod mapwalk_cases;
 #[cfg(test)]
-mod outline_tests;
+mod order_cases;
+#[cfg(test)]
+mod outline_cases;
 #[cfg(test)]
 mod present_tests;
 #[cfg(test)]
-mod ranges_tests;
+mod ranges_cases;
 #[cfg(test)]
 mod report_tests;
 #[cfg(test)]
 mod rows;
+#[cfg(test)]
+mod said;
+#[cfg(test)]
+mod sources_tests;
 #[cfg(test)]
 mod taskgraph_tests;

@@ -1,0 +1,2 @@
+x #pragma omp target
+#pragma omp taskwait

@@ -1,0 +1,3 @@
+/*
+#pragma omp */ x
+// #pragma omp

@@ -1,0 +1,2 @@
+#include <stdint.h>
+#pragma omp taskwait

@@ -1,0 +1,4 @@
+{
+  #pragma omp target
+  { x = 1; }
+}

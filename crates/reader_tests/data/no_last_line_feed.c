@@ -1,0 +1,2 @@
+#pragma omp taskwait
+#pragma omp taskwait

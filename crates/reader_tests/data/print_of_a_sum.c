@@ -1,0 +1,2 @@
+uint64_t A[4]; uint64_t g; int main(void) { if (1)
+{ uint64_t x = 1; uint64_t y = read(); print(x + y); } }

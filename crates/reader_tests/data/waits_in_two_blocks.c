@@ -1,0 +1,5 @@
+int main(void) { {
+#pragma omp taskwait
+} {
+#pragma omp taskwait
+} { } }

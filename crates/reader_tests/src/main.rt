@@ -1,0 +1,123 @@
+//! Reads the sources of a folder, and prints how many are read as the files beside them say, and those that are not with
+//! what came of them.
+//!
+//! What is wanted of NAME.c stands in NAME.txt: its tree, or why it is refused. Where there is a NAME.erased.c, it is the
+//! text of NAME.c without its directives. NAME.rows has small sources, each below what is wanted of it. Of each source
+//! that is read, a part that ends before its last brace must be refused. For a new NAME.c, run this program in its
+//! folder `data`: it prints what would stand in NAME.txt.
+#![tactic(auto)]
+
+mod printed;
+mod report;
+mod rows;
+
+use base::fault::ReadFault;
+use base::tree::Program;
+use c_read::read_program;
+use erased_meaning::read_erased;
+use erasure::erase;
+use printed::program_text;
+use report::Report;
+use rows::compare_rows;
+use std::alloc::{AllocError, Global};
+use std::io::Write;
+use std::process::ExitCode;
+use std::{fs, io};
+
+fn outcome_text(alloc: Global, outcome: &Result<Program, ReadFault>) -> Result<String, AllocError> {
+    match outcome {
+        Ok(program) => program_text(alloc, program),
+        Err(fault) => format!(in alloc; "{fault}\n"),
+    }
+}
+
+/// The file of that name with that ending.
+fn file_text(rt: &HostRuntime, name: &str, ending: &str) -> io::Result<String> {
+    let path = format!(in rt.alloc(); "{name}{ending}")?;
+    fs::read_to_string(rt, &path)
+}
+
+/// Whether a program that ends before its last brace is refused, wherever it ends.
+fn are_cuts_refused(alloc: Global, text: &[u8]) -> bool {
+    (0..text.len()).all(|n| read_program(alloc, &text[..n]).is_err())
+}
+
+/// A source with what is wanted of it.
+#[derive(Drop)]
+struct Case {
+    source: String,
+    wanted: String,
+}
+
+/// Compares what is left of a source without its directives with the text of the case, and what that means.
+fn compare_erased(
+    rt: &HostRuntime,
+    report: &mut Report,
+    name: &str,
+    case: &Case,
+) -> io::Result<()> {
+    let source = file_text(rt, name, ".c")?;
+    let erased = erase(rt.alloc(), source.as_bytes())?;
+    let kept = str::from_utf8(&erased).unwrap_or("");
+    report.compare(name, ".erased.c", kept, &case.source)?;
+    let outcome = read_erased(rt.alloc(), source.as_bytes());
+    let text = outcome_text(rt.alloc(), &outcome)?;
+    report.compare(name, ".erased.txt", &text, &case.wanted)?;
+    Ok(())
+}
+
+/// Compares what is read of a source. Where nothing says what is wanted of it, that is an empty text.
+fn compare_source(rt: &HostRuntime, report: &mut Report, name: &str) -> io::Result<()> {
+    let alloc = rt.alloc();
+    let source = file_text(rt, name, ".c")?;
+    let wanted = file_text(rt, name, ".txt").unwrap_or(String::new(alloc));
+    let outcome = read_program(alloc, source.as_bytes());
+    report.compare(name, ".txt", &outcome_text(alloc, &outcome)?, &wanted)?;
+    if outcome.is_ok() && !are_cuts_refused(alloc, source.trim_end().as_bytes()) {
+        report.compare(name, ".c", "a part of it is read", "")?;
+    }
+    match name.strip_suffix(".erased") {
+        None => Ok(()),
+        Some(whole) => compare_erased(rt, report, whole, &Case { source, wanted }),
+    }
+}
+
+fn compare_file(rt: &HostRuntime, report: &mut Report, file: &str) -> io::Result<()> {
+    if let Some(name) = file.strip_suffix(".c") {
+        return compare_source(rt, report, name);
+    }
+    if file.ends_with(".rows") {
+        compare_rows(rt.alloc(), report, &file_text(rt, file, "")?)?;
+    }
+    Ok(())
+}
+
+fn compare_files(rt: &HostRuntime) -> io::Result<Report> {
+    let mut report = Report::new(rt.alloc());
+    for entry in fs::read_dir(rt, ".")? {
+        compare_file(rt, &mut report, entry?.file_name())?;
+    }
+    Ok(report)
+}
+
+fn print(rt: &HostRuntime) -> io::Result<ExitCode> {
+    let report = compare_files(rt)?;
+    let mut out = io::writer(rt);
+    write!(out, "{}", report.text)?;
+    writeln!(out, "{} as wanted, {} not", report.right, report.wrong)?;
+    if report.wrong == 0 {
+        Ok(ExitCode::SUCCESS)
+    } else {
+        Ok(ExitCode::FAILURE)
+    }
+}
+
+fn main(rt: HostRuntime) -> ExitCode {
+    match print(&rt) {
+        Ok(code) => code,
+        Err(error) => {
+            let _ = writeln!(rt.stderr(), "{error}");
+            ExitCode::FAILURE
+        }
+    }
+}

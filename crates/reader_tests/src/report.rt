@@ -1,0 +1,37 @@
+//! How many texts are as wanted, and those that are not.
+
+use std::alloc::{AllocError, Global};
+
+#[derive(Drop)]
+pub struct Report {
+    pub right: u64,
+    pub wrong: u64,
+    /// The texts that are not as wanted, each below the name of its file.
+    pub text: String,
+}
+
+impl Report {
+    pub fn new(alloc: Global) -> Report {
+        Report {
+            right: 0,
+            wrong: 0,
+            text: String::new(alloc),
+        }
+    }
+
+    /// Compares a text with that of the file with that name and ending.
+    pub fn compare(
+        &mut self,
+        name: &str,
+        ending: &str,
+        text: &str,
+        wanted: &str,
+    ) -> Result<(), AllocError> {
+        if text == wanted {
+            self.right = self.right.saturating_add(1);
+            return Ok(());
+        }
+        self.wrong = self.wrong.saturating_add(1);
+        write!(self.text, "== {name}{ending}\n{text}\n")
+    }
+}
