@@ -1,11 +1,9 @@
 #!/usr/bin/env bash
-# Every benchmark, one after the other. The arguments are the built programs ompc and region_bench.
+# Every benchmark, one after the other. The argument is the built program.
 set -eu
-ompc=$(realpath "$1") region_bench=$(realpath "$2")
+ompc=$(realpath "$1")
 cd "$(dirname "$0")"
-for script in list check read run; do
+for script in list check read region run; do
     echo "== $script"
     "./$script.sh" "$ompc"
 done
-echo '== region'
-./region.sh "$region_bench"

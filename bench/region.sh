@@ -1,8 +1,8 @@
 #!/usr/bin/env bash
 # The processor time of a turn of some loops in a region, beside Lua where it is installed, and for the first loop beside
-# a stack machine in C with the same operations, compiled with `gcc -O2`. The argument is the built program `region_bench`.
+# a stack machine in C with the same operations, compiled with `gcc -O2`. The argument is the built program.
 set -eu
-bench=$(realpath "$1")
+ompc=$(realpath "$1")
 here=$(dirname "$(realpath "$0")")
 folder=$(mktemp -d)
 trap 'rm -r "$folder"' EXIT
@@ -10,11 +10,11 @@ times=10
 
 # milliseconds of processor time of a command, the least of eight runs; its output goes to a file
 measure() {
-    local TIMEFORMAT=%3U seconds least=999999
+    local TIMEFORMAT='%3U %3S' least=999999 user system milliseconds
     for _ in 1 2 3 4 5 6 7 8; do
-        seconds=$({ time "$@" > "$folder/out"; } 2>&1)
-        seconds=$((10#${seconds/./}))
-        least=$((seconds < least ? seconds : least))
+        read -r user system < <({ time "$@" > "$folder/out"; } 2>&1)
+        milliseconds=$((10#${user/./} + 10#${system/./}))
+        least=$((milliseconds < least ? milliseconds : least))
     done
     echo $least
 }
@@ -23,7 +23,7 @@ turns=$((times * 15 * 65536))
 say() {
     local picoseconds=$(($2 * 1000000 / (turns / 1000)))
     printf '  %s: %d ms, %d.%d ns a turn of the inner loop, sum %s\n' "$1" "$2" \
-        $((picoseconds / 1000)) $((picoseconds % 1000 / 100)) "$(cat "$folder/out")"
+        $((picoseconds / 1000)) $((picoseconds % 1000 / 100)) "$(head -1 "$folder/out")"
 }
 
 # a body in C and in Lua, and where its loop ends
@@ -31,29 +31,37 @@ compare() {
     printf '%s\n' "$1"
     printf 'uint64_t A[65536];\nuint64_t B[65536];
 int main(void) {
+#pragma omp target data map(tofrom: A, B)
+for (uint64_t t = 0; t < %d; t += 1) {
+#pragma omp target
+{
 uint64_t s = 0;
 for (uint64_t k = 0; k < 15; k += 1) {
     for (uint64_t i = 0; i < %d; i += 1) { %s }
 }
 A[0] = A[0] + s;
 }
-' "$3" "$1" > "$folder/region.c"
-    # The first run of the program has the walk of the region's footprint in it, which is taken off.
-    local footprint whole
-    footprint=$(measure "$bench" "$folder/region.c" 0)
-    printf '  reading, footprint of 983,040 turns and code: %d ms\n' "$footprint"
-    whole=$(measure "$bench" "$folder/region.c" $times)
-    say 'region' $((whole - footprint))
+}
+uint64_t total = 0;
+for (uint64_t i = 0; i < 65536; i += 1) { total = total + A[i] + B[i]; }
+print(total);
+}
+' $times "$3" "$1" > "$folder/region.c"
+    # what the check takes, which a run begins with, is taken off: reading, and the footprint of a region's 983,040 turns
+    local check whole
+    check=$(measure "$ompc" check "$folder/region.c")
+    printf '  check: %d ms\n' "$check"
+    whole=$(measure "$ompc" step "$folder/region.c")
+    say 'region' $((whole - check))
     if command -v lua5.4 > /dev/null; then
-        printf 'local total = 0
+        printf 'local total, A, B = 0, {}, {}
+for i = 0, 65535 do A[i] = 0; B[i] = 0 end
 for t = 1, %d do
-  local A, B, s = {}, {}, 0
-  for i = 0, 65535 do A[i] = 0; B[i] = 0 end
+  local s = 0
   for k = 0, arg[1] - 1 do for i = 0, %d - 1 do %s end end
   A[0] = A[0] + s
-  for i = 0, 65535 do total = total + A[i] + B[i] end
-  total = total + s
 end
+for i = 0, 65535 do total = total + A[i] + B[i] end
 print(string.format("%%u", total))
 ' $times "$3" "$2" > "$folder/region.lua"
         # the fill of the tables and the sum are taken off
