@@ -1,22 +1,11 @@
 -- Which events are allowed.
-use Rattle.std.proofs.Common.{◌≡◌, ◌⊎◌, inl, inr, ◌+◌, ◌-◌, ◌<◌, ◌≤◌, ℕ, zero, suc, Bool, true, false, List, [], ◌∷◌, ◌++◌, map, length, Option, Some, None, refl, sym, ap, ◌∙◌, arith}
-use Rattle.std.specs.Prelude.{not, ◌||◌, cond, filter, if◌then◌else◌, option_map, slice_get}
+use Rattle.std.proofs.Common.{◌≡◌, ◌⊎◌, inl, inr, ◌+◌, ◌-◌, ◌<◌, ◌≤◌, ℕ, zero, suc, Bool, true, false, List, [], ◌∷◌, ◌++◌, map, refl, sym, ap, ◌∙◌, arith}
+use Rattle.std.specs.Prelude.{cond, filter}
 use Rattle.std.specs.List.{range_with_len}
-use mathlib.Core.Path.{fun_ext}
-use Rattle.std.proofs.lemmas.Bool.{true≢false}
-use Rattle.std.proofs.lemmas.Option.{slice_get-map}
-use Rattle.std.proofs.lemmas.List.{length-map}
 use Rattle.std.proofs.lemmas.List.FromFn.{filter_of_map_range_with_len_more}
 use Rattle.std.proofs.Common.{append_assoc, append-nil, zero-add}
-use Rattle.std.proofs.lemmas.List.Elements.{filter-append}
 use Rattle.base.specs.declared.item.Event.{Event}
-use Rattle.base.specs.declared.item.Event.TheVariants.{Gen, Open, Close, Wait, End}
-use Rattle.base.specs.declared.item.Item.{Item}
-use Rattle.base.specs.Items.{Work}
-use Rattle.base.specs.Machine.{deferred_closed, is_closed}
-use Rattle.two_memories.proofs.RangeTests.{range_all, range_at}
-use Rattle.taskgraph.specs.Board.{Board, Facts, allows, item_facts, plan_in, state_in, work_of}
-use Rattle.device.specs.Allowed.{allowed_at}
+use Rattle.taskgraph.specs.Board.{Board, allows}
 
 pub none_allowed : (events : List Event) (p : Event → Bool) → ((e : Event) → p e ≡ true → ⊥) → filter p events ≡ []
 none_allowed [] p h = refl

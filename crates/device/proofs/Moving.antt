@@ -1,19 +1,17 @@
 -- Rules in turn, and what the table and the host memory show after them.
 use Rattle.std.proofs.Common.{◌≡◌, ◌+◌, ◌<◌, ◌≤◌, ℕ, zero, suc, List, [], ◌∷◌, map, get_or, length, drop, Option, Some, None, refl, sym, ap, ◌∙◌, subst, arith}
-use Rattle.std.specs.Prelude.{IsSomeAnd}
 use Rattle.std.proofs.lemmas.Option.{same_Some}
 use Rattle.std.proofs.lemmas.List.{drop_all}
 use Rattle.base.specs.declared.item.MapItem.{MapItem}
-use Rattle.base.specs.declared.item.MapKind.TheVariants as kind
 use Rattle.base.specs.declared.memory.Memory.{Memory as Arrays}
-use Rattle.base.specs.Map.{Memories, in_turn, update}
+use Rattle.base.specs.Map.{Memories, in_turn}
 use Rattle.present.specs.declared.Table.{Table}
 use Rattle.std.specs.Prelude.{Vec, slice_get, slice_index}
 use Rattle.std.specs.declared.alloc.Global.{Global}
 use Rattle.std.proofs.lemmas.Option.{slice_get-get_or}
 use Rattle.base.specs.declared.item.Section.{Section}
 use Rattle.base.specs.Arrays.{IsWithin, items_of, length_of, lengths_of, row_of}
-use Rattle.present.specs.Table.{Are, Does, Fails, IsKept, AreWithin, item_to, item_from, memories}
+use Rattle.present.specs.Table.{Are, IsKept, AreWithin, memories}
 use Rattle.present.proofs.NeededCells.{drop_item}
 use Rattle.device.specs.Moves.{Goes, Leads}
 

@@ -1,21 +1,16 @@
 -- One more event of a run.
-use Rattle.std.proofs.Common.{◌≡◌, ◌+◌, ◌<◌, ◌≤◌, ◌^◌, ◌++◌, ℕ, Bool, true, false, List, [], ◌∷◌, map, length, Option, Some, None, refl, sym, ap, ◌∙◌, subst, arith}
-use Rattle.std.specs.Prelude.{unwrap_or}
+use Rattle.std.proofs.Common.{◌≡◌, ◌+◌, ◌<◌, ◌≤◌, ◌^◌, ◌++◌, ℕ, Bool, true, false, List, [], ◌∷◌, map, length, Some, refl, sym, ap, ◌∙◌, subst, arith}
 use Rattle.base.specs.declared.tree.Program.{Program}
 use Rattle.base.specs.declared.item.Event.{Event}
-use Rattle.base.specs.Items.{Plan, plan}
-use Rattle.base.specs.Map.{Fill}
-use Rattle.base.specs.Machine.{State, start, all_enabled, enabled, step, Run, RunFrom}
+use Rattle.base.specs.Items.{plan}
+use Rattle.base.specs.Machine.{State, start, all_enabled, enabled, step, RunFrom}
 use Rattle.base.specs.Accepted.{IsAccepted}
 use Rattle.base.specs.Headline.{AreNumbers}
-use Rattle.base.proofs.Runs.{Run-append}
-use Rattle.headline.proofs.Headline.{headline}
 use Rattle.base.specs.Limits.{AreShort}
 pub use Rattle.device.specs.Leading.{IsNext, Next, is_after, leads_to, next, one_more_run, reached_next, takes}
 use Rattle.device.specs.Run as run
 use Rattle.device.specs.Run.{fill_in, state_of}
-use Rattle.device.specs.Taking.{Takes}
-use Rattle.device.specs.Running.{IsReached, IsRunning, run_of}
+use Rattle.device.specs.Running.{IsRunning, run_of}
 use Rattle.device.specs.declared.state.RunState.TheInside.{Inside}
 use Rattle.device.specs.Standing.{IsAt, Follows, place_of}
 use Rattle.device.specs.declared.standing.Standing.{Standing}

@@ -1,9 +1,8 @@
 -- The start of a run.
-use Rattle.std.proofs.Common.{◌≡◌, ◌+◌, ℕ, zero, suc, false, List, [], ◌∷◌, ◌++◌, map, length, Option, Some, None, refl, sym, ap, ap₂, ◌∙◌}
+use Rattle.std.proofs.Common.{◌≡◌, ℕ, zero, suc, false, List, [], ◌∷◌, map, length, Option, Some, None, refl, sym, ap, ap₂, ◌∙◌}
 use Rattle.std.specs.Prelude.{replicate, option_map, slice_get, slice_index}
-use mathlib.Core.Path.{fun_ext}
 use Rattle.std.proofs.lemmas.Bool.{true≢false}
-use Rattle.std.proofs.lemmas.List.{length-map, length-replicate, replicate-append-replicate}
+use Rattle.std.proofs.lemmas.List.{length-map, length-replicate}
 use Rattle.base.specs.declared.item.Item.{Item}
 use Rattle.base.specs.Arrays.{memory_of, lengths_of}
 use Rattle.base.specs.Memory.{zeros}

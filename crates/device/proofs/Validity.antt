@@ -1,20 +1,13 @@
 -- What holds of each state that a run of an accepted program reaches.
-use Rattle.std.proofs.Common.{◌≡◌, ◌<◌, ℕ, true, false, List, [], ◌∷◌, map, Some, refl, subst, arith, ⊎_elim}
+use Rattle.std.proofs.Common.{◌≡◌, ◌<◌, ℕ, true, false, List, Some, arith, ⊎_elim}
 use Rattle.std.specs.Prelude.{slice_get}
 use Rattle.std.proofs.lemmas.Bool.{cases_lt}
 use Rattle.base.specs.declared.tree.Program.{Program}
 use Rattle.base.specs.declared.item.Event.{Event}
 use Rattle.base.specs.Items.{Work, plan}
 use Rattle.base.specs.Map.{Fill}
-use Rattle.base.specs.Machine.{State, RunFrom, start}
-use Rattle.base.specs.Accepted.{IsAccepted, is_host}
-use Rattle.base.specs.Headline.{AreNumbers, IsFill}
-use Rattle.machine.specs.Board.{Move}
-use Rattle.machine.specs.Machine.{Runs}
-use Rattle.two_memories.specs.Two.{Two, IsValid, parts}
-use Rattle.two_memories.proofs.Lawful.{lawful}
-use Rattle.headline.proofs.AsMoves.{two, move_of, leads}
-use Rattle.headline.proofs.LawfulItems.{is_start}
+use Rattle.base.specs.Machine.{State, RunFrom}
+use Rattle.base.specs.Accepted.{is_host}
 use Rattle.device.specs.Closing.{HostsAreHere}
 pub use Rattle.device.specs.Valid.{valid}
 use Rattle.device.proofs.Ended.{open_done, open_untouched, sound}

@@ -1,5 +1,5 @@
 -- What an opening does, and the frame that it issues.
-use Rattle.std.specs.Prelude.{◌≡◌, ℕ, List, Some, length, map, slice_get}
+use Rattle.std.specs.Prelude.{◌≡◌, ℕ, Some, map, slice_get}
 use Rattle.std.specs.List.{slice_set}
 use Rattle.base.specs.declared.item.Item.{Item}
 use Rattle.base.specs.declared.item.ItemKind.{ItemKind}

@@ -1,19 +1,18 @@
 -- Runs keep the laws of machines, as the two-memory machine does.
 use Rattle.std.proofs.Common.{◌≡◌, ℕ, zero, suc, true, false, List, [], ◌∷◌, Option, Some, None, refl, sym, ap, ◌∙◌, subst}
 use Rattle.base.specs.declared.item.Event.{Event}
-use Rattle.base.specs.declared.tree.Program.{Program}
 use Rattle.base.specs.Items.{plan}
-use Rattle.base.specs.Machine.{State, RunFrom, enabled, start, step}
+use Rattle.base.specs.Machine.{State, RunFrom, enabled, start}
 use Rattle.headline.proofs.LawfulItems.{is_start}
 use Rattle.machine.specs.Board.{Move}
 use Rattle.machine.specs.Machine.{Does, DoesItem, Finishes, GeneratesAndFinishes, InOrder, InOwnTurn, Laws, OpensAndFinishes, Runs, StepLaws}
-use Rattle.two_memories.specs.Two.{IsStart, IsValid, Spot, Two, event_of, on_event, next, parts, result_of}
+use Rattle.two_memories.specs.Two.{IsStart, IsValid, event_of, on_event, next, parts, result_of}
 use Rattle.two_memories.proofs.Lawful.{lawful}
 use Rattle.device.specs.Run.{Run, after, fill_in, state_of}
 use Rattle.device.specs.Running.{IsReached}
 use Rattle.device.specs.Sides.{IsBegun, Steps, run_parts, two_of}
 use Rattle.device.specs.Taking.{Takes}
-use Rattle.device.specs.Leading.{IsNext, is_after, leads_to, next as next_event, reached_next, takes}
+use Rattle.device.specs.Leading.{is_after, leads_to, next as next_event, reached_next, takes}
 use Rattle.device.specs.Valid.{valid}
 
 is_valid : (r : Run) → IsReached r → IsValid (two_of r)

@@ -1,5 +1,5 @@
 -- A run as a machine whose items run side by side.
-use Rattle.std.specs.Prelude.{◌≡◌, ℕ, false, List, [], Option, Some, None}
+use Rattle.std.specs.Prelude.{◌≡◌, false, [], Option, Some, None}
 use Rattle.base.specs.declared.item.Event.{Event}
 use Rattle.base.specs.Items.{plan}
 use Rattle.machine.specs.Board.{Move}

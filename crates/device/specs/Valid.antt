@@ -1,5 +1,5 @@
 -- What holds of each state that a run of an accepted program reaches.
-use Rattle.std.proofs.Common.{◌≡◌, ℕ, List, [], ◌∷◌, map, Some, refl, subst}
+use Rattle.std.proofs.Common.{ℕ, List, [], ◌∷◌, map, Some, refl, subst}
 use Rattle.base.specs.declared.tree.Program.{Program}
 use Rattle.base.specs.declared.item.Event.{Event}
 use Rattle.base.specs.Items.{plan}

@@ -1,7 +1,6 @@
 -- Rows that have the cells of a view.
 use Rattle.std.specs.Prelude.{ℕ, ◌≡◌, ◌<◌, ◌^◌, List, length, Option, Some, None, slice_get, if◌then◌else◌}
 use Rattle.base.specs.declared.item.Section.{Section}
-use Rattle.base.specs.declared.tree.ArrayId.{ArrayId}
 use Rattle.base.specs.Memory.{View, is_in}
 use Rattle.kernel.specs.declared.frames.Row.{Row}
 use Rattle.kernel.specs.Rows.{in_row}

@@ -4,7 +4,6 @@ use denote.Ref.{NamedLft}
 use denote.Param.Send.{IsSend, IsSync, recorded_send, recorded_sync, shr_send, shr_sync, struct_send, struct_sync, view_send, view_sync, sendable}
 use denote.Struct.Declared as Declared
 use Rattle.std.proofs.Crossing as crossing
-use Rattle.base.specs.contracts.tree.Expr as expression
 use Rattle.base.specs.contracts.tree.Stmt as statement
 use Rattle.base.specs.contracts.tree.Region as region
 use Rattle.base.specs.contracts.tree.Part as part

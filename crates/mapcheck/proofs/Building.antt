@@ -1,9 +1,8 @@
 -- Accesses that are put together action by action.
-use Rattle.std.proofs.Common.{◌≡◌, ℕ, zero, suc, ◌+◌, ◌<◌, ◌≤◌, Bool, true, false, List, [], ◌∷◌, ◌++◌, length, take, get_or, Option, Some, None, refl, sym, ap, ◌∙◌, subst, arith, append-nil, append_assoc, add-one}
+use Rattle.std.proofs.Common.{◌≡◌, ℕ, zero, suc, ◌+◌, ◌≤◌, false, List, [], ◌∷◌, ◌++◌, length, take, Option, Some, None, refl, sym, ap, ◌∙◌, subst, arith, append-nil, append_assoc, add-one}
 use Rattle.std.specs.Prelude.{OnOk, Result, Ok, Err, ◌||◌, min, slice_get}
 use Rattle.std.specs.List.{list_any}
 use Rattle.std.proofs.Math.Bool.{or-false}
-use Rattle.std.proofs.lemmas.List.{take_all}
 use Rattle.std.proofs.lemmas.List.Folds.{list_any-append}
 use Rattle.base.specs.declared.item.Cell.{Cell}
 use Rattle.base.specs.declared.item.MapItem.{MapItem}
@@ -14,7 +13,7 @@ use Rattle.base.specs.declared.item.ItemKind.TheVariants.{Host, Target, Begin, E
 use Rattle.base.specs.declared.tree.Region.{Region}
 use Rattle.base.specs.Items.{Work}
 use Rattle.base.specs.Footprint.{Touch, touches_of}
-use Rattle.base.specs.Actions.{Action, HostRegion, Kernel, action_reads, action_writes, only_if, region_acts}
+use Rattle.base.specs.Actions.{Action, HostRegion, Kernel, action_reads, action_writes, region_acts}
 use Rattle.ranges.specs.declared.cells.Footprint.{Footprint}
 use Rattle.mapwalk.specs.declared.rows.Acts.{Acts}
 use Rattle.mapwalk.specs.Laws.{actions_of, entry_actions, exit_actions, update_actions}
@@ -22,7 +21,7 @@ use Rattle.mapwalk.specs.Regions.{AreTouches}
 use Rattle.mapcheck.specs.declared.accesses.Accesses.{Accesses}
 use Rattle.mapcheck.specs.declared.items.Part.{Part}
 use Rattle.mapcheck.specs.declared.items.Part.TheVariants as part
-use Rattle.mapcheck.specs.Accesses.{AreAccesses, GrowsBy, HasTouches, some_reads, some_writes}
+use Rattle.mapcheck.specs.Accesses.{AreAccesses, GrowsBy, HasTouches}
 use Rattle.mapcheck.specs.Building.{ExtendsBy, part_actions, row_actions}
 
 pub extends_both : (xs ys : List Action) (a b c : Accesses) → ExtendsBy xs a b → ExtendsBy ys b c → ExtendsBy (xs ++ ys) a c

@@ -1,18 +1,14 @@
 -- The faults of range of an item, from its sections and its region.
-use Rattle.std.proofs.Common.{◌≡◌, ℕ, zero, suc, ◌<◌, List, [], ◌∷◌, map, length, get_or, Option, Some, None, refl, sym, ap, ◌∙◌, subst, arith}
+use Rattle.std.proofs.Common.{◌≡◌, ℕ, List, [], Option, Some, None, sym, ap, ◌∙◌, subst}
 use Rattle.std.specs.Prelude.{IfErr, OnOk, Result, Ok, Err, option_map, slice_get}
-use Rattle.std.proofs.lemmas.List.{length-map}
-use Rattle.std.proofs.lemmas.Option.{slice_get-map}
 use Rattle.base.specs.declared.item.Item.{Item}
 use Rattle.base.specs.declared.fault.RangeFault.{RangeFault}
 use Rattle.base.specs.declared.tree.Region.{Region}
 use Rattle.base.specs.Items.{Work}
 use Rattle.base.specs.Accepted.{range_faults, region_faults, section_faults}
-use Rattle.outline.specs.declared.RegionEntry.{RegionEntry}
-use Rattle.outline.specs.Regions.{Entry, entry_of}
-use Rattle.outline.specs.Shown.{all_shown, as_shown, shown, work_with}
+use Rattle.outline.specs.Regions.{Entry}
+use Rattle.outline.specs.Shown.{shown, work_with}
 use Rattle.ranges.specs.declared.FootprintFault.{FootprintFault}
-use Rattle.ranges.specs.declared.FootprintFault.TheVariants.{Range}
 use Rattle.ranges.specs.Faults.{IsFirst}
 use Rattle.ranges.specs.Found.{IsFootprintFault}
 use Rattle.ranges.proofs.ItemParts.{by_parts}

@@ -1,8 +1,8 @@
 -- The items that have rows, and their accesses.
-use Rattle.std.proofs.Common.{◌≡◌, ℕ, zero, suc, ◌+◌, ◌<◌, ◌≤◌, Bool, true, false, List, [], ◌∷◌, ◌++◌, ◌⊎◌, inl, inr, length, take, map, get_or, Option, Some, None, refl, sym, ap, ◌∙◌, subst, arith, ⊎_elim, length-append, true≢false}
-use Rattle.std.specs.Prelude.{slice_get, IsTrue, Vec}
+use Rattle.std.proofs.Common.{◌≡◌, ℕ, zero, suc, ◌+◌, ◌<◌, ◌≤◌, Bool, true, false, List, [], ◌∷◌, ◌++◌, length, take, map, get_or, Some, None, refl, sym, ap, ◌∙◌, subst, arith, ⊎_elim, length-append}
+use Rattle.std.specs.Prelude.{slice_get, Vec}
 use Rattle.std.specs.declared.alloc.Global.{Global}
-use Rattle.std.proofs.lemmas.Bool.{cases_Bool, cases_eq}
+use Rattle.std.proofs.lemmas.Bool.{cases_eq}
 use Rattle.std.proofs.lemmas.List.{length-map}
 use Rattle.std.proofs.lemmas.Option.{same_Some, slice_get-get_or, slice_get_within}
 use Rattle.base.specs.declared.item.Cell.{Cell}
@@ -11,9 +11,9 @@ use Rattle.base.specs.declared.tree.Program.{Program}
 use Rattle.base.specs.Items.{Work, Plan, plan}
 use Rattle.base.specs.Map.{Block}
 use Rattle.base.specs.Actions.{Stage, acts_of, stages, stages_from}
-use Rattle.base.specs.Accepted.{cause, current_before, on_stage}
+use Rattle.base.specs.Accepted.{cause, current_before}
 use Rattle.mapwalk.specs.declared.rows.Acts.{Acts}
-use Rattle.mapwalk.specs.Acts.{acts_row, acts_rows}
+use Rattle.mapwalk.specs.Acts.{acts_rows}
 use Rattle.mapwalk.specs.Laws.{actions_of}
 use Rattle.mapwalk.specs.Walk.{HasNoRangeFault, row_items}
 use Rattle.mapwalk.proofs.Prints.{get_before, get_last}

@@ -1,6 +1,6 @@
 -- The first fault of the third pass.
-use Rattle.std.proofs.Common.{◌≡◌, ◌≢◌, ℕ, zero, suc, ◌+◌, ◌<◌, ◌≤◌, Bool, true, false, List, [], ◌∷◌, ◌⊎◌, inl, inr, length, take, map, Option, Some, None, Contains, refl, sym, ap, ◌∙◌, subst, arith, ⊎_elim, true≢false}
-use Rattle.std.specs.Prelude.{is_some, slice_get, IsTrue, Vec, ◌||◌}
+use Rattle.std.proofs.Common.{◌≡◌, ◌≢◌, ℕ, zero, suc, ◌+◌, ◌<◌, ◌≤◌, Bool, true, false, List, [], ◌∷◌, ◌⊎◌, inl, inr, length, take, map, Option, Some, None, refl, sym, ap, ◌∙◌, subst, arith, ⊎_elim, true≢false}
+use Rattle.std.specs.Prelude.{is_some, slice_get, Vec}
 use Rattle.std.specs.declared.alloc.Global.{Global}
 use Rattle.std.proofs.lemmas.Bool.{cases_eq, cases_lt}
 use Rattle.std.proofs.lemmas.Bool.Decides.{nat_tests}
@@ -8,19 +8,17 @@ use Rattle.std.proofs.lemmas.List.{length-map}
 use Rattle.std.proofs.lemmas.Option.{slice_get_within}
 use Rattle.base.specs.declared.item.Cell.{Cell}
 use Rattle.base.specs.declared.tree.ArrayId.{ArrayId}
-use Rattle.base.specs.declared.fault.RangeFault.{RangeFault}
 use Rattle.base.specs.declared.fault.Refusal.{Refusal}
 use Rattle.base.specs.declared.fault.RefusalCode.{RefusalCode}
 use Rattle.base.specs.declared.fault.RefusalCode.TheVariants.{OverlapsInPart, ExitOfAbsent, UpdateOfAbsent, Unmapped, HostNotCurrent, DeviceNotCurrent, Conflict}
-use Rattle.base.specs.Items.{Work, Plan}
+use Rattle.base.specs.Items.{Plan}
 use Rattle.base.specs.Actions.{Stage, conflict, stages}
 use Rattle.base.specs.Accepted.{Conflicts, Fault, IsFault, IsFirstFault, IsRefusal, Order, Range, Refused, fault_key, key_less, refusal_rank}
 use Rattle.order.specs.Built.{HasNoClash}
 use Rattle.mapwalk.specs.declared.rows.Acts.{Acts}
-use Rattle.mapwalk.specs.declared.Walked.{Walked}
 use Rattle.mapwalk.specs.Acts.{acts_rows}
-use Rattle.mapwalk.specs.Walk.{AreActs, HasNoRangeFault, IsFirstAlone, IsFirstRefusal, IsSound, items_before, row_items}
-use Rattle.mapcheck.specs.Third.{AreFirstRows, AreMarked, IsConflictIn, IsFirstIn, IsPassed, NoConflictBelow, NoneAlone}
+use Rattle.mapwalk.specs.Walk.{HasNoRangeFault, IsFirstAlone, IsFirstRefusal, IsSound, items_before, row_items}
+use Rattle.mapcheck.specs.Third.{AreMarked, IsConflictIn, IsFirstIn, IsPassed, NoConflictBelow, NoneAlone}
 use Rattle.mapcheck.specs.Unordered.{IsConflictOf, IsFirstConflict}
 use Rattle.mapcheck.proofs.Accepting.{faultless}
 use Rattle.mapcheck.proofs.FirstFaults.{nothing_in}

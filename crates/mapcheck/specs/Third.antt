@@ -3,7 +3,6 @@ use Rattle.std.specs.Prelude.{ℕ, ◌≡◌, ◌<◌, List, [], Option, Some, N
 use Rattle.std.specs.List.{range_with_len}
 use Rattle.std.specs.declared.alloc.Global.{Global}
 use Rattle.base.specs.declared.fault.Refusal.{Refusal}
-use Rattle.base.specs.declared.fault.RefusalCode.TheVariants.{Conflict}
 use Rattle.base.specs.declared.tree.ArrayId.{ArrayId}
 use Rattle.base.specs.declared.item.Cell.{Cell}
 use Rattle.base.specs.Items.{Plan}

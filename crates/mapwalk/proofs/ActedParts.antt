@@ -1,5 +1,5 @@
 -- What the map items of an item do, part by part.
-use Rattle.std.proofs.Common.{◌≡◌, Bool, true, false, List, [], ◌∷◌, ◌++◌, Option, Some, None, refl, sym, ap, ◌∙◌, append-nil, append_assoc}
+use Rattle.std.proofs.Common.{◌≡◌, Bool, true, false, List, [], ◌∷◌, ◌++◌, Option, Some, None, refl, sym, ap, ◌∙◌, append_assoc}
 use Rattle.base.specs.declared.item.Cell.{Cell}
 use Rattle.base.specs.declared.item.MapItem.{MapItem}
 use Rattle.base.specs.Map.{Block, Move, Presence, Absent, Inside, InPart, blocks_after, copies_from, copies_to, entry, exit, presence}
@@ -7,7 +7,7 @@ use Rattle.base.specs.Actions.{Acted, Action, Counts, Creates, CopiesIn, CopiesO
 use Rattle.base.specs.Current.{Current, after_action, after_actions}
 use Rattle.base.specs.Accepted.{reads_stale}
 use Rattle.mapwalk.specs.declared.rows.Acts.{Acts}
-use Rattle.mapwalk.specs.Acts.{entered, entries_after, entry_of, entry_row, exit_of, exit_row, exits_after, left, looks, moved, update_row, updated}
+use Rattle.mapwalk.specs.Acts.{entered, entries_after, entry_of, entry_row, exit_of, exit_row, exits_after, left, moved, update_row, updated}
 use Rattle.mapwalk.specs.Seen.{entry_mets, exit_mets, update_mets}
 use Rattle.mapwalk.specs.Sides.{act_if, after_act, after_acts}
 

@@ -1,22 +1,17 @@
 -- Each block has a count for each of some entries in it.
-use Rattle.std.proofs.Common.{◌≡◌, ℕ, zero, suc, ◌+◌, ◌-◌, ◌<◌, ◌≤◌, Bool, true, false, ◌==◌, List, [], ◌∷◌, ◌++◌, ◌⊎◌, inl, inr, map, length, Option, Some, None, refl, sym, ap, ◌∙◌, subst, arith, true≢false}
-use Rattle.std.specs.Prelude.{find, filter, not, ◌&&◌, ◌||◌, nat_lt, nat_le, option_map, if◌then◌else◌}
-use Rattle.std.specs.List.{list_any}
-use Rattle.std.proofs.lemmas.Bool.{cases_Bool, cond-true, cond-false, and_from, eqb-true, eq-eqb, ltb-true, lt-ltb, le-leb, leb-true}
+use Rattle.std.proofs.Common.{◌≡◌, ℕ, ◌+◌, ◌<◌, ◌≤◌, Bool, true, false, List, [], ◌∷◌, ◌++◌, ◌⊎◌, inl, inr, map, Option, Some, None, refl, sym, ap, ◌∙◌, subst, arith, true≢false}
+use Rattle.std.specs.Prelude.{find, ◌||◌, option_map, if◌then◌else◌}
+use Rattle.std.proofs.lemmas.Bool.{cases_Bool, cond-true, cond-false}
 use Rattle.std.proofs.lemmas.Option.{same_Some}
 use Rattle.base.specs.declared.item.MapItem.{MapItem}
-use Rattle.base.specs.declared.item.MapKind.{MapKind}
-use Rattle.base.specs.declared.item.MapKind.TheVariants.{To, From, ToFrom, Alloc, Release, Delete}
 use Rattle.base.specs.declared.item.Section.{Section}
-use Rattle.base.specs.Memory.{end_of, is_inside, overlaps, same_section}
-use Rattle.base.specs.Map.{Block, Move, Presence, Absent, Inside, InPart, blocks_after, counted, entry, exit, exit_count, presence, without}
-use Rattle.base.specs.Actions.{Met, rests}
+use Rattle.base.specs.Memory.{is_inside, overlaps, same_section}
+use Rattle.base.specs.Map.{Block, blocks_after, counted, entry}
 use Rattle.base.specs.Accepted.{in_part, met_at}
-use Rattle.mapwalk.specs.declared.rows.Acts.{Acts}
-use Rattle.mapwalk.specs.Acts.{entered, entries_after, entry_of, entry_row, exit_of, exit_row, left, moved}
-use Rattle.mapwalk.specs.Laws.{AllWide, KeepsBlocks, NoDelete, TargetsKeepBlocks, block_named, meets_in_part}
-use Rattle.mapwalk.specs.Seen.{entry_mets, exit_mets}
-use Rattle.mapwalk.proofs.HeldBlocks.{after_absent, after_inside, absent_at, counted_other, counted_same, entries_named, find_added, find_filtered, find_kept, find_no, find_other, find_yes, has_length, held, held_counted, inside_at, inside_itself, meets, meets_itself, name, name_absent, name_inside, names, no_block, part_at, same_is, same_itself, section_counted}
+use Rattle.mapwalk.specs.Acts.{entries_after}
+use Rattle.mapwalk.specs.Laws.{AllWide, meets_in_part}
+use Rattle.mapwalk.specs.Seen.{entry_mets}
+use Rattle.mapwalk.proofs.HeldBlocks.{after_absent, after_inside, absent_at, counted_other, counted_same, find_added, find_kept, find_no, find_other, find_yes, has_length, held, held_counted, inside_at, inside_itself, meets, meets_itself, name, name_absent, name_inside, names, no_block, part_at, same_is, same_itself, section_counted}
 
 -- how many of some entries are in a block
 

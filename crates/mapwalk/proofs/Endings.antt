@@ -1,20 +1,16 @@
 -- What is current after the last item.
-use Rattle.std.proofs.Common.{◌≡◌, ℕ, zero, suc, ◌+◌, ◌<◌, ◌≤◌, Bool, true, false, List, [], ◌∷◌, length, take, drop, refl, sym, ap, ◌∙◌, subst, arith, map}
+use Rattle.std.proofs.Common.{◌≡◌, ℕ, zero, suc, ◌+◌, ◌<◌, ◌≤◌, Bool, true, List, [], ◌∷◌, length, take, drop, refl, sym, ap, ◌∙◌, subst, arith}
 use Rattle.std.specs.Prelude.{filter, slice_index, nat_lt, ◌&&◌}
 use Rattle.std.specs.List.{list_all, range_with_len}
 use Rattle.std.proofs.lemmas.Bool.Decides.{nat_tests}
-use Rattle.std.proofs.lemmas.List.{take_all}
 use mathlib.Core.Path.{fun_ext}
-use Rattle.base.specs.declared.item.Cell.{Cell}
 use Rattle.base.specs.Items.{Plan}
 use Rattle.base.specs.Map.{Block}
-use Rattle.base.specs.Memory.{is_cell}
-use Rattle.base.specs.Actions.{Stage, stages, stages_from}
-use Rattle.base.specs.Current.{Current, after_stages, at_start, current_at_end, is_marked}
+use Rattle.base.specs.Actions.{stages}
+use Rattle.base.specs.Current.{after_stages, at_start, current_at_end, is_marked}
 use Rattle.base.specs.Accepted.{current_before}
 use Rattle.mapwalk.specs.declared.rows.Acts.{Acts}
 use Rattle.mapwalk.specs.declared.current.Sides.{Sides}
-use Rattle.mapwalk.specs.Acts.{acts_rows}
 use Rattle.mapwalk.specs.Current.{is_full_in, marks_in}
 use Rattle.mapwalk.specs.Sides.{lengths_in, shown_by}
 use Rattle.mapwalk.proofs.Agreeing.{Agree}

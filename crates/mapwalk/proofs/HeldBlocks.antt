@@ -1,21 +1,14 @@
 -- The first block that a section overlaps, after an entry or an exit.
-use Rattle.std.proofs.Common.{◌≡◌, ℕ, zero, suc, ◌+◌, ◌-◌, ◌<◌, ◌≤◌, Bool, true, false, ◌==◌, List, [], ◌∷◌, ◌++◌, ◌⊎◌, inl, inr, map, length, Option, Some, None, refl, sym, ap, ◌∙◌, subst, arith, true≢false}
-use Rattle.std.specs.Prelude.{find, filter, not, ◌&&◌, ◌||◌, nat_lt, nat_le, option_map, if◌then◌else◌}
-use Rattle.std.specs.List.{list_any}
-use Rattle.std.proofs.lemmas.Bool.{cases_Bool, cond-true, cond-false, and_from, eqb-true, eq-eqb, ltb-true, lt-ltb, le-leb, leb-true}
+use Rattle.std.proofs.Common.{◌≡◌, ℕ, ◌+◌, ◌<◌, ◌≤◌, Bool, true, false, ◌==◌, List, [], ◌∷◌, ◌++◌, ◌⊎◌, inl, inr, map, Option, Some, None, refl, sym, ap, ◌∙◌, arith, true≢false}
+use Rattle.std.specs.Prelude.{find, filter, ◌&&◌, nat_le, option_map, if◌then◌else◌}
+use Rattle.std.proofs.lemmas.Bool.{cases_Bool, cond-true, cond-false, and_from, eqb-true, eq-eqb, lt-ltb, le-leb, leb-true}
 use Rattle.std.proofs.lemmas.Option.{same_Some}
 use Rattle.base.specs.declared.item.MapItem.{MapItem}
-use Rattle.base.specs.declared.item.MapKind.{MapKind}
-use Rattle.base.specs.declared.item.MapKind.TheVariants.{To, From, ToFrom, Alloc, Release, Delete}
 use Rattle.base.specs.declared.item.Section.{Section}
 use Rattle.base.specs.Memory.{end_of, is_inside, overlaps, same_section}
-use Rattle.base.specs.Map.{Block, Move, Presence, Absent, Inside, InPart, blocks_after, counted, entry, exit, exit_count, presence, without}
-use Rattle.base.specs.Actions.{Met, rests}
-use Rattle.base.specs.Accepted.{in_part, met_at}
-use Rattle.mapwalk.specs.declared.rows.Acts.{Acts}
-use Rattle.mapwalk.specs.Acts.{entered, entries_after, entry_of, entry_row, exit_of, exit_row, left, moved}
-use Rattle.mapwalk.specs.Laws.{AllWide, KeepsBlocks, NoDelete, TargetsKeepBlocks, block_named, meets_in_part}
-use Rattle.mapwalk.specs.Seen.{entry_mets, exit_mets}
+use Rattle.base.specs.Map.{Block, Presence, Absent, Inside, InPart, blocks_after, counted, entry, presence}
+use Rattle.mapwalk.specs.Acts.{entry_of, entry_row}
+use Rattle.mapwalk.specs.Laws.{block_named}
 
 abbrev pub meets : Section → Block → Bool
 meets s b = overlaps b.section s

@@ -1,18 +1,18 @@
 -- The least of some cells.
-use Rattle.std.proofs.Common.{◌≡◌, ℕ, ◌<◌, ◌≤◌, ◌==◌, Bool, true, false, List, [], ◌∷◌, Option, Some, None, refl, sym, ap, ◌∙◌, arith}
+use Rattle.std.proofs.Common.{◌≡◌, ◌==◌, Bool, true, false, List, [], ◌∷◌, Option, Some, None, refl, sym, ◌∙◌, arith}
 use Rattle.std.proofs.lemmas.Bool.{or_left, or_right}
-use Rattle.std.specs.Prelude.{nat_lt, nat_le, max, ◌&&◌, ◌||◌, if◌then◌else◌}
+use Rattle.std.specs.Prelude.{nat_lt, max, ◌&&◌, ◌||◌, if◌then◌else◌}
 use Rattle.std.specs.List.{list_any}
 use Rattle.std.proofs.lemmas.Bool.Decides.{nat_tests}
 use Rattle.base.specs.declared.item.Cell.{Cell}
 use Rattle.base.specs.declared.item.Section.{Section}
 use Rattle.base.specs.Memory.{end_of, is_in, same_cell}
-use Rattle.base.specs.Map.{Block, Presence, Absent, Inside, InPart, presence}
+use Rattle.base.specs.Map.{Block, Presence, Absent, Inside, InPart}
 use Rattle.base.specs.Actions.{Met}
 use Rattle.base.specs.Accepted.{first_cell, in_part, is_absent, met_at}
 use Rattle.mapwalk.specs.declared.seen.Seen.{Seen}
 use Rattle.base.specs.Least.{is_less}
-use Rattle.mapwalk.specs.Seen.{also, least_shared, lesser, nothing, seen_all, seen_at, shared}
+use Rattle.mapwalk.specs.Seen.{also, least_shared, lesser, seen_all, seen_at, shared}
 use Rattle.base.specs.Least.{IsLeast}
 use Rattle.mapwalk.specs.Causes.{is_absent_cell, is_part_cell}
 

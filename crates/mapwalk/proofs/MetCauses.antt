@@ -1,5 +1,5 @@
 -- The first cause that map items make.
-use Rattle.std.proofs.Common.{◌≡◌, Bool, true, false, List, [], ◌∷◌, Option, Some, None, refl, sym, ap, ◌∙◌, subst}
+use Rattle.std.proofs.Common.{◌≡◌, Bool, true, false, List, Some, None, refl, sym, ◌∙◌, subst}
 use Rattle.std.specs.Prelude.{◌&&◌}
 use Rattle.std.specs.List.{list_any}
 use Rattle.base.specs.declared.item.Cell.{Cell}
@@ -12,7 +12,7 @@ use Rattle.mapwalk.specs.declared.seen.Seen.{Seen}
 use Rattle.mapwalk.specs.Seen.{nothing, seen_all}
 use Rattle.base.specs.Least.{IsLeast}
 use Rattle.mapwalk.specs.Causes.{IsFirstOf, is_absent_cell, is_less, is_part_cell, met_causes}
-use Rattle.mapwalk.proofs.Leasts.{AreNoted, all_noted}
+use Rattle.mapwalk.proofs.Leasts.{all_noted}
 
 pub record Noted (mets : List Met) (s : Seen) : Type 0 where
   pub part_cells : IsLeast (λ c. list_any (is_part_cell c) mets) s.in_part

@@ -1,5 +1,5 @@
 -- Where no overlap in part has a cell, no map item meets a block in part.
-use Rattle.std.proofs.Common.{◌≡◌, ℕ, ◌+◌, ◌-◌, ◌<◌, ◌≤◌, max, Bool, true, false, ◌==◌, List, [], ◌∷◌, ◌++◌, ◌⊎◌, inl, inr, map, Option, Some, None, refl, sym, ap, ◌∙◌, subst, arith, true≢false}
+use Rattle.std.proofs.Common.{◌≡◌, ℕ, ◌+◌, ◌<◌, ◌≤◌, max, Bool, true, false, ◌==◌, List, [], ◌∷◌, ◌++◌, ◌⊎◌, inl, inr, map, Option, Some, None, refl, sym, ap, ◌∙◌, subst, arith, true≢false}
 use Rattle.std.specs.Prelude.{find, filter, not, ◌&&◌, ◌||◌, nat_lt, if◌then◌else◌}
 use Rattle.std.specs.List.{list_any}
 use Rattle.std.proofs.lemmas.Bool.{cases_Bool, cond-true, cond-false, and_from, eqb-true, eq-eqb, ltb-true, lt-ltb, le-leb, or_right, or_left}
@@ -9,7 +9,7 @@ use Rattle.base.specs.declared.item.MapItem.{MapItem}
 use Rattle.base.specs.declared.item.ItemKind.{ItemKind}
 use Rattle.base.specs.declared.item.ItemKind.TheVariants.{Host, Target, Begin, End, Enter, Exit, Update, Wait}
 use Rattle.base.specs.declared.item.Section.{Section}
-use Rattle.base.specs.Memory.{end_of, is_in, is_inside, overlaps, same_section}
+use Rattle.base.specs.Memory.{end_of, is_in, overlaps, same_section}
 use Rattle.base.specs.Map.{Block, Presence, Absent, Inside, InPart, blocks_after, counted, entry, exit, exit_count, presence, without}
 use Rattle.base.specs.Actions.{Met}
 use Rattle.base.specs.Accepted.{in_part, met_at}
@@ -18,7 +18,7 @@ use Rattle.mapwalk.specs.Causes.{is_part_cell}
 use Rattle.mapwalk.specs.Kinds.{after_maps, met_by}
 use Rattle.mapwalk.specs.Laws.{AllWide, meets_in_part}
 use Rattle.mapwalk.specs.Seen.{entry_mets, exit_mets, update_mets}
-use Rattle.mapwalk.proofs.HeldBlocks.{absent_at, and_first, and_second, find_no, find_passes, find_yes, held, inside_at, meets, no_block, section_counted}
+use Rattle.mapwalk.proofs.HeldBlocks.{absent_at, and_first, and_second, find_no, find_passes, find_yes, held, meets, no_block, section_counted}
 
 -- each block has a cell
 abbrev pub BlocksWide : List Block → Type 0

@@ -1,5 +1,5 @@
 -- Items whose regions touch alike.
-use Rattle.std.proofs.Common.{◌≡◌, ℕ, zero, suc, ◌+◌, ◌<◌, ◌==◌, Bool, true, false, List, [], ◌∷◌, ◌++◌, length, map, get_or, replicate, Option, Some, None, refl, sym, ap, ◌∙◌, subst, ⊎_elim, length-append, arith}
+use Rattle.std.proofs.Common.{◌≡◌, ℕ, ◌+◌, ◌<◌, ◌==◌, Bool, true, false, List, [], ◌∷◌, ◌++◌, length, map, get_or, Option, Some, None, refl, sym, ap, ◌∙◌, subst, ⊎_elim, length-append, arith}
 use Rattle.std.specs.Prelude.{not, slice_get, IsTrue}
 use Rattle.std.specs.Option.{option_eq}
 use Rattle.std.proofs.lemmas.Bool.{cases_eq, eqb-true}
@@ -11,7 +11,7 @@ use Rattle.outline.specs.Regions.{Entry, entry_of}
 use Rattle.outline.specs.Shown.{all_shown, as_shown, shown, work_with}
 use Rattle.regions.specs.Unread.{reads_outer}
 use Rattle.regions.proofs.Unread.{unread_loops_decide_nothing}
-use Rattle.mapwalk.specs.Repeats.{AreBelow, AreFirstRepeats, IsRepeat, TouchAlike}
+use Rattle.mapwalk.specs.Repeats.{AreFirstRepeats, IsRepeat, TouchAlike}
 use Rattle.mapwalk.proofs.Prints.{get_before, get_last}
 use Rattle.mapwalk.proofs.Touched.{same_work, shown_is}
 use Rattle.mapwalk.proofs.Walking.{work_at}

@@ -1,6 +1,6 @@
 -- The first item that is refused by itself.
-use Rattle.std.proofs.Common.{◌≡◌, ◌≢◌, ℕ, zero, suc, ◌+◌, ◌<◌, ◌≤◌, ◌==◌, Bool, true, false, List, [], ◌∷◌, ◌++◌, length, take, drop, Option, Some, None, refl, sym, ap, ◌∙◌, subst, arith, map, append-nil}
-use Rattle.std.specs.Prelude.{slice_get, nat_lt, unwrap_or, IsTrue, ◌&&◌, ◌||◌}
+use Rattle.std.proofs.Common.{◌≡◌, ◌≢◌, ℕ, zero, suc, ◌<◌, ◌≤◌, ◌==◌, Bool, true, false, List, [], ◌∷◌, length, drop, Option, Some, None, refl, sym, ap, ◌∙◌, subst, arith}
+use Rattle.std.specs.Prelude.{slice_get, nat_lt, unwrap_or, ◌&&◌, ◌||◌}
 use Rattle.std.proofs.lemmas.Bool.Decides.{nat_tests}
 use Rattle.std.proofs.lemmas.List.{drop_all}
 use Rattle.base.specs.declared.item.Cell.{Cell}
@@ -14,13 +14,12 @@ use Rattle.base.specs.Current.{Current}
 use Rattle.base.specs.Accepted.{IsFault, IsRefusal, Refused, cause, current_before, fault_key, key_less, on_stage, refusal_rank}
 use Rattle.mapwalk.specs.declared.rows.Acts.{Acts}
 use Rattle.mapwalk.specs.declared.causes.Cause.{Cause}
-use Rattle.mapwalk.specs.Acts.{acts_rows}
-use Rattle.mapwalk.specs.Causes.{IsFirstOf, is_less, refusal_of}
+use Rattle.mapwalk.specs.Causes.{IsFirstOf, refusal_of}
 use Rattle.mapwalk.specs.Steps.{stage_of}
 use Rattle.mapwalk.specs.Walk.{HasNoRangeFault, IsFirstAlone}
 use Rattle.mapwalk.proofs.Agreeing.{cause_agree}
-use Rattle.mapwalk.proofs.Walking.{IsClean, Reached, no_fault_at, on_stage_is, stage_at}
-use Rattle.mapwalk.proofs.SideRows.{same_number, other_number}
+use Rattle.mapwalk.proofs.Walking.{Reached, no_fault_at, on_stage_is, stage_at}
+use Rattle.mapwalk.proofs.SideRows.{same_number}
 
 nowhere_true : (o : Option Stage) → (elim o as (λ z. Bool) [ None ↦ false | Some s ↦ false ]) ≡ true → ⊥
 nowhere_true None e = cc

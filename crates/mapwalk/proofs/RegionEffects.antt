@@ -1,14 +1,13 @@
 -- What a region does to what is current.
-use Rattle.std.proofs.Common.{◌≡◌, Bool, true, false, List, [], ◌∷◌, Option, Some, None, refl, sym, ap, ◌∙◌}
+use Rattle.std.proofs.Common.{◌≡◌, Bool, List, [], ◌∷◌, Option, Some, None, refl, sym, ap, ◌∙◌}
 use Rattle.std.specs.Prelude.{not, ◌&&◌, ◌||◌}
 use mathlib.Core.Path.{fun_ext}
 use Rattle.base.specs.declared.item.Cell.{Cell}
-use Rattle.base.specs.declared.item.ItemKind.{ItemKind}
 use Rattle.base.specs.declared.item.ItemKind.TheVariants as kind
 use Rattle.base.specs.declared.tree.Region.{Region}
 use Rattle.base.specs.Items.{Work}
 use Rattle.base.specs.Map.{Block}
-use Rattle.base.specs.Footprint.{Touch, surely_writes, touches_of, writes}
+use Rattle.base.specs.Footprint.{Touch, touches_of}
 use Rattle.base.specs.Actions.{Action, HostRegion, Kernel, region_acts}
 use Rattle.base.specs.Current.{Current, after_actions, other_side, own_side}
 use Rattle.base.specs.Accepted.{touches_in}

@@ -1,21 +1,19 @@
 -- What an item does, spelled out of the row of its map items.
-use Rattle.std.proofs.Common.{◌≡◌, ℕ, Bool, true, false, List, [], ◌∷◌, ◌++◌, Option, Some, None, map, refl, sym, ap, ◌∙◌, append-nil}
-use Rattle.std.specs.Prelude.{◌||◌, ◌==◌, ◌+◌, if◌then◌else◌}
-use Rattle.std.specs.List.{list_any}
+use Rattle.std.proofs.Common.{◌≡◌, ℕ, Bool, true, false, List, [], ◌∷◌, ◌++◌, Option, Some, None, map, refl, sym, ap, ◌∙◌}
+use Rattle.std.specs.Prelude.{◌||◌}
 use Rattle.std.proofs.lemmas.List.Folds.{list_any-append}
 use Rattle.base.specs.declared.item.Depend.{Depend}
 use Rattle.base.specs.declared.item.MapItem.{MapItem}
-use Rattle.base.specs.declared.item.Section.{Section}
 use Rattle.base.specs.declared.item.ItemKind.{ItemKind}
 use Rattle.base.specs.declared.item.ItemKind.TheVariants.{Host, Target, Begin, End, Enter, Exit, Update, Wait}
 use Rattle.base.specs.declared.tree.Region.{Region}
 use Rattle.base.specs.Items.{Work}
 use Rattle.base.specs.Map.{Block, Move, Presence, Absent, Inside, InPart, blocks_after, entry, exit, presence}
 use Rattle.base.specs.Footprint.{touches_of}
-use Rattle.base.specs.Actions.{Acted, Action, Kernel, Counts, Creates, CopiesIn, CopiesOut, Removes, Met, acts_of, always_works, each_acts, entry_acts, exit_acts, only_if, rests, update_acts}
+use Rattle.base.specs.Actions.{Action, Kernel, Counts, Creates, CopiesIn, CopiesOut, Removes, Met, acts_of, always_works, each_acts, entry_acts, exit_acts, only_if, rests, update_acts}
 use Rattle.base.specs.Accepted.{in_part, met_at}
 use Rattle.mapwalk.specs.declared.rows.Acts.{Acts}
-use Rattle.mapwalk.specs.Acts.{acts_row, both, entered, entries_after, entry_of, entry_row, exit_of, exit_row, joined, left, moved, update_row, updated}
+use Rattle.mapwalk.specs.Acts.{acts_row, entered, entries_after, entry_of, entry_row, exit_of, exit_row, joined, left, moved, update_row, updated}
 use Rattle.mapwalk.specs.Seen.{entry_mets, exit_mets, update_mets}
 use Rattle.mapwalk.specs.Laws.{ActsAreActions, KeepsBlocks, actions_of, block_named, entry_actions, exit_actions, meets_in_part, update_actions}
 use Rattle.mapwalk.proofs.ActedParts.{all_entered, all_left, all_updated}

@@ -1,6 +1,6 @@
 -- Rows of acts, and what is met, item by item.
-use Rattle.std.proofs.Common.{◌≡◌, ℕ, zero, suc, ◌+◌, ◌<◌, ◌≤◌, min, List, [], ◌∷◌, ◌++◌, length, take, drop, refl, sym, ap, ◌∙◌, arith, map, append-nil, add-one, Some, Option}
-use Rattle.std.specs.Prelude.{slice_get, slice_set, if◌then◌else◌}
+use Rattle.std.proofs.Common.{◌≡◌, ℕ, zero, suc, ◌+◌, ◌≤◌, min, List, [], ◌∷◌, ◌++◌, length, take, drop, refl, sym, ap, ◌∙◌, arith, map, add-one, Some}
+use Rattle.std.specs.Prelude.{slice_get, slice_set}
 use Rattle.base.specs.declared.item.MapItem.{MapItem}
 use Rattle.base.specs.Actions.{Met}
 use Rattle.base.specs.Current.{Current}

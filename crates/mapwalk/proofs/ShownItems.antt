@@ -1,6 +1,6 @@
 -- What an item is shown as.
-use Rattle.std.proofs.Common.{◌≡◌, ℕ, Bool, true, false, List, Option, Some, None, refl, sym, ap, ◌∙◌, subst}
-use Rattle.std.specs.Prelude.{IfNone, is_some, option_map, slice_get}
+use Rattle.std.proofs.Common.{◌≡◌, ℕ, List, Option, Some, None, refl, subst}
+use Rattle.std.specs.Prelude.{IfNone, option_map, slice_get}
 use Rattle.base.specs.declared.item.Item.{Item}
 use Rattle.base.specs.Items.{Work}
 use Rattle.outline.specs.Regions.{Entry}

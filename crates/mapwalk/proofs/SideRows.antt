@@ -1,13 +1,12 @@
 -- Sides, array by array.
-use Rattle.std.proofs.Common.{◌≡◌, ◌≢◌, ℕ, zero, suc, ◌+◌, ◌<◌, ◌≤◌, ◌==◌, Bool, true, false, List, [], ◌∷◌, ◌++◌, length, get_or, refl, sym, ap, ◌∙◌, arith, map, take, add-one}
-use Rattle.std.specs.Prelude.{nat_lt, nat_le, if◌then◌else◌, not, ◌&&◌, ◌||◌, slice_set, slice_get, slice_index, filter, cond}
+use Rattle.std.proofs.Common.{◌≡◌, ◌≢◌, ℕ, zero, suc, ◌+◌, ◌<◌, ◌≤◌, ◌==◌, Bool, true, false, List, [], ◌∷◌, ◌++◌, length, get_or, refl, sym, ap, ◌∙◌, arith, add-one}
+use Rattle.std.specs.Prelude.{nat_lt, nat_le, if◌then◌else◌, ◌&&◌, slice_set, slice_index, filter, cond}
 use Rattle.std.specs.List.{list_all, range_with_len}
 use Rattle.std.proofs.lemmas.Bool.Decides.{nat_tests}
 use Rattle.std.proofs.lemmas.List.Elements.{filter-append}
 use mathlib.Core.Path.{fun_ext}
 use Rattle.base.specs.declared.item.Cell.{Cell}
 use Rattle.base.specs.declared.item.Section.{Section}
-use Rattle.base.specs.declared.tree.ArrayId.{ArrayId}
 use Rattle.base.specs.Memory.{is_cell, within, end_of}
 use Rattle.base.proofs.Places.{get_set_same, get_set_other}
 use Rattle.mapwalk.specs.declared.marks.Marks.{Marks}

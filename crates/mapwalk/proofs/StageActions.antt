@@ -1,6 +1,6 @@
 -- What an item of a program does is spelled out of its row, where it meets nothing in part.
 use Rattle.std.proofs.Common.{◌≡◌, ℕ, zero, suc, ◌<◌, Bool, true, false, ◌==◌, List, [], ◌∷◌, ◌++◌, ◌⊎◌, inl, inr, map, Option, Some, None, refl, sym, ap, ◌∙◌, subst, arith}
-use Rattle.std.specs.Prelude.{filter, ◌||◌, nat_lt, slice_get, slice_index, if◌then◌else◌}
+use Rattle.std.specs.Prelude.{filter, ◌||◌, nat_lt, slice_get, slice_index}
 use Rattle.std.specs.List.{list_any}
 use Rattle.std.proofs.lemmas.Bool.{cases_Bool, cond-true, cond-false}
 use Rattle.std.proofs.lemmas.List.Folds.{list_any-append}
@@ -8,33 +8,29 @@ use Rattle.std.proofs.lemmas.Option.{same_Some}
 use Rattle.base.proofs.Nils.{nil_parts}
 use Rattle.base.specs.declared.item.Cell.{Cell}
 use Rattle.base.specs.declared.item.MapItem.{MapItem}
-use Rattle.base.specs.declared.item.ItemKind.{ItemKind}
 use Rattle.base.specs.declared.item.ItemKind.TheVariants.{Target}
 use Rattle.base.specs.declared.fault.RangeFault.{RangeFault}
 use Rattle.base.specs.declared.fault.RefusalCode.TheVariants.{OverlapsInPart}
-use Rattle.base.specs.declared.tree.Program.{Program}
 use Rattle.base.specs.Memory.{end_of}
 use Rattle.base.specs.Items.{Work, plan}
 use Rattle.base.specs.Map.{Block}
 use Rattle.base.specs.Meaning.{lengths_of}
-use Rattle.base.specs.Actions.{Met, Stage, acts_of, stages, stages_from}
+use Rattle.base.specs.Actions.{Met, Stage, acts_of, stages_from}
 use Rattle.base.specs.Current.{Current}
 use Rattle.base.specs.Accepted.{cause, depend_fault, in_part, map_fault, met_at, range_faults, region_faults, section_fails, section_faults}
 use Rattle.mapwalk.specs.declared.rows.Acts.{Acts}
 use Rattle.mapwalk.specs.Acts.{acts_row, acts_rows, entries_after}
 use Rattle.mapwalk.specs.Causes.{is_part_cell}
-use Rattle.mapwalk.specs.Kinds.{after_maps, met_by}
+use Rattle.mapwalk.specs.Kinds.{met_by}
 use Rattle.mapwalk.specs.Laws.{AllWide, KeepsBlocks, NoDelete, StagesAreSpelled, actions_of, meets_in_part}
 use Rattle.mapwalk.specs.Seen.{entry_mets, exit_mets}
 use Rattle.mapwalk.specs.Steps.{stage_of}
-use Rattle.mapwalk.specs.Walk.{HasNoRangeFault}
 use Rattle.mapwalk.proofs.KeptBlocks.{kept_blocks}
 use Rattle.mapwalk.proofs.NoParts.{BlocksWide, mets_wide, no_part}
 use Rattle.mapwalk.proofs.RowActions.{acts_are_actions}
 use Rattle.mapwalk.proofs.TargetMaps.{target_keeps_maps}
 use Rattle.mapwalk.proofs.Walking.{no_fault_at}
 use Rattle.mapwalk.proofs.WorkParts.{parts}
-use Rattle.mapwalk.proofs.SideRows.{other_number}
 
 or_first : (a b : Bool) → (a || b) ≡ false → a ≡ false
 or_first false b e = refl

@@ -1,27 +1,22 @@
 -- The cells that a region touches are cells of arrays.
-use Rattle.std.proofs.Common.{◌≡◌, ℕ, zero, suc, ◌<◌, ◌≤◌, ◌==◌, Bool, true, false, List, [], ◌∷◌, ◌++◌, map, Option, Some, None, refl, sym, ap, ◌∙◌, subst, arith}
+use Rattle.std.proofs.Common.{◌≡◌, ℕ, zero, suc, ◌==◌, Bool, true, false, List, [], ◌∷◌, ◌++◌, map, Option, Some, None, refl, sym, ap, ◌∙◌, arith}
 use Rattle.std.specs.Prelude.{nat_lt, nat_le, not, ◌&&◌, ◌||◌, if◌then◌else◌, filter, slice_get, slice_index, option_map}
 use Rattle.std.specs.List.{list_any}
 use Rattle.std.proofs.lemmas.Bool.{eqb-true}
 use Rattle.std.proofs.lemmas.Bool.Decides.{nat_tests}
 use Rattle.base.specs.declared.item.Cell.{Cell}
 use Rattle.base.specs.declared.item.Item.{Item}
-use Rattle.base.specs.declared.fault.RangeFault.{RangeFault}
 use Rattle.base.specs.declared.tree.Region.{Region}
 use Rattle.base.specs.Memory.{is_cell}
 use Rattle.base.specs.Items.{Work}
-use Rattle.base.specs.Footprint.{Touch, exposes, has_cell, is_sure, leaves_array, reads, surely_writes, touches_of, turns_in, writes}
-use Rattle.base.specs.Accepted.{most_turns, range_faults, region_faults, subscript_fault, touches_in, turns_fault}
+use Rattle.base.specs.Footprint.{Touch, exposes, has_cell, is_sure, leaves_array, reads, surely_writes, touches_of, writes}
+use Rattle.base.specs.Accepted.{range_faults, region_faults, subscript_fault, touches_in}
 use Rattle.outline.specs.declared.RegionEntry.{RegionEntry}
 use Rattle.outline.specs.Regions.{Entry, entry_of}
 use Rattle.outline.specs.Shown.{shown, work_with}
 use Rattle.ranges.specs.declared.cells.Footprint.{Footprint}
-use Rattle.ranges.specs.declared.FootprintFault.{FootprintFault}
-use Rattle.ranges.specs.declared.FootprintFault.TheVariants.{Range}
-use Rattle.ranges.specs.Faults.{IsFirst}
-use Rattle.ranges.specs.Found.{IsFootprintFault}
 use Rattle.ranges.specs.Cells.{has}
-use Rattle.mapwalk.specs.Regions.{AreTouches, IsWithin}
+use Rattle.mapwalk.specs.Regions.{IsWithin}
 
 no_second : {X : Type 0} (xs ys : List X) → xs ++ ys ≡ [] → ys ≡ []
 no_second [] ys e = e

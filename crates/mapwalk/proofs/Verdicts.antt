@@ -14,7 +14,7 @@ use Rattle.base.specs.Actions.{Met}
 use Rattle.base.specs.Current.{Current, after_actions}
 use Rattle.base.specs.Accepted.{cause, refusal_rank}
 use Rattle.mapwalk.specs.declared.causes.Cause.{Cause}
-use Rattle.mapwalk.specs.Causes.{IsFirstOf, is_less, met_causes, region_causes}
+use Rattle.mapwalk.specs.Causes.{IsFirstOf, met_causes, region_causes}
 use Rattle.mapwalk.specs.declared.rows.Acts.{Acts}
 use Rattle.mapwalk.specs.Kinds.{after_maps, after_region, before_region, joined_by, met_by}
 use Rattle.mapwalk.specs.Regions.{region_actions}

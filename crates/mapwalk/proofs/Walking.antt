@@ -1,7 +1,6 @@
 -- The walk, item by item.
-use Rattle.std.proofs.Common.{◌≡◌, ◌≢◌, ℕ, zero, suc, ◌+◌, ◌<◌, ◌≤◌, ◌==◌, Bool, true, false, List, [], ◌∷◌, ◌++◌, length, take, drop, get_or, Option, Some, None, refl, sym, ap, ◌∙◌, subst, arith, map, append_assoc, add-one, append-nil}
-use Rattle.std.specs.Prelude.{slice_get, nat_lt}
-use Rattle.std.proofs.lemmas.Bool.Decides.{nat_tests}
+use Rattle.std.proofs.Common.{◌≡◌, ◌≢◌, ℕ, zero, suc, ◌+◌, ◌<◌, ◌==◌, Bool, true, false, List, [], ◌∷◌, ◌++◌, length, take, drop, get_or, Option, Some, None, refl, sym, ap, ◌∙◌, subst, arith, append_assoc, add-one}
+use Rattle.std.specs.Prelude.{slice_get}
 use Rattle.base.specs.declared.item.Cell.{Cell}
 use Rattle.base.specs.declared.item.Item.{Item}
 use Rattle.base.specs.declared.fault.RangeFault.{RangeFault}
@@ -11,11 +10,10 @@ use Rattle.base.specs.Map.{Block}
 use Rattle.base.specs.Actions.{Stage, acts_of, stages, stages_from}
 use Rattle.base.specs.Current.{Current, after_actions, after_stages, at_start}
 use Rattle.base.specs.Accepted.{cause, current_before, on_stage, range_faults}
-use Rattle.base.specs.Machine.{on_item}
 use Rattle.outline.specs.Regions.{Entry}
 use Rattle.outline.specs.Shown.{all_shown, as_shown, shown}
 use Rattle.mapwalk.specs.declared.rows.Acts.{Acts}
-use Rattle.mapwalk.specs.Acts.{acts_row, acts_rows}
+use Rattle.mapwalk.specs.Acts.{acts_rows}
 use Rattle.mapwalk.specs.Steps.{HasDone, stage_of}
 use Rattle.mapwalk.specs.Walk.{HasNoRangeFault}
 use Rattle.mapwalk.proofs.Agreeing.{Agree, actions_agree, cause_agree}

@@ -13,8 +13,8 @@ use Rattle.base.specs.declared.tree.Region.{Region}
 use Rattle.base.specs.Items.{Work}
 use Rattle.base.specs.Map.{Block}
 use Rattle.base.specs.Footprint.{exposes, touches_of}
-use Rattle.base.specs.Actions.{Acted, Action, Kernel, Met, acts_of, always_works, each_acts, entry_acts, exit_acts, rests}
-use Rattle.base.specs.Current.{Current, after_action, after_actions}
+use Rattle.base.specs.Actions.{Acted, Action, Kernel, acts_of, always_works, each_acts, entry_acts, exit_acts, rests}
+use Rattle.base.specs.Current.{Current, after_actions}
 use Rattle.base.specs.Accepted.{cause, is_exit, is_host, is_target, is_update, reads_stale, touches_in}
 use Rattle.mapwalk.specs.Acts.{acts_row, entries_after, entry_row, exit_row, exits_after}
 use Rattle.mapwalk.specs.Kinds.{after_maps, after_region, before_region, joined_by, met_by}
@@ -23,7 +23,7 @@ use Rattle.mapwalk.specs.Sides.{after_acts}
 use Rattle.mapwalk.specs.Regions.{region_actions}
 use Rattle.mapwalk.specs.Causes.{is_absent_cell, is_part_cell, met_causes, region_causes}
 use Rattle.mapwalk.specs.Steps.{stage_of}
-use Rattle.mapwalk.proofs.ActedParts.{AreAll, IsQuiet, after_append, all_entered, all_left, all_updated}
+use Rattle.mapwalk.proofs.ActedParts.{AreAll, after_append, all_entered, all_left, all_updated}
 
 no_acts : (maps : List MapItem) (k : Current) → after_acts maps [] k ≡ k
 no_acts [] k = refl

@@ -6,7 +6,7 @@ use Rattle.base.specs.declared.item.ItemKind.{ItemKind}
 use Rattle.base.specs.declared.item.ItemKind.TheVariants as kind
 use Rattle.base.specs.Items.{Work}
 use Rattle.base.specs.Map.{Block, Move, Presence, Absent, Inside, InPart, presence, entry, exit, blocks_after, copies_to, copies_from}
-use Rattle.base.specs.Actions.{Met, acts_of, always_works, here, rests}
+use Rattle.base.specs.Actions.{acts_of, always_works, rests}
 use Rattle.mapwalk.specs.declared.rows.Acts.{Acts}
 
 -- the table is looked at, or counts, and no more

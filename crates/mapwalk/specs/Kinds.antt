@@ -1,5 +1,5 @@
 -- What the map items of an item do, by its kind: before its region, after it, and what they meet.
-use Rattle.std.specs.Prelude.{Bool, false, List, [], ◌++◌, Option, Some, None, map, Vec}
+use Rattle.std.specs.Prelude.{Bool, List, [], ◌++◌, Option, Some, None, map, Vec}
 use Rattle.std.specs.declared.alloc.Global.{Global}
 use Rattle.base.specs.declared.item.MapItem.{MapItem}
 use Rattle.base.specs.declared.item.ItemKind.{ItemKind}

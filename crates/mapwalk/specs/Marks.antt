@@ -1,5 +1,5 @@
 -- Marks of cells.
-use Rattle.std.specs.Prelude.{ℕ, Bool, true, false, not, nat_lt, nat_le, ◌&&◌, ◌||◌, if◌then◌else◌}
+use Rattle.std.specs.Prelude.{ℕ, Bool, false, not, nat_lt, nat_le, ◌&&◌, ◌||◌, if◌then◌else◌}
 use Rattle.base.specs.declared.item.Section.{Section}
 use Rattle.base.specs.Memory.{end_of}
 use Rattle.bits.specs.Sets.{has}

@@ -1,10 +1,7 @@
-use Rattle.std.proofs.Common.{rules, ◌≡◌, ℕ, ◌+◌, ◌*◌, ◌^◌, ◌<◌, ◌≤◌, ◌++◌, ◌∷◌, [], List, length, map, refl, sym, ap, ◌∙◌, subst, arith}
+use Rattle.std.proofs.Common.{rules, ◌≡◌, ◌+◌, ◌<◌, ◌≤◌, ◌∷◌, [], length, map, sym, ap, ◌∙◌, subst, arith}
 use Rattle.std.proofs.lemmas.List.{length-map, map-append, places}
-use Rattle.base.specs.Items.{Work, plan}
-use Rattle.base.specs.Accepted.{range_faults}
-use Rattle.base.specs.Meaning.{lengths_of}
+use Rattle.base.specs.Items.{plan}
 use Rattle.outline.specs.Regions.{entries_of}
-use Rattle.outline.specs.Shown.{shown}
 use Rattle.mapwalk.specs.declared.steps.Step.{Step}
 use Rattle.mapwalk.specs.Causes.{refusal_of}
 use Rattle.mapwalk.specs.Sides.{shown_by}
@@ -17,8 +14,7 @@ use Rattle.mapwalk.proofs.Prints.{at_inside, found_at}
 use Rattle.mapwalk.proofs.Endings.{marked_at_end}
 use Rattle.mapwalk.proofs.Refusals.{first_alone, none_refused}
 use Rattle.mapwalk.proofs.SideRows.{lengths_count}
-use Rattle.mapwalk.proofs.Touched.{same_work}
-use Rattle.mapwalk.proofs.Walking.{Reached, as_many, next, no_fault_at, work_at}
+use Rattle.mapwalk.proofs.Walking.{Reached, as_many, next, work_at}
 use Rattle.mapwalk.proofs.walk_with.Goals as goal
 
 pub step-requires-clause-within : goal.step-requires-clause-within

@@ -1,4 +1,3 @@
-use Rattle.std.proofs.Common.{◌≡◌}
 use Rattle.base.specs.Items.{plan}
 use Rattle.mapwalk.specs.Footprints.{AreFirstFootprints}
 use Rattle.mapcheck.proofs.FirstFaults.{NoneBelow}

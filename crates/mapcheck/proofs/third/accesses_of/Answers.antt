@@ -1,4 +1,4 @@
-use Rattle.std.proofs.Common.{◌≡◌, ◌≤◌, ◌<◌, ◌+◌, length, sym, subst, List, arith}
+use Rattle.std.proofs.Common.{◌+◌, length, sym, subst, List, arith}
 use Rattle.base.specs.Items.{plan}
 use Rattle.outline.specs.Regions.{entries_of}
 use Rattle.mapwalk.proofs.Prints.{found_at}

@@ -1,4 +1,4 @@
-use Rattle.std.proofs.Common.{◌∙◌, sym, arith}
+use Rattle.std.proofs.Common.{sym, arith}
 use Rattle.base.specs.Items.{plan}
 use Rattle.mapcheck.proofs.ThirdFaults.{found_first, none_below_more, not_some}
 use Rattle.mapcheck.proofs.third.first_of_all.Goals as goal

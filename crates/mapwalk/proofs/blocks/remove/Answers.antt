@@ -1,8 +1,7 @@
-use Rattle.std.proofs.Common.{rules, ◌≡◌, List, sym, ap, ◌∙◌, map, subst}
+use Rattle.std.proofs.Common.{rules, ◌≡◌, sym, ap, ◌∙◌, map, subst}
 use Rattle.std.specs.Prelude.{filter, not}
 use Rattle.std.proofs.lemmas.Fn.{filter_same}
 use Rattle.base.specs.Memory.{same_section}
-use Rattle.mapwalk.specs.declared.blocks.Block.{Block}
 use Rattle.mapwalk.specs.Blocks.{block_of}
 use Rattle.mapwalk.specs.Counts.{CountUpTo}
 use Rattle.mapwalk.proofs.Recounts.{removed, removed_bound}

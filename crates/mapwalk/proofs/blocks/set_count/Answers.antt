@@ -1,8 +1,7 @@
-use Rattle.std.proofs.Common.{◌≡◌, ℕ, ◌<◌, get_or, List, ◌++◌, [], length, true, false, Some, map, take, drop, refl, sym, ap, ◌∙◌, subst, arith, append-nil, if◌then◌else◌}
+use Rattle.std.proofs.Common.{◌≡◌, ◌<◌, get_or, ◌++◌, length, Some, map, take, sym, ap, ◌∙◌, subst, arith, append-nil, if◌then◌else◌}
 use Rattle.std.specs.Prelude.{slice_get, slice_set}
 use Rattle.std.proofs.lemmas.Option.{slice_get-get_or}
 use Rattle.std.proofs.lemmas.List.{drop_all, take_all}
-use Rattle.base.specs.Map.{counted}
 use Rattle.base.specs.Memory.{same_section}
 use Rattle.mapwalk.specs.declared.blocks.Block.{Block}
 use Rattle.mapwalk.specs.Blocks.{block_of}

@@ -1,10 +1,10 @@
-use Rattle.std.proofs.Common.{◌≡◌, ℕ, Bool, ap₂}
+use Rattle.std.proofs.Common.{ap₂}
 use Rattle.std.specs.Prelude.{◌&&◌, ◌||◌, not}
 use Rattle.std.specs.List.{list_any}
 use Rattle.base.specs.Memory.{is_in}
 use Rattle.bits.specs.Sets.{has as has_number}
 use Rattle.ranges.specs.Cells.{has}
-use Rattle.mapwalk.proofs.FirstCells.{least_in_row, none_in_row}
+use Rattle.mapwalk.proofs.FirstCells.{least_in_row}
 use Rattle.mapwalk.proofs.causes.least_unmapped.Goals as goal
 
 pub returns-in-Some : goal.returns-in-Some

@@ -1,4 +1,4 @@
-use Rattle.std.proofs.Common.{rules, ◌≡◌, false, ◌⊎◌, inl, inr, refl, ap}
+use Rattle.std.proofs.Common.{rules, ap}
 use Rattle.base.specs.Accepted.{is_exit, is_update}
 use Rattle.mapwalk.proofs.MetCauses.{absent_none, exit_first, noted, other_none, part_first, update_first}
 use Rattle.mapwalk.proofs.causes.met_cause.Goals as goal

@@ -1,4 +1,4 @@
-use Rattle.std.proofs.Common.{◌≡◌, Option, Some, ap, ◌∙◌, subst}
+use Rattle.std.proofs.Common.{Option, ◌∙◌, subst}
 use Rattle.ranges.specs.declared.cells.Footprint.{Footprint}
 use Rattle.mapwalk.specs.Regions.{AreTouches, IsFootprintOf}
 use Rattle.mapwalk.specs.Sides.{shown_by}

@@ -1,4 +1,4 @@
-use Rattle.std.proofs.Common.{sym, ◌∙◌, length, arith}
+use Rattle.std.proofs.Common.{sym, ◌∙◌, arith}
 use Rattle.mapwalk.proofs.RowLists.{joined_end}
 use Rattle.mapwalk.proofs.rows.join_all.Goals as goal
 

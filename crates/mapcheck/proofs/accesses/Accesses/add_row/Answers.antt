@@ -1,8 +1,7 @@
-use Rattle.std.proofs.Common.{◌≡◌, ◌+◌, List, Some, sym, ap, ◌∙◌, subst, take, arith}
-use Rattle.std.specs.Prelude.{slice_get}
+use Rattle.std.proofs.Common.{List, sym, subst, take, arith}
 use Rattle.std.proofs.lemmas.Option.{slice_get-get_or}
 use Rattle.base.specs.Actions.{Action}
-use Rattle.mapcheck.specs.Building.{ExtendsBy, part_actions, row_actions}
+use Rattle.mapcheck.specs.Building.{ExtendsBy, row_actions}
 use Rattle.mapcheck.proofs.Building.{extends_both, row_end, row_more}
 use Rattle.mapcheck.proofs.accesses.Accesses.add_row.Goals as goal
 

@@ -1,11 +1,11 @@
-use Rattle.std.proofs.Common.{◌≡◌, Option, Some, None, refl, sym, ap, ◌∙◌, subst}
+use Rattle.std.proofs.Common.{◌≡◌, Option, Some, None, ap, ◌∙◌, subst}
 use Rattle.std.specs.Prelude.{IfNone}
 use Rattle.base.specs.Current.{after_actions}
 use Rattle.mapwalk.specs.declared.causes.Cause.{Cause}
-use Rattle.mapwalk.specs.Causes.{IsFirstOf, met_causes, region_causes}
+use Rattle.mapwalk.specs.Causes.{IsFirstOf, region_causes}
 use Rattle.mapwalk.specs.Kinds.{met_by}
 use Rattle.mapwalk.specs.Regions.{region_actions}
-use Rattle.mapwalk.specs.Seen.{nothing, seen_all}
+use Rattle.mapwalk.specs.Seen.{seen_all}
 use Rattle.mapwalk.specs.Sides.{shown_by}
 use Rattle.mapwalk.specs.Table.{blocks_of}
 use Rattle.mapwalk.proofs.ShownItems.{shown_of}
