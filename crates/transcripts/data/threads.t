@@ -293,3 +293,201 @@ end
 A: 1 3 5 7
 $ ompc run written_or_not.c --finals
 0
+
+# the same on a device of the size that it has where none is given
+$ ompc run nothing.c --workers 1
+$ ompc run nothing.c --workers 2
+$ ompc run nothing.c --workers 4
+$ ompc run nothing.c --workers 16
+$ ompc run double.c --workers 1
+1
+3
+5
+7
+$ ompc run double.c --workers 2
+1
+3
+5
+7
+$ ompc run double.c --workers 4
+1
+3
+5
+7
+$ ompc run double.c --workers 16
+1
+3
+5
+7
+$ ompc run part_updated.c --workers 1
+6
+$ ompc run part_updated.c --workers 2
+6
+$ ompc run part_updated.c --workers 4
+6
+$ ompc run part_updated.c --workers 16
+6
+$ ompc run halves.c --workers 1
+1
+2
+3
+4
+40
+50
+60
+70
+$ ompc run halves.c --workers 2
+1
+2
+3
+4
+40
+50
+60
+70
+$ ompc run halves.c --workers 4
+1
+2
+3
+4
+40
+50
+60
+70
+$ ompc run halves.c --workers 16
+1
+2
+3
+4
+40
+50
+60
+70
+$ ompc run readers_in_order.c --workers 1
+1
+2
+$ ompc run readers_in_order.c --workers 2
+1
+2
+$ ompc run readers_in_order.c --workers 4
+1
+2
+$ ompc run readers_in_order.c --workers 16
+1
+2
+$ ompc run written_or_not.c --workers 1 < one.txt
+1
+$ ompc run written_or_not.c --workers 2 < one.txt
+1
+$ ompc run written_or_not.c --workers 4 < one.txt
+1
+$ ompc run written_or_not.c --workers 16 < one.txt
+1
+$ ompc run captured.c --workers 1
+5
+$ ompc run captured.c --workers 2
+5
+$ ompc run captured.c --workers 4
+5
+$ ompc run captured.c --workers 16
+5
+$ ompc run inside_the_array.c --workers 1
+3
+$ ompc run inside_the_array.c --workers 2
+3
+$ ompc run inside_the_array.c --workers 4
+3
+$ ompc run inside_the_array.c --workers 16
+3
+$ ompc run reads_three.c --workers 1 < seven_eight.txt
+7
+8
+0
+$ ompc run reads_three.c --workers 2 < seven_eight.txt
+7
+8
+0
+$ ompc run reads_three.c --workers 4 < seven_eight.txt
+7
+8
+0
+$ ompc run reads_three.c --workers 16 < seven_eight.txt
+7
+8
+0
+$ ompc run copied_again.c --workers 1
+6
+$ ompc run copied_again.c --workers 2
+6
+$ ompc run copied_again.c --workers 4
+6
+$ ompc run copied_again.c --workers 16
+6
+$ ompc run chain.c --workers 1
+6
+2
+$ ompc run chain.c --workers 2
+6
+2
+$ ompc run chain.c --workers 4
+6
+2
+$ ompc run chain.c --workers 16
+6
+2
+$ ompc run two_kernels.c --workers 1
+7
+13
+$ ompc run two_kernels.c --workers 2
+7
+13
+$ ompc run two_kernels.c --workers 4
+7
+13
+$ ompc run two_kernels.c --workers 16
+7
+13
+$ ompc run four_kernels.c --workers 1
+1
+2
+3
+4
+$ ompc run four_kernels.c --workers 2
+1
+2
+3
+4
+$ ompc run four_kernels.c --workers 4
+1
+2
+3
+4
+$ ompc run four_kernels.c --workers 16
+1
+2
+3
+4
+$ ompc run deferred_data.c --workers 1 < seven_nine.txt
+14
+16
+18
+20
+9
+$ ompc run deferred_data.c --workers 2 < seven_nine.txt
+14
+16
+18
+20
+9
+$ ompc run deferred_data.c --workers 4 < seven_nine.txt
+14
+16
+18
+20
+9
+$ ompc run deferred_data.c --workers 16 < seven_nine.txt
+14
+16
+18
+20
+9
