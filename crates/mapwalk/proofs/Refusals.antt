@@ -66,13 +66,30 @@ contrary b e f = absurd (let x : true ≡ false = sym f ∙ e in cc)
 abbrev key : ℕ → ℕ → ℕ → ℕ → ℕ → List ℕ
 key i r a n o = 3 ∷ i ∷ r ∷ a ∷ n ∷ o ∷ []
 
+later_head : (a b : ℕ) (t : Bool) → b < a → (nat_lt a b || ((a == b) && t)) ≡ false
+later_head a b t h = grind (arith, nat_tests)
+
+same_head : (a b : ℕ) (t : Bool) → a ≡ b → t ≡ false → (nat_lt a b || ((a == b) && t)) ≡ false
+same_head a b t e f = grind (arith, nat_tests)
+
+nothing_last : (b c t : Bool) → t ≡ false → (b || (c && t)) ≡ b
+nothing_last true c t e = refl
+nothing_last false true t e = e
+nothing_last false false t e = refl
+
+none_lower : (a : ℕ) → (nat_lt a 0 || ((a == 0) && false)) ≡ false
+none_lower a = grind (arith, nat_tests)
+
 later_item : (gi gr ga gn go i r a n : ℕ) → i < gi → key_less (key gi gr ga gn go) (key i r a n 0) ≡ false
-later_item gi gr ga gn go i r a n h = grind (arith, nat_tests)
+later_item gi gr ga gn go i r a n h = later_head gi i _ h
 
 same_item : (gi gr ga gn go i r a n : ℕ) → gi ≡ i →
     (nat_lt gr r || ((gr == r) && (nat_lt ga a || ((ga == a) && nat_lt gn n)))) ≡ false →
     key_less (key gi gr ga gn go) (key i r a n 0) ≡ false
-same_item gi gr ga gn go i r a n e h = grind (arith, nat_tests)
+same_item gi gr ga gn go i r a n e h =
+    same_head gi i _ e
+    (ap (λ t. nat_lt gr r || ((gr == r) && (nat_lt ga a || ((ga == a) && t))))
+    (nothing_last (nat_lt gn n) (gn == n) _ (none_lower go)) ∙ h)
 
 below : (a b : ℕ) → nat_lt a b ≡ true → a < b
 below a b e = grind (arith, nat_tests)
