@@ -1,5 +1,6 @@
 pub mod AllMarked
 pub mod FirstCells
+pub mod Unmapped
 pub mod SideRows
 pub mod RowLists
 pub mod Recounts
@@ -7,6 +8,7 @@ pub mod Leasts
 pub mod Touched
 pub mod RegionEffects
 pub mod MetCauses
+pub mod RegionCauses
 pub mod ShownItems
 pub mod ActedParts
 pub mod WorkParts

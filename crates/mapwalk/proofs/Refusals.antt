@@ -1,7 +1,7 @@
 -- The first item that is refused by itself.
 use Rattle.std.proofs.Common.{◌≡◌, ◌≢◌, ℕ, zero, suc, ◌<◌, ◌≤◌, ◌==◌, Bool, true, false, List, [], ◌∷◌, length, drop, Option, Some, None, refl, sym, ap, ◌∙◌, subst, arith}
 use Rattle.std.specs.Prelude.{slice_get, nat_lt, unwrap_or, ◌&&◌, ◌||◌}
-use Rattle.std.proofs.lemmas.Bool.Decides.{nat_tests}
+use Rattle.std.proofs.lemmas.Bool.{and_left, and_right, eqb-false, le-ltb, ltb-false, ltb-true, ne_eqb, or_from}
 use Rattle.std.proofs.lemmas.List.{drop_all}
 use Rattle.base.specs.declared.item.Cell.{Cell}
 use Rattle.base.specs.declared.fault.Refusal.{Refusal}
@@ -67,10 +67,10 @@ abbrev key : ℕ → ℕ → ℕ → ℕ → ℕ → List ℕ
 key i r a n o = 3 ∷ i ∷ r ∷ a ∷ n ∷ o ∷ []
 
 later_head : (a b : ℕ) (t : Bool) → b < a → (nat_lt a b || ((a == b) && t)) ≡ false
-later_head a b t h = grind (arith, nat_tests)
+later_head a b t h = or_from _ _ (le-ltb a b (omega arith)) (and_left _ t (ne_eqb a b (λ e. omega arith)))
 
 same_head : (a b : ℕ) (t : Bool) → a ≡ b → t ≡ false → (nat_lt a b || ((a == b) && t)) ≡ false
-same_head a b t e f = grind (arith, nat_tests)
+same_head a b t e f = or_from _ _ (le-ltb a b (omega arith)) (and_right _ t f)
 
 nothing_last : (b c t : Bool) → t ≡ false → (b || (c && t)) ≡ b
 nothing_last true c t e = refl
@@ -78,7 +78,7 @@ nothing_last false true t e = e
 nothing_last false false t e = refl
 
 none_lower : (a : ℕ) → (nat_lt a 0 || ((a == 0) && false)) ≡ false
-none_lower a = grind (arith, nat_tests)
+none_lower a = or_from _ _ (le-ltb a 0 (omega arith)) (and_right (a == 0) false refl)
 
 later_item : (gi gr ga gn go i r a n : ℕ) → i < gi → key_less (key gi gr ga gn go) (key i r a n 0) ≡ false
 later_item gi gr ga gn go i r a n h = later_head gi i _ h
@@ -91,11 +91,11 @@ same_item gi gr ga gn go i r a n e h =
     (ap (λ t. nat_lt gr r || ((gr == r) && (nat_lt ga a || ((ga == a) && t))))
     (nothing_last (nat_lt gn n) (gn == n) _ (none_lower go)) ∙ h)
 
-below : (a b : ℕ) → nat_lt a b ≡ true → a < b
-below a b e = grind (arith, nat_tests)
-
 above : (a b : ℕ) → nat_lt a b ≡ false → (a == b) ≡ false → b < a
-above a b e f = grind (arith, nat_tests)
+above a b e f =
+    let le : b ≤ a = ltb-false a b e in
+    let ne : a ≢ b = eqb-false a b f in
+    omega arith
 
 pub first_alone : (plan : Plan) (i : ℕ) (blocks : List Block) (k : Current) (rows : List (List Acts)) (w : Work) (x : Cause) →
     HasNoRangeFault plan → slice_get plan.items i ≡ Some w → Reached plan i blocks k rows →
@@ -118,7 +118,7 @@ first_alone plan i blocks k rows w x none e r h =
     go : (g : Refusal) → on_stage plan g.item false (λ s. cause g.code s (current_before plan g.item) g.cell) ≡ true →
         (a : Bool) → nat_lt g.item i ≡ a → (b : Bool) → (g.item == i) ≡ b →
         key_less (fault_key (Refused g)) (fault_key (Refused (refusal_of x i))) ≡ false
-    go g t true p b q = contrary _ (r.clean g.item (below g.item i p) g.code g.cell) t
+    go g t true p b q = contrary _ (r.clean g.item (ltb-true g.item i p) g.code g.cell) t
     go g t false p true q =
         let same : g.item ≡ i = same_number g.item i q in
         same_item g.item (refusal_rank g.code) g.cell.array.0 g.cell.index (unwrap_or g.other 0) i (refusal_rank x.code)
@@ -148,12 +148,9 @@ none_refused plan i blocks k rows h r g o f = go (nat_lt g.item i) refl
     t : on_stage plan g.item false (λ s. cause g.code s (current_before plan g.item) g.cell) ≡ true
     t = caused plan g o f
 
-    not_below : (a b : ℕ) → nat_lt a b ≡ false → b ≤ a
-    not_below a b e = grind (arith, nat_tests)
-
     go : (a : Bool) → nat_lt g.item i ≡ a → ⊥
-    go true p = contrary _ (r.clean g.item (below g.item i p) g.code g.cell) t
+    go true p = contrary _ (r.clean g.item (ltb-true g.item i p) g.code g.cell) t
     go false p =
         contrary _
         (ap (λ (s : Option Stage). elim s as (λ z. Bool) [ None ↦ false | Some v ↦ cause g.code v (current_before plan g.item) g.cell ])
-        (past (stages plan) i g.item (stages_end plan i blocks k rows h r) (not_below g.item i p))) t
+        (past (stages plan) i g.item (stages_end plan i blocks k rows h r) (ltb-false g.item i p))) t
