@@ -3,6 +3,7 @@ pub mod FirstCells
 pub mod Unmapped
 pub mod SideRows
 pub mod RowLists
+pub mod RowSteps
 pub mod Recounts
 pub mod Leasts
 pub mod Touched

@@ -31,3 +31,21 @@ returns-then-touch_alike c =
           c.index-items-number.is is_w)
           c.if-touch_alike.true;
     }
+
+pub bounds : goal.bounds
+bounds c =
+    let p = c.args.outlined.now in
+    let many = as_many (entries_of p) c.items-items.result.now (plan p).items c.items-items.ensures.shown in
+    omega (arith, many, c.requires.inside)
+
+pub bounds-items-number : goal.bounds-items-number
+bounds-items-number c =
+    let p = c.args.outlined.now in
+    let many = as_many (entries_of p) c.items-items.result.now (plan p).items c.items-items.ensures.shown in
+    omega (arith, many, c.requires.inside)
+
+pub bounds-items-number-2 : goal.bounds-items-number-2
+bounds-items-number-2 c =
+    let p = c.args.outlined.now in
+    let many = as_many (entries_of p) c.items-items.result.now (plan p).items c.items-items.ensures.shown in
+    omega (arith, many, c.requires.inside)

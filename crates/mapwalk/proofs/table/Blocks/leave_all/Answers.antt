@@ -1,0 +1,22 @@
+use Rattle.std.proofs.Common.{map, ap, ◌∙◌}
+use Rattle.mapwalk.specs.Blocks.{block_of}
+use Rattle.mapwalk.specs.Kinds.{rests_before}
+use Rattle.mapwalk.specs.Table.{blocks_of}
+use Rattle.mapwalk.proofs.RowSteps.{exit_row_step, exit_seen_step, exits_step}
+use Rattle.mapwalk.proofs.table.Blocks.leave_all.Goals as goal
+
+pub maps-preserved : goal.maps-preserved
+maps-preserved c =
+    let maps = c.args.maps.now in
+    let i = c.maps.item-index in
+    let old = blocks_of c.maps.self in
+    let new = blocks_of c.leave.new.self in
+    let done = c.leave.ensures in
+    record {
+      row = exit_row_step maps i _ c.maps-test.true old new (rests_before c.args.before.now) c.maps.row.items c.push.new.self.items
+          _ c.leave.result c.rests.result c.maps.invariant.row c.in_ok-push.ensures.items done.acts c.rests.ensures done.blocks;
+      blocks = exits_step maps i _ c.maps-test.true old new _ c.maps.invariant.blocks done.blocks;
+      seen = exit_seen_step maps i _ c.maps-test.true old new c.maps.seen c.note.new.self _ (map block_of c.deref.result.now)
+          c.maps.invariant.seen c.note.ensures (ap (map block_of) c.deref.ensures.value) done.blocks;
+      entries = done.entries ∙ c.maps.invariant.entries;
+    }
