@@ -1,4 +1,6 @@
-use Rattle.std.proofs.Common.{◌+◌, ◌<◌, length, drop, get_or, Some, None, false, sym, subst, arith}
+use Rattle.std.proofs.Common.{◌+◌, ◌<◌, ◌≤◌, length, drop, get_or, Some, None, false, sym, ap, subst, arith}
+use Rattle.std.proofs.lemmas.List.{drop_all}
+use Rattle.base.specs.Map.{need}
 use Rattle.std.proofs.lemmas.Option.{slice_get-get_or}
 use Rattle.base.specs.declared.item.MapItem.{MapItem}
 use Rattle.base.specs.declared.item.MapKind.TheVariants.{To}
@@ -65,3 +67,20 @@ returns-else-is_free t c =
     (needs_taken c.args.self.now cs item (drop
     (c.args.from + 1) items) w c.if-is_free.ensures c.needed_from-else-is_free.result
     c.needed_from-else-is_free.ensures)
+
+pub needed_from-requires : goal.needed_from-requires
+needed_from-requires t c =
+    let items = c.args.items.now in
+    let within : c.args.from < length items = omega arith in
+    let w = c.requires.items c.args.from (get_or items c.args.from other)
+    (slice_get-get_or items c.args.from other within) in
+    (omega arith, (c.requires.items, (omega arith, (w, c.requires.created))))
+
+pub needed_from-requires-else-is_free : goal.needed_from-requires-else-is_free
+needed_from-requires-else-is_free t c = (omega arith, (c.requires.items, (omega arith, c.requires.created)))
+
+pub returns-then-from-items : goal.returns-then-from-items
+returns-then-from-items t c =
+    let items = c.args.items.now in
+    let past : length items ≤ c.args.from = omega arith in
+    λ blocks k. sym (ap (λ xs. need xs blocks) (drop_all c.args.from items past))
