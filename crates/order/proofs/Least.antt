@@ -47,6 +47,7 @@ not_before s t d p q = grind (arith, nat_tests)
 
 clash_is : (d e : Depend) → 0 < d.section.length → 0 < e.section.length → IsLeast (λ c. clash c d e)
     (clash_of d.section e.section)
+unfolding clash_of
 clash_is d e p q = go (overlaps d.section e.section && not (same_section d.section e.section)) refl
   where
     first : Cell

@@ -9,7 +9,7 @@ use Rattle.base.specs.Least.{lesser}
 use Rattle.base.specs.Memory.{overlaps, same_section}
 
 -- the first cell of both, where they overlap without being identical
-abbrev pub clash_of : Section → Section → Option Cell
+unfoldable pub clash_of : Section → Section → Option Cell
 clash_of s t =
     if overlaps s t && not (same_section s t) then Some (record { array = s.array; index = max s.first t.first }) else None
 

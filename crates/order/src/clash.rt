@@ -10,6 +10,7 @@ use base::item::{Cell, Depend, Item, Section};
 use base::least::lesser;
 
 // The first cell of two sections that overlap without being identical.
+#[tactic(auto, unfolding(crate::specs::Clashes::clash_of))]
 fn clash_of(left: &Section, right: &Section) -> Option<Cell>
     ensures { result ≡ Rattle.order.specs.Clashes.clash_of left.now right.now }
 {
