@@ -6,4 +6,5 @@ pub mod HostRows
 pub mod Nils
 pub mod Leasts
 pub mod Sections
+pub mod Blocks
 pub mod LoopTurns

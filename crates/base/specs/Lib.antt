@@ -5,6 +5,7 @@ pub mod Value
 pub mod Meaning
 pub mod Items
 pub mod Map
+pub mod Blocks
 pub mod Machine
 pub mod Interval
 pub mod Footprint

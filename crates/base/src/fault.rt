@@ -4,7 +4,7 @@ use crate::item::Cell;
 use thiserror::Error;
 
 /// The rules of the language that a text can break, in the order in which they are answered at one token.
-#[derive(Clone, Copy, PartialEq, Eq, PartialOrd, Ord, Debug, Error)]
+#[derive(Clone, Copy, Debug, Error)]
 pub enum ReadCode {
     /// A byte that begins no token, or a comment without end.
     #[error("E101")]
@@ -67,7 +67,7 @@ pub enum ReadCode {
 }
 
 /// A rule that a text breaks, and where. Lines and columns (in bytes) count from 1.
-#[derive(Clone, Copy, PartialEq, Eq, Debug, Error)]
+#[derive(Clone, Copy, Debug, Error)]
 #[error("{code} line {line} column {column}")]
 pub struct TextFault {
     pub code: ReadCode,
@@ -76,7 +76,7 @@ pub struct TextFault {
 }
 
 /// Why a text was not read.
-#[derive(Clone, Copy, PartialEq, Eq, Debug, Error)]
+#[derive(Clone, Copy, Debug, Error)]
 pub enum ReadFault {
     #[error(transparent)]
     Text(TextFault),
@@ -85,7 +85,7 @@ pub enum ReadFault {
 }
 
 /// Why a program was not turned into items.
-#[derive(Clone, Copy, PartialEq, Eq, Debug, Error)]
+#[derive(Clone, Copy, Debug, Error)]
 pub enum OutlineFault {
     /// More items than the limit.
     #[error("E401")]
@@ -95,14 +95,14 @@ pub enum OutlineFault {
 }
 
 /// What is known of a number: it is from `lo` to `hi`.
-#[derive(Clone, Copy, PartialEq, Eq, Debug)]
+#[derive(Clone, Copy)]
 pub struct Interval {
     pub lo: u64,
     pub hi: u64,
 }
 
 /// The faults of range, in the order in which they are looked for.
-#[derive(Clone, Copy, PartialEq, Eq, PartialOrd, Ord, Debug, Error)]
+#[derive(Clone, Copy, Debug, Error)]
 pub enum RangeCode {
     /// A section is empty or leaves its array.
     #[error("E302")]
@@ -115,7 +115,7 @@ pub enum RangeCode {
     SubscriptOutside,
 }
 
-#[derive(Clone, Copy, PartialEq, Eq, Debug, Error)]
+#[derive(Clone, Copy, Debug, Error)]
 #[error("{code} line {line} column {column}")]
 pub struct RangeFault {
     pub code: RangeCode,
@@ -124,7 +124,7 @@ pub struct RangeFault {
 }
 
 /// Two depend items of different items overlap without being identical.
-#[derive(Clone, Copy, PartialEq, Eq, Debug, Error)]
+#[derive(Clone, Copy, Debug, Error)]
 #[error("E505")]
 pub struct OrderFault {
     pub item: u32,
@@ -133,7 +133,7 @@ pub struct OrderFault {
 }
 
 /// Why an item is refused, in ascending order.
-#[derive(Clone, Copy, PartialEq, Eq, PartialOrd, Ord, Debug, Error)]
+#[derive(Clone, Copy, Debug, Error)]
 pub enum RefusalCode {
     /// A mapped or updated section overlaps a present block without lying inside it.
     #[error("E501")]
@@ -156,7 +156,7 @@ pub enum RefusalCode {
     Conflict,
 }
 
-#[derive(Clone, Copy, PartialEq, Eq, Debug, Error)]
+#[derive(Clone, Copy, Debug, Error)]
 #[error("{code}")]
 pub struct Refusal {
     pub code: RefusalCode,
@@ -166,7 +166,7 @@ pub struct Refusal {
 }
 
 /// Why a program is not accepted. `Display` names the code, and the place where the program's names are not needed for it.
-#[derive(Clone, Copy, PartialEq, Eq, Debug, Error)]
+#[derive(Clone, Copy, Debug, Error)]
 pub enum CheckFault {
     #[error("{} item {item} line {} column {}", .fault.code, .fault.line, .fault.column)]
     Range { item: u32, fault: RangeFault },
@@ -202,7 +202,7 @@ pub enum RunFault {
 }
 
 /// Why a source has no answer: the first of the passes that fails.
-#[derive(Clone, Copy, PartialEq, Eq, Debug, Error)]
+#[derive(Clone, Copy, Debug, Error)]
 pub enum SourceFault {
     #[error(transparent)]
     Read(ReadFault),

@@ -19,7 +19,7 @@ pub struct Section {
 }
 
 /// What a map item or an update does with a section.
-#[derive(Clone, Copy, PartialEq, Eq, Debug, Default)]
+#[derive(Clone, Copy, Default)]
 pub enum MapKind {
     #[default]
     To,
@@ -30,7 +30,7 @@ pub enum MapKind {
     Delete,
 }
 
-#[derive(Clone, Copy, PartialEq, Eq, Debug, Default)]
+#[derive(Clone, Copy, Default)]
 pub struct MapItem {
     pub kind: MapKind,
     pub always: bool,
@@ -39,7 +39,7 @@ pub struct MapItem {
     pub column: usize,
 }
 
-#[derive(Clone, Copy, PartialEq, Eq, Debug, Default)]
+#[derive(Clone, Copy, Default)]
 pub struct Depend {
     pub kind: DependKind,
     pub section: Section,
@@ -47,7 +47,7 @@ pub struct Depend {
     pub column: usize,
 }
 
-#[derive(Clone, Copy, PartialEq, Eq, Debug)]
+#[derive(Clone, Copy)]
 pub enum ItemKind {
     Host,
     Target,
@@ -85,7 +85,7 @@ pub enum Event {
 }
 
 /// Where an item touches a cell: on the host, on the device, or its block's entry of the table.
-#[derive(Clone, Copy, PartialEq, Eq, PartialOrd, Ord, Debug)]
+#[derive(Clone, Copy)]
 pub enum Loc {
     Host,
     Dev,

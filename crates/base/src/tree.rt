@@ -7,7 +7,7 @@ use indexmap::IndexMap;
 use smallvec::SmallVec;
 
 /// A place in the source text. Both count from 1.
-#[derive(Clone, Copy, PartialEq, Eq, PartialOrd, Ord, Debug, Default)]
+#[derive(Clone, Copy, Default)]
 pub struct Place {
     pub line: usize,
     pub column: usize,
@@ -18,18 +18,18 @@ pub struct Place {
 pub struct ArrayId(pub u32);
 
 /// A global or local scalar, by its number in order of declaration.
-#[derive(Clone, Copy, PartialEq, Eq, PartialOrd, Ord, Debug)]
+#[derive(Clone, Copy)]
 pub struct ScalarId(pub u8);
 
 /// An operator on one operand.
-#[derive(Clone, Copy, PartialEq, Eq, Debug)]
+#[derive(Clone, Copy, Debug)]
 pub enum UnaryOp {
     Not,
     Complement,
 }
 
 /// An operator on two operands that are both evaluated.
-#[derive(Clone, Copy, PartialEq, Eq, Debug)]
+#[derive(Clone, Copy, Debug)]
 pub enum BinaryOp {
     BitOr,
     BitXor,
@@ -45,27 +45,27 @@ pub enum BinaryOp {
     Multiply,
 }
 
-#[derive(Clone, Copy, PartialEq, Eq, Debug)]
+#[derive(Clone, Copy, Debug)]
 pub enum ShiftOp {
     Left,
     Right,
 }
 
-#[derive(Clone, Copy, PartialEq, Eq, Debug)]
+#[derive(Clone, Copy, Debug)]
 pub enum DivideOp {
     Quotient,
     Remainder,
 }
 
 /// The literal that a number is shifted by.
-#[derive(Clone, Copy, PartialEq, Eq, Debug)]
+#[derive(Clone, Copy)]
 pub struct ShiftCount {
     pub count: u8,
     ghost in_range: { count < 64 },
 }
 
 /// The literal that a number is divided by.
-#[derive(Clone, Copy, PartialEq, Eq, Debug)]
+#[derive(Clone, Copy)]
 pub struct Divisor {
     pub value: u64,
     ghost not_zero: { 1 ≤ value },
@@ -94,7 +94,7 @@ pub enum Source {
 }
 
 /// The literals of a loop: `for (uint64_t i = first; i < end; i += step)`.
-#[derive(Clone, Copy, PartialEq, Eq, Debug)]
+#[derive(Clone, Copy)]
 pub struct Bounds {
     pub first: u64,
     pub end: u64,
@@ -123,7 +123,7 @@ pub struct Region {
 }
 
 /// A term of a bound: a literal, or a loop's name with its factor.
-#[derive(Clone, Copy, PartialEq, Eq, Debug)]
+#[derive(Clone, Copy)]
 pub enum Term {
     Literal(u64),
     Times(u64, u32),
@@ -150,7 +150,7 @@ pub struct SectionText {
 }
 
 /// The types of a map clause, by what takes them.
-#[derive(Clone, Copy, PartialEq, Eq, Debug, Default)]
+#[derive(Clone, Copy, Debug, Default)]
 pub enum RegionKind {
     #[default]
     To,
@@ -159,14 +159,14 @@ pub enum RegionKind {
     Alloc,
 }
 
-#[derive(Clone, Copy, PartialEq, Eq, Debug, Default)]
+#[derive(Clone, Copy, Debug, Default)]
 pub enum EnterKind {
     #[default]
     To,
     Alloc,
 }
 
-#[derive(Clone, Copy, PartialEq, Eq, Debug, Default)]
+#[derive(Clone, Copy, Debug, Default)]
 pub enum ExitKind {
     #[default]
     From,
@@ -174,14 +174,14 @@ pub enum ExitKind {
     Delete,
 }
 
-#[derive(Clone, Copy, PartialEq, Eq, Debug, Default)]
+#[derive(Clone, Copy, Debug, Default)]
 pub enum UpdateKind {
     #[default]
     To,
     From,
 }
 
-#[derive(Clone, Copy, PartialEq, Eq, Debug, Default)]
+#[derive(Clone, Copy, Debug, Default)]
 pub enum DependKind {
     #[default]
     In,

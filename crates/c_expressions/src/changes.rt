@@ -4,7 +4,7 @@ use crate::scope::{Frame, Meaning, Name, Scope};
 use std::alloc::AllocError;
 
 /// The name of a loop whose block is opened.
-#[derive(Clone, Copy, Debug)]
+#[derive(Clone, Copy)]
 pub struct Turn<'a> {
     pub name: &'a [u8],
     /// How many loops stand around the loop.

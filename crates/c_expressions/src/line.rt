@@ -12,7 +12,7 @@ use c_tokens::limits::MAX_NAME;
 use directives::{Lexeme, Lexemes, PlacedLexeme, lower, same_lexeme};
 
 /// A token that does not fit.
-#[derive(Clone, Copy, Debug)]
+#[derive(Clone, Copy)]
 pub struct Misfit {
     pub code: ReadCode,
     pub column: usize,

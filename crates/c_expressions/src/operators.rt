@@ -13,7 +13,7 @@ use base::tree::{BinaryOp, DivideOp, ShiftOp};
 use c_tokens::Sign;
 
 /// An operator with any operand on its right.
-#[derive(Clone, Copy, Debug)]
+#[derive(Clone, Copy)]
 pub enum Operator {
     Or,
     And,
@@ -21,13 +21,13 @@ pub enum Operator {
 }
 
 /// An operator with a number on its right.
-#[derive(Clone, Copy, Debug)]
+#[derive(Clone, Copy)]
 pub enum Fraction {
     Shift(ShiftOp),
     Divide(DivideOp),
 }
 
-#[derive(Clone, Copy, Debug)]
+#[derive(Clone, Copy)]
 pub enum Infix {
     Operator(Operator),
     Fraction(Fraction),

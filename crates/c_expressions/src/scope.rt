@@ -6,7 +6,7 @@ use base::tree::{ArrayId, ScalarId};
 use std::alloc::Global;
 
 /// What a visible name means.
-#[derive(Clone, Copy, Debug)]
+#[derive(Clone, Copy)]
 pub enum Meaning {
     Array(ArrayId),
     /// Whether it is declared inside a target.
@@ -16,7 +16,7 @@ pub enum Meaning {
 }
 
 /// A name that is declared.
-#[derive(Clone, Copy, Debug)]
+#[derive(Clone, Copy)]
 pub struct Name<'a> {
     pub text: &'a [u8],
     pub meaning: Meaning,

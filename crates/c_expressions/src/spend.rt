@@ -13,7 +13,7 @@ use c_tokens::limits::{MAX_BRACKETS, MAX_NAME, MAX_TOKENS};
 const MAX_SHIFT: u64 = 63;
 
 /// How far an expression is read.
-#[derive(Clone, Copy, Debug)]
+#[derive(Clone, Copy)]
 pub struct Tally {
     /// Its tokens so far.
     pub tokens: u32,

@@ -7,7 +7,7 @@ ghost use Rattle.c_expressions.specs.Seen.{HasColumns, is_near, is_near_token, s
 use c_tokens::{Kind, Sign, Token};
 use directives::{Word, word_of};
 
-#[derive(Clone, Copy, Debug)]
+#[derive(Clone, Copy)]
 pub enum Terminal<'a> {
     Word(Word),
     Sign(Sign),

@@ -12,7 +12,7 @@ use Rattle.base.specs.Memory.{is_in, is_inside, overlaps, same_section}
 use Rattle.base.specs.Map.{Block, Fill, Memories, Move, Presence, Absent, Inside, InPart, counted, enter, entry, exit, exit_count, in_turn, leave, presence, update, when, with_cells, with_blocks, without, copy_in, copy_out}
 use Rattle.base.specs.Map.{Device, copies_from, copies_to, update}
 use Rattle.present.specs.declared.Table.{Table}
-use Rattle.present.specs.Blocks.{holder}
+use Rattle.base.specs.Blocks.{holder}
 use Rattle.present.specs.Table.{Shows, count_at}
 use Rattle.present.proofs.Moves.{created_move, entry_absent, entry_part, entry_there, exit_absent, exit_part, exit_there, ignored_move, lowered_move, raised_move}
 use Rattle.device.specs.Moves.{AreCounted, CountsAtMost, entered_by, opens_with}

@@ -7,7 +7,7 @@ ghost use Rattle.base.specs.Items.{plan};
 ghost use Rattle.base.specs.Headline.{AreNumbers};
 ghost use Rattle.base.specs.Machine.{enabled};
 ghost use Rattle.base.specs.declared.item.Event.TheVariants as event;
-ghost use Rattle.present.specs.Blocks.{holder};
+ghost use Rattle.base.specs.Blocks.{holder};
 ghost use Rattle.device.specs.Run.{IsStart, after, state_of};
 ghost use Rattle.device.specs.Running.{IsReached};
 

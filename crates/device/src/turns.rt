@@ -11,7 +11,7 @@ use base::item::Event;
 use machine::Machine;
 
 /// One event of a run, by its item. The end is the wait whose number is that of the items.
-#[derive(Clone, Copy, PartialEq, Eq, Debug)]
+#[derive(Clone, Copy)]
 pub enum Turn {
     Gen(u32),
     Open(u32),

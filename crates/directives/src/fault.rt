@@ -8,7 +8,7 @@ use std::alloc::{AllocError, AllocFailed};
 use thiserror::Error;
 
 /// A rule that a line breaks, and the column of the token that breaks it.
-#[derive(Clone, Copy, PartialEq, Eq, Debug, Error)]
+#[derive(Clone, Copy, Debug, Error)]
 #[error("{code} column {column}")]
 pub struct LineFault {
     pub code: ReadCode,
@@ -16,7 +16,7 @@ pub struct LineFault {
 }
 
 /// Why a line was not read.
-#[derive(Clone, Copy, PartialEq, Eq, Debug, Error)]
+#[derive(Clone, Copy, Debug, Error)]
 pub enum DirectiveFault {
     #[error(transparent)]
     Line(LineFault),

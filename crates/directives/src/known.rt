@@ -12,7 +12,7 @@ use c_tokens::limits::{MAX_DEPENDS, MAX_NAME, MAX_TERMS};
 use std::alloc::{AllocError, Global};
 
 /// What a token is there for.
-#[derive(Clone, Copy, Debug)]
+#[derive(Clone, Copy)]
 pub enum Act {
     Plain,
     /// A word after which a map, to or from clause must come.

@@ -13,7 +13,7 @@ use c_tokens::{
 };
 
 /// A token of such a line.
-#[derive(Clone, Copy, Debug)]
+#[derive(Clone, Copy)]
 pub enum Lexeme<'a> {
     Reserved(Word),
     Name(&'a [u8]),
@@ -26,7 +26,7 @@ pub enum Lexeme<'a> {
 }
 
 /// A token and its column.
-#[derive(Clone, Copy, Debug)]
+#[derive(Clone, Copy)]
 pub struct PlacedLexeme<'a> {
     pub lexeme: Lexeme<'a>,
     pub column: usize,

@@ -1,14 +1,14 @@
 //! A directive as it is written. Its names are not looked up.
 
 /// A name, and the column of its first byte.
-#[derive(Clone, Copy, Debug)]
+#[derive(Clone, Copy)]
 pub struct Name<'a> {
     pub text: &'a [u8],
     pub column: usize,
 }
 
 /// A term of a bound: a number, the name of a loop, or their product.
-#[derive(Clone, Copy, Debug)]
+#[derive(Clone, Copy)]
 pub enum Term<'a> {
     Literal(u64),
     Variable(Name<'a>),
@@ -16,27 +16,27 @@ pub enum Term<'a> {
 }
 
 /// A bound of a section, the sum of its terms.
-#[derive(Debug, Drop)]
+#[derive(Drop)]
 pub struct Bound<'a> {
     pub first: Term<'a>,
     pub more: Vec<Term<'a>>,
 }
 
 /// An array's section: its first cell and its length. With no bounds it is the whole array.
-#[derive(Debug, Drop)]
+#[derive(Drop)]
 pub struct Section<'a> {
     pub array: Name<'a>,
     pub bounds: Option<(Bound<'a>, Bound<'a>)>,
 }
 
 /// The sections of a clause, in the order of the source.
-#[derive(Debug, Drop)]
+#[derive(Drop)]
 pub struct Sections<'a> {
     pub first: Section<'a>,
     pub more: Vec<Section<'a>>,
 }
 
-#[derive(Clone, Copy, PartialEq, Eq, Debug)]
+#[derive(Clone, Copy)]
 pub enum MapType {
     To,
     From,
@@ -46,7 +46,7 @@ pub enum MapType {
     Delete,
 }
 
-#[derive(Clone, Copy, PartialEq, Eq, Debug)]
+#[derive(Clone, Copy)]
 pub enum DependType {
     In,
     Out,
@@ -54,32 +54,32 @@ pub enum DependType {
 }
 
 /// Which way an update copies: `to` or `from` the device.
-#[derive(Clone, Copy, PartialEq, Eq, Debug)]
+#[derive(Clone, Copy)]
 pub enum MotionType {
     To,
     From,
 }
 
-#[derive(Debug, Drop)]
+#[derive(Drop)]
 pub struct MapClause<'a> {
     pub always: bool,
     pub map_type: MapType,
     pub sections: Sections<'a>,
 }
 
-#[derive(Debug, Drop)]
+#[derive(Drop)]
 pub struct DependClause<'a> {
     pub depend_type: DependType,
     pub sections: Sections<'a>,
 }
 
-#[derive(Debug, Drop)]
+#[derive(Drop)]
 pub struct MotionClause<'a> {
     pub motion_type: MotionType,
     pub sections: Sections<'a>,
 }
 
-#[derive(Debug, Drop)]
+#[derive(Drop)]
 pub enum Clause<'a> {
     Map(MapClause<'a>),
     Depend(DependClause<'a>),
@@ -87,7 +87,7 @@ pub enum Clause<'a> {
     NoWait,
 }
 
-#[derive(Clone, Copy, PartialEq, Eq, Debug)]
+#[derive(Clone, Copy, PartialEq, Eq)]
 pub enum DirectiveKind {
     Target,
     TargetData,
@@ -99,7 +99,7 @@ pub enum DirectiveKind {
 
 /// A directive and its clauses, in the order of the source. Which clauses and types its kind takes is part of what
 /// `read_directive` ensures.
-#[derive(Debug, Drop)]
+#[derive(Drop)]
 pub struct Directive<'a> {
     pub kind: DirectiveKind,
     pub clauses: Vec<Clause<'a>>,

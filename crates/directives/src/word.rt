@@ -6,7 +6,7 @@ ghost use Rattle.c_grammar.specs.Lexeme.{word_of, word_number};
 ghost use Rattle.directives.specs.Seen.{seen_word};
 
 /// The reserved words.
-#[derive(Clone, Copy, Debug)]
+#[derive(Clone, Copy)]
 pub enum Word {
     Uint64,
     Int,

@@ -10,9 +10,10 @@ use Rattle.base.specs.Memory.{is_in}
 use Rattle.base.specs.Map.{Block as Present, Device, Fill, Memories, Move, Presence, Absent, Inside, InPart, presence, counted, entry, enter, in_turn, copy_in, when}
 use Rattle.present.specs.declared.Table.{Table}
 use Rattle.present.specs.declared.block.Block.{Block}
-use Rattle.present.specs.Blocks.{are_stored, has, holder, number_in, present, stored_at}
+use Rattle.present.specs.Blocks.{are_stored, has, number_in, present, stored_at}
+use Rattle.base.specs.Blocks.{holder}
 use Rattle.present.specs.Table.{Shows, with_created}
-use Rattle.present.proofs.Blocks.{holder_counted, holder_inside, holder_none, holder_some}
+use Rattle.base.proofs.Blocks.{holder_counted, holder_inside, holder_none, holder_some}
 use Rattle.present.proofs.Finds.{find_yes, find_no}
 use Rattle.present.proofs.Moves.{created_move, raised_move, entry_absent, entry_there, entry_part}
 use Rattle.present.proofs.Orders.{Stored, parts, stored_parts}

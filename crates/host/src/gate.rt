@@ -7,7 +7,7 @@ use kernel::{Done, run};
 use std::alloc::{AllocError, Global};
 
 /// What an item has come to when its thread asks the gate.
-#[derive(Clone, Copy, PartialEq, Eq, Debug)]
+#[derive(Clone, Copy)]
 pub enum Phase {
     Opened,
     Computed,

@@ -12,7 +12,7 @@ use std::thread;
 use std::thread::{Builder, Threads};
 
 /// Which items a thread opens.
-#[derive(Clone, Copy, PartialEq, Eq)]
+#[derive(Clone, Copy)]
 enum Role {
     Host,
     Worker,

@@ -16,7 +16,7 @@ use base::item::{Item, ItemKind, MapItem, Section};
 use std::alloc::{AllocError, Global};
 
 /// What a map item does on the present table, where it is met. A target's map item is entered and left.
-#[derive(Clone, Copy, PartialEq, Eq, Debug)]
+#[derive(Clone, Copy)]
 pub struct Acts {
     /// The block that has its section, or the section itself where it is absent.
     pub block: Section,

@@ -21,7 +21,7 @@ mod clash;
 mod rows;
 
 /// Why a program has no order.
-#[derive(Clone, Copy, PartialEq, Eq, Debug, Error)]
+#[derive(Clone, Copy, Debug, Error)]
 pub enum OrderBuildFault {
     #[error(transparent)]
     Clash(OrderFault),

@@ -6,9 +6,9 @@ use Rattle.base.specs.declared.item.Cell.{Cell}
 use Rattle.base.specs.declared.item.Section.{Section}
 use Rattle.base.specs.Memory.{is_in, same_section}
 use Rattle.base.specs.Map.{Block, counted, without, in_use}
-use Rattle.present.specs.Blocks.{holder, AreApart}
+use Rattle.base.specs.Blocks.{holder, AreApart}
 use Rattle.base.proofs.Sections.{same_parts, same_in, same_self}
-use Rattle.present.proofs.Blocks.{find_yes, find_no, has, other_than, holds}
+use Rattle.base.proofs.Blocks.{find_yes, find_no, has, other_than, holds}
 
 abbrev pub size : Block → ℕ
 size b = b.section.length

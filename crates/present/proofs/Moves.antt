@@ -6,7 +6,7 @@ use Rattle.base.specs.declared.item.Section.{Section}
 use Rattle.base.specs.declared.item.MapItem.{MapItem}
 use Rattle.base.specs.Memory.{is_inside}
 use Rattle.base.specs.Map.{Block, Move, Absent, Inside, InPart, presence, counted, without, entry, exit, entry_copies, exit_copies, exit_count}
-use Rattle.present.proofs.Blocks.{meets, judge, presence_is}
+use Rattle.base.proofs.Blocks.{meets, judge, presence_is}
 
 pub is_absent : (blocks : List Block) (s : Section) → find (meets s) blocks ≡ None → presence blocks s ≡ Absent
 is_absent blocks s e = presence_is blocks s ∙ ap (judge s) e

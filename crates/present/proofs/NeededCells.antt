@@ -9,12 +9,13 @@ use Rattle.base.specs.Memory.{is_in, is_inside, overlaps}
 use Rattle.base.specs.Map.{Block as Present, Device, Presence, Absent, Inside, InPart, presence, counted, entry, created, blocks_after, need}
 use Rattle.present.specs.declared.Table.{Table}
 use Rattle.present.specs.declared.block.Block.{Block}
-use Rattle.present.specs.Blocks.{IsSection, holder, present, stored_at}
+use Rattle.present.specs.Blocks.{IsSection, present, stored_at}
+use Rattle.base.specs.Blocks.{holder}
 use Rattle.present.specs.Table.{Shows}
 use Rattle.present.specs.Needed.{Covers, Meets, Takes, IsMetOr, IsFreeOr, IsNumber, Needs, in_one, is_taken}
 use Rattle.base.proofs.Sections.{common}
 use Rattle.present.proofs.Finds.{find_yes, find_no}
-use Rattle.present.proofs.Blocks.{meets, judge, presence_is, absent_from, holder_absent, holder_counted, holder_some, holder_none, counted_blocks, more_blocks}
+use Rattle.base.proofs.Blocks.{meets, judge, presence_is, absent_from, holder_absent, holder_counted, holder_some, holder_none, counted_apart, more_apart}
 use Rattle.present.proofs.Moves.{is_absent, entry_absent, entry_there, entry_part}
 
 none_of : {A : Type 0} (o : Option A) → is_some o ≡ false → o ≡ None
@@ -85,7 +86,7 @@ module _ (t : Table) (sections : List Section) (item : MapItem) (w : IsSection i
       subst (λ o. Covers t (item.section ∷ sections) (blocks_after blocks o)) (sym (entry_absent item blocks
       (free_absent f)))
       (record {
-        apart = more_blocks blocks (record { section = item.section; count = 1 }) h.apart w.has_cells
+        apart = more_apart blocks (record { section = item.section; count = 1 }) h.apart w.has_cells
             (λ c i. none_of (holder blocks c) (h.held c ∙ f c i));
         held = free_held f;
       })
@@ -115,7 +116,7 @@ module _ (t : Table) (sections : List Section) (item : MapItem) (w : IsSection i
           ∙ k.taken))
       go (Inside b) e = (
         subst (λ o. Covers t sections (blocks_after blocks o)) (sym (entry_there item blocks b e)) (record {
-          apart = counted_blocks blocks b.section (b.count + 1) h.apart;
+          apart = counted_apart blocks b.section (b.count + 1) h.apart;
           held = counted_held b.section (b.count + 1);
         }),
         ap created (entry_there item blocks b e),

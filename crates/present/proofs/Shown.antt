@@ -7,10 +7,11 @@ use Rattle.base.specs.declared.item.Section.{Section}
 use Rattle.base.specs.Memory.{View, is_in, is_inside, same_section, within}
 use Rattle.base.specs.Map.{Block as Present, Device, Absent, Inside, InPart, presence, counted, without}
 use Rattle.present.specs.declared.block.Block.{Block}
-use Rattle.present.specs.Blocks.{Show, holder, present, number_in, stored_at, has}
+use Rattle.present.specs.Blocks.{Show, present, number_in, stored_at, has}
+use Rattle.base.specs.Blocks.{holder}
 use Rattle.base.proofs.Sections.{inside_in, same_in, same_self, first_in}
 use Rattle.present.proofs.Finds.{find_yes, find_no}
-use Rattle.present.proofs.Blocks.{meets, holder_absent, holder_inside, absent_from, inside_found, holder_counted, holder_some, holder_none, holder_outside, holder_removed, counted_blocks, more_blocks, fewer_blocks}
+use Rattle.base.proofs.Blocks.{meets, holder_absent, holder_inside, absent_from, inside_found, holder_counted, holder_some, holder_none, holder_outside, holder_removed, counted_apart, more_apart, fewer_apart}
 use Rattle.present.proofs.Moves.{is_absent, is_there, is_part}
 use Rattle.present.proofs.InUse.{in_use_created, in_use_counted, in_use_removed}
 
@@ -128,7 +129,7 @@ module _ (bs after : List Block) (used : ℕ) (d : Device) (h : Show bs used d) 
   pub shows_created : Show after (used + new.section.length)
       (record { blocks = d.blocks ++ present new ∷ []; cells = within new.section numbers d.cells })
   shows_created = record {
-    apart = more_blocks d.blocks (present new) h.apart some (λ c e. held_none bs used d h c (none c e));
+    apart = more_apart d.blocks (present new) h.apart some (λ c e. held_none bs used d h c (none c e));
     blocks = created_holder;
     numbers = created_numbers;
     in_use = in_use_created d.blocks (present new) ∙ ap (λ n. n + new.section.length) h.in_use;
@@ -211,7 +212,7 @@ module _ (bs after : List Block) (used : ℕ) (d : Device) (h : Show bs used d) 
   pub shows_counted : ((c : Cell) → number_in c new ≡ number_in c old) →
       Show after used (record { blocks = map (counted old.section new.count) d.blocks; cells = d.cells })
   shows_counted v = record {
-    apart = counted_blocks d.blocks old.section new.count h.apart;
+    apart = counted_apart d.blocks old.section new.count h.apart;
     blocks = counted_holder;
     numbers = changed_numbers d.cells (λ c e. number_before c e ∙ sym (v c)) (λ c e. refl);
     in_use = in_use_counted d.blocks old.section new.count ∙ h.in_use;
@@ -271,7 +272,7 @@ module _ (bs after : List Block) (used less : ℕ) (d : Device) (h : Show bs use
       (held_some bs used d h first old (all first (first_in old.section some))) in
       let in_use = h.in_use in
       record {
-        apart = fewer_blocks d.blocks old.section h.apart;
+        apart = fewer_apart d.blocks old.section h.apart;
         blocks = removed_holder;
         numbers = removed_numbers;
         in_use = omega arith;

@@ -10,7 +10,7 @@ use Rattle.base.specs.Memory.{Memory, View, is_in, is_inside, overlaps, same_sec
 use Rattle.base.specs.Map.{Block as Present, Fill, Memories, Move, Presence, Absent, Inside, InPart, presence, counted, entry, entry_copies, enter, in_turn, copy_in, when}
 use Rattle.present.specs.Table.{with_created}
 use Rattle.base.proofs.Sections.{same_parts}
-use Rattle.present.proofs.Blocks.{meets, judge, presence_is, find_yes, find_no, holder_absent, holder_inside}
+use Rattle.base.proofs.Blocks.{meets, judge, presence_is, find_yes, find_no, holder_absent, holder_inside}
 use Rattle.present.proofs.NeededCells.{absent_found}
 use Rattle.present.proofs.Shown.{within_in, within_out}
 use Rattle.present.proofs.Moves.{created_move, raised_move, entry_absent, entry_there, entry_part}

@@ -11,7 +11,8 @@ use Rattle.base.specs.Map.{Block as Present, in_use}
 use Rattle.base.proofs.Places.{get_set_same}
 use Rattle.present.specs.declared.Table.{Table}
 use Rattle.present.specs.declared.block.Block.{Block}
-use Rattle.present.specs.Blocks.{IsSection, AreApart, are_stored, cells_in, has, holder, present, stored_at}
+use Rattle.present.specs.Blocks.{IsSection, are_stored, cells_in, has, present, stored_at}
+use Rattle.base.specs.Blocks.{AreApart, holder}
 use Rattle.present.specs.Change.{IsCountedAt, IsUncounted, CanUncount, blocks_of, with_count}
 use Rattle.present.specs.Table.{Shows, count_at, device_of}
 use Rattle.present.proofs.Finds.{find_yes, find_no}

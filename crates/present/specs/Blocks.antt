@@ -5,6 +5,7 @@ use Rattle.base.specs.declared.item.Cell.{Cell}
 use Rattle.base.specs.declared.item.Section.{Section}
 use Rattle.base.specs.Memory.{end_of, is_in}
 use Rattle.base.specs.Map.{Block as Present, Device, in_use}
+use Rattle.base.specs.Blocks.{AreApart, holder}
 use Rattle.present.specs.declared.block.Block.{Block}
 
 -- a section that has a cell and ends within 65,536 cells
@@ -50,19 +51,6 @@ present b = record { section = b.section; count = b.count }
 
 abbrev pub number_in : Cell → Block → Option ℕ
 number_in c b = slice_get b.values.items (c.index - b.section.first)
-
--- the present block that has a cell
-abbrev pub holder : List Present → Cell → Option Present
-holder blocks c = find (λ b. is_in c b.section) blocks
-
--- present blocks that have cells and share none
-abbrev pub AreApart : List Present → Type 0
-AreApart [] = Unit {0}
-AreApart (b ∷ rest) = record {
-  cells : 1 ≤ b.section.length;
-  apart : (c : Cell) → is_in c b.section ≡ true → holder rest c ≡ None;
-  rest : AreApart rest;
-}
 
 -- a device that has the same block and the same number at each cell, and as many cells with storage
 pub record Show (stored : List Block) (used : ℕ) (d : Device) : Type 0 where

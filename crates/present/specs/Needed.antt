@@ -9,7 +9,8 @@ use Rattle.base.specs.Map.{Block as Present, need}
 use Rattle.present.specs.declared.Table.{Table}
 use Rattle.present.specs.declared.needed.Created.{Created}
 use Rattle.present.specs.declared.needed.Created.TheVariants.{Nothing, Also'}
-use Rattle.present.specs.Blocks.{IsSection, AreApart, holder, stored_at}
+use Rattle.present.specs.Blocks.{IsSection, stored_at}
+use Rattle.base.specs.Blocks.{AreApart, holder}
 
 abbrev pub sections_in : Created → List Section
 sections_in Nothing = []

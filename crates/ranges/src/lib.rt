@@ -39,7 +39,7 @@ mod walk;
 const MOST_TURNS: u64 = 1_048_576;
 
 /// Why a region has no footprint.
-#[derive(Clone, Copy, PartialEq, Eq, Debug, Error)]
+#[derive(Clone, Copy, Debug, Error)]
 pub enum FootprintFault {
     #[error(transparent)]
     Range(RangeFault),

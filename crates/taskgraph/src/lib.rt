@@ -16,7 +16,7 @@ use std::marker::Model;
 mod cover;
 
 /// How far an item is.
-#[derive(Clone, Copy, PartialEq, Eq, Debug)]
+#[derive(Clone, Copy)]
 pub enum Stage {
     Untouched,
     Generated,
