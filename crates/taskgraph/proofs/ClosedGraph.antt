@@ -24,6 +24,25 @@ facts_at : (ts : List Task) (i : ℕ) (t : Task) → slice_get ts i ≡ Some t �
     slice_get (map task_facts ts) i ≡ Some (task_facts t)
 facts_at ts i t e = slice_get-map task_facts ts i ∙ ap (option_map task_facts) e
 
+-- as many of each as there are tasks
+pub record AsMany (ts : List Task) (ss : List Stage) (begins lasts missing : List ℕ) : Type 0 where
+  pub stages : length ss ≡ length ts
+  pub starts : length begins ≡ length ts
+  pub ends : length lasts ≡ length ts
+  pub counts : length missing ≡ length ts
+
+pub as_many : (ts : List Task) (ss : List Stage) (place : ℕ) (starts ends counts : List ℕ) (first : ℕ) →
+    IsGraph (board_of ts ss place) starts ends counts first → AsMany ts ss starts ends counts
+as_many ts ss place starts ends counts first g =
+    let tasks = length-map ts task_facts in
+    let works = length-map (map task_facts ts) work_of ∙ tasks in
+    record {
+      stages = g.counted.stages ∙ tasks;
+      starts = g.starts.0 ∙ works;
+      ends = g.ends.same ∙ works;
+      counts = g.counted.same ∙ tasks;
+    }
+
 pub in_counts : (ts : List Task) (ss : List Stage) (place : ℕ) (starts counts : List ℕ) (i : ℕ) →
     IsCounted (board_of ts ss place) starts counts → allows (board_of ts ss place) (Close i) ≡ true → (j : ℕ) → j < length ts →
     one_if (counted_in ts starts i j) ≤ slice_index counts j

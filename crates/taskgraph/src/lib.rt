@@ -245,30 +245,18 @@ fn is_counted(tasks: &[Task], starts: &[usize], item: usize, later: usize) -> bo
     starts[later] <= item && is_predecessor(&tasks[item], &tasks[later])
 }
 
-/// Takes the item from the counts of later ones, which lie before `end`.
-fn release(tasks: &[Task], starts: &[usize], missing: &mut [usize], item: usize, end: usize)
-    requires inside { item < length tasks.now }
-    requires end { end ≤ length tasks.now }
-    requires starts { length starts.now ≡ length tasks.now }
-    requires same { length missing.old ≡ length tasks.now }
-    requires past { (j : ℕ) → j < length tasks.now → counted_in tasks.now starts.now item j ≡ true → j < end }
-    requires counted { (j : ℕ) → j < length tasks.now → one_if (counted_in tasks.now starts.now item j) ≤ slice_index missing.old j }
-    ensures same { length missing.new ≡ length tasks.now }
-    ensures taken { (j : ℕ) → j < length tasks.now → slice_index missing.new j + one_if (counted_in tasks.now starts.now item j) ≡ slice_index missing.old j }
-{
-    'later: for later in item + 1..end {
-        if is_counted(tasks, starts, item, later) {
-            missing[later] -= 1;
-        }
-    }
+/// Whether an item at that stage with so many predecessors left is ready. No contract speaks of it.
+fn is_freed(stage: Stage, missing: usize) -> bool {
+    missing == 0 && stage == Stage::Generated
 }
 
-/// How many of the later items that waited for the item, which lie before `end`, are ready now.
-fn freed(
+/// Takes the item from the counts of later ones, which lie before `end`. The answer is how many of them are ready now, of
+/// which no contract speaks.
+fn release(
     tasks: &[Task],
     starts: &[usize],
     stages: &[Stage],
-    missing: &[usize],
+    missing: &mut [usize],
     item: usize,
     end: usize,
 ) -> usize
@@ -276,13 +264,18 @@ fn freed(
     requires end { end ≤ length tasks.now }
     requires starts { length starts.now ≡ length tasks.now }
     requires stages { length stages.now ≡ length tasks.now }
-    requires missing { length missing.now ≡ length tasks.now }
+    requires same { length missing.old ≡ length tasks.now }
+    requires past { (j : ℕ) → j < length tasks.now → counted_in tasks.now starts.now item j ≡ true → j < end }
+    requires counted { (j : ℕ) → j < length tasks.now → one_if (counted_in tasks.now starts.now item j) ≤ slice_index missing.old j }
+    ensures same { length missing.new ≡ length tasks.now }
+    ensures taken { (j : ℕ) → j < length tasks.now → slice_index missing.new j + one_if (counted_in tasks.now starts.now item j) ≡ slice_index missing.old j }
 {
     let mut free = 0usize;
-    for later in item + 1..end {
-        let is_generated = stages[later] == Stage::Generated;
-        if is_generated && missing[later] == 0 && is_counted(tasks, starts, item, later) {
-            free = free.wrapping_add(1);
+    'later: for later in item + 1..end {
+        if is_counted(tasks, starts, item, later) {
+            missing[later] -= 1;
+            let is_free = is_freed(stages[later], missing[later]);
+            free = free.wrapping_add(usize::from(is_free));
         }
     }
     free
@@ -480,16 +473,15 @@ impl Graph {
         self.stages[item] = Stage::Closed;
         if self.tasks[item].deferred {
             let end = self.ends[item];
-            release(&self.tasks, &self.starts, &mut self.missing, item, end);
-            self.first = first_left(&self.tasks, &self.stages, self.first, self.place);
-            let free = freed(
+            let free = release(
                 &self.tasks,
                 &self.starts,
                 &self.stages,
-                &self.missing,
+                &mut self.missing,
                 item,
                 end,
             );
+            self.first = first_left(&self.tasks, &self.stages, self.first, self.place);
             self.free = self.free.wrapping_add(free);
             return;
         }

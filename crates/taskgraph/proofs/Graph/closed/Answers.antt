@@ -1,7 +1,7 @@
 use Rattle.std.proofs.Common.{◌≡◌, ◌+◌, ◌<◌, ◌≤◌, ℕ, List, true, length, map, Some, sym, ap, subst, ◌∙◌, arith}
 use Rattle.std.specs.Prelude.{slice_get, slice_index}
 use Rattle.std.specs.List.{slice_set}
-use Rattle.std.proofs.lemmas.List.{length-map}
+use Rattle.std.proofs.lemmas.List.{length-map, length-set}
 use Rattle.std.proofs.lemmas.Grind.{get_or_default_zero}
 use Rattle.std.proofs.lemmas.Option.{slice_get-get_or}
 use Rattle.base.specs.declared.item.Event.TheVariants.{Close}
@@ -11,12 +11,98 @@ use Rattle.taskgraph.specs.declared.Stage.TheVariants as stage
 use Rattle.taskgraph.specs.Board.{Board, Stands, allows, task_facts, work_of}
 use Rattle.taskgraph.specs.Waiting.{AreClosed, IsFirst, IsGraph, board_of, counted_in, one_if}
 use Rattle.taskgraph.proofs.Events.{closed_below}
-use Rattle.taskgraph.proofs.ClosedGraph.{in_counts, host_left, task_left, host_follows, task_follows, host_here, written_back}
+use Rattle.taskgraph.proofs.ClosedGraph.{as_many, in_counts, host_left, task_left, host_follows, task_follows, host_here, written_back}
 use Rattle.taskgraph.proofs.Kept.{may_close}
 use Rattle.taskgraph.proofs.Graph.closed.Goals as goal
 
-pub release-requires-clause-counted : goal.release-requires-clause-counted
-release-requires-clause-counted c =
+pub index_mut-requires : goal.index_mut-requires
+index_mut-requires c =
+    let i = c.args.item in
+    let ts = c.self.inside.tasks.items in
+    let ss = c.self.inside.stages.items in
+    let p = c.self.inside.place in
+    let asked : allows (board_of ts ss p) (Close i) ≡ true =
+    subst (λ (x : Board). allows x (Close i) ≡ true) (sym c.self.view_is) c.requires in
+    let m = may_close (board_of ts ss p) i asked in
+    let many = as_many ts ss p c.self.inside.starts.items c.self.inside.ends.items c.self.inside.missing.items c.self.inside.first c.self.invariant in
+    omega (arith, m.inside, length-map ts task_facts, many.stages)
+
+pub index-requires : goal.index-requires
+index-requires c =
+    let i = c.args.item in
+    let ts = c.self.inside.tasks.items in
+    let ss = c.self.inside.stages.items in
+    let p = c.self.inside.place in
+    let asked : allows (board_of ts ss p) (Close i) ≡ true =
+    subst (λ (x : Board). allows x (Close i) ≡ true) (sym c.self.view_is) c.requires in
+    let m = may_close (board_of ts ss p) i asked in
+    omega (arith, m.inside, length-map ts task_facts)
+
+pub index-end-requires : goal.index-end-requires
+index-end-requires c =
+    let i = c.args.item in
+    let ts = c.self.inside.tasks.items in
+    let ss = c.self.inside.stages.items in
+    let p = c.self.inside.place in
+    let asked : allows (board_of ts ss p) (Close i) ≡ true =
+    subst (λ (x : Board). allows x (Close i) ≡ true) (sym c.self.view_is) c.requires in
+    let m = may_close (board_of ts ss p) i asked in
+    let many = as_many ts ss p c.self.inside.starts.items c.self.inside.ends.items c.self.inside.missing.items c.self.inside.first c.self.invariant in
+    omega (arith, m.inside, length-map ts task_facts, many.ends)
+
+pub release-free-requires-clause-inside : goal.release-free-requires-clause-inside
+release-free-requires-clause-inside c =
+    let i = c.args.item in
+    let ts = c.self.inside.tasks.items in
+    let ss = c.self.inside.stages.items in
+    let p = c.self.inside.place in
+    let asked : allows (board_of ts ss p) (Close i) ≡ true =
+    subst (λ (x : Board). allows x (Close i) ≡ true) (sym c.self.view_is) c.requires in
+    let m = may_close (board_of ts ss p) i asked in
+    subst (λ (xs : List Task). i < length xs) (sym c.deref.ensures.value) (omega (arith, m.inside, length-map ts task_facts))
+
+pub release-free-requires-clause-starts : goal.release-free-requires-clause-starts
+release-free-requires-clause-starts c =
+    let ts = c.self.inside.tasks.items in
+    let ss = c.self.inside.stages.items in
+    let many = as_many ts ss c.self.inside.place c.self.inside.starts.items c.self.inside.ends.items c.self.inside.missing.items c.self.inside.first c.self.invariant in
+    ap (λ (xs : List ℕ). length xs) c.deref-then-index.ensures.value ∙ many.starts
+    ∙ sym (ap (λ (xs : List Task). length xs) c.deref.ensures.value)
+
+pub release-free-requires-clause-stages : goal.release-free-requires-clause-stages
+release-free-requires-clause-stages c =
+    let ts = c.self.inside.tasks.items in
+    let ss = c.self.inside.stages.items in
+    let many = as_many ts ss c.self.inside.place c.self.inside.starts.items c.self.inside.ends.items c.self.inside.missing.items c.self.inside.first c.self.invariant in
+    ap (λ (xs : List Stage). length xs) c.deref-then-index-2.ensures.value ∙ length-set ss c.args.item stage.Closed ∙ many.stages
+    ∙ sym (ap (λ (xs : List Task). length xs) c.deref.ensures.value)
+
+pub release-free-requires-clause-same : goal.release-free-requires-clause-same
+release-free-requires-clause-same c =
+    let ts = c.self.inside.tasks.items in
+    let ss = c.self.inside.stages.items in
+    let many = as_many ts ss c.self.inside.place c.self.inside.starts.items c.self.inside.ends.items c.self.inside.missing.items c.self.inside.first c.self.invariant in
+    ap (λ (xs : List ℕ). length xs) c.deref_mut.ensures.value ∙ many.counts
+    ∙ sym (ap (λ (xs : List Task). length xs) c.deref.ensures.value)
+
+pub first_left-self-inside-requires-clause-same : goal.first_left-self-inside-requires-clause-same
+first_left-self-inside-requires-clause-same c =
+    let ts = c.self.inside.tasks.items in
+    let ss = c.self.inside.stages.items in
+    let many = as_many ts ss c.self.inside.place c.self.inside.starts.items c.self.inside.ends.items c.self.inside.missing.items c.self.inside.first c.self.invariant in
+    ap (λ (xs : List Stage). length xs) c.deref-then-index-4.ensures.value ∙ length-set ss c.args.item stage.Closed ∙ many.stages
+    ∙ sym (ap (λ (xs : List Task). length xs) c.deref-then-index-3.ensures.value)
+
+pub first_left-self-inside-requires-2-clause-same : goal.first_left-self-inside-requires-2-clause-same
+first_left-self-inside-requires-2-clause-same c =
+    let ts = c.self.inside.tasks.items in
+    let ss = c.self.inside.stages.items in
+    let many = as_many ts ss c.self.inside.place c.self.inside.starts.items c.self.inside.ends.items c.self.inside.missing.items c.self.inside.first c.self.invariant in
+    ap (λ (xs : List Stage). length xs) c.deref-3.ensures.value ∙ length-set ss c.args.item stage.Closed ∙ many.stages
+    ∙ sym (ap (λ (xs : List Task). length xs) c.deref-2.ensures.value)
+
+pub release-free-requires-clause-counted : goal.release-free-requires-clause-counted
+release-free-requires-clause-counted c =
     let i = c.args.item in
     let ts = c.self.inside.tasks.items in
     let ss = c.self.inside.stages.items in
@@ -32,8 +118,8 @@ release-requires-clause-counted c =
     (subst (λ (ns : List ℕ). (j : ℕ) → j < length ts → one_if (counted_in ts starts i j) ≤ slice_index ns j)
     (sym c.deref_mut.ensures.value) all))
 
-pub release-requires-clause-past : goal.release-requires-clause-past
-release-requires-clause-past c =
+pub release-free-requires-clause-past : goal.release-free-requires-clause-past
+release-free-requires-clause-past c =
     let i = c.args.item in
     let ts = c.self.inside.tasks.items in
     let ss = c.self.inside.stages.items in
@@ -53,8 +139,8 @@ release-requires-clause-past c =
     (λ j inside e. subst (λ n. j < n) end (c.self.invariant.ends.past i j
     (omega (arith, inside, length-map ts task_facts, length-map (map task_facts ts) work_of)) e)))
 
-pub release-requires-clause-end : goal.release-requires-clause-end
-release-requires-clause-end c =
+pub release-free-requires-clause-end : goal.release-free-requires-clause-end
+release-free-requires-clause-end c =
     let i = c.args.item in
     let ts = c.self.inside.tasks.items in
     let ss = c.self.inside.stages.items in
@@ -74,7 +160,7 @@ release-requires-clause-end c =
 pub first_left-self-inside-requires-clause-inside : goal.first_left-self-inside-requires-clause-inside
 first_left-self-inside-requires-clause-inside c =
     let ts = c.self.inside.tasks.items in
-    subst (λ (xs : List Task). c.self.inside.place ≤ length xs) (sym c.deref-then-index-2.ensures.value)
+    subst (λ (xs : List Task). c.self.inside.place ≤ length xs) (sym c.deref-then-index-3.ensures.value)
     (omega (arith, c.self.invariant.ordered.inside, length-map ts task_facts))
 
 pub first_left-self-inside-requires-clause-from : goal.first_left-self-inside-requires-clause-from
@@ -88,8 +174,8 @@ first_left-self-inside-requires-clause-below c =
     let p = c.self.inside.place in
     let asked : allows (board_of ts ss p) (Close i) ≡ true =
     subst (λ (x : Board). allows x (Close i) ≡ true) (sym c.self.view_is) c.requires in
-    subst (λ (xs : List Task). AreClosed (board_of xs c.deref-then-index-3.result.now p) c.self.inside.first) (sym c.deref-then-index-2.ensures.value)
-    (subst (λ (xs : List Stage). AreClosed (board_of ts xs p) c.self.inside.first) (sym c.deref-then-index-3.ensures.value)
+    subst (λ (xs : List Task). AreClosed (board_of xs c.deref-then-index-4.result.now p) c.self.inside.first) (sym c.deref-then-index-3.ensures.value)
+    (subst (λ (xs : List Stage). AreClosed (board_of ts xs p) c.self.inside.first) (sym c.deref-then-index-4.ensures.value)
     (closed_below (board_of ts ss p) c.self.inside.starts.items c.self.inside.ends.items c.self.inside.missing.items c.self.inside.first i p c.self.invariant asked))
 
 pub first_left-self-inside-requires-2-clause-inside : goal.first_left-self-inside-requires-2-clause-inside
@@ -136,23 +222,23 @@ invariant_of-self c =
     slice_get-get_or ts i c.index.result.now lt ∙ ap (λ (x : Task). Some x) (sym c.index.ensures) in
     let old = c.self.inside.missing.items in
     let starts = c.self.inside.starts.items in
-    let now = c.release.new.missing in
+    let now = c.release-free.new.missing in
     let taken : (j : ℕ) → j < length ts → slice_index now j + one_if (counted_in ts starts i j) ≡ slice_index old j =
     subst (λ (ns : List ℕ). (j : ℕ) → j < length ts → slice_index now j + one_if (counted_in ts starts i j) ≡ slice_index ns j)
     c.deref_mut.ensures.value
     (subst (λ (ns : List ℕ). (j : ℕ) → j < length ts → slice_index now j + one_if (counted_in ts ns i j) ≡ slice_index c.deref_mut.result.now j)
     c.deref-then-index.ensures.value
     (subst (λ (xs : List Task). (j : ℕ) → j < length xs → slice_index now j + one_if (counted_in xs c.deref-then-index.result.now i j) ≡ slice_index c.deref_mut.result.now j)
-    c.deref.ensures.value c.release.ensures.taken)) in
+    c.deref.ensures.value c.release-free.ensures.taken)) in
     let long : length now ≡ length ts =
-    c.release.ensures.same ∙ ap (λ (xs : List Task). length xs) c.deref.ensures.value in
+    c.release-free.ensures.same ∙ ap (λ (xs : List Task). length xs) c.deref.ensures.value in
     let back = written_back now old c.self.inside.missing.len c.self.inside.missing.ok.0
     (omega (arith, long, c.self.invariant.counted.same, length-map ts task_facts)) in
     let next = c.first_left-self-inside.result in
     let lowest : IsFirst (board_of ts (slice_set ss i stage.Closed) p) next =
-    subst (λ (xs : List Task). IsFirst (board_of xs (slice_set ss i stage.Closed) p) next) c.deref-then-index-2.ensures.value
-    (subst (λ (xs : List Stage). IsFirst (board_of c.deref-then-index-2.result.now xs p) next)
-    c.deref-then-index-3.ensures.value c.first_left-self-inside.ensures) in
+    subst (λ (xs : List Task). IsFirst (board_of xs (slice_set ss i stage.Closed) p) next) c.deref-then-index-3.ensures.value
+    (subst (λ (xs : List Stage). IsFirst (board_of c.deref-then-index-3.result.now xs p) next)
+    c.deref-then-index-4.ensures.value c.first_left-self-inside.ensures) in
     subst (λ (ns : List ℕ). IsGraph (board_of ts (slice_set ss i stage.Closed) p) starts c.self.inside.ends.items ns next) (sym back)
     (task_left ts ss p starts c.self.inside.ends.items old now c.self.inside.first next i c.index.result.now c.self.invariant
     asked t c.if-index.true long taken lowest)
