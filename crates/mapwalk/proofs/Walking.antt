@@ -1,6 +1,7 @@
 -- The walk, item by item.
 use Rattle.std.proofs.Common.{◌≡◌, ◌≢◌, ℕ, zero, suc, ◌+◌, ◌<◌, ◌==◌, Bool, true, false, List, [], ◌∷◌, ◌++◌, length, take, drop, get_or, Option, Some, None, refl, sym, ap, ◌∙◌, subst, arith, append_assoc, add-one}
 use Rattle.std.specs.Prelude.{slice_get}
+use Rattle.std.proofs.Math.Seq.{take-append_seam}
 use Rattle.base.specs.declared.item.Cell.{Cell}
 use Rattle.base.specs.declared.item.Item.{Item}
 use Rattle.base.specs.declared.fault.RangeFault.{RangeFault}
@@ -97,6 +98,14 @@ pub record Reached (plan : Plan) (i : ℕ) (blocks : List Block) (k : Current) (
   pub count : length rows ≡ i
   pub agree : Agree plan.lengths k (current_before plan i)
   pub clean : (j : ℕ) → j < i → IsClean plan j
+
+-- the rows so far are those of the items so far
+pub rows_before : (plan : Plan) (i : ℕ) (blocks : List Block) (k : Current) (rows : List (List Acts)) →
+    Reached plan i blocks k rows → rows ≡ take i (acts_rows plan.items [])
+rows_before plan i blocks k rows r =
+    let rest = acts_rows (drop i plan.items) blocks in
+    sym (ap (λ (xs : List (List Acts)). take i xs) (sym r.rows_left) ∙ ap (λ n. take n (rows ++ rest)) (sym r.count)
+    ∙ take-append_seam rows rest)
 
 pub stage_at : (plan : Plan) (i : ℕ) (blocks : List Block) (k : Current) (rows : List (List Acts)) (w : Work) →
     Reached plan i blocks k rows → slice_get plan.items i ≡ Some w → slice_get (stages plan) i ≡ Some (stage_of w blocks)

@@ -1,8 +1,10 @@
-use Rattle.std.proofs.Common.{rules, ◌≡◌, ◌+◌, ◌<◌, ◌≤◌, ◌∷◌, [], length, map, sym, ap, ◌∙◌, subst, arith}
-use Rattle.std.proofs.lemmas.List.{length-map, map-append, places}
+use Rattle.std.proofs.Common.{◌≡◌, ◌+◌, ◌<◌, ◌≤◌, ◌∷◌, [], length, map, take, sym, ap, ◌∙◌, subst, arith}
+use Rattle.std.proofs.lemmas.List.{length-map, map-append}
 use Rattle.base.specs.Items.{plan}
 use Rattle.outline.specs.Regions.{entries_of}
 use Rattle.mapwalk.specs.declared.steps.Step.{Step}
+use Rattle.base.specs.declared.fault.Refusal.{Refusal}
+use Rattle.mapwalk.specs.Acts.{acts_rows}
 use Rattle.mapwalk.specs.Causes.{refusal_of}
 use Rattle.mapwalk.specs.Sides.{shown_by}
 use Rattle.mapwalk.specs.Steps.{StepIs}
@@ -14,8 +16,25 @@ use Rattle.mapwalk.proofs.Prints.{at_inside, found_at}
 use Rattle.mapwalk.proofs.Endings.{marked_at_end}
 use Rattle.mapwalk.proofs.Refusals.{first_alone, none_refused}
 use Rattle.mapwalk.proofs.SideRows.{lengths_count}
-use Rattle.mapwalk.proofs.Walking.{Reached, as_many, next, work_at}
+use Rattle.mapwalk.proofs.Walking.{Reached, as_many, next, rows_before, work_at}
 use Rattle.mapwalk.proofs.walk_with.Goals as goal
+
+pub bounds-found-len : goal.bounds-found-len
+bounds-found-len c =
+    let p = c.args.outlined.now in
+    let i = c.items.item-index in
+    let at = work_at (entries_of p) c.items-item-items.result.now (plan p).items i c.item-item.result
+    c.items-item-items.ensures.shown c.items-test.true c.item-item.is in
+    let place : c.len.result ≡ i = c.len.ensures ∙ c.items.acts.ok.0 ∙ sym (length-map c.items.acts.items row_items)
+    ∙ c.items.invariant.reached.count in
+    at_inside (plan p) i at.work c.args.found.now c.len.result c.requires.found at.there place
+
+pub step-requires-clause-room : goal.step-requires-clause-room
+step-requires-clause-room c =
+    let few = c.items-item-items.ensures.few in omega (arith, few, c.items-test.true, c.items.invariant.entries)
+
+pub step-requires-clause-few : goal.step-requires-clause-few
+step-requires-clause-few c = c.items.invariant.few
 
 pub step-requires-clause-within : goal.step-requires-clause-within
 step-requires-clause-within c =
@@ -23,14 +42,30 @@ step-requires-clause-within c =
     let i = c.items.item-index in
     let at = work_at (entries_of p) c.items-item-items.result.now (plan p).items i c.item-item.result
     c.items-item-items.ensures.shown c.items-test.true c.item-item.is in
-    let many : c.len.result ≡ length c.items.acts.items = search (rules, places) in
-    let place : c.len.result ≡ i = many ∙ sym (length-map c.items.acts.items row_items) ∙ c.items.invariant.reached.count in
+    let place : c.len.result ≡ i = c.len.ensures ∙ c.items.acts.ok.0 ∙ sym (length-map c.items.acts.items row_items)
+    ∙ c.items.invariant.reached.count in
     let count = c.requires.found.count in
     let inside : c.len.result < length c.args.found.now = at_inside (plan p) i at.work c.args.found.now c.len.result
     c.requires.found at.there place in
     let found = found_at (plan p) c.args.found.now i c.len.result at.work c.index-found-len.result c.requires.found at.there place
     inside c.index-found-len.is in
     subst (λ ls. IfSome c.index-found-len.result (IsWithin ls)) (sym c.items.invariant.lengths) found.within
+
+pub overflow_cast-len : goal.overflow_cast-len
+overflow_cast-len c =
+    let place : c.len-in-Refused.result ≡ c.items.item-index = c.len-in-Refused.ensures ∙ c.items.acts.ok.0
+    ∙ sym (length-map c.items.acts.items row_items) ∙ c.items.invariant.reached.count in
+    let few = c.items-item-items.ensures.few in
+    omega (arith, place, few, c.items-test.true)
+
+pub returns-in-Refused-clause-acts : goal.returns-in-Refused-clause-acts
+returns-in-Refused-clause-acts c =
+    let p = plan c.args.outlined.now in
+    let rows = map row_items c.items.acts.items in
+    let place : c.refusal-fault.result.item ≡ c.items.item-index = ap (λ (r : Refusal). r.item) c.refusal-fault.ensures
+    ∙ c.len-in-Refused.ensures ∙ c.items.acts.ok.0 ∙ sym (length-map c.items.acts.items row_items) ∙ c.items.invariant.reached.count in
+    subst (λ n. rows ≡ take n (acts_rows p.items [])) (sym place)
+    (rows_before p c.items.item-index (blocks_of c.items.state.blocks) (shown_by c.items.state.sides) rows c.items.invariant.reached)
 
 pub returns-in-Refused-clause-fault : goal.returns-in-Refused-clause-fault
 returns-in-Refused-clause-fault c =
@@ -39,14 +74,15 @@ returns-in-Refused-clause-fault c =
     let at = work_at (entries_of p) c.items-item-items.result.now (plan p).items i c.item-item.result
     c.items-item-items.ensures.shown c.items-test.true c.item-item.is in
     let rows = map row_items c.items.acts.items in
-    let many : c.len.result ≡ length c.items.acts.items = search (rules, places) in
-    let place : c.len.result ≡ i = many ∙ sym (length-map c.items.acts.items row_items) ∙ c.items.invariant.reached.count in
+    let place : c.len.result ≡ i = c.len.ensures ∙ c.items.acts.ok.0 ∙ sym (length-map c.items.acts.items row_items)
+    ∙ c.items.invariant.reached.count in
     let inside : c.len.result < length c.args.found.now = at_inside (plan p) i at.work c.args.found.now c.len.result
     c.requires.found at.there place in
     let found = found_at (plan p) c.args.found.now i c.len.result at.work c.index-found-len.result c.requires.found at.there place
     inside c.index-found-len.is in
-    let again : c.len-in-Refused.result ≡ length c.items.acts.items = search (rules, places) in
-    subst (IsFirstAlone (plan p)) (sym (c.refusal-fault.ensures ∙ ap (refusal_of c.in-Refused.cause) (again ∙ sym many ∙ place)))
+    let again : c.len-in-Refused.result ≡ i = c.len-in-Refused.ensures ∙ c.items.acts.ok.0
+    ∙ sym (length-map c.items.acts.items row_items) ∙ c.items.invariant.reached.count in
+    subst (IsFirstAlone (plan p)) (sym (c.refusal-fault.ensures ∙ ap (refusal_of c.in-Refused.cause) again))
     (first_alone (plan p) i (blocks_of c.items.state.blocks) (shown_by c.items.state.sides) rows at.work c.in-Refused.cause
     c.requires.fine at.there c.items.invariant.reached
     (subst (λ (s : Step). StepIs at.work c.items.state c.step.new.self s) c.in-Refused.is (c.in_ok-row.ensures.step (entries_of p) at.work at.is found.touches)))
@@ -58,8 +94,8 @@ items-preserved c =
     let at = work_at (entries_of p) c.items-item-items.result.now (plan p).items i c.item-item.result
     c.items-item-items.ensures.shown c.items-test.true c.item-item.is in
     let rows = map row_items c.items.acts.items in
-    let many : c.len.result ≡ length c.items.acts.items = search (rules, places) in
-    let place : c.len.result ≡ i = many ∙ sym (length-map c.items.acts.items row_items) ∙ c.items.invariant.reached.count in
+    let place : c.len.result ≡ i = c.len.ensures ∙ c.items.acts.ok.0 ∙ sym (length-map c.items.acts.items row_items)
+    ∙ c.items.invariant.reached.count in
     let inside : c.len.result < length c.args.found.now = at_inside (plan p) i at.work c.args.found.now c.len.result
     c.requires.found at.there place in
     let found = found_at (plan p) c.args.found.now i c.len.result at.work c.index-found-len.result c.requires.found at.there place
@@ -83,6 +119,16 @@ items-preserved c =
       few = omega arith;
       lengths = same ∙ c.items.invariant.lengths;
     }
+
+pub returns-clause-acts : goal.returns-clause-acts
+returns-clause-acts c =
+    let p = c.args.outlined.now in
+    let rows = map row_items c.items.acts.items in
+    let same = as_many (entries_of p) c.items-item-items.result.now (plan p).items c.items-item-items.ensures.shown in
+    let last : length (plan p).items ≡ c.items.item-index = omega (arith, same, c.items-test.false, c.items.auto.item-index-end) in
+    subst (λ n. rows ≡ take n (acts_rows (plan p).items [])) (sym last)
+    (rows_before (plan p) c.items.item-index (blocks_of c.items.state.blocks) (shown_by c.items.state.sides) rows
+    c.items.invariant.reached)
 
 pub returns-clause-sound : goal.returns-clause-sound
 returns-clause-sound c =
