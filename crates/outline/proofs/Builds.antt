@@ -1,5 +1,5 @@
 -- An outline keeps what it was built from.
-use Rattle.std.proofs.Common.{◌≡◌, ℕ, ◌<◌, ◌≤◌, ◌^◌, min, List, [], map, length, Some, sym, ap, ◌∙◌, arith, append-nil}
+use Rattle.std.proofs.Common.{◌≡◌, ℕ, ◌<◌, ◌≤◌, ◌^◌, min, List, [], map, length, Some, sym, ap, ◌∙◌, arith}
 use Rattle.std.proofs.lemmas.List.{length-map}
 use Rattle.base.specs.declared.item.Item.{Item}
 use Rattle.base.specs.declared.tree.Part.{Part}
@@ -9,7 +9,7 @@ use Rattle.base.specs.Meaning.{lengths_of}
 use Rattle.base.specs.Items.{Work, plan}
 use Rattle.base.specs.Limits.{most_items}
 use Rattle.outline.specs.declared.RegionEntry.{RegionEntry}
-use Rattle.outline.specs.Regions.{Entry, StandAt, entry_of, list_entries, entries_of}
+use Rattle.outline.specs.Regions.{Entry, entry_of, list_entries, entries_of}
 use Rattle.outline.specs.Outline.{IsOutline}
 use Rattle.outline.specs.Parts.{parts_items}
 use Rattle.outline.specs.Shown.{shown, all_shown, as_shown}

@@ -3,7 +3,7 @@ use Rattle.std.proofs.lemmas.Grind.{common_steps}
 use Rattle.std.proofs.lemmas.List.{length-map}
 use Rattle.std.proofs.lemmas.Result.{on_ok_weaker}
 use Rattle.base.specs.declared.tree.Part.TheViews.{the_lemmas}
-use Rattle.base.specs.Items.{host_work, items_of}
+use Rattle.base.specs.Items.{alone_work, host_work, items_of, target_work}
 use Rattle.outline.specs.Regions.{part_entries}
 use Rattle.outline.specs.Walk.{entries_in}
 use Rattle.outline.proofs.Stands.{stand_is, stand_next, stand_fits}
@@ -108,3 +108,27 @@ add_part-returns-in_ok-push-in-Host-clause-items t c =
     (stand_is (entries_in c.args.known.now) c.args.first _ _
     (ap (λ p. part_entries c.args.known.now.counts.scalars c.args.known.now.counts.arrays p) c.in-Host.is) c.requires)
     ∙ ap (λ ls. Some (host_work c.in-Host.field-0 ls)) c.deref.ensures.value))
+
+pub add_part-target_item-requires : goal.add_part-target_item-requires
+add_part-target_item-requires t c =
+    stand_is (entries_in c.args.known.now) c.args.first _ _
+    (ap (λ p. part_entries c.args.known.now.counts.scalars c.args.known.now.counts.arrays p) c.in-Target.is) c.requires
+
+pub add_part-returns-in_ok-push-in-Target-clause-items : goal.add_part-returns-in_ok-push-in-Target-clause-items
+add_part-returns-in_ok-push-in-Target-clause-items t c =
+    let lengths = c.args.known.now.lengths.now in
+    added_is (entries_in c.args.known.now) _ _ _ _ (ap (λ p. items_of p lengths c.args.loops.now.items) (sym c.in-Target.is))
+    (added_one (entries_in c.args.known.now) _ _ _ _ c.in_ok-push-in-Target.ensures.items
+    (c.in_ok-target_item-in-Target.ensures
+    ∙ ap (λ ls. Some (target_work lengths c.in-Target.target c.in-Target.region ls)) c.deref-in-Target.ensures.value))
+
+pub add_part-returns-in_ok-push-in-Alone-clause-items : goal.add_part-returns-in_ok-push-in-Alone-clause-items
+add_part-returns-in_ok-push-in-Alone-clause-items t c =
+    let lengths = c.args.known.now.lengths.now in
+    added_is (entries_in c.args.known.now) _ _ _ _ (ap (λ p. items_of p lengths c.args.loops.now.items) (sym c.in-Alone.is))
+    (added_one (entries_in c.args.known.now) _ _ _ _ c.in_ok-push-in-Alone.ensures.items
+    (c.in_ok-alone_item-in-Alone.ensures
+    ∙ ap (λ ls. Some (alone_work lengths c.in-Alone.directive ls)) c.deref-in-Alone.ensures.value))
+
+pub add_turns-overflow_add-v : goal.add_turns-overflow_add-v
+add_turns-overflow_add-v t c = omega (arith, c.args.bounds.no_wrap, c.turns-test.true)
