@@ -136,10 +136,12 @@ pub(crate) fn build<'a>(
     requires reaches { Reaches.AreReaches (plan outlined.now) reaches.now }
     ensures { IfOk result (λ image. image ≡ outlined.now) }
 {
+    let no_code = compile(alloc, outlined.no_region())?;
+    let codes = codes(alloc, outlined)?;
     Ok(Image {
         outlined,
-        no_code: compile(alloc, outlined.no_region())?,
-        codes: codes(alloc, outlined)?,
+        no_code,
+        codes,
         marked,
         reaches,
     })

@@ -20,6 +20,5 @@ pub fn lower<'a>(alloc: Global, accepted: &'a Accepted<'a>) -> Result<Image<'a>,
 {
     accepted.is_accepted();
     let marked = current_at_end(alloc, accepted)?;
-    let image = build(alloc, accepted.outlined(), marked, accepted.reaches())?;
-    Ok(image)
+    build(alloc, accepted.outlined(), marked, accepted.reaches())
 }
