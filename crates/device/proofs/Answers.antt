@@ -1,8 +1,8 @@
 -- What a whole run by choices answers.
-use Rattle.std.proofs.Common.{◌≡◌, ℕ, zero, suc, ◌+◌, ◌<◌, Bool, true, false, List, [], ◌∷◌, ◌++◌, length, map, take, add-one, get_or, Some, refl, sym, ap, ap₂, ◌∙◌, subst, arith}
+use Rattle.std.proofs.Common.{◌≡◌, ℕ, zero, suc, ◌+◌, ◌<◌, Bool, true, false, List, [], ◌∷◌, ◌++◌, length, map, take, add-one, get_or, Some, Vec, Global, refl, sym, ap, ap₂, ◌∙◌, subst, arith}
 use Rattle.std.specs.Prelude.{cond, filter, decimal, nat_lt, slice_index}
 use Rattle.std.specs.List.{range_with_len}
-use Rattle.std.proofs.lemmas.List.{append_assoc, append-nil}
+use Rattle.std.proofs.lemmas.List.{append_assoc, append-nil, map-append, take_more}
 use Rattle.std.proofs.lemmas.Bool.Decides.{nat_tests}
 use Rattle.base.specs.declared.item.Answer.{Answer}
 use Rattle.base.specs.declared.item.Cell.{Cell}
@@ -21,11 +21,25 @@ use Rattle.base.specs.Answer.{IsAnswer, array_values, marked_values}
 use Rattle.headline.proofs.Headline.{headline}
 use Rattle.mapcheck.specs.Third.{AreMarked}
 use Rattle.mapwalk.specs.Walk.{array_number}
-use Rattle.device.specs.Answering.{IsAnswerFault, IsAnswerOf, IsRunAnswer}
+use Rattle.device.specs.Answering.{IsAnswerFault, IsAnswerOf, IsRunAnswer, final_in, final_of, values_in}
 use Rattle.device.specs.Choosing.{IsPlayed, IsStopped, gone_on, most_events}
 use Rattle.device.specs.Run.{IsStart, Run, fill_in, state_of}
 use Rattle.device.specs.Running.{IsReached}
 use Rattle.device.proofs.Reaching.{leads_to}
+
+-- the numbers of one array more
+pub final_more : (r : Run) (arrays : List ArrayId) (k : ℕ) (d : ArrayId) (finals more : List (ArrayId × Vec ℕ Global)) (values : Vec ℕ Global) →
+    k < length arrays → map final_of finals ≡ map (final_in r) (take k arrays) →
+    more ≡ finals ++ (get_or arrays k d, values) ∷ [] → values.items ≡ values_in r (get_or arrays k d) →
+    map final_of more ≡ map (final_in r) (take (k + 1) arrays)
+final_more r arrays k d finals more values lt before pushed shown =
+    let a = get_or arrays k d in
+    let first = map (final_in r) (take k arrays) in
+    ap (λ xs. map final_of xs) pushed ∙ map-append final_of finals ((a, values) ∷ [])
+    ∙ ap (λ xs. xs ++ (a.0, values.items) ∷ []) before
+    ∙ ap (λ vs. first ++ (a.0, vs) ∷ []) shown
+    ∙ sym (map-append (final_in r) (take k arrays) (a ∷ []))
+    ∙ ap (λ xs. map (final_in r) xs) (sym (take_more arrays k d lt))
 
 -- the output with one more number
 pub output_more : (xs : List ℕ) (k d : ℕ) → k < length xs →

@@ -1,5 +1,5 @@
 -- What is known of the frame that was issued for an open item, and of what was run on it.
-use Rattle.std.proofs.Common.{◌≡◌, ℕ, true, List, [], map, Option, Some, None, refl, sym, ap, ◌∙◌, subst, get_or}
+use Rattle.std.proofs.Common.{◌≡◌, ◌<◌, length, ℕ, true, List, [], map, Option, Some, None, refl, sym, ap, ◌∙◌, subst, get_or}
 use Rattle.std.specs.Prelude.{IsSome, option_map, slice_get, slice_index}
 use Rattle.std.proofs.lemmas.Option.{same_Some, slice_get-map}
 use Rattle.base.specs.declared.item.Event.TheVariants as event
@@ -27,7 +27,7 @@ use Rattle.device.specs.Running.{Shows, run_of}
 use Rattle.device.specs.Same.{same_list}
 use Rattle.device.specs.Standing.{Issue, IsAt, done_on, frame_parts, issue_of}
 use Rattle.device.proofs.FrameParts.{done_alike}
-use Rattle.device.proofs.MayClose.{CloseFacts, cells, close_facts, frame_is, goes_out, left_by, runs}
+use Rattle.device.proofs.MayClose.{inside_close, CloseFacts, cells, close_facts, frame_is, goes_out, left_by, runs}
 use Rattle.device.proofs.SameRuns.{list_itself, list_means, none_same}
 
 -- a frame that is kept and has these parts
@@ -107,6 +107,12 @@ pub record CanClose (s : Inside) (i : ℕ) (it : Item) (k : Kept) : Type 0 where
   pub goes : it.kind ≡ kind.Target → GoesOut k.stored it.maps.items s.standing
   pub cells : AreCells (lengths_of s.standing.host) k.stored
   pub follows : (new : Standing) → FollowsClose s.standing i it k new → IsAt (plan (run_of s).program) new facts.next.state
+
+pub inside_left : (s : Inside) (v : Run) (i : ℕ) (entries : List Entry) (its : List Item) (k : Kept) → run_of s ≡ v → Shows s →
+    IsLeft v i k → all_shown entries its ≡ as_shown (plan (run_of s).program).items → i < length its
+inside_left s v i entries its k is h left e =
+    inside_close s v i entries its is h
+    (ap (λ j. enabled (plan v.program) (state_of v) (event.Close j)) (sym left.of_item) ∙ left.issued.is_open) e
 
 pub can_close : (s : Inside) (v : Run) (i : ℕ) (entries : List Entry) (its : List Item) (it : Item) (k : Kept) → run_of s ≡ v → Shows s →
     IsLeft v i k → all_shown entries its ≡ as_shown (plan (run_of s).program).items → it ≡ get_or its i it → CanClose s i it k

@@ -69,6 +69,17 @@ snapshot_in (Generated a) = λ c. None
 snapshot_in Closed = λ c. None
 snapshot_in Passed = λ c. None
 
+-- an item that may be closed is one of the items
+pub inside_close : (s : Inside) (v : Run) (i : ℕ) (entries : List Entry) (its : List Item) → run_of s ≡ v → Shows s →
+    enabled (plan v.program) (state_of v) (event.Close i) ≡ true → all_shown entries its ≡ as_shown (plan (run_of s).program).items →
+    i < length its
+inside_close s v i entries its is h may e =
+    let p = plan (run_of s).program in
+    let f = on_true p i (λ w. is_open ((state_of (run_of s)).condition i)) (asked s v (event.Close i) is may) in
+    let many = as_many entries its p.items e in
+    let inside = slice_get_within p.items i f.0 f.1 in
+    omega arith
+
 -- all that is known where an item is closed
 pub record CloseFacts (s : Inside) (i : ℕ) (it : Item) : Type 0 where
   pub going : s.standing.ended ≡ false
@@ -116,15 +127,10 @@ close_facts s v i entries its it is h may e at = record {
     o : OpenAt ((state_of (run_of s)).condition i)
     o = open_at ((state_of (run_of s)).condition i) f.2
 
-    lt : i < length its
-    lt =
-        let many = as_many entries its (plan (run_of s).program).items e in
-        let inside = slice_get_within (plan (run_of s).program).items i f.0 f.1 in omega arith
-
     k : IsItem (run_of s) s.standing i it
     k =
         is_item (run_of s) s.standing h entries its e i it f.0
-        (slice_get-get_or its i it lt ∙ ap (λ (x : Item). Some x) (sym at)) f.1
+        (slice_get-get_or its i it (inside_close s v i entries its is h may e) ∙ ap (λ (x : Item). Some x) (sym at)) f.1
 
 module _ (s : Inside) (i : ℕ) (it : Item) (h : Shows s) (f : CloseFacts s i it) where
   -- the frame that is kept is that of the item

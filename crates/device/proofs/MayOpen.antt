@@ -226,6 +226,16 @@ module _ (r : Run) (now : Standing) (i : ℕ) (it : Item) (h : IsRunning r now) 
           let all = h.room in
           lt_false r.capacity (in_use d.blocks + need k.work.maps d.blocks) (omega arith)
 
+-- an item that may be opened is one of the items
+pub inside_open : (s : Inside) (v : Run) (i : ℕ) (entries : List Entry) (its : List Item) → run_of s ≡ v → Shows s →
+    enabled (plan v.program) (state_of v) (event.Open i) ≡ true → all_shown entries its ≡ as_shown (plan (run_of s).program).items →
+    i < length its
+inside_open s v i entries its is h may e =
+    let o = may_open (run_of s) s.standing i h (asked s v (event.Open i) is may) in
+    let many = as_many entries its (plan (run_of s).program).items e in
+    let inside = slice_get_within (plan (run_of s).program).items i o.work o.is in
+    omega arith
+
 -- all that is known where an item is opened
 pub record Facts (s : Inside) (i : ℕ) (it : Item) : Type 0 where
   pub open' : MayOpen (run_of s) s.standing i
@@ -241,15 +251,10 @@ facts s v i entries its it is h may e at =
     o : MayOpen (run_of s) s.standing i
     o = may_open (run_of s) s.standing i h (asked s v (event.Open i) is may)
 
-    lt : i < length its
-    lt =
-        let many = as_many entries its (plan (run_of s).program).items e in
-        let inside = slice_get_within (plan (run_of s).program).items i o.work o.is in omega arith
-
     k : IsItem (run_of s) s.standing i it
     k =
         is_item (run_of s) s.standing h entries its e i it o.work
-        (slice_get-get_or its i it lt ∙ ap (λ (x : Item). Some x) (sym at)) o.is
+        (slice_get-get_or its i it (inside_open s v i entries its is h may e) ∙ ap (λ (x : Item). Some x) (sym at)) o.is
 
 -- the item that is known is the one that waits
 pub same_work : (s : Inside) (i : ℕ) (it : Item) → (f : Facts s i it) → is_waiting f.item.work.deferred ((state_of (run_of s)).condition i) ≡ true

@@ -24,7 +24,6 @@ fn add_line(alloc: Global, out: &mut Vec<u8>, n: u64) -> Result<(), AllocError>
     Ok(())
 }
 
-#[tactic(auto, using(crate::proofs::Answers::output_more))]
 // The output's bytes.
 fn text_of(alloc: Global, printed: &[u64]) -> Result<Vec<u8>, AllocError>
     ensures { IfOk result (λ out. out.items ≡ output_of printed.now) }
@@ -88,10 +87,13 @@ impl<'a> RunState<'a> {
     fn answer_with(&self, alloc: Global, arrays: &[ArrayId]) -> Result<Answer, AllocError>
         ensures { IfOk result (IsAnswerOf self.now arrays.now) }
     {
+        let out = text_of(alloc, self.output())?;
+        let finals = self.finals_of(alloc, arrays)?;
+        let history = copy_of(alloc, self.history())?;
         Ok(Answer {
-            out: text_of(alloc, self.output())?,
-            finals: self.finals_of(alloc, arrays)?,
-            history: copy_of(alloc, self.history())?,
+            out,
+            finals,
+            history,
         })
     }
 

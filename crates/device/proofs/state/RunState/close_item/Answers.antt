@@ -1,6 +1,7 @@
-use Rattle.std.proofs.Common.{◌≡◌, ◌∙◌, Some, sym, ap, subst}
+use Rattle.std.proofs.Common.{◌≡◌, ◌∙◌, Some, sym, ap, subst, arith}
 use Rattle.std.specs.Prelude.{slice_get}
-use Rattle.std.proofs.lemmas.Option.{slice_get-get_or}
+use Rattle.std.proofs.lemmas.Option.{slice_get-get_or, slice_get_within}
+use Rattle.base.specs.Items.{plan}
 use Rattle.kernel.specs.Kept.{IsKept}
 use Rattle.base.specs.declared.item.Event.TheVariants as event
 use Rattle.device.specs.declared.standing.Held.{Held}
@@ -8,9 +9,28 @@ use Rattle.device.specs.Closing.{left_in}
 use Rattle.device.specs.Jobs.{IsIssuedDone}
 use Rattle.device.specs.Standing.{done_on}
 use Rattle.device.proofs.IssuedFrames.{held_issued, is_issued_done, of_item}
-use Rattle.device.proofs.MayClose.{close_facts, runs}
+use Rattle.device.proofs.MayClose.{close_facts, inside_close, runs}
 use Rattle.device.proofs.Reaching.{asked}
 use Rattle.device.proofs.state.RunState.close_item.Goals as goal
+
+pub bounds-items-item : goal.bounds-items-item
+bounds-items-item c =
+    inside_close c.self.inside c.args.self.now c.args.item _ c.items.result.now c.self.view_is c.self.invariant c.requires
+    c.items.ensures.shown
+
+pub code-code-requires : goal.code-code-requires
+code-code-requires c =
+    let s = c.self.inside in
+    let f = close_facts s c.args.self.now c.args.item _ c.items.result.now c.index-items-item.result c.self.view_is c.self.invariant c.requires
+    c.items.ensures.shown c.index-items-item.is in
+    slice_get_within (plan s.image.now).items c.args.item f.item.work f.item.is
+
+pub index-requires : goal.index-requires
+index-requires c =
+    let f = close_facts c.self.inside c.args.self.now c.args.item _ c.items.result.now c.index-items-item.result c.self.view_is c.self.invariant c.requires
+    c.items.ensures.shown c.index-items-item.is in
+    let inside = f.item.inside in
+    omega (arith, inside)
 
 pub run-requires : goal.run-requires
 run-requires c =

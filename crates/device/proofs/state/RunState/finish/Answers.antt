@@ -6,10 +6,15 @@ use Rattle.device.specs.declared.standing.Held.{Held}
 use Rattle.device.specs.Run.{after}
 use Rattle.device.specs.Running.{IsRunning, run_of}
 use Rattle.device.specs.Standing.{issue_of}
-use Rattle.device.proofs.IssuedFrames.{can_close}
+use Rattle.device.proofs.IssuedFrames.{can_close, inside_left}
 use Rattle.device.proofs.MayOpen.{same_but}
 use Rattle.device.proofs.Reaching.{goes_to, same_fresh}
 use Rattle.device.proofs.state.RunState.finish.Goals as goal
+
+pub bounds-items-item : goal.bounds-items-item
+bounds-items-item c =
+    inside_left c.self.inside c.args.self.now c.args.item _ c.items.result.now _ c.self.view_is c.self.invariant c.requires
+    c.items.ensures.shown
 
 pub close-requires-clause-here : goal.close-requires-clause-here
 close-requires-clause-here c =

@@ -3,10 +3,31 @@ use Rattle.base.specs.declared.item.Event.TheVariants as event
 use Rattle.device.specs.Run.{IsOpenFault, is_over, opened, state_of}
 use Rattle.device.specs.Running.{IsRunning, run_of}
 use Rattle.device.specs.Standing.{frame_parts, issue_of}
-use Rattle.device.proofs.MayOpen.{facts, has_room, is_full, open_fault, same_but, same_work, unchanged}
+use Rattle.device.proofs.MayOpen.{facts, has_room, inside_open, is_full, open_fault, same_but, same_work, unchanged}
 use Rattle.device.proofs.OpenedItems.{is_held, may_close}
 use Rattle.device.proofs.Reaching.{goes_to, same_fresh}
 use Rattle.device.proofs.state.RunState.open_with.Goals as goal
+
+pub bounds-items-item : goal.bounds-items-item
+bounds-items-item c =
+    inside_open c.self.inside c.args.self.now c.args.item _ c.items.result.now c.self.view_is c.self.invariant c.requires
+    c.items.ensures.shown
+
+pub frame-requires-clause-inside : goal.frame-requires-clause-inside
+frame-requires-clause-inside c =
+    let s = c.self.inside in
+    let f = facts s c.args.self.now c.args.item _ c.items.result.now c.index-items-item.result c.self.view_is c.self.invariant c.requires
+    c.items.ensures.shown c.index-items-item.is in
+    f.item.inside
+
+pub frame-requires-clause-same : goal.frame-requires-clause-same
+frame-requires-clause-same c = c.self.invariant.at.slots
+
+pub frame-requires-clause-lengths : goal.frame-requires-clause-lengths
+frame-requires-clause-lengths c = c.self.invariant.at.lengths
+
+pub open-requires-clause-few : goal.open-requires-clause-few
+open-requires-clause-few c = c.in-Ok.ensures.few
 
 pub open-requires-clause-here : goal.open-requires-clause-here
 open-requires-clause-here c =
