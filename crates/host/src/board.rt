@@ -86,6 +86,22 @@ fn answered(stop: Stop) -> RunFault
     }
 }
 
+// What a run that was not stopped has come to.
+fn answer_of(alloc: Global, state: &RunState<'_>) -> Result<Answer, RunFault>
+    ensures answer { IfOk result (IsThreadAnswer state.now.program state.now.input) }
+    ensures cause { IfErr result (IsEndFault None state.now) }
+    ensures fault { IfErr result (IsThreadFault state.now.program state.now.input state.now.capacity) }
+{
+    state.is_reached();
+    if !state.has_ended() {
+        return Err(RunFault::OtherState);
+    }
+    match state.answer(alloc) {
+        Ok(answer) => Ok(answer),
+        Err(_) => Err(RunFault::OutOfMemory),
+    }
+}
+
 impl<'a, B: Origin> Board<'a, B> {
     /// The board of a run that goes on.
     pub fn new(image: &'a Image<'a>, state: RunState<'a>) -> Self
@@ -261,15 +277,9 @@ impl<'a, B: Origin> Board<'a, B> {
             of: _,
         } = self;
         state.is_reached();
-        if let Some(stop) = stop {
-            return Err(answered(stop));
-        }
-        if !state.has_ended() {
-            return Err(RunFault::OtherState);
-        }
-        match state.answer(alloc) {
-            Ok(answer) => Ok(answer),
-            Err(_) => Err(RunFault::OutOfMemory),
+        match stop {
+            Some(stop) => Err(answered(stop)),
+            None => answer_of(alloc, &state),
         }
     }
 }
