@@ -1,18 +1,17 @@
 -- The bounds that were read.
-use Rattle.std.proofs.Common.{◌≡◌, ℕ, true, List, [], ◌∷◌, ◌++◌, Some, None, refl, sym, ap}
+use Rattle.std.proofs.Common.{◌≡◌, ℕ, true, List, [], ◌∷◌, ◌++◌, Some, None, sym}
 use Rattle.std.specs.Borrow.{Bor}
 use Rattle.c_tokens.specs.declared.kind.Sign.TheVariants as sign
 use Rattle.c_grammar.specs.Lexeme.{Signed, Worded, Numbered, same}
 use Rattle.directives.specs.declared.line.Line.{Line}
 use Rattle.directives.specs.declared.tree.Name.{Name}
-use Rattle.directives.specs.declared.tree.Term.{Term}
 use Rattle.directives.specs.declared.tree.Term.TheVariants.{Literal, Product}
 use Rattle.directives.specs.declared.tree.Bound.{Bound}
-use Rattle.directives.specs.Cursor.{Items, first_item, behind, items}
+use Rattle.directives.specs.Cursor.{first_item, behind, items}
 use Rattle.directives.specs.Reading.{IsSpelled}
-use Rattle.directives.specs.Trees.{Spelling, name_mark, sign_mark, term_marks, bound_marks, first_marks, second_marks, bounds_marks, each_behind}
+use Rattle.directives.specs.Trees.{Spelling, name_mark, sign_mark, term_marks, bound_marks, first_marks, second_marks, bounds_marks}
 use Rattle.directives.proofs.Moves.{sign_is}
-use Rattle.directives.proofs.Spellings.{spelled_one, spelled_first, spelled_then, spelled_none, spelled_as, spelled_more}
+use Rattle.directives.proofs.Spellings.{spelled_one, spelled_first, spelled_then, spelled_none}
 
 pub read_name : (l l' : Line) (x : Bor (List ℕ)) (k : ℕ) → (first_item l).terminal ≡ Worded x.now →
     k ≡ (first_item l).column → behind l ≡ items l' →
@@ -29,24 +28,6 @@ pub read_product : (l l1 l2 l3 : Line) (n : ℕ) (x : Name) → (first_item l).t
 read_product l l1 l2 l3 n x e b f d r =
     spelled_first l l1 (Numbered (Some n)) None (sign_mark sign.Star ∷ name_mark x ∷ []) (items l3) e tt b
     (spelled_first l1 l2 (Signed sign.Star) None (name_mark x ∷ []) (items l3) (sign_is l1 sign.Star f) tt d r)
-
--- ---- a bound
-
-pub read_bound : (t : Term) (a b : Items) → IsSpelled (term_marks t) a b →
-    IsSpelled (term_marks t ++ each_behind sign.Plus term_marks []) a b
-read_bound t a b r = spelled_as (term_marks t) (term_marks t ++ []) a b (sym (append_nil (term_marks t))) r
-  where
-    append_nil : (zs : Spelling) → zs ++ [] ≡ zs
-    append_nil [] = refl
-    append_nil (z ∷ zs) = ap (λ (us : Spelling). z ∷ us) (append_nil zs)
-
-pub read_term_more : (t u : Term) (xs ys : List Term) (before : Items) (l l' : Line) (after : Items) →
-    ys ≡ xs ++ u ∷ [] → IsSpelled (term_marks t ++ each_behind sign.Plus term_marks xs) before (items l) →
-    same (Signed sign.Plus) (first_item l).terminal ≡ true → behind l ≡ items l' →
-    IsSpelled (term_marks u) (items l') after →
-    IsSpelled (term_marks t ++ each_behind sign.Plus term_marks ys) before after
-read_term_more t u xs ys before l l' after e r f b h =
-    spelled_more sign.Plus term_marks (term_marks t) xs ys u before l l' after e r (sign_is l sign.Plus f) b h
 
 -- ---- two bounds
 

@@ -1,8 +1,8 @@
 -- The clauses that were read.
-use Rattle.std.proofs.Common.{◌≡◌, ℕ, ◌<◌, ◌≤◌, true, List, [], ◌∷◌, ◌++◌, length, map, Option, None, refl, sym, ap, subst, ◌∙◌, append_assoc, arith}
+use Rattle.std.proofs.Common.{◌≡◌, ℕ, ◌<◌, true, List, [], ◌∷◌, ◌++◌, length, map, None, refl, sym, ap, subst, ◌∙◌, append_assoc}
 use Rattle.std.specs.Prelude.{codes}
 use Rattle.c_tokens.specs.declared.kind.Sign.TheVariants as sign
-use Rattle.c_grammar.specs.Lexeme.{Lexeme, Signed, Worded, Ended, same}
+use Rattle.c_grammar.specs.Lexeme.{Signed, Worded, Ended, same}
 use Rattle.c_grammar.specs.LineGrammar as grammar
 use Rattle.c_grammar.specs.LineRules.{IsClause, AreClauses}
 use Rattle.directives.specs.declared.line.Line.{Line}
@@ -13,10 +13,10 @@ use Rattle.directives.specs.declared.tree.Clause.{Clause}
 use Rattle.directives.specs.declared.tree.Clause.TheVariants.{Map, Depend, Motion, NoWait}
 use Rattle.directives.specs.Kinds.{seen_map, seen_depend, seen_motion}
 use Rattle.directives.specs.Cursor.{Items, first_item, behind, items}
-use Rattle.directives.specs.Reading.{Fits, IsSpelled}
+use Rattle.directives.specs.Reading.{IsSpelled}
 use Rattle.directives.specs.Trees.{Spelling, word_mark, sign_mark, always_marks, type_marks, sections_marks, clause_of, clause_marks, clauses_marks}
 use Rattle.directives.proofs.Clausing.{end_is}
-use Rattle.directives.proofs.Spellings.{spelled_one, spelled_first, spelled_then, spelled_none, spelled_as}
+use Rattle.directives.proofs.Spellings.{spelled_one, spelled_first, spelled_then, spelled_none, spelled_as, spelled_less}
 
 -- a word and the bracket behind it
 read_word : (l l1 l2 : Line) (x : List ℕ) → (first_item l).terminal ≡ Worded x → behind l ≡ items l1 →
@@ -72,18 +72,6 @@ unfolding clause_marks
 read_nowait l l1 e b = spelled_one l (items l1) (Worded (codes "nowait")) None e tt b
 
 -- ---- a clause has a token
-
-fits_fewer : (xs : Spelling) (a b : Items) → Fits xs a b → length b ≤ length a
-fits_fewer [] a b e = subst (λ (u : Items). length b ≤ length u) (sym e) (omega arith)
-fits_fewer (x ∷ xs) [] b e = absurd e
-fits_fewer (x ∷ xs) (i ∷ is) b e = omega (arith, fits_fewer xs is b e.2)
-
-abbrev Mark : Type 0
-Mark = Lexeme × Option ℕ
-
-spelled_less : (x : Mark) (xs : List Mark) (a b : Items) → Fits (x ∷ xs) a b → length b < length a
-spelled_less x xs [] b e = absurd e
-spelled_less x xs (i ∷ is) b e = omega (arith, fits_fewer xs is b e.2)
 
 pub clause_less : (c : Clause) (a b : Items) → IsSpelled (clause_marks c) a b → length b < length a
 unfolding clause_marks

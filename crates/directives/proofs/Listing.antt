@@ -1,21 +1,20 @@
 -- The machine at the sections of a clause.
-use Rattle.std.proofs.Common.{◌≡◌, ℕ, true, false, List, [], ◌∷◌, ◌++◌, Option, Some, None, refl, sym, ap, ◌∙◌}
+use Rattle.std.proofs.Common.{◌≡◌, ℕ, true, false, List, [], ◌∷◌, ◌++◌, Option, Some, None, refl, ap, ◌∙◌}
 use Rattle.c_tokens.specs.declared.kind.Sign.TheVariants as sign
 use Rattle.base.specs.declared.fault.ReadCode.TheVariants.{Unexpected}
 use Rattle.c_grammar.specs.Lexeme.{Lexeme, Reserved, Signed, Worded, Numbered, Strange, Ended, same}
 use Rattle.c_grammar.specs.LineGrammar.{LineAct, plain}
 use Rattle.c_grammar.specs.LineMachine.{LineStack, AfterItem, AfterName, Name, line_advance, line_place}
 use Rattle.directives.specs.declared.line.Line.{Line}
-use Rattle.directives.specs.declared.tree.Section.{Section}
 use Rattle.directives.specs.declared.tree.Name.{Name as GivenName}
 use Rattle.directives.specs.declared.tree.Bound.{Bound}
 use Rattle.directives.specs.declared.tree.Sections.{Sections}
 use Rattle.directives.specs.Cursor.{Items, first_item, behind, items}
 use Rattle.directives.specs.Reading.{rest, took, misfit_at, IsSpelled}
 use Rattle.directives.specs.Trees.{Spelling, name_mark, sign_mark, bounds_marks, section_marks, sections_marks, each_behind}
-use Rattle.directives.proofs.Moves.{goes, stops, sign_is}
+use Rattle.directives.proofs.Moves.{goes, stops}
 use Rattle.directives.proofs.Bounding.{NoName}
-use Rattle.directives.proofs.Spellings.{spelled_one, spelled_then, spelled_as, spelled_more}
+use Rattle.directives.proofs.Spellings.{spelled_one, spelled_then}
 
 -- ---- a name
 
@@ -81,23 +80,6 @@ pub read_section : (l l1 l2 : Line) (x : GivenName) (o : Option (Bound × Bound)
     IsSpelled (section_marks (record { array = x; bounds = o })) (items l) (items l2)
 unfolding section_marks
 read_section l l1 l2 x o r s = spelled_then (name_mark x ∷ []) (bounds_marks o) (items l) (items l1) (items l2) r s
-
-pub read_section_none : (s : Section) (a b : Items) → IsSpelled (section_marks s) a b →
-    IsSpelled (section_marks s ++ each_behind sign.Comma section_marks []) a b
-read_section_none s a b r = spelled_as (section_marks s) (section_marks s ++ []) a b
-    (sym (append_nil (section_marks s))) r
-  where
-    append_nil : (zs : Spelling) → zs ++ [] ≡ zs
-    append_nil [] = refl
-    append_nil (z ∷ zs) = ap (λ (us : Spelling). z ∷ us) (append_nil zs)
-
-pub read_section_more : (t u : Section) (xs ys : List Section) (before : Items) (l l' : Line) (after : Items) →
-    ys ≡ xs ++ u ∷ [] → IsSpelled (section_marks t ++ each_behind sign.Comma section_marks xs) before (items l) →
-    same (Signed sign.Comma) (first_item l).terminal ≡ true → behind l ≡ items l' →
-    IsSpelled (section_marks u) (items l') after →
-    IsSpelled (section_marks t ++ each_behind sign.Comma section_marks ys) before after
-read_section_more t u xs ys before l l' after e r f b h =
-    spelled_more sign.Comma section_marks (section_marks t) xs ys u before l l' after e r (sign_is l sign.Comma f) b h
 
 -- the sections and the bracket behind them
 pub read_sections : (s : Sections) (before : Items) (l l' : Line) →

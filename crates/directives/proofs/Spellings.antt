@@ -1,11 +1,12 @@
 -- Tokens that spell one thing after another.
-use Rattle.std.proofs.Common.{◌≡◌, ℕ, ◌<◌, List, [], ◌∷◌, ◌++◌, length, Option, None, refl, sym, ap, subst, ◌∙◌, append_assoc, arith}
+use Rattle.std.proofs.Common.{◌≡◌, ℕ, ◌<◌, ◌≤◌, true, List, [], ◌∷◌, ◌++◌, length, Option, None, refl, sym, ap, subst, ◌∙◌, append_assoc, arith}
 use Rattle.c_tokens.specs.declared.kind.Sign.{Sign}
-use Rattle.c_grammar.specs.Lexeme.{Lexeme, Signed}
+use Rattle.c_grammar.specs.Lexeme.{Lexeme, Signed, same}
 use Rattle.directives.specs.declared.line.Line.{Line}
 use Rattle.directives.specs.Cursor.{Items, first_item, behind, items}
 use Rattle.directives.specs.Reading.{IsAt, Fits, IsSpelled}
 use Rattle.directives.specs.Trees.{Spelling, sign_mark, each_behind}
+use Rattle.directives.proofs.Moves.{sign_is}
 
 fits_then : (xs ys : Spelling) (a b c : Items) → Fits xs a b → Fits ys b c → Fits (xs ++ ys) a c
 fits_then [] ys a b c e h = subst (λ (u : Items). Fits ys u c) (sym e) h
@@ -51,17 +52,29 @@ each_more s f (y ∷ ys) x = ap (λ (zs : Spelling). sign_mark s ∷ zs)
     (ap (λ (zs : Spelling). f y ++ zs) (each_more s f ys x)
     ∙ sym (append_assoc (f y) (each_behind s f ys) (sign_mark s ∷ f x)))
 
--- a list to which one more was put, behind a sign that stands next
-pub spelled_more : {X : Type 0} (s : Sign) (f : X → Spelling) (first : Spelling) (xs ys : List X) (x : X)
-    (before : Items)
-    (l l' : Line) (after : Items) → ys ≡ xs ++ x ∷ [] → IsSpelled (first ++ each_behind s f xs) before (items l) →
-    (first_item l).terminal ≡ Signed s → behind l ≡ items l' → IsSpelled (f x) (items l') after →
-    IsSpelled (first ++ each_behind s f ys) before after
-spelled_more s f first xs ys x before l l' after e r t b h =
-    let more : Spelling = sign_mark s ∷ f x in
-    let one : IsSpelled more (items l) after = spelled_first l l' (Signed s) None (f x) after t tt b h in
-    let all : (first ++ each_behind s f xs) ++ more ≡ first ++ each_behind s f ys =
-    append_assoc first (each_behind s f xs) more
-    ∙ ap (λ (zs : Spelling). first ++ zs) (sym (ap (each_behind s f) e ∙ each_more s f xs x)) in
-    spelled_as ((first ++ each_behind s f xs) ++ more) (first ++ each_behind s f ys) before after all
-    (spelled_then (first ++ each_behind s f xs) more before (items l) after r one)
+-- what stands behind a sign that is next
+pub spelled_behind : (s : Sign) (xs : Spelling) (l l' : Line) (after : Items) → same (Signed s) (first_item l).terminal ≡ true →
+    behind l ≡ items l' → IsSpelled xs (items l') after → IsSpelled (sign_mark s ∷ xs) (items l) after
+spelled_behind s xs l l' after t b h = spelled_first l l' (Signed s) None xs after (sign_is l s t) tt b h
+
+-- a list to which one more was put, behind a sign
+pub spelled_more : {X : Type 0} (s : Sign) (f : X → Spelling) (xs ys : List X) (x : X) (before between after : Items) →
+    ys ≡ xs ++ x ∷ [] → IsSpelled (each_behind s f xs) before between → IsSpelled (sign_mark s ∷ f x) between after →
+    IsSpelled (each_behind s f ys) before after
+spelled_more s f xs ys x before between after e r h =
+    spelled_as (each_behind s f xs ++ (sign_mark s ∷ f x)) (each_behind s f ys) before after
+    (sym (ap (each_behind s f) e ∙ each_more s f xs x))
+    (spelled_then (each_behind s f xs) (sign_mark s ∷ f x) before between after r h)
+
+-- what is spelled by a token and more has a token
+fits_fewer : (xs : Spelling) (a b : Items) → Fits xs a b → length b ≤ length a
+fits_fewer [] a b e = subst (λ (u : Items). length b ≤ length u) (sym e) (omega arith)
+fits_fewer (x ∷ xs) [] b e = absurd e
+fits_fewer (x ∷ xs) (i ∷ is) b e = omega (arith, fits_fewer xs is b e.2)
+
+abbrev Mark : Type 0
+Mark = Lexeme × Option ℕ
+
+pub spelled_less : (x : Mark) (xs : List Mark) (a b : Items) → Fits (x ∷ xs) a b → length b < length a
+spelled_less x xs [] b e = absurd e
+spelled_less x xs (i ∷ is) b e = omega (arith, fits_fewer xs is b e.2)

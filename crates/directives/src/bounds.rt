@@ -16,7 +16,7 @@ impl<'a> Line<'a> {
     ghost use Rattle.c_grammar.specs.LineMachine.{LineStack, AfterItem, AfterName, AfterTerm, Factor, Terms};
     ghost use Rattle.directives.specs.Cursor.{behind, first_item, items};
     ghost use Rattle.directives.specs.Reading.{IsSpelled, Outcome, rest};
-    ghost use Rattle.directives.specs.Trees.{name_mark, term_marks, bound_marks, first_marks, second_marks, bounds_marks};
+    ghost use Rattle.directives.specs.Trees.{each_behind, name_mark, sign_mark, term_marks, bound_marks, first_marks, second_marks, bounds_marks};
 
     /// A name that stands next, behind a factor.
     #[tactic(auto, using(crate::proofs::Outcomes::on_from, crate::proofs::Bounding::at_factor, crate::proofs::Bounding::stop_factor, crate::proofs::BoundsRead::read_name))]
@@ -68,20 +68,41 @@ impl<'a> Line<'a> {
         }
     }
 
+    /// The term behind a plus, which stands next.
+    #[tactic(auto, using(crate::proofs::Outcomes::on_from, crate::proofs::Bounding::at_plus, crate::proofs::Spellings::spelled_behind))]
+    fn term_behind(&mut self) -> Result<Term<'a>, DirectiveFault>
+        requires { same (Signed sign.Plus) (first_item self.old).terminal ≡ true }
+        ensures read { (second : Bool) (act : LineAct) (s : LineStack) → Outcome result (rest self.old (AfterTerm second act ∷ s)) (rest self.new (AfterTerm second act ∷ s)) }
+        ensures tree { IfOk result (λ t. IsSpelled (sign_mark sign.Plus ∷ term_marks t) (items self.old) (items self.new)) }
+    {
+        self.enter(Act::Plain)?;
+        self.term()
+    }
+
+    /// Terms, each behind a plus.
+    #[tactic(auto, using(crate::proofs::Spellings::spelled_none, crate::proofs::Spellings::spelled_more))]
+    fn more_terms(&mut self) -> Result<Vec<Term<'a>>, DirectiveFault>
+        ensures read { (second : Bool) (act : LineAct) (s : LineStack) → Outcome result (rest self.old (AfterTerm second act ∷ s)) (rest self.new (AfterTerm second act ∷ s)) }
+        ensures tree { IfOk result (λ more. IsSpelled (each_behind sign.Plus term_marks more.items) (items self.old) (items self.new)) }
+        ensures stops { OnOk result (same (Signed sign.Plus) (first_item self.new).terminal ≡ false) }
+    {
+        let mut more = Vec::new(self.alloc);
+        'terms: while self.at(Sign::Plus) {
+            let term = self.term_behind()?;
+            more.push(term)?;
+        }
+        Ok(more)
+    }
+
     /// A bound.
-    #[tactic(auto, using(crate::proofs::Outcomes::on_from, crate::proofs::Bounding::at_plus, crate::proofs::BoundsRead::read_bound, crate::proofs::BoundsRead::read_term_more))]
+    #[tactic(auto, using(crate::proofs::Outcomes::on_from, crate::proofs::Spellings::spelled_then))]
     fn bound(&mut self) -> Result<Bound<'a>, DirectiveFault>
         ensures read { (second : Bool) (act : LineAct) (s : LineStack) → Outcome result (rest self.old (Terms second act ∷ s)) (rest self.new (AfterTerm second act ∷ s)) }
         ensures tree { IfOk result (λ b. IsSpelled (bound_marks b) (items self.old) (items self.new)) }
         ensures stops { OnOk result (same (Signed sign.Plus) (first_item self.new).terminal ≡ false) }
     {
         let first = self.term()?;
-        let mut more = Vec::new(self.alloc);
-        'terms: while self.at(Sign::Plus) {
-            self.enter(Act::Plain)?;
-            let term = self.term()?;
-            more.push(term)?;
-        }
+        let more = self.more_terms()?;
         Ok(Bound { first, more })
     }
 
@@ -137,8 +158,7 @@ impl<'a> Line<'a> {
         ensures tree { IfOk result (λ b. IsSpelled (second_marks b) (items self.old) (items self.new)) }
     {
         let length = self.bound()?;
-        self.bracket()?;
-        Ok(length)
+        self.bracket().map(|()| length)
     }
 
     /// The bounds of a section, whose bracket stands next.
@@ -150,8 +170,7 @@ impl<'a> Line<'a> {
         ensures tree { IfOk result (λ b. IsSpelled (bounds_marks (Some b)) (items self.old) (items self.new)) }
     {
         let first = self.first_bound()?;
-        let length = self.second_bound()?;
-        Ok((first, length))
+        self.second_bound().map(|length| (first, length))
     }
 
     /// The bounds of a section, where it has any.
@@ -164,7 +183,6 @@ impl<'a> Line<'a> {
         if !self.at(Sign::OpenBracket) {
             return Ok(None);
         }
-        let bounds = self.two_bounds()?;
-        Ok(Some(bounds))
+        self.two_bounds().map(Some)
     }
 }

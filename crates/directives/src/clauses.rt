@@ -133,8 +133,7 @@ impl<'a> Line<'a> {
         ensures takes { IfOk result (λ c. IsClause (seen_kind kind) (clause_of c)) }
     {
         if let Some(motion_type) = self.motion_word(kind) {
-            let clause = self.motion_clause(kind, motion_type)?;
-            return Ok(Clause::Motion(clause));
+            return self.motion_clause(kind, motion_type).map(Clause::Motion);
         }
         if self.at_nowait(kind) {
             self.enter(Act::Once)?;
@@ -153,12 +152,10 @@ impl<'a> Line<'a> {
         ensures takes { IfOk result (λ c. IsClause (seen_kind kind) (clause_of c)) }
     {
         if self.at_map(kind) {
-            let clause = self.map_clause(kind)?;
-            return Ok(Clause::Map(clause));
+            return self.map_clause(kind).map(Clause::Map);
         }
         if self.at_depend(kind) {
-            let clause = self.depend_clause(kind)?;
-            return Ok(Clause::Depend(clause));
+            return self.depend_clause(kind).map(Clause::Depend);
         }
         self.short_clause(kind)
     }

@@ -9,7 +9,7 @@ use base::fault::ReadCode;
 use c_tokens::Sign;
 
 impl<'a> Line<'a> {
-    ghost use Rattle.std.specs.Prelude.{◌≡◌, ◌∷◌, ◌++◌, [], false, IfOk, OnOk};
+    ghost use Rattle.std.specs.Prelude.{◌≡◌, ◌∷◌, ◌++◌, [], true, false, IfOk, OnOk};
     ghost use Rattle.c_tokens.specs.declared.kind.Sign.TheVariants as sign;
     ghost use Rattle.c_grammar.specs.Lexeme.{Signed, same};
     ghost use Rattle.c_grammar.specs.LineGrammar.{LineAct};
@@ -17,7 +17,7 @@ impl<'a> Line<'a> {
     ghost use Rattle.directives.specs.Known.{seen_act};
     ghost use Rattle.directives.specs.Cursor.{behind, first_item, items};
     ghost use Rattle.directives.specs.Reading.{IsSpelled, Outcome, rest};
-    ghost use Rattle.directives.specs.Trees.{each_behind, name_mark, section_marks, sections_marks};
+    ghost use Rattle.directives.specs.Trees.{each_behind, name_mark, section_marks, sections_marks, sign_mark};
 
     /// An array's name, which is there for that.
     #[tactic(auto, using(crate::proofs::Outcomes::on_from, crate::proofs::Listing::at_name, crate::proofs::Listing::stop_name, crate::proofs::BoundsRead::read_name))]
@@ -63,8 +63,36 @@ impl<'a> Line<'a> {
         self.enter(Act::Plain)
     }
 
+    /// The section behind a comma, which stands next.
+    #[tactic(auto, using(crate::proofs::Outcomes::on_from, crate::proofs::Listing::at_comma, crate::proofs::Spellings::spelled_behind))]
+    fn section_behind(&mut self, act: Act) -> Result<Section<'a>, DirectiveFault>
+        requires { same (Signed sign.Comma) (first_item self.old).terminal ≡ true }
+        ensures read { (s : LineStack) → Outcome result (rest self.old (AfterItem (seen_act act) ∷ s))
+            (rest self.new (AfterItem (seen_act act) ∷ s)) }
+        ensures tree { IfOk result (λ x. IsSpelled (sign_mark sign.Comma ∷ section_marks x) (items self.old) (items self.new)) }
+    {
+        self.enter(Act::Plain)?;
+        self.section(act)
+    }
+
+    /// Sections, each behind a comma.
+    #[tactic(auto, using(crate::proofs::Spellings::spelled_none, crate::proofs::Spellings::spelled_more))]
+    fn more_sections(&mut self, act: Act) -> Result<Vec<Section<'a>>, DirectiveFault>
+        ensures read { (s : LineStack) → Outcome result (rest self.old (AfterItem (seen_act act) ∷ s))
+            (rest self.new (AfterItem (seen_act act) ∷ s)) }
+        ensures tree { IfOk result (λ more. IsSpelled (each_behind sign.Comma section_marks more.items) (items self.old) (items self.new)) }
+        ensures stops { OnOk result (same (Signed sign.Comma) (first_item self.new).terminal ≡ false) }
+    {
+        let mut more = Vec::new(self.alloc);
+        'sections: while self.at(Sign::Comma) {
+            let section = self.section_behind(act)?;
+            more.push(section)?;
+        }
+        Ok(more)
+    }
+
     /// Sections, as long as a comma follows.
-    #[tactic(auto, using(crate::proofs::Outcomes::on_from, crate::proofs::Listing::at_comma, crate::proofs::Listing::read_section_none, crate::proofs::Listing::read_section_more))]
+    #[tactic(auto, using(crate::proofs::Outcomes::on_from, crate::proofs::Spellings::spelled_then))]
     fn open_sections(&mut self, act: Act) -> Result<Sections<'a>, DirectiveFault>
         ensures read { (s : LineStack) → Outcome result (rest self.old (NameOf (seen_act act) ∷ s))
             (rest self.new (AfterItem (seen_act act) ∷ s)) }
@@ -72,12 +100,7 @@ impl<'a> Line<'a> {
         ensures stops { OnOk result (same (Signed sign.Comma) (first_item self.new).terminal ≡ false) }
     {
         let first = self.section(act)?;
-        let mut more = Vec::new(self.alloc);
-        'sections: while self.at(Sign::Comma) {
-            self.enter(Act::Plain)?;
-            let section = self.section(act)?;
-            more.push(section)?;
-        }
+        let more = self.more_sections(act)?;
         Ok(Sections { first, more })
     }
 
@@ -88,7 +111,6 @@ impl<'a> Line<'a> {
         ensures tree { IfOk result (λ x. IsSpelled (sections_marks x) (items self.old) (items self.new)) }
     {
         let sections = self.open_sections(act)?;
-        self.close()?;
-        Ok(sections)
+        self.close().map(|()| sections)
     }
 }
