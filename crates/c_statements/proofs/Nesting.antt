@@ -9,7 +9,7 @@ use Rattle.c_expressions.specs.declared.scope.Frame.{Frame as GivenFrame}
 use Rattle.c_expressions.specs.declared.scope.Meaning.TheVariants as meaning
 use Rattle.c_expressions.specs.declared.scope.Scope.{Scope}
 use Rattle.c_expressions.specs.Means.{Names}
-use Rattle.c_expressions.specs.Changes.{turn_name, turn_names, names_below}
+use Rattle.c_expressions.specs.Changes.{turn_name, turn_names}
 use Rattle.c_expressions.specs.Scopes.{context_of, frames_of, names_in, names_of}
 use Rattle.c_statements.specs.Bodies.{IsSameBlock, IsLeft, inner_env}
 use Rattle.c_statements.specs.Blocks.{turned}

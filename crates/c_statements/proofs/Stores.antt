@@ -18,7 +18,7 @@ use Rattle.c_expressions.specs.Cursor.{items, first_item, behind}
 use Rattle.c_expressions.specs.Reading.{terminals, kinds}
 use Rattle.c_expressions.specs.Scopes.{names_of}
 use Rattle.c_expressions.specs.Trees.{IsReadBefore}
-use Rattle.c_expressions.proofs.Expressions.{first_then, kinds_append, behind_less, one_more, drops, drop_by, drop_one}
+use Rattle.c_expressions.proofs.Expressions.{first_then, kinds_append, behind_less, drops, drop_by, drop_one}
 use Rattle.c_statements.specs.Statements.{Env, source_size, stmt_size, IsSource}
 use Rattle.c_statements.specs.Simple.{env_of, counted, IsSourceBefore, IsAssignRead, IsStoreRead, IsStmtRead}
 use Rattle.c_statements.proofs.Prints.{more_none}
@@ -74,31 +74,30 @@ read_assign old new x id i t t1 after v q first b named p =
       next_is = ap env_of q ∙ more_none (env_of old);
     }
 
-pub read_store_rest : (sc : Scope) (t0 t1 t2 t3 : Cursor) (after : Items) (e : Expr) (v : Assigned) →
+pub read_store_rest : (sc : Scope) (t0 t1 : Cursor) (middle after : Items) (e : Expr) (v : Assigned) →
     (first_item t0).terminal ≡ Mark sign.OpenBracket → behind t0 ≡ items t1 →
-    IsReadBefore (names_of sc) sign.CloseBracket (items t1) (items t2) e → (first_item t2).terminal ≡
-    Mark sign.Equal → behind t2 ≡ items t3 → IsSourceBefore (env_of sc) (items t3) after v →
+    IsReadBefore (names_of sc) sign.CloseBracket (items t1) middle e → IsAssignRead (env_of sc) middle after v →
     IsStoreRead (env_of sc) (items t0) after e v
-read_store_rest sc t0 t1 t2 t3 after e v h0 b0 i h2 b2 r =
+read_store_rest sc t0 t1 middle after e v h b i r =
     let m = term_size i.tree in
-    let n = source_size r.text in
-    let at3 : items t3 ≡ drop (m + 1 + 1) (items t1) = one_more (m + 1) (items t1) t2 t3 i.rest b2 in
-    let mid : items t3 ≡ drop (m + 3) (items t0) = drop_by (1 + (m + 1 + 1)) (m + 3) (items t0) (items t3)
-    (omega arith) (drops 1 (m + 1 + 1) (items t0) (items t1) (items t3) (drop_one t0 t1 b0) at3) in
+    let n = source_size r.value in
+    let at : middle ≡ drop (m + 2) (items t0) = drop_by (1 + (m + 1)) (m + 2) (items t0) middle (omega arith)
+    (drops 1 (m + 1) (items t0) (items t1) middle (drop_one t0 t1 b) i.rest) in
+    let value : drop 1 middle ≡ drop (m + 3) (items t0) = drop_by (m + 2 + 1) (m + 3) (items t0) (drop 1 middle)
+    (omega arith) (drops (m + 2) 1 (items t0) middle (drop 1 middle) at refl) in
     record {
       index = i.tree;
-      value = r.text;
-      tokens = first_then (Mark sign.OpenBracket) t0 t1 h0 b0
+      value = r.value;
+      tokens = first_then (Mark sign.OpenBracket) t0 t1 h b
           ∙ ap (λ (ts : List Terminal). Mark sign.OpenBracket ∷ ts)
-          (i.tokens ∙ ap (λ (ts : List Terminal). kinds (term i.tree) ++ (Mark sign.CloseBracket ∷ ts))
-          (first_then (Mark sign.Equal) t2 t3 h2 b2 ∙ ap (λ (ts : List Terminal). Mark sign.Equal ∷ ts) r.tokens));
-      rest = drop_by (m + 3 + (n + 1)) (m + n + 4) (items t0) after (omega arith)
-          (drops (m + 3) (n + 1) (items t0) (items t3) after mid r.rest);
+          (i.tokens ∙ ap (λ (ts : List Terminal). kinds (term i.tree) ++ (Mark sign.CloseBracket ∷ ts)) r.tokens);
+      rest = drop_by (m + 2 + (n + 2)) (m + n + 4) (items t0) after (omega arith)
+          (drops (m + 2) (n + 2) (items t0) middle after at r.rest);
       ranked = i.ranked;
       value_ranked = r.ranked;
-      fewer = omega (arith, behind_less t0 t1 b0, i.fewer, behind_less t2 t3 b2, r.fewer);
-      index_means = subst (λ (is : Items). IsExpr (names_of sc) is i.tree e) (drop_one t0 t1 b0) i.means;
-      value_means = subst (λ (is : Items). IsSource (env_of sc) is r.text v) mid r.means;
+      fewer = omega (arith, behind_less t0 t1 b, i.fewer, r.fewer);
+      index_means = subst (λ (is : Items). IsExpr (names_of sc) is i.tree e) (drop_one t0 t1 b) i.means;
+      value_means = subst (λ (is : Items). IsSource (env_of sc) is r.value v) value r.means;
     }
 
 pub read_store : (old new : Scope) (x : List ℕ) (id : ArrayId) (place : Place) (t t1 : Cursor) (after : Items)

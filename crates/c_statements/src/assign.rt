@@ -6,7 +6,7 @@ ghost use Rattle.c_tokens.specs.declared.kind.Sign.TheVariants as sign;
 ghost use Rattle.c_grammar.specs.Terminal.{Mark, Name, same};
 ghost use Rattle.c_grammar.specs.Grammar.{Assigned, for};
 ghost use Rattle.c_grammar.specs.Rules.{AScalar};
-ghost use Rattle.c_grammar.specs.Program.{Stack, AfterName};
+ghost use Rattle.c_grammar.specs.Program.{Stack, AfterName, Value, m};
 ghost use Rattle.c_expressions.specs.Cursor.{items, first_item, behind};
 ghost use Rattle.c_expressions.specs.Means.{meaning_of};
 ghost use Rattle.c_expressions.specs.Reading.{run, took, Outcome};
@@ -116,17 +116,16 @@ fn begin_assigned(
     Ok(meant)
 }
 
-/// What is assigned, behind a scalar's name.
-#[tactic(auto, using(c_expressions::proofs::Outcomes::on_from, crate::proofs::Assigns::scalar_name, crate::proofs::Stores::read_assign_rest))]
-fn scalar_value(scope: &Scope<'_>, tokens: &mut Cursor<'_>) -> Result<Source, ReadError>
-    requires { same (Mark sign.OpenBracket) (first_item tokens.old).terminal ≡ false }
-    ensures read { (s : Stack) → Outcome result (run (context_of scope.now 0 0) (AfterName ∷ s) (items tokens.old))
+/// The equals sign that must stand next, what is assigned, and the semicolon behind it.
+#[tactic(auto, using(c_expressions::proofs::Outcomes::on_from, crate::proofs::Stores::read_assign_rest))]
+fn assigned_source(scope: &Scope<'_>, tokens: &mut Cursor<'_>) -> Result<Source, ReadError>
+    ensures read { (s : Stack) → Outcome result
+        (run (context_of scope.now 0 0) (m sign.Equal ∷ Value ∷ m sign.Semicolon ∷ s) (items tokens.old))
         (run (context_of scope.now 0 0) s (items tokens.new)) }
     ensures tree { IfOk result (λ v. IsAssignRead (env_of scope.now) (items tokens.old) (items tokens.new) v) }
 {
     tokens.expect(Sign::Equal)?;
-    let value = ended_source(scope, tokens)?;
-    Ok(value)
+    ended_source(scope, tokens)
 }
 
 /// What is stored, behind an array's name: the subscript and the value.
@@ -139,13 +138,11 @@ fn element(scope: &Scope<'_>, tokens: &mut Cursor<'_>) -> Result<(Expr, Source),
 {
     tokens.expect(Sign::OpenBracket)?;
     let index = scope.expr(tokens, Sign::CloseBracket)?;
-    tokens.expect(Sign::Equal)?;
-    let value = ended_source(scope, tokens)?;
-    Ok((index, value))
+    assigned_source(scope, tokens).map(|value| (index, value))
 }
 
 /// The statement that begins with the name that stands next.
-#[tactic(auto, using(c_expressions::proofs::Outcomes::on_from, crate::proofs::Assigns::stop_name, crate::proofs::Stores::read_assign, crate::proofs::Stores::read_store))]
+#[tactic(auto, using(c_expressions::proofs::Outcomes::on_from, crate::proofs::Assigns::scalar_name, crate::proofs::Assigns::stop_name, crate::proofs::Stores::read_assign, crate::proofs::Stores::read_store))]
 pub fn assigned(
     scope: &mut Scope<'_>,
     tokens: &mut Cursor<'_>,
@@ -162,12 +159,10 @@ pub fn assigned(
     let meaning = begin_assigned(scope, tokens, name)?;
     match meaning {
         Some(Meaning::Array(array)) => {
-            let (index, value) = element(scope, tokens)?;
-            Ok(Stmt::Store(array, place, index, value))
+            element(scope, tokens).map(|(index, value)| Stmt::Store(array, place, index, value))
         }
         Some(Meaning::Scalar(scalar, _)) => {
-            let value = scalar_value(scope, tokens)?;
-            Ok(Stmt::Assign(scalar, value))
+            assigned_source(scope, tokens).map(|value| Stmt::Assign(scalar, value))
         }
         _ => Err(ReadError::Fault(tokens.refuse())),
     }

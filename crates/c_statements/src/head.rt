@@ -141,6 +141,5 @@ pub fn head_name<'a>(scope: &mut Scope<'a>, tokens: &mut Cursor<'a>) -> Result<&
 {
     tokens.expect(Sign::OpenParen)?;
     tokens.expect_word(Word::Uint64)?;
-    let name = turn_name(scope, tokens)?;
-    Ok(name)
+    turn_name(scope, tokens)
 }

@@ -21,6 +21,5 @@ pub fn condition(scope: &Scope<'_>, tokens: &mut Cursor<'_>) -> Result<Expr, Rea
     ensures tree { IfOk result (λ e. IsConditionRead (names_of scope.now) (items tokens.old) (items tokens.new) e) }
 {
     tokens.expect(Sign::OpenParen)?;
-    let value = scope.expr(tokens, Sign::CloseParen)?;
-    Ok(value)
+    scope.expr(tokens, Sign::CloseParen)
 }

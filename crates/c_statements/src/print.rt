@@ -61,6 +61,5 @@ pub fn printed(scope: &mut Scope<'_>, tokens: &mut Cursor<'_>) -> Result<Stmt, R
         (items tokens.new) x) }
 {
     begin_print(scope, tokens)?;
-    let value = print_value(scope, tokens)?;
-    Ok(Stmt::Print(value))
+    print_value(scope, tokens).map(Stmt::Print)
 }

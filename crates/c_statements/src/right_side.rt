@@ -65,10 +65,12 @@ fn value(scope: &Scope<'_>, tokens: &mut Cursor<'_>) -> Result<Expr, ReadError>
 {
     let mut tally = Tally::new();
     let value = scope.value(tokens, &mut tally)?;
-    if !tokens.at(Sign::Semicolon) {
-        return Err(ReadError::Fault(tokens.refuse()));
+    if tokens.at(Sign::Semicolon) {
+        return Ok(value);
     }
-    Ok(value)
+    // A call, since an expression dropped here without one is proved for each kind of expression.
+    drop(value);
+    Err(ReadError::Fault(tokens.refuse()))
 }
 
 /// Whether a semicolon stands next.
@@ -97,8 +99,7 @@ pub fn source(scope: &Scope<'_>, tokens: &mut Cursor<'_>) -> Result<Source, Read
         ended(tokens)?;
         return Ok(Source::Read);
     }
-    let value = value(scope, tokens)?;
-    Ok(Source::Value(value))
+    value(scope, tokens).map(Source::Value)
 }
 
 /// What is assigned, and the semicolon behind it.

@@ -48,15 +48,9 @@ pub fn statement<'a>(scope: &mut Scope<'a>, tokens: &mut Cursor<'a>) -> Result<S
         Terminal::Word(Word::Uint64) => declared(scope, tokens),
         Terminal::Word(Word::For) => looped(scope, tokens),
         Terminal::Word(Word::If) => choice(scope, tokens),
-        Terminal::Word(Word::Print) => {
-            let stmt = printed(scope, tokens)?;
-            Ok(stmt)
-        }
+        Terminal::Word(Word::Print) => printed(scope, tokens),
         Terminal::Sign(Sign::OpenBrace) => blocked(scope, tokens),
-        Terminal::Name(name) => {
-            let stmt = assigned(scope, tokens, name)?;
-            Ok(stmt)
-        }
+        Terminal::Name(name) => assigned(scope, tokens, name),
         _ => Err(ReadError::Fault(tokens.refuse())),
     }
 }
