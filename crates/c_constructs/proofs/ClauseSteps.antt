@@ -4,14 +4,17 @@ use Rattle.std.specs.Prelude.{◌||◌}
 use Rattle.c_grammar.specs.LineGrammar as line
 use Rattle.c_expressions.specs.declared.scope.Scope.{Scope}
 use Rattle.c_expressions.specs.Means.{Names}
+use Rattle.directives.specs.declared.fault.DirectiveFault.{DirectiveFault}
 use Rattle.directives.specs.declared.tree.Clause.{Clause}
 use Rattle.directives.specs.Names.{Uses, clause_names, each_names}
+use Rattle.directives.specs.Reading.{Failed}
 use Rattle.directives.specs.Trees.{clause_of}
 use Rattle.c_constructs.specs.declared.clauses.Clauses.{Clauses}
 use Rattle.c_constructs.specs.Sections.{IsMapAt, IsUpdateAt, IsDependAt, Pairs, map_given, depend_given, motion_given, all_given}
 use Rattle.c_constructs.specs.Clauses.{AreRead, HasType, HaveTypes, Reads}
 use Rattle.c_constructs.specs.Uses.{fault_in}
 use Rattle.c_constructs.specs.Written.{waits_in}
+use Rattle.c_constructs.proofs.Outcomes.{failed_from}
 use Rattle.c_constructs.proofs.Reading.{all_both, waits_both, type_at}
 use Rattle.c_constructs.proofs.Terms.{take_one, take_all, each_more, each_end}
 
@@ -40,16 +43,34 @@ pub read_all : {K : Type 0} → (seen : K → line.MapType) (names : Names) (at 
     (a : Clauses K) → length xs ≤ k → AreRead seen names at (take k xs) a → AreRead seen names at xs a
 read_all seen names at xs k a l h = subst (λ (zs : List Clause). AreRead seen names at zs a) (take_all xs k l) h
 
-pub clauses_told : (s : Scope) (xs : List Clause) (k : ℕ) (d : Clause) (us : Uses) → k < length xs →
-    d ≡ get_or xs k d → fault_in s (each_names clause_names (drop k xs) ++ us) ≡ fault_in s
-    (clause_names d ++ (each_names clause_names (drop (k + 1) xs) ++ us))
-clauses_told s xs k d us h i =
-    each_more clause_names s xs xs k d us refl h
-    ∙ ap (λ (x : Clause). fault_in s (clause_names x ++ (each_names clause_names (drop (k + 1) xs) ++ us))) (sym i)
+-- the names from a clause on
+abbrev rest : List Clause → ℕ → Uses → Uses
+rest xs k us = each_names clause_names (drop k xs) ++ us
 
-pub clauses_over : (s : Scope) (xs : List Clause) (k : ℕ) (us : Uses) → length xs ≤ k →
-    fault_in s (each_names clause_names (drop k xs) ++ us) ≡ fault_in s us
-clauses_over s xs k us h = each_end clause_names s xs xs k us refl h
+next_then : (s : Scope) (xs : List Clause) (k : ℕ) (d : Clause) (us : Uses) → k < length xs → d ≡ get_or xs k d →
+    fault_in s (each_names clause_names xs ++ us) ≡ fault_in s (rest xs k us) →
+    fault_in s (each_names clause_names xs ++ us) ≡ fault_in s (clause_names d ++ rest xs (k + 1) us)
+next_then s xs k d us l i r =
+    r ∙ each_more clause_names s xs xs k d us refl l
+    ∙ ap (λ (x : Clause). fault_in s (clause_names x ++ rest xs (k + 1) us)) (sym i)
+
+pub next_failed : (s : Scope) (xs : List Clause) (k : ℕ) (d : Clause) (us : Uses) (f : DirectiveFault) →
+    k < length xs → d ≡ get_or xs k d →
+    fault_in s (each_names clause_names xs ++ us) ≡ fault_in s (rest xs k us) →
+    Failed f (fault_in s (clause_names d ++ rest xs (k + 1) us)) →
+    Failed f (fault_in s (each_names clause_names xs ++ us))
+next_failed s xs k d us f l i r h = failed_from f _ _ (next_then s xs k d us l i r) h
+
+pub next_told : (s : Scope) (xs : List Clause) (k : ℕ) (d : Clause) (us : Uses) → k < length xs →
+    d ≡ get_or xs k d → fault_in s (each_names clause_names xs ++ us) ≡ fault_in s (rest xs k us) →
+    fault_in s (clause_names d ++ rest xs (k + 1) us) ≡ fault_in s (rest xs (k + 1) us) →
+    fault_in s (each_names clause_names xs ++ us) ≡ fault_in s (rest xs (k + 1) us)
+next_told s xs k d us l i r h = next_then s xs k d us l i r ∙ h
+
+pub all_told : (s : Scope) (xs : List Clause) (k : ℕ) (us : Uses) → length xs ≤ k →
+    fault_in s (each_names clause_names xs ++ us) ≡ fault_in s (rest xs k us) →
+    fault_in s (each_names clause_names xs ++ us) ≡ fault_in s us
+all_told s xs k us l r = r ∙ each_end clause_names s xs xs k us refl l
 
 pub typed_at : (types : List line.MapType) (xs : List Clause) (k : ℕ) (d : Clause) → HaveTypes types xs →
     k < length xs → d ≡ get_or xs k d → HasType types d

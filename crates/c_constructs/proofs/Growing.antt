@@ -44,20 +44,18 @@ grows_then R xs us a b c h i = record {
 
 -- the first and as many more as have been read, and one more of those
 pub grows_next : {K : Type 0} → {Y : Type 0} → (R : Given K → Y → Type 0) (kind : K) (first : Section)
-    (xs ys : List Section) (k : ℕ) (d : Section) (a b c : List Y) → ys ≡ xs → k < length ys →
-    Grows R (given_one kind first ∷ map (given_one kind) (take k xs)) a b →
-    Grows R (given_one kind (get_or ys k d) ∷ []) b c →
+    (xs ys : List Section) (k : ℕ) (d : Section) (a b c : List Y) → ys ≡ xs → k < length ys → d ≡ get_or ys k d →
+    Grows R (given_one kind first ∷ map (given_one kind) (take k xs)) a b → Grows R (given_one kind d ∷ []) b c →
     Grows R (given_one kind first ∷ map (given_one kind) (take (k + 1) xs)) a c
-grows_next {K = K} R kind first xs ys k d a b c e l h i =
-    let more : map (given_one kind) (take (k + 1) xs) ≡ map (given_one kind) (take k xs) ++
-    given_one kind (get_or ys k d) ∷ [] =
+grows_next {K = K} R kind first xs ys k d a b c e l j h i =
+    let more : map (given_one kind) (take (k + 1) xs) ≡ map (given_one kind) (take k xs) ++ given_one kind d ∷ [] =
     ap (λ (zs : List Section). map (given_one kind) (take (k + 1) zs)) (sym e)
     ∙ ap (λ (zs : List Section). map (given_one kind) zs) (take_one ys k d l)
     ∙ map_more (take k ys) (get_or ys k d)
-    ∙ ap (λ (zs : List Section). map (given_one kind) (take k zs) ++ given_one kind (get_or ys k d) ∷ []) e in
+    ∙ ap (λ (zs : List Section). map (given_one kind) (take k zs) ++ given_one kind (get_or ys k d) ∷ []) e
+    ∙ ap (λ (z : Section). map (given_one kind) (take k xs) ++ given_one kind z ∷ []) (sym j) in
     subst (λ (us : List (Given K)). Grows R (given_one kind first ∷ us) a c) (sym more)
-    (grows_then R (given_one kind first ∷ map (given_one kind) (take k xs)) (given_one kind (get_or ys k d) ∷ []) a b c
-    h i)
+    (grows_then R (given_one kind first ∷ map (given_one kind) (take k xs)) (given_one kind d ∷ []) a b c h i)
   where
     map_more : (ts : List Section) (t : Section) →
         map (given_one kind) (ts ++ t ∷ []) ≡ map (given_one kind) ts ++ given_one kind t ∷ []

@@ -4,6 +4,7 @@ pub mod Terms
 pub mod LineFaults
 pub mod Taken
 pub mod Growing
+pub mod SectionSteps
 pub mod Reading
 pub mod ClauseSteps
 pub mod Directives

@@ -23,13 +23,9 @@ pub fn term(scope: &Scope<'_>, term: &Term<'_>) -> Result<tree::Term, DirectiveF
 {
     match term {
         Term::Literal(number) => Ok(tree::Term::Literal(*number)),
-        Term::Variable(name) => {
-            let level = loop_level(scope, name)?;
-            Ok(tree::Term::Times(1, level))
-        }
+        Term::Variable(name) => { loop_level(scope, name).map(|level| tree::Term::Times(1, level)) }
         Term::Product(number, name) => {
-            let level = loop_level(scope, name)?;
-            Ok(tree::Term::Times(*number, level))
+            loop_level(scope, name).map(|level| tree::Term::Times(*number, level))
         }
     }
 }

@@ -83,7 +83,7 @@ fn clause<K: MapKind>(
 }
 
 /// The clauses of a directive on that line of the source.
-#[tactic(auto, using(crate::proofs::Outcomes::on_from, crate::proofs::Outcomes::failed_from, crate::proofs::ClauseSteps::read_next, crate::proofs::ClauseSteps::read_all, crate::proofs::ClauseSteps::clauses_told, crate::proofs::ClauseSteps::clauses_over, crate::proofs::ClauseSteps::typed_at))]
+#[tactic(auto, using(crate::proofs::ClauseSteps::typed_at))]
 pub fn all_clauses<K: MapKind>(
     scope: &Scope<'_>,
     line: usize,

@@ -40,7 +40,6 @@ fn map_item<K: MapKind>(
 }
 
 /// The map items of a clause.
-#[tactic(auto, using(crate::proofs::Outcomes::on_from, crate::proofs::Outcomes::failed_from, crate::proofs::Terms::two_names, crate::proofs::Growing::sections_told, crate::proofs::Growing::sections_over, crate::proofs::Growing::grows_next, crate::proofs::Growing::grows_all))]
 pub fn map_items<K: MapKind>(
     scope: &Scope<'_>,
     line: usize,
@@ -81,7 +80,6 @@ fn update_item(
 }
 
 /// The sections of a clause of an update.
-#[tactic(auto, using(crate::proofs::Outcomes::on_from, crate::proofs::Outcomes::failed_from, crate::proofs::Terms::two_names, crate::proofs::Growing::sections_told, crate::proofs::Growing::sections_over, crate::proofs::Growing::grows_next, crate::proofs::Growing::grows_all))]
 pub fn update_items(
     scope: &Scope<'_>,
     line: usize,
@@ -121,7 +119,6 @@ fn depend_item(
 }
 
 /// The depend items of a clause.
-#[tactic(auto, using(crate::proofs::Outcomes::on_from, crate::proofs::Outcomes::failed_from, crate::proofs::Terms::two_names, crate::proofs::Growing::sections_told, crate::proofs::Growing::sections_over, crate::proofs::Growing::grows_next, crate::proofs::Growing::grows_all))]
 pub fn depend_items(
     scope: &Scope<'_>,
     line: usize,

@@ -50,11 +50,9 @@ fn resolved_at(
     ensures means { IfOk result (λ r. IsResolvedAt (names_of scope.now) line directive.now r) }
 {
     if has_block(directive.kind) {
-        let construct = construct_at(scope, line, directive)?;
-        return Ok(Resolved::Over(construct));
+        return construct_at(scope, line, directive).map(Resolved::Over);
     }
-    let alone = alone_at(scope, line, directive)?;
-    Ok(Resolved::Alone(alone))
+    alone_at(scope, line, directive).map(Resolved::Alone)
 }
 
 /// The directive of that line, which stands next, outside a target and under no `if`.
@@ -132,10 +130,10 @@ pub fn directive(scope: &mut Scope<'_>, tokens: &mut Cursor<'_>) -> Result<Resol
     if scope.is_under_if() {
         return Err(ReadError::Fault(refuse_under(scope, tokens)));
     }
-    let resolved = match tokens.peek() {
-        Terminal::Line(line, column) => next_on_line(scope, tokens, line, column)?,
-        _ => unreachable!(),
+    let Terminal::Line(line, column) = tokens.peek() else {
+        unreachable!()
     };
+    let resolved = next_on_line(scope, tokens, line, column)?;
     begin(scope, &resolved);
     tokens.take();
     Ok(resolved)

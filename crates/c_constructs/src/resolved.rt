@@ -46,8 +46,7 @@ fn clauses_of<K: MapKind>(
     ensures told { Outcome result (fault_in scope.now (names_in directive.now)) None }
     ensures means { IfOk result (λ r. AreRead K.seen (names_of scope.now) line directive.now.clauses.items r) }
 {
-    let read = all_clauses(scope, line, &directive.clauses)?;
-    Ok(read)
+    all_clauses(scope, line, &directive.clauses)
 }
 
 /// What a directive that stands alone on that line of the source means.
@@ -64,20 +63,27 @@ pub fn alone_at(
 {
     match directive.kind {
         DirectiveKind::TargetEnterData => {
-            let read: Clauses<EnterKind> = clauses_of(scope, line, directive)?;
-            Ok(tree::Directive::Enter(read.maps, read.tasking))
+            clauses_of::<EnterKind>(scope, line, directive).map(|read| tree::Directive::Enter(
+                read.maps,
+                read.tasking,
+            ))
         }
         DirectiveKind::TargetExitData => {
-            let read: Clauses<ExitKind> = clauses_of(scope, line, directive)?;
-            Ok(tree::Directive::Exit(read.maps, read.tasking))
+            clauses_of::<ExitKind>(scope, line, directive).map(|read| tree::Directive::Exit(
+                read.maps,
+                read.tasking,
+            ))
         }
         DirectiveKind::TargetUpdate => {
-            let read: Clauses<RegionKind> = clauses_of(scope, line, directive)?;
-            Ok(tree::Directive::Update(read.updates, read.tasking))
+            clauses_of::<RegionKind>(scope, line, directive).map(|read| tree::Directive::Update(
+                read.updates,
+                read.tasking,
+            ))
         }
         DirectiveKind::TaskWait => {
-            let read: Clauses<RegionKind> = clauses_of(scope, line, directive)?;
-            Ok(tree::Directive::Wait(read.tasking.depends))
+            clauses_of::<RegionKind>(scope, line, directive).map(|read| tree::Directive::Wait(
+                read.tasking.depends,
+            ))
         }
         _ => unreachable!(),
     }

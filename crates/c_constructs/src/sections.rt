@@ -29,8 +29,7 @@ pub fn bounds(
         None => Ok(None),
         Some((first, length)) => {
             let first = bound(scope, first)?;
-            let length = bound(scope, length)?;
-            Ok(Some((first, length)))
+            bound(scope, length).map(|length| Some((first, length)))
         }
     }
 }

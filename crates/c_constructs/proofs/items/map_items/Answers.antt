@@ -1,16 +1,51 @@
-use Rattle.std.proofs.Common.{◌+◌, ◌++◌, ◌∙◌, drop}
+use Rattle.std.proofs.Common.{◌+◌, ◌++◌, drop}
 use Rattle.std.proofs.lemmas.Result.{err_from_is_err_and}
+use Rattle.c_expressions.specs.Scopes.{names_of}
 use Rattle.directives.specs.Names.{each_names, section_names}
-use Rattle.c_constructs.proofs.Outcomes.{failed_from}
-use Rattle.c_constructs.proofs.Growing.{sections_told}
+use Rattle.c_constructs.specs.Sections.{IsMapAt}
+use Rattle.c_constructs.proofs.Growing.{grows_all, grows_next}
+use Rattle.c_constructs.proofs.SectionSteps.{all_read, first_failed, first_read, next_failed, next_read}
 use Rattle.c_constructs.proofs.items.map_items.Goals as goal
+
+pub returns-in_err-map_item-clause-told : goal.returns-in_err-map_item-clause-told
+returns-in_err-map_item-clause-told g c = λ us.
+    let p = err_from_is_err_and c.from_residual.result c.from_residual.ensures.1 in
+    rw (p.1, p.2) (first_failed c.args.scope.now c.args.sections.now us _
+    (c.in_err-map_item.ensures.told (each_names section_names c.args.sections.now.more.items ++ us)))
+
+pub sections-init : goal.sections-init
+sections-init g c = record {
+  read = λ us. first_read c.args.scope.now c.args.sections.now us
+      (c.in_ok-map_item.ensures.told (each_names section_names c.args.sections.now.more.items ++ us));
+  means = c.in_ok-map_item.ensures.means;
+}
 
 pub returns-in_err-map_item-2-clause-told : goal.returns-in_err-map_item-2-clause-told
 returns-in_err-map_item-2-clause-told g c = λ us.
     let p = err_from_is_err_and c.from_residual-in_err-map_item-2.result c.from_residual-in_err-map_item-2.ensures.1 in
-    rw (p.1, p.2) (failed_from _ _ _
-    (c.sections.invariant.read us
-    ∙ sections_told c.args.scope.now c.args.sections.now.more.items c.deref-one-items.result.now c.sections.one-index
-    c.one-item.result us c.deref-one-items.ensures.value c.sections-test.true c.one-item.is)
-    (c.in_err-map_item-2.ensures.told
+    rw (p.1, p.2) (next_failed c.args.scope.now c.args.sections.now c.deref-one-items.result.now c.sections.one-index
+    c.one-item.result us _ c.deref-one-items.ensures.value c.sections-test.true c.one-item.is
+    (c.sections.invariant.read us) (c.in_err-map_item-2.ensures.told
     (each_names section_names (drop (c.sections.one-index + 1) c.args.sections.now.more.items) ++ us)))
+
+pub sections-preserved : goal.sections-preserved
+sections-preserved g c = record {
+  read = λ us. next_read c.args.scope.now c.args.sections.now c.deref-one-items.result.now c.sections.one-index
+      c.one-item.result us c.deref-one-items.ensures.value c.sections-test.true c.one-item.is
+      (c.sections.invariant.read us) (c.in_ok-map_item-2.ensures.told
+      (each_names section_names (drop (c.sections.one-index + 1) c.args.sections.now.more.items) ++ us));
+  means = grows_next (IsMapAt g.K.MapKind.seen (names_of c.args.scope.now) c.args.line) (c.args.always, g.K.MapKind.seen c.args.kind) c.args.sections.now.first
+      c.args.sections.now.more.items c.deref-one-items.result.now c.sections.one-index c.one-item.result
+      c.args.maps.now.items c.sections.maps.items c.map_item-in-sections.new.maps.items c.deref-one-items.ensures.value
+      c.sections-test.true c.one-item.is c.sections.invariant.means c.in_ok-map_item-2.ensures.means;
+}
+
+pub returns-clause-told : goal.returns-clause-told
+returns-clause-told g c = λ us. all_read c.args.scope.now c.args.sections.now c.deref-one-items.result.now
+    c.sections.one-index us c.deref-one-items.ensures.value c.sections-test.false (c.sections.invariant.read us)
+
+pub returns-clause-means : goal.returns-clause-means
+returns-clause-means g c =
+    grows_all (IsMapAt g.K.MapKind.seen (names_of c.args.scope.now) c.args.line) (c.args.always, g.K.MapKind.seen c.args.kind) c.args.sections.now.first
+    c.args.sections.now.more.items c.deref-one-items.result.now c.sections.one-index c.args.maps.now.items
+    c.sections.maps.items c.deref-one-items.ensures.value c.sections-test.false c.sections.invariant.means
