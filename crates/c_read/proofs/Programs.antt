@@ -1,13 +1,12 @@
 -- The machine and the reader at main, and at a whole source.
-use Rattle.std.proofs.Common.{◌≡◌, ℕ, ◌+◌, ◌≤◌, Bool, true, false, List, [], ◌∷◌, ◌++◌, length, map, reverse, drop, Option, Some, None, Vec, Global as Heap, refl, sym, ap, subst, ◌∙◌, append_assoc, arith}
+use Rattle.std.proofs.Common.{◌≡◌, ℕ, ◌+◌, ◌≤◌, Bool, true, false, List, [], ◌∷◌, ◌++◌, length, map, reverse, drop, None, Vec, Global as Heap, refl, sym, ap, subst, ◌∙◌, arith}
 use Rattle.std.specs.Prelude.{◌||◌}
 use Rattle.std.specs.List.{flat_map}
 use Rattle.std.specs.declared.string.String.{String}
 use Rattle.c_tokens.specs.declared.kind.Sign.TheVariants as sign
 use Rattle.base.specs.declared.tree.ArrayInfo.{ArrayInfo}
-use Rattle.base.specs.declared.tree.Part.{Part}
 use Rattle.base.specs.declared.tree.Program.{Program}
-use Rattle.c_grammar.specs.Lexeme.{Uint64, Int, Main, Void}
+use Rattle.c_grammar.specs.Lexeme.{Uint64, Int}
 use Rattle.c_grammar.specs.Terminal.{Terminal, Fixed, Mark, End, same}
 use Rattle.c_grammar.specs.Grammar.{Slots, Global, Scalar, Array, globals, stmts, main_part, body_closing, Plain, for}
 use Rattle.c_grammar.specs.Rules.{Context, begin, opened, inside, under_if}
@@ -20,16 +19,16 @@ use Rattle.c_expressions.specs.Means.{Items, Names}
 use Rattle.c_expressions.specs.Cursor.{items, first_item, behind}
 use Rattle.c_expressions.specs.Reading.{run, terminals, kinds}
 use Rattle.c_expressions.specs.Scopes.{context_of, names_in, names_of, seen_frame, seen_name, sorted_name}
-use Rattle.c_expressions.proofs.Expressions.{kinds_append, drops, drop_by}
+use Rattle.c_expressions.proofs.Expressions.{kinds_append, drops}
 use Rattle.c_expressions.proofs.Terms.{same_run}
 use Rattle.c_statements.specs.Blocks.{turned}
 use Rattle.c_statements.specs.Loops.{IsGone}
 use Rattle.c_statements.specs.Simple.{env_of, loops_in}
 use Rattle.c_statements.specs.Statements.{Env, declared_in}
-use Rattle.c_statements.proofs.Heads.{gone_one, gone_then, gone_three, gone_four}
+use Rattle.c_statements.proofs.Heads.{gone_then, gone_three}
 use Rattle.c_statements.proofs.Nesting.{env_inner, inner_same}
-use Rattle.c_read.specs.Globals.{Front, arrays_in, behind_globals, entry_of, front_of, no_front, with_global, AreGlobalsRead}
-use Rattle.c_read.specs.Parts.{Placed, pieces_of, AreLongest, AreParts, ArePieces}
+use Rattle.c_read.specs.Globals.{Front, behind_globals, entry_of, front_of, no_front, with_global, AreGlobalsRead}
+use Rattle.c_read.specs.Parts.{pieces_of, AreLongest, ArePieces}
 use Rattle.c_read.specs.Read.{AreInnerRead, IsOutside}
 use Rattle.c_read.specs.Spells.{front_size, main_tokens, IsTextRead}
 use Rattle.c_read.specs.Starts.{IsStart}
@@ -134,11 +133,11 @@ module _ {Z : Type 0} where
         waiting = ap (λ (c : Context). c.choice) e;
       }
 
-  pub read_text : (s0 s1 s2 : Scope) (fs : List (String Z × ArrayInfo)) (i0 i1 i2 i3 : Items) (n : ℕ) (ps : List Placed) (p : Program) →
+  pub read_text : (s0 s1 s2 : Scope) (fs : List (String Z × ArrayInfo)) (i0 i1 i2 i3 : Items) (n : ℕ) (p : Program) →
       IsStart s0 → AreGlobalsRead s0 s1 [] fs i0 i1 → context_of s2 0 0 ≡ opened (turned None s1) → names_of s2 ≡ names_of s1 →
-      s2.next_scalar ≡ s1.next_scalar → IsGone main_tokens i1 i2 → AreInnerRead (env_of s2) n i2 i3 ps → terminals i3 ≡ End ∷ [] →
-      map entry_of p.arrays.entries ≡ map entry_of fs → p.scalars ≡ n → pieces_of p.body.items ≡ ps → AreLongest false p.body.items → IsTextRead i0 p
-  read_text s0 s1 s2 fs i0 i1 i2 i3 n ps p h r e names next g b end entries count pieces longest =
+      s2.next_scalar ≡ s1.next_scalar → IsGone main_tokens i1 i2 → AreInnerRead (env_of s2) n i2 i3 (pieces_of p.body.items) → terminals i3 ≡ End ∷ [] →
+      map entry_of p.arrays.entries ≡ map entry_of fs → p.scalars ≡ n → AreLongest false p.body.items → IsTextRead i0 p
+  read_text s0 s1 s2 fs i0 i1 i2 i3 n p h r e names next g b end entries count longest =
       let gs = r.text in
       let rear : Slots = body_closing ∷ (End, for Plain) ∷ [] in
       let front : front_of s1 ≡ behind_globals gs no_front = front_is s0 s1 fs i0 i1 r h in
@@ -160,8 +159,7 @@ module _ {Z : Type 0} where
           scalars = count ∙ b.scalars ∙ ap (λ (v : Env). v.scalars + declared_in b.texts) env;
           body = record {
             pieces = subst (λ (is : Items). ArePieces (behind_globals gs no_front).env is b.texts (pieces_of p.body.items)) at
-                (subst (λ (v : Env). ArePieces v i2 b.texts (pieces_of p.body.items)) env
-                (subst (λ (qs : List Placed). ArePieces (env_of s2) i2 b.texts qs) (sym pieces) b.means));
+                (subst (λ (v : Env). ArePieces v i2 b.texts (pieces_of p.body.items)) env b.means);
             longest = longest;
           };
         };

@@ -53,15 +53,12 @@ impl Gathered {
     }
 
     /// One more statement of the open region, which stands at the place.
-    #[tactic(auto, using(crate::proofs::Gathering::adds_first, crate::proofs::Gathering::adds_statement))]
     fn add_statement(&mut self, place: Place, stmt: Stmt) -> Result<(), AllocError>
         requires { IsGathered self.old }
         ensures { OnOk result (Adds place (piece.Statement stmt) self.old self.new) }
     {
         if self.run.is_empty() {
             self.place = place;
-            self.run.push(stmt)?;
-            return Ok(());
         }
         self.run.push(stmt)?;
         Ok(())
@@ -74,7 +71,11 @@ impl Gathered {
         requires mixed { is_host part ≡ false }
         ensures { (place : Place) → OnOk result (Adds place (piece.Part part) self.old self.new) }
     {
-        self.close()?;
+        if let Err(error) = self.close() {
+            // A call, since a part dropped here without one is proved for each kind of part.
+            drop(part);
+            return Err(error);
+        }
         self.parts.push(part)?;
         Ok(())
     }

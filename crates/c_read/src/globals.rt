@@ -79,12 +79,10 @@ fn global<'a>(
 {
     let name = begin_global(scope, tokens)?;
     if tokens.at(Sign::OpenBracket) {
-        array_entry(scope, tokens, name, arrays)?;
-        return Ok(());
+        return array_entry(scope, tokens, name, arrays);
     }
     if tokens.at(Sign::Semicolon) {
-        scalar(scope, tokens, name)?;
-        return Ok(());
+        return scalar(scope, tokens, name);
     }
     Err(ReadError::Fault(tokens.refuse()))
 }

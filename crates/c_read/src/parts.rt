@@ -45,8 +45,7 @@ fn piece<'a>(scope: &mut Scope<'a>, tokens: &mut Cursor<'a>) -> Result<Piece, Re
     ensures mixed { IfOk result IsNoHost }
 {
     if tokens.at_directive() {
-        let part = directed(scope, tokens)?;
-        return Ok(Piece::Part(part));
+        return directed(scope, tokens).map(Piece::Part);
     }
     if tokens.at_word(Word::For) {
         return looped(scope, tokens);
@@ -54,8 +53,7 @@ fn piece<'a>(scope: &mut Scope<'a>, tokens: &mut Cursor<'a>) -> Result<Piece, Re
     if tokens.at(Sign::OpenBrace) {
         return blocked(scope, tokens);
     }
-    let stmt = plain(scope, tokens)?;
-    Ok(Piece::Statement(stmt))
+    plain(scope, tokens).map(Piece::Statement)
 }
 
 /// The loop whose word stands next.

@@ -33,14 +33,8 @@ pub fn plain<'a>(scope: &mut Scope<'a>, tokens: &mut Cursor<'a>) -> Result<Stmt,
     match tokens.peek() {
         Terminal::Word(Word::Uint64) => declared(scope, tokens),
         Terminal::Word(Word::If) => choice(scope, tokens),
-        Terminal::Word(Word::Print) => {
-            let stmt = printed(scope, tokens)?;
-            Ok(stmt)
-        }
-        Terminal::Name(name) => {
-            let stmt = assigned(scope, tokens, name)?;
-            Ok(stmt)
-        }
+        Terminal::Word(Word::Print) => printed(scope, tokens),
+        Terminal::Name(name) => assigned(scope, tokens, name),
         _ => Err(ReadError::Fault(tokens.refuse())),
     }
 }

@@ -16,14 +16,17 @@ ghost use Rattle.c_expressions.specs.Reading.{run, terminals, Outcome};
 ghost use Rattle.c_expressions.specs.Scopes.{context_of, names_of};
 ghost use Rattle.c_statements.specs.Blocks.{turned};
 ghost use Rattle.c_statements.specs.Loops.{IsGone};
+ghost use Rattle.c_statements.specs.Simple.{env_of};
 ghost use Rattle.c_grammar.specs.Rules.{opened};
+ghost use Rattle.c_read.specs.Parts.{pieces_of, AreLongest};
+ghost use Rattle.c_read.specs.Read.{AreInnerRead, IsOutside};
 ghost use Rattle.c_read.specs.Spells.{main_tokens, IsTextRead, Spells, OnText};
 ghost use Rattle.c_read.specs.Starts.{IsStart};
 
 use crate::globals::globals;
 use crate::parts::gather;
 use base::fault::{ReadCode, ReadFault, TextFault};
-use base::tree::Program;
+use base::tree::{Part, Program};
 use c_expressions::{Cursor, Frame, ReadError, Scope};
 use c_statements::open_body;
 use c_tokens::Sign;
@@ -51,6 +54,23 @@ fn main_head<'a>(scope: &mut Scope<'a>, tokens: &mut Cursor<'a>) -> Result<(), R
     Ok(())
 }
 
+/// The parts of `main` behind its brace, and the end of the source.
+#[tactic(auto, using(c_expressions::proofs::Outcomes::on_from))]
+fn main_parts<'a>(scope: &mut Scope<'a>, tokens: &mut Cursor<'a>) -> Result<Vec<Part>, ReadError>
+    requires { IsOutside scope.old }
+    ensures read { Outcome result (run (context_of scope.old 0 0) (Body ∷ Want End (for Plain) ∷ [])
+        (items tokens.old)) None }
+    ensures tree { IfOk result (λ v. AreInnerRead (env_of scope.old) scope.new.next_scalar (items tokens.old)
+        (items tokens.new) (pieces_of v.items)) }
+    ensures longest { IfOk result (λ v. AreLongest false v.items) }
+    ensures over { OnOk result (terminals (items tokens.new) ≡ End ∷ []) }
+{
+    let gathered = gather(scope, tokens)?;
+    tokens.end()?;
+    let parts = gathered.parts()?;
+    Ok(parts)
+}
+
 /// The whole source.
 #[tactic(auto, using(c_expressions::proofs::Outcomes::on_from, crate::proofs::Programs::main_outside, crate::proofs::Programs::read_text))]
 fn program<'a>(scope: &mut Scope<'a>, tokens: &mut Cursor<'a>) -> Result<Program, ReadError>
@@ -61,9 +81,7 @@ fn program<'a>(scope: &mut Scope<'a>, tokens: &mut Cursor<'a>) -> Result<Program
 {
     let arrays = globals(scope, tokens)?;
     main_head(scope, tokens)?;
-    let gathered = gather(scope, tokens)?;
-    tokens.end()?;
-    let body = gathered.parts()?;
+    let body = main_parts(scope, tokens)?;
     Ok(Program {
         arrays,
         scalars: scope.next_scalar,

@@ -55,8 +55,7 @@ pub fn region<'a>(scope: &mut Scope<'a>, tokens: &mut Cursor<'a>) -> Result<Regi
 {
     let place = tokens.place();
     if tokens.at(Sign::OpenBrace) {
-        let body = body(scope, tokens, None)?;
-        return Ok(Region { place, body });
+        return body(scope, tokens, None).map(|body| Region { place, body });
     }
     if tokens.at_word(Word::For) {
         let turns = target_loop(scope, tokens)?;

@@ -1,15 +1,14 @@
 use Rattle.std.proofs.Common.{refl}
 use Rattle.c_expressions.specs.Cursor.{items}
-use Rattle.c_read.specs.Gathering.{so_far}
 use Rattle.c_read.proofs.Programs.{read_text}
 use Rattle.c_read.proofs.program.program.Goals as goal
 
 pub returns-clause-tree : goal.returns-clause-tree
 returns-clause-tree c =
     read_text c.args.scope.now c.globals.new.scope c.main_head.new.scope c.in_ok-arrays.arrays.entries
-    (items c.args.tokens.now) (items c.globals.new.tokens) (items c.main_head.new.tokens) (items c.gather.new.tokens)
-    c.gather.new.scope.next_scalar (so_far c.in_ok-gathered.gathered)
-    (record { arrays = c.in_ok-arrays.arrays; scalars = c.gather.new.scope.next_scalar; body = c.in_ok-body.body })
+    (items c.args.tokens.now) (items c.globals.new.tokens) (items c.main_head.new.tokens) (items c.main_parts.new.tokens)
+    c.main_parts.new.scope.next_scalar
+    (record { arrays = c.in_ok-arrays.arrays; scalars = c.main_parts.new.scope.next_scalar; body = c.in_ok-body.body })
     c.requires.fresh c.in_ok-arrays.ensures.tree c.in_ok-main_head.ensures.opened c.in_ok-main_head.ensures.names
-    c.in_ok-main_head.ensures.next c.in_ok-main_head.ensures.gone c.in_ok-gathered.ensures.tree
-    c.in_ok-end.ensures.taken refl refl c.in_ok-body.ensures.pieces c.in_ok-body.ensures.longest
+    c.in_ok-main_head.ensures.next c.in_ok-main_head.ensures.gone c.in_ok-body.ensures.tree c.in_ok-body.ensures.over
+    refl refl c.in_ok-body.ensures.longest
