@@ -3,7 +3,7 @@
 ghost use Rattle.std.specs.Prelude.{◌≤◌};
 
 use clap::{Arg, ArgAction, ArgMatches, Command, Error, value_parser};
-use std::alloc::Global;
+use std::alloc::{AllocError, Global};
 
 /// The device's capacity in cells, where none is given.
 const DEFAULT_CAPACITY: u64 = 4_194_304;
@@ -55,11 +55,11 @@ pub struct Step<'a> {
     pub capacity: u64,
 }
 
-fn file<'a>(alloc: Global) -> Arg<'a> {
+fn file_arg<'a>(alloc: Global) -> Arg<'a> {
     Arg::new(alloc, "FILE").required(true).help("the source")
 }
 
-fn capacity<'a>(alloc: Global) -> Arg<'a> {
+fn capacity_arg<'a>(alloc: Global) -> Arg<'a> {
     Arg::new(alloc, "capacity")
         .long("capacity")
         .value_name("C")
@@ -67,79 +67,89 @@ fn capacity<'a>(alloc: Global) -> Arg<'a> {
         .help("the device's capacity in cells, up to 4294967296; 4194304 where it is not given")
 }
 
-fn run_command<'a>(alloc: Global) -> Result<Command<'a>, Error> {
-    let workers = Arg::new(alloc, "workers")
+fn workers_arg<'a>(alloc: Global) -> Arg<'a> {
+    Arg::new(alloc, "workers")
         .long("workers")
         .value_name("N")
         .value_parser(value_parser!(u64).range(1..=MAX_WORKERS as i64))
         .help(
             "how many worker threads run targets and deferred items, up to 16; 4 where it is not given",
-        );
-    let log = Arg::new(alloc, "log")
-        .long("log")
-        .action(ArgAction::SetTrue)
-        .help("prints the events too");
-    let finals = Arg::new(alloc, "finals")
-        .long("finals")
-        .action(ArgAction::SetTrue)
-        .help("prints the arrays that are current at the end too");
-    let run = Command::new(alloc, "run")
-        .about(
-            "runs a program on what standard input holds, by worker threads, and prints its output",
         )
-        .arg(file(alloc))?
-        .arg(workers)?
-        .arg(capacity(alloc))?
-        .arg(log)?
-        .arg(finals)?;
-    Ok(run)
 }
 
-fn step_command<'a>(alloc: Global) -> Result<Command<'a>, Error> {
-    let choices = Arg::new(alloc, "choices")
+fn log_arg<'a>(alloc: Global) -> Arg<'a> {
+    Arg::new(alloc, "log")
+        .long("log")
+        .action(ArgAction::SetTrue)
+        .help("prints the events too")
+}
+
+fn finals_arg<'a>(alloc: Global) -> Arg<'a> {
+    Arg::new(alloc, "finals")
+        .long("finals")
+        .action(ArgAction::SetTrue)
+        .help("prints the arrays that are current at the end too")
+}
+
+fn choices_arg<'a>(alloc: Global) -> Arg<'a> {
+    Arg::new(alloc, "choices")
         .long("choices")
         .value_name("LIST")
         .help(
             "which of the enabled events is next, at each step: numbers separated by commas, 0 past the last",
-        );
-    let step = Command::new(alloc, "step")
+        )
+}
+
+fn run_command<'a>(alloc: Global) -> Result<Command<'a>, AllocError> {
+    Command::new(alloc, "run")
+        .about(
+            "runs a program on what standard input holds, by worker threads, and prints its output",
+        )
+        .arg(file_arg(alloc))?
+        .arg(workers_arg(alloc))?
+        .arg(capacity_arg(alloc))?
+        .arg(log_arg(alloc))?
+        .arg(finals_arg(alloc))
+}
+
+fn step_command<'a>(alloc: Global) -> Result<Command<'a>, AllocError> {
+    Command::new(alloc, "step")
         .about("runs a program likewise, but event by event, and prints its output and its log")
-        .arg(file(alloc))?
-        .arg(choices)?
-        .arg(capacity(alloc))?;
-    Ok(step)
+        .arg(file_arg(alloc))?
+        .arg(choices_arg(alloc))?
+        .arg(capacity_arg(alloc))
 }
 
-fn check_command<'a>(alloc: Global) -> Result<Command<'a>, Error> {
-    let check = Command::new(alloc, "check")
+fn check_command<'a>(alloc: Global) -> Result<Command<'a>, AllocError> {
+    Command::new(alloc, "check")
         .about("says whether a program is accepted, and which arrays are current at its end")
-        .arg(file(alloc))?;
-    Ok(check)
+        .arg(file_arg(alloc))
 }
 
-fn list_command<'a>(alloc: Global) -> Result<Command<'a>, Error> {
-    let list = Command::new(alloc, "list")
+fn list_command<'a>(alloc: Global) -> Result<Command<'a>, AllocError> {
+    Command::new(alloc, "list")
         .about("prints the items of an accepted program, a line each")
-        .arg(file(alloc))?;
-    Ok(list)
+        .arg(file_arg(alloc))
 }
 
-fn commands<'a>(alloc: Global) -> Result<Command<'a>, Error> {
-    let run = run_command(alloc)?;
-    let step = step_command(alloc)?;
-    let list = list_command(alloc)?;
-    let check = check_command(alloc)?;
+fn add<'a>(
+    program: Command<'a>,
+    command: Result<Command<'a>, AllocError>,
+) -> Result<Command<'a>, AllocError> {
+    program.subcommand(command?)
+}
+
+fn commands<'a>(alloc: Global) -> Result<Command<'a>, AllocError> {
     let program = Command::new(alloc, "ompc")
         .about("checks and runs C programs with OpenMP target directives")
         .subcommand_required(true)
         .arg_required_else_help(true)
         .no_binary_name(true)
-        .bin_name("ompc")?
-        .subcommand(check)?
-        .subcommand(list)?
-        .subcommand(run)?
-        .subcommand(step)?;
-    Ok(program)
+        .bin_name("ompc")?;
+    let program = add(program, check_command(alloc))?;
+    let program = add(program, list_command(alloc))?;
+    let program = add(program, run_command(alloc))?;
+    add(program, step_command(alloc))
 }
 
 /// The text of an argument, or none of its bytes where it is not given.
