@@ -1,8 +1,9 @@
 // Counters to which items add in any order that their waits allow.
 #![tactic(auto)]
 
-ghost use Rattle.std.specs.Prelude.{◌≡◌, ◌↔◌, ◌+◌, ℕ, ◌<◌, IfSome, IsTrue, length, true, IfOk, IfErr, OnOk, OnErr};
-ghost use Rattle.counters.specs.Steps.{IsNew, HasTotals};
+ghost use Rattle.std.specs.Prelude.{◌≡◌, ◌↔◌, ◌+◌, ℕ, ◌<◌, ◌≤◌, IfSome, IsTrue, length, slice_get, true, IfOk, IfErr, OnOk, OnErr};
+ghost use Rattle.counters.specs.Steps.{IsEnabled, IsNew, HasTotals, move_of, parts};
+ghost use Rattle.machine.specs.Machine.{Runs, StopsAtFault, first_moves};
 ghost use Rattle.std.specs.List.{slice_index_or};
 ghost use Rattle.counters.specs.Tally.{needs, NeededClosed, IsProgram, item};
 
@@ -95,7 +96,7 @@ fn are_needed_closed(items: &[Item], progress: &[Progress], i: usize) -> bool
 
 /// Whether the items are a program over this many counters: no wait is deferred, and the last item is a wait.
 pub fn is_program(items: &[Item], counters: usize) -> bool
-    ensures { IsTrue result → IsProgram items.now × ((i : ℕ) → i < length items.now → (item items.now i).counter < counters) }
+    ensures { IsTrue result ↔ (IsProgram items.now × ((i : ℕ) → i < length items.now → (item items.now i).counter < counters)) }
 {
     for item in items {
         if (item.wait && item.deferred) || item.counter >= counters {
@@ -109,7 +110,7 @@ pub fn is_program(items: &[Item], counters: usize) -> bool
 }
 
 impl Counters {
-    ghost use Rattle.counters.specs.Steps.{IsNew, IsEnabled, generated, opened, closed, waited, move_of};
+    ghost use Rattle.counters.specs.Steps.{IsNew, IsEnabled, IsFull, generated, opened, closed, waited, move_of};
     ghost use Rattle.machine.specs.Board.Move.{Gen, Open, Close, Wait};
 
     /// A run of these items, with these counters to begin with.
@@ -203,6 +204,7 @@ impl Counters {
         requires { IsEnabled self.old (Close i) }
         ensures ok { OnOk result (self.new ≡ closed self.old i) }
         ensures err { OnErr result (self.new ≡ self.old) }
+        ensures full { OnErr result (IsFull self.old (Close i)) }
     {
         let Some(sum) = self.seen[i].checked_add(self.items[i].amount) else {
             return Err(Fault::Full);
@@ -222,7 +224,7 @@ impl Counters {
 
 impl Machine for Counters {
     ghost use Rattle.std.specs.Prelude.{true};
-    ghost use Rattle.counters.specs.Steps.{parts, move_of};
+    ghost use Rattle.counters.specs.Steps.{IsEnabled, IsFull, happens, parts, move_of};
     ghost use Rattle.counters.specs.Laws.{laws};
 
     type State = Counters;
@@ -243,7 +245,12 @@ impl Machine for Counters {
         state.is_enabled(event)
     }
 
-    fn step(state: &mut Counters, event: &Event) -> Result<(), Fault> {
+    fn step(state: &mut Counters, event: &Event) -> Result<(), Fault>
+        requires { IsEnabled state.old (move_of event.now) }
+        ensures done { OnOk result (state.new ≡ happens state.old (move_of event.now)) }
+        ensures fault { OnErr result (state.new ≡ state.old) }
+        ensures full { OnErr result (IsFull state.old (move_of event.now)) }
+    {
         match *event {
             Event::Gen(i) => state.generate(i),
             Event::Open(i) => state.open(i),
@@ -263,7 +270,10 @@ impl Machine for Counters {
 /// Plays the events. Whatever their order, once the last item is done each counter has what the items add to it.
 pub fn add_all(state: &mut Counters, events: Vec<Event>) -> Result<usize, Fault>
     requires { IsNew state.old }
-    ensures { HasTotals state.old state.new }
+    ensures run { IfOk result (λ n. (n ≤ length events.items) × Runs parts state.old (first_moves move_of events.items n) state.new) }
+    ensures stops { IfOk result (λ n. IfSome (slice_get events.items n) (λ event. IsEnabled state.new (move_of event) → ⊥)) }
+    ensures fault { IfErr result (λ f. StopsAtFault parts move_of (λ _. true) events.items f state.old state.new) }
+    ensures totals { HasTotals state.old state.new }
 {
     play::<Counters>(state, events)
 }
