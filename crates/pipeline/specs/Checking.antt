@@ -1,5 +1,5 @@
 -- What is answered where a source is checked.
-use Rattle.std.specs.Prelude.{ℕ, ◌<◌, ◌≤◌, List, Option, length}
+use Rattle.std.specs.Prelude.{◌≡◌, ℕ, ◌<◌, ◌≤◌, List, Option, Result, Ok, Err, length}
 use Rattle.std.specs.Io.KnownBytes.{Appends}
 use Rattle.base.specs.declared.tree.ArrayId.{ArrayId}
 use Rattle.base.specs.declared.tree.Program.{Program}
@@ -65,3 +65,11 @@ IsRefused bytes (Read f) = OnText (IsTextFault bytes) f
 IsRefused bytes (Outline f) = IsOutlineFault bytes f
 IsRefused bytes (Check f) = IsRefusedProgram bytes f
 IsRefused bytes (Run f) = ⊥
+
+-- nothing is written, unless the check refuses a program, which is told in a line
+abbrev pub IsSilent : {X : Type 0} → Result X SourceFault → Option (List ℕ) → Option (List ℕ) → Type 0
+IsSilent (Ok x) old new = new ≡ old
+IsSilent (Err (Read f)) old new = new ≡ old
+IsSilent (Err (Outline f)) old new = new ≡ old
+IsSilent (Err (Check f)) old new = Unit {0}
+IsSilent (Err (Run f)) old new = new ≡ old

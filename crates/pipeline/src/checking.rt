@@ -1,7 +1,7 @@
 //! From a source to whether it is accepted.
 
 ghost use Rattle.std.specs.Prelude.{◌≡◌, ◌⊎◌, IfOk, IfErr, OnErr, OnOk};
-ghost use Rattle.pipeline.specs.Checking.{IsChecked, IsRefused, IsTold, IsUnaccepted};
+ghost use Rattle.pipeline.specs.Checking.{IsChecked, IsRefused, IsSilent, IsTold, IsUnaccepted};
 
 use base::fault::{CheckFault, SourceFault};
 use base::tree::Program;
@@ -21,7 +21,8 @@ pub fn tell<E: Write>(
     fault: CheckFault,
     err: &mut E,
 ) -> SourceFault
-    ensures { (result ≡ SourceFault.Check fault) ⊎ (result ≡ SourceFault.Check CheckFault.OutOfMemory) }
+    ensures fault { (result ≡ SourceFault.Check fault) ⊎ (result ≡ SourceFault.Check CheckFault.OutOfMemory) }
+    ensures silent { fault ≡ CheckFault.OutOfMemory → E.contents err.new ≡ E.contents err.old }
 {
     if matches!(fault, CheckFault::OutOfMemory) {
         return SourceFault::Check(fault);
@@ -55,6 +56,7 @@ fn check_outlined<W: Write, E: Write>(
     ensures told { IfOk result (λ w. OnOk w (IsTold outlined.now (W.contents out.old) (W.contents out.new))) }
     ensures fault { IfErr result (IsUnaccepted outlined.now) }
     ensures quiet { OnErr result (W.contents out.new ≡ W.contents out.old) }
+    ensures silent { IsSilent result (E.contents err.old) (E.contents err.new) }
 {
     match check(alloc, outlined) {
         Ok(accepted) => Ok(write_accepted(alloc, &accepted, out)),
@@ -75,6 +77,7 @@ pub fn check_source<W: Write, E: Write>(
     ensures checked { IfOk result (λ w. OnOk w (IsChecked bytes.now (W.contents out.old) (W.contents out.new))) }
     ensures fault { IfErr result (λ f. IsRefused bytes.now f) }
     ensures quiet { OnErr result (W.contents out.new ≡ W.contents out.old) }
+    ensures silent { IsSilent result (E.contents err.old) (E.contents err.new) }
 {
     let program = match read_program(alloc, bytes) {
         Ok(program) => program,

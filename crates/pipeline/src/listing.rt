@@ -1,7 +1,7 @@
 //! From a source to the list of its items.
 
 ghost use Rattle.std.specs.Prelude.{◌≡◌, IfOk, IfErr, OnErr, OnOk};
-ghost use Rattle.pipeline.specs.Checking.{IsRefused, IsUnaccepted};
+ghost use Rattle.pipeline.specs.Checking.{IsRefused, IsSilent, IsUnaccepted};
 ghost use Rattle.pipeline.specs.Listing.{AreWritten, IsListed};
 
 use crate::checking::tell;
@@ -32,6 +32,7 @@ fn list_outlined<W: Write, E: Write>(
     ensures written { IfOk result (λ w. OnOk w (AreWritten outlined.now (W.contents out.old) (W.contents out.new))) }
     ensures fault { IfErr result (IsUnaccepted outlined.now) }
     ensures quiet { OnErr result (W.contents out.new ≡ W.contents out.old) }
+    ensures silent { IsSilent result (E.contents err.old) (E.contents err.new) }
 {
     match check(alloc, outlined) {
         Ok(accepted) => Ok(write_items(alloc, &accepted, out)),
@@ -52,6 +53,7 @@ pub fn list_source<W: Write, E: Write>(
     ensures listed { IfOk result (λ w. OnOk w (IsListed bytes.now (W.contents out.old) (W.contents out.new))) }
     ensures fault { IfErr result (λ f. IsRefused bytes.now f) }
     ensures quiet { OnErr result (W.contents out.new ≡ W.contents out.old) }
+    ensures silent { IsSilent result (E.contents err.old) (E.contents err.new) }
 {
     let program = match read_program(alloc, bytes) {
         Ok(program) => program,
