@@ -18,19 +18,22 @@ pub fn overlap(left: &Section, right: &Section) -> bool
         && second < first + u128::from(left.length)
 }
 
-fn is_written(kind: DependKind) -> bool
-    ensures { result ≡ writes_to kind }
-{
-    match kind {
-        DependKind::In => false,
-        DependKind::Out | DependKind::InOut => true,
+impl DependKind {
+    /// Whether an item of this kind writes: it is `out` or `inout`.
+    pub fn is_written(self) -> bool
+        ensures { result ≡ writes_to self }
+    {
+        match self {
+            DependKind::In => false,
+            DependKind::Out | DependKind::InOut => true,
+        }
     }
 }
 
 fn is_match(left: &Depend, right: &Depend) -> bool
     ensures { result ≡ match_depends left.now right.now }
 {
-    overlap(&left.section, &right.section) && (is_written(left.kind) || is_written(right.kind))
+    overlap(&left.section, &right.section) && (left.kind.is_written() || right.kind.is_written())
 }
 
 // Whether it matches one of them.

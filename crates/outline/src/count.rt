@@ -1,16 +1,9 @@
 // The number of items of a program.
 
 ghost use Rattle.std.specs.Prelude.{◌≡◌, ◌-◌, ◌^◌, min};
-ghost use Rattle.base.specs.Meaning.{turns_of};
 ghost use Rattle.outline.specs.Counts.{list_count, part_count};
 
-use base::tree::{Bounds, Part};
-
-fn turns(b: Bounds) -> u64
-    ensures { result ≡ turns_of b }
-{
-    (b.end.saturating_sub(b.first) + (b.step - 1)) / b.step
-}
+use base::tree::Part;
 
 /// How many items a part has; a number above `u64::MAX` is kept as that.
 #[tactic(auto, using(crate::proofs::Counting::count_Block))]
@@ -21,7 +14,7 @@ pub fn count(part: &Part) -> u64
     match part {
         Part::Host(_) | Part::Target(_, _) | Part::Alone(_) => 1,
         Part::Block(all) => count_all(all),
-        Part::Loop(bounds, body) => turns(*bounds).saturating_mul(count_all(body)),
+        Part::Loop(bounds, body) => bounds.turns().saturating_mul(count_all(body)),
         Part::Data(_, body) => count_all(body).saturating_add(2),
     }
 }

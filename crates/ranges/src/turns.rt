@@ -1,18 +1,10 @@
 // How many turns the loops of a region have.
 
 ghost use Rattle.std.specs.Prelude.{◌≡◌, ◌-◌, ◌^◌, min};
-ghost use Rattle.base.specs.Meaning.{turns_of};
 ghost use Rattle.base.specs.Footprint.{stmt_turns};
 ghost use Rattle.ranges.specs.Seen.{list_turns};
 
-use base::tree::{Bounds, Stmt};
-
-// How often a loop turns.
-fn turns(b: Bounds) -> u64
-    ensures { result ≡ turns_of b }
-{
-    (b.end.saturating_sub(b.first) + (b.step - 1)) / b.step
-}
+use base::tree::Stmt;
 
 #[tactic(auto, using(crate::proofs::TurnCounts::turns_Block, crate::proofs::TurnCounts::turns_Loop, crate::proofs::TurnCounts::turns_If, crate::proofs::TurnCounts::least_product))]
 // The turns of the loops of a statement; a number above `u64::MAX` is kept as that.
@@ -23,9 +15,9 @@ fn turns_in(s: &Stmt) -> u64
     match s {
         Stmt::Declare(_, _) | Stmt::Assign(_, _) | Stmt::Store(_, _, _, _) | Stmt::Print(_) => 0,
         Stmt::Block(all) => turns_in_all(all),
-        Stmt::Loop(bounds, body) => turns(*bounds).saturating_mul(turns_in_all(body).saturating_add(
-            1,
-        )),
+        Stmt::Loop(bounds, body) => bounds
+            .turns()
+            .saturating_mul(turns_in_all(body).saturating_add(1)),
         Stmt::If(_, first, second) => turns_in_all(first).saturating_add(turns_in_all(second)),
     }
 }

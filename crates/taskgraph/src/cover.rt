@@ -2,12 +2,10 @@
 
 ghost use Rattle.std.specs.Prelude.{◌≡◌};
 ghost use Rattle.std.specs.List.{list_all, list_any};
-ghost use Rattle.base.specs.Machine.{writes_to};
 ghost use Rattle.base.specs.Memory.{is_inside};
 ghost use Rattle.taskgraph.specs.Cover.{covers, stands_for};
 
 use base::item::{Depend, Section};
-use base::tree::DependKind;
 
 fn is_inside(inner: &Section, outer: &Section) -> bool
     ensures { result ≡ is_inside inner.now outer.now }
@@ -18,20 +16,11 @@ fn is_inside(inner: &Section, outer: &Section) -> bool
         && first + u128::from(inner.length) <= start + u128::from(outer.length)
 }
 
-fn is_written(kind: DependKind) -> bool
-    ensures { result ≡ writes_to kind }
-{
-    match kind {
-        DependKind::In => false,
-        DependKind::Out | DependKind::InOut => true,
-    }
-}
-
 fn stands_for(earlier: &Depend, later: &Depend) -> bool
     ensures { result ≡ stands_for earlier.now later.now }
 {
     is_inside(&later.section, &earlier.section)
-        && (is_written(earlier.kind) || !is_written(later.kind))
+        && (earlier.kind.is_written() || !later.kind.is_written())
 }
 
 // Whether one of them stands for it.
