@@ -32,7 +32,7 @@ fn item_in_range(alloc: Global, outlined: &Outlined<'_>, item: &Item) -> Result<
 }
 
 /// Whether no item has a fault of range.
-pub fn in_range(alloc: Global, outlined: &Outlined<'_>) -> Result<bool, AllocError>
+pub(crate) fn in_range(alloc: Global, outlined: &Outlined<'_>) -> Result<bool, AllocError>
     ensures { IfOk result (λ fine. fine ≡ true → HasNoRangeFault (plan outlined.now)) }
 {
     'items: for item in outlined.items() {
@@ -44,7 +44,10 @@ pub fn in_range(alloc: Global, outlined: &Outlined<'_>) -> Result<bool, AllocErr
 }
 
 /// The order of a program in which no item has a fault of range.
-pub fn order_of<'p>(alloc: Global, outlined: &Outlined<'p>) -> Result<Order<'p>, OrderBuildFault>
+pub(crate) fn order_of<'p>(
+    alloc: Global,
+    outlined: &Outlined<'p>,
+) -> Result<Order<'p>, OrderBuildFault>
     requires { HasNoRangeFault (plan outlined.now) }
 {
     Order::build(alloc, outlined)

@@ -34,7 +34,7 @@ use std::io;
 use std::io::Write;
 
 /// What the layers say of a source.
-pub fn said(alloc: Global, source: &str) -> io::Result<Vec<u8>> {
+pub(crate) fn said(alloc: Global, source: &str) -> io::Result<Vec<u8>> {
     let mut out = Vec::new(alloc);
     match read_program(alloc, source.as_bytes()) {
         Err(fault) => writeln!(out, "{fault}")?,

@@ -9,7 +9,7 @@ use std::test::Fail;
 
 /// A source, and what the layers say of it.
 #[derive(Clone, Copy)]
-pub struct Case {
+pub(crate) struct Case {
     pub name: &'static str,
     pub source: &'static str,
     pub said: &'static str,

@@ -279,7 +279,7 @@ fn add_parts(out: &mut String, depth: usize, parts: &Vec<Part>) -> Result<(), Al
     Ok(())
 }
 
-pub fn program_text(alloc: Global, program: &Program) -> Result<String, AllocError> {
+pub(crate) fn program_text(alloc: Global, program: &Program) -> Result<String, AllocError> {
     let mut out = String::new(alloc);
     for (name, info) in program.arrays.iter() {
         write!(out, "array {name} {}\n", info.length)?;

@@ -3,7 +3,7 @@
 use std::alloc::{AllocError, Global};
 
 #[derive(Drop)]
-pub struct Report {
+pub(crate) struct Report {
     pub right: u64,
     pub wrong: u64,
     /// The texts that are not as wanted, each below the name of its file.
@@ -11,7 +11,7 @@ pub struct Report {
 }
 
 impl Report {
-    pub fn new(alloc: Global) -> Report {
+    pub(crate) fn new(alloc: Global) -> Report {
         Report {
             right: 0,
             wrong: 0,
@@ -20,7 +20,7 @@ impl Report {
     }
 
     /// Compares a text with that of the file with that name and ending.
-    pub fn compare(
+    pub(crate) fn compare(
         &mut self,
         name: &str,
         ending: &str,

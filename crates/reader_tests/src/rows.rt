@@ -51,7 +51,11 @@ fn summary(alloc: Global, outcome: &Result<Program, ReadFault>) -> Result<String
 }
 
 /// Compares what the reader makes of each row. A row that differs is named by its source.
-pub fn compare_rows(alloc: Global, report: &mut Report, rows: &str) -> Result<(), AllocError> {
+pub(crate) fn compare_rows(
+    alloc: Global,
+    report: &mut Report,
+    rows: &str,
+) -> Result<(), AllocError> {
     for row in rows.trim_end_matches('\n').split("\n== ").skip(1) {
         let (wanted, text) = row.split_once('\n').unwrap_or((row, ""));
         let source = expanded(alloc, text)?;

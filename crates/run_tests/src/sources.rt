@@ -46,7 +46,12 @@ fn look_outlined<R: Abort, L: Look>(
 }
 
 /// Reads, checks and lowers a source, and does that with its image.
-pub fn look_at<R: Abort, L: Look>(rt: &R, alloc: Global, text: &str, by: &L) -> Result<(), Fail> {
+pub(crate) fn look_at<R: Abort, L: Look>(
+    rt: &R,
+    alloc: Global,
+    text: &str,
+    by: &L,
+) -> Result<(), Fail> {
     let program = read_program(alloc, text.as_bytes()).map_err(Fail::new)?;
     let outlined = outline(alloc, &program).map_err(Fail::new)?;
     look_outlined(rt, alloc, &outlined, by)
@@ -54,7 +59,7 @@ pub fn look_at<R: Abort, L: Look>(rt: &R, alloc: Global, text: &str, by: &L) -> 
 
 /// Why there is no answer.
 #[derive(Debug, Drop)]
-pub enum Fault {
+pub(crate) enum Fault {
     Read(ReadFault),
     Outline(OutlineFault),
     Check(CheckFault),
@@ -105,7 +110,7 @@ fn run_outlined<R: Threads + Wait + Sync, G: Gate + Sync>(
 }
 
 /// Runs a source on threads.
-pub fn run_source<R: Threads + Wait + Sync, G: Gate + Sync>(
+pub(crate) fn run_source<R: Threads + Wait + Sync, G: Gate + Sync>(
     rt: &R,
     alloc: Global,
     text: &str,
