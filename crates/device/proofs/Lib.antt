@@ -9,6 +9,7 @@ pub mod Ended
 pub mod Regions
 pub mod Validity
 pub mod Framings
+pub mod Rooms
 pub mod Reaching
 pub mod MayOpen
 pub mod MayClose

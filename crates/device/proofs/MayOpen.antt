@@ -287,6 +287,7 @@ unchanged r old new h same =
         held = h.at.held;
       };
       room = same.table.capacity ∙ h.room;
+      stayed = h.stayed;
     })
 
 -- runs that differ in their frames alone

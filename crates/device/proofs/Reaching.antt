@@ -10,7 +10,7 @@ use Rattle.base.specs.Limits.{AreShort}
 pub use Rattle.device.specs.Leading.{IsNext, Next, is_after, leads_to, next, one_more_run, reached_next, takes}
 use Rattle.device.specs.Run as run
 use Rattle.device.specs.Run.{fill_in, state_of}
-use Rattle.device.specs.Running.{IsRunning, run_of}
+use Rattle.device.specs.Running.{IsReached, IsRunning, run_of}
 use Rattle.device.specs.declared.state.RunState.TheInside.{Inside}
 use Rattle.device.specs.Standing.{IsAt, Follows, place_of}
 use Rattle.device.specs.declared.standing.Standing.{Standing}
@@ -28,6 +28,7 @@ use Rattle.std.specs.List.{range_with_len}
 use Rattle.base.specs.declared.item.Event.TheVariants as event
 use Rattle.device.specs.Allowed.{allowed_at}
 use Rattle.device.proofs.Ended.{nothing_more, sound}
+use Rattle.device.proofs.Rooms.{has_stayed, no_more_in_use, nothing_done}
 
 -- after the end no event may happen
 pub over : (r : run.Run) (now : Standing) → IsRunning r now → now.ended ≡ true → (e : Event) →
@@ -96,22 +97,36 @@ before r now e h may = record {
         go true e1 = absurd (not_ended e1)
         go false e1 = e1
 
--- the run goes on where what is shown follows the event
+-- the run goes on from the state that an event leads to
+pub goes_to : (r r' : run.Run) (old new : Standing) (e : Event) → IsRunning r old → (n : Next r e) →
+    IsAt (plan r.program) new n.state → IsNext r r' e → capacity_of new.table ≡ capacity_of old.table → IsRunning r' new
+goes_to r r' old new e h n at is same = record {
+  reached = k.0;
+  at = here;
+  room = room;
+  stayed = has_stayed r r' e h.stayed is k.0 (no_more_in_use r' new here room);
+}
+  where
+    k : IsReached r' × (state_of r' ≡ n.state)
+    k = reached_next r r' e h.reached n is.program is.input is.fresh is.history
+
+    here : IsAt (plan r'.program) new (state_of r')
+    here =
+        subst (λ (q : Program). IsAt (plan q) new (state_of r')) (sym is.program)
+        (subst (λ (t : State). IsAt (plan r.program) new t) (sym k.1) at)
+
+    room : capacity_of new.table ≡ r'.capacity
+    room = same ∙ h.room ∙ sym is.capacity
+
+-- the same where what is shown follows the event
 pub goes_on : (r r' : run.Run) (old new : Standing) (e : Event) → IsRunning r old →
     enabled (plan r.program) (state_of r) e ≡ true → Follows old e new →
     r.fresh ≡ old.table.fresh → IsNext r r' e → capacity_of new.table ≡ capacity_of old.table → IsRunning r' new
-goes_on r r' old new e h may follows filled is room =
+goes_on r r' old new e h may follows filled is same =
     let n = next r e h.reached may in
-    let k = reached_next r r' e h.reached n is.program is.input is.fresh is.history in
-    record {
-      reached = k.0;
-      at =
-          subst (λ (q : Program). IsAt (plan q) new (state_of r')) (sym is.program)
-          (subst (λ (t : State). IsAt (plan r.program) new t) (sym k.1)
-          (follows (plan r.program) (state_of r) n.state h.at may
-          (subst (λ (f : ℕ). step (plan r.program) (λ i c. f) (state_of r) e ≡ Some n.state) filled n.step)));
-      room = room ∙ h.room ∙ sym is.capacity;
-    }
+    goes_to r r' old new e h n
+    (follows (plan r.program) (state_of r) n.state h.at may
+    (subst (λ (f : ℕ). step (plan r.program) (λ i c. f) (state_of r) e ≡ Some n.state) filled n.step)) is same
 
 -- what was asked of the value holds of the fields
 pub asked : (s : Inside) (r : run.Run) (e : Event) → run_of s ≡ r → enabled (plan r.program) (state_of r) e ≡ true →
@@ -122,33 +137,29 @@ asked s r e is may = subst (λ (x : run.Run). enabled (plan x.program) (state_of
 pub begun : (r : run.Run) (now : Standing) → IsAccepted (plan r.program) → AreShort r.program → AreNumbers r.input →
     r.fresh < 2 ^ 64 → r.history ≡ [] → IsAt (plan r.program) now (start r.input) → capacity_of now.table ≡ r.capacity →
     IsRunning r now
-begun r now accepted short numbers fresh none at room =
-    let ran = subst (λ (h : List Event). RunFrom (plan r.program) (fill_in r) r.input h (Some (start r.input))) (sym none) refl in
-    let here = leads_to r (start r.input) ran in
-    record {
-      reached = record {
-        accepted = accepted;
-        short = short;
-        numbers = numbers;
-        fresh = fresh;
-        ran =
-            subst (λ (s : State). RunFrom (plan r.program) (fill_in r) r.input r.history (Some s)) (sym here) ran;
-      };
-      at = subst (λ (s : State). IsAt (plan r.program) now s) (sym here) at;
-      room = room;
-    }
+begun r now accepted short numbers fresh none at room = record {
+  reached = reached;
+  at = now_at;
+  room = room;
+  stayed = nothing_done r reached none (no_more_in_use r now now_at room);
+}
+  where
+    ran : RunFrom (plan r.program) (fill_in r) r.input r.history (Some (start r.input))
+    ran = subst (λ (h : List Event). RunFrom (plan r.program) (fill_in r) r.input h (Some (start r.input))) (sym none) refl
 
--- the same from the one state that the event leads to
-pub goes_to : (r r' : run.Run) (old new : Standing) (e : Event) → IsRunning r old → (n : Next r e) →
-    IsAt (plan r.program) new n.state → IsNext r r' e → capacity_of new.table ≡ capacity_of old.table → IsRunning r' new
-goes_to r r' old new e h n at is room =
-    let k = reached_next r r' e h.reached n is.program is.input is.fresh is.history in
-    record {
-      reached = k.0;
-      at =
-          subst (λ (q : Program). IsAt (plan q) new (state_of r')) (sym is.program)
-          (subst (λ (t : State). IsAt (plan r.program) new t) (sym k.1) at);
-      room = room ∙ h.room ∙ sym is.capacity;
+    here : state_of r ≡ start r.input
+    here = leads_to r (start r.input) ran
+
+    now_at : IsAt (plan r.program) now (state_of r)
+    now_at = subst (λ (s : State). IsAt (plan r.program) now s) (sym here) at
+
+    reached : IsReached r
+    reached = record {
+      accepted = accepted;
+      short = short;
+      numbers = numbers;
+      fresh = fresh;
+      ran = subst (λ (s : State). RunFrom (plan r.program) (fill_in r) r.input r.history (Some s)) (sym here) ran;
     }
 
 -- the fill of a table is its number

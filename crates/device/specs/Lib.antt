@@ -7,6 +7,7 @@ pub mod Framing
 pub mod Closing
 pub mod Run
 pub mod Taking
+pub mod Room
 pub mod Running
 pub mod Leading
 pub mod Valid

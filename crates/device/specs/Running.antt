@@ -8,6 +8,7 @@ use Rattle.present.specs.Table.{capacity_of}
 use Rattle.device.specs.declared.state.RunState.TheInside.{Inside}
 use Rattle.device.specs.declared.standing.Standing.{Standing}
 use Rattle.base.specs.Limits.{AreShort}
+use Rattle.device.specs.Room.{HasStayed}
 use Rattle.device.specs.Run.{Run, fill_in, state_of}
 use Rattle.device.specs.Standing.{IsAt, issue_of}
 
@@ -19,11 +20,12 @@ pub record IsReached (r : Run) : Type 0 where
   pub fresh : r.fresh < 2 ^ 64
   pub ran : RunFrom (plan r.program) (fill_in r) r.input r.history (Some (state_of r))
 
--- the code's values show that state
+-- the code's values show that state, and the run has kept to the device's room
 pub record IsRunning (r : Run) (now : Standing) : Type 0 where
   pub reached : IsReached r
   pub at : IsAt (plan r.program) now (state_of r)
   pub room : capacity_of now.table ≡ r.capacity
+  pub stayed : HasStayed r
 
 abbrev pub run_of : Inside → Run
 run_of s = record {

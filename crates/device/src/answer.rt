@@ -6,6 +6,7 @@ ghost use Rattle.base.specs.Items.{plan};
 ghost use Rattle.base.specs.Machine.{HasEnded};
 ghost use Rattle.base.specs.Meaning.{lengths_of, output_of};
 ghost use Rattle.device.specs.Answering.{IsAnswerFault, IsAnswerOf, IsRunAnswer, final_in, final_of, values_in};
+ghost use Rattle.device.specs.Room.{IsAnswerWithin};
 ghost use Rattle.device.specs.Run.{state_of};
 
 use crate::state::RunState;
@@ -113,8 +114,9 @@ impl<'a> RunState<'a> {
 }
 
 /// Runs an accepted program on this input by these choices, on a device with room for `capacity` cells. The answer has
-/// the values of the arrays that are marked current. The error is `DeviceFull` where the run comes to an opening that
-/// would create more cells than the device has room for, or `OutOfMemory`.
+/// the values of the arrays that are marked current, and after none of its events are more than `capacity` cells in use.
+/// The error is `DeviceFull` where the run comes to an opening that would create more cells than the device has room for,
+/// or `OutOfMemory`.
 pub fn run_choices(
     alloc: Global,
     image: &Image<'_>,
@@ -123,6 +125,7 @@ pub fn run_choices(
     capacity: u64,
 ) -> Result<Answer, RunFault>
     ensures answer { IfOk result (IsAnswer image.now input.now choices.now) }
+    ensures within { IfOk result (IsAnswerWithin image.now input.now capacity) }
     ensures fault { IfErr result (IsAnswerFault image.now input.now choices.now capacity) }
 {
     let mut run = match RunState::new(alloc, image, input, capacity) {

@@ -8,6 +8,7 @@ ghost use Rattle.base.specs.Headline.{AreNumbers};
 ghost use Rattle.base.specs.Machine.{enabled};
 ghost use Rattle.base.specs.declared.item.Event.TheVariants as event;
 ghost use Rattle.base.specs.Blocks.{holder};
+ghost use Rattle.device.specs.Room.{HasStayed};
 ghost use Rattle.device.specs.Run.{IsStart, after, state_of};
 ghost use Rattle.device.specs.Running.{IsReached};
 
@@ -79,9 +80,10 @@ impl<'a> RunState<'a> {
         self.image.program()
     }
 
-    /// The events so far are a run of the two-memory machine.
+    /// The events so far are a run of the two-memory machine, which has kept to the device's room.
     pub fn is_reached(&self)
-        ensures { IsReached self.now }
+        ensures reached { IsReached self.now }
+        ensures stayed { HasStayed self.now }
     {
         let _whole = &self.whole;
     }

@@ -4,6 +4,7 @@ ghost use Rattle.std.specs.Prelude.{◌≡◌, true, false, IsTrue, IfErr, IfOk,
 ghost use Rattle.base.specs.declared.item.Event.TheVariants as event;
 ghost use Rattle.base.specs.Items.{plan};
 ghost use Rattle.base.specs.Machine.{enabled};
+ghost use Rattle.device.specs.Room.{IsAnswerWithin};
 ghost use Rattle.device.specs.Run.{state_of};
 ghost use Rattle.host.specs.Looks.{IsClosing, IsLook};
 ghost use Rattle.host.specs.Origins.{IsFrom, one_origin};
@@ -89,6 +90,7 @@ fn answered(stop: Stop) -> RunFault
 // What a run that was not stopped has come to.
 fn answer_of(alloc: Global, state: &RunState<'_>) -> Result<Answer, RunFault>
     ensures answer { IfOk result (IsThreadAnswer state.now.program state.now.input) }
+    ensures within { IfOk result (IsAnswerWithin state.now.program state.now.input state.now.capacity) }
     ensures cause { IfErr result (IsEndFault None state.now) }
     ensures fault { IfErr result (IsThreadFault state.now.program state.now.input state.now.capacity) }
 {
@@ -266,6 +268,7 @@ impl<'a, B: Origin> Board<'a, B> {
     pub fn answer(self, alloc: Global) -> Result<Answer, RunFault>
         ensures origin { IsFrom B.start self.entry.state }
         ensures answer { IfOk result (IsThreadAnswer self.entry.state.program self.entry.state.input) }
+        ensures within { IfOk result (IsAnswerWithin self.entry.state.program self.entry.state.input self.entry.state.capacity) }
         ensures goes { OnOk result (self.entry.stop ≡ None) }
         ensures cause { IfErr result (IsEndFault self.entry.stop self.entry.state) }
         ensures fault { IfErr result (IsThreadFault self.entry.state.program self.entry.state.input self.entry.state.capacity) }

@@ -1,6 +1,7 @@
 // A run on threads.
 
 ghost use Rattle.std.specs.Prelude.{◌≡◌, ◌≤◌, IfErr, IfOk, Some};
+ghost use Rattle.device.specs.Room.{IsAnswerWithin};
 ghost use Rattle.host.specs.Threads.{IsThreadAnswer, IsThreadFault};
 
 use crate::board::Board;
@@ -28,6 +29,7 @@ fn run_from<'a, B: Origin + Send, R: Threads + Wait + Sync, G: Gate + Sync>(
 ) -> Result<Answer, RunFault>
     requires { B.start ≡ Some (record { program = image.now; input = input.now; capacity = capacity }) }
     ensures answer { IfOk result (IsThreadAnswer image.now input.now) }
+    ensures within { IfOk result (IsAnswerWithin image.now input.now capacity) }
     ensures fault { IfErr result (IsThreadFault image.now input.now capacity) }
 {
     let state = match RunState::new(alloc, image, input, capacity) {
@@ -41,7 +43,7 @@ fn run_from<'a, B: Origin + Send, R: Threads + Wait + Sync, G: Gate + Sync>(
 
 /// Runs an accepted program on this input by worker threads, on a device with room for `capacity` cells. The calling
 /// thread is the host; targets and deferred items are for the workers. The answer has the values of the arrays that are
-/// marked current.
+/// marked current, and after none of its events are more than `capacity` cells in use.
 ///
 /// The first fault stops all threads, which are joined, and is answered: `DeviceFull` where an opening would create more
 /// cells than the device has room for, `OutOfMemory`, `ThreadNotStarted` where the runtime does not start a worker, or
@@ -58,6 +60,7 @@ pub fn run_threads<R: Threads + Wait + Sync, G: Gate + Sync>(
     requires some { 1 ≤ workers }
     requires few { workers ≤ 16 }
     ensures answer { IfOk result (IsThreadAnswer image.now input.now) }
+    ensures within { IfOk result (IsAnswerWithin image.now input.now capacity) }
     ensures fault { IfErr result (IsThreadFault image.now input.now capacity) }
 {
     run_from::<Brand, R, G>(rt, alloc, image, input, workers, capacity, gate)

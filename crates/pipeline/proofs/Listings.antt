@@ -1,9 +1,7 @@
 -- What is answered where a source is checked, or listed.
-use Rattle.std.proofs.Common.{◌≡◌, ℕ, ◌<◌, ◌≤◌, ◌⊎◌, List, Option, length, refl, sym, subst, ⊎_elim}
+use Rattle.std.proofs.Common.{◌≡◌, ℕ, ◌<◌, ◌≤◌, List, Option, length, refl, subst}
 use Rattle.std.specs.Prelude.{Result, Ok, Err, IfErr, OnOk, ◌↔◌}
 use Rattle.base.specs.declared.tree.Program.{Program}
-use Rattle.base.specs.declared.fault.CheckFault.{CheckFault}
-use Rattle.base.specs.declared.fault.CheckFault.TheVariants as check
 use Rattle.base.specs.declared.fault.OutlineFault.{OutlineFault}
 use Rattle.base.specs.declared.fault.OutlineFault.TheVariants as outline
 use Rattle.base.specs.declared.fault.SourceFault.{SourceFault}
@@ -12,7 +10,7 @@ use Rattle.base.specs.Items.{plan}
 use Rattle.base.specs.Limits.{most_items}
 use Rattle.c_read.specs.Spells.{Spells}
 use Rattle.mapcheck.specs.Passes.{IsCheckFault}
-use Rattle.pipeline.specs.Checking.{IsChecked, IsOutlineFault, IsRefused, IsRefusedProgram, IsTold, IsUnaccepted}
+use Rattle.pipeline.specs.Checking.{IsChecked, IsOutlineFault, IsRefused, IsTold, IsUnaccepted}
 use Rattle.pipeline.specs.Listing.{AreWritten, IsListed}
 
 pub outline_fault : (bytes : List ℕ) (p : Program) (f : OutlineFault) → Spells bytes p →

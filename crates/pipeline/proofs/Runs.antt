@@ -3,18 +3,17 @@ use Rattle.std.proofs.Common.{◌≡◌, ℕ, ◌≤◌, List, Option, Some, Non
 use Rattle.std.specs.Prelude.{Result, Ok, Err, IfErr, IfOk}
 use Rattle.base.specs.declared.tree.Program.{Program}
 use Rattle.base.specs.declared.item.Answer.{Answer}
+use Rattle.base.specs.declared.fault.RunFault.{RunFault}
 use Rattle.base.specs.declared.fault.SourceFault.{SourceFault}
 use Rattle.base.specs.declared.fault.SourceFault.TheVariants.{Read, Outline, Check, Run}
 use Rattle.base.specs.Accepted.{IsAccepted}
-use Rattle.base.specs.Answer.{IsAnswer, finals_in, marked_values}
+use Rattle.base.specs.Answer.{finals_in, marked_values}
 use Rattle.base.specs.Items.{plan}
 use Rattle.base.specs.Limits.{AreShort, most_items}
 use Rattle.base.specs.Memory.{Memory}
 use Rattle.base.specs.Meaning.{Plain, erased, output_of}
 use Rattle.c_read.specs.Spells.{Spells}
 use Rattle.erased_meaning.specs.Laws.{ErasedTextRuns, IsErased, SameEnd, SameRun}
-use Rattle.erasure.specs.Erased.{erased_text}
-use Rattle.host.specs.Threads.{IsThreadAnswer}
 use Rattle.mapcheck.specs.Passes.{IsCheckFault}
 use Rattle.pipeline.specs.Source.{Answers, Faults, IsAcceptedAnswer, IsPlainAnswer, IsProgramFault, IsRunStopped, IsSourceAnswer, IsSourceFault, by_choices, on_threads}
 
@@ -25,12 +24,14 @@ record Shows (p : Program) (input : List ℕ) (a : Answer) : Type 0 where
   output : a.out.items ≡ output_of plain.printed
   finals : finals_in a ≡ marked_values p plain.memory
 
-by_choices_shows : (p : Program) (input choices : List ℕ) (a : Answer) → IsAnswer p input choices a → Shows p input a
-by_choices_shows p input choices a h =
+by_choices_shows : (p : Program) (input choices : List ℕ) (capacity : ℕ) (a : Answer) →
+    by_choices input choices capacity p a → Shows p input a
+by_choices_shows p input choices capacity a (h, within) =
     record { plain = h.plain; is_erased = h.is_erased; output = h.output; finals = h.finals }
 
-on_threads_shows : (p : Program) (input : List ℕ) (a : Answer) → IsThreadAnswer p input a → Shows p input a
-on_threads_shows p input a h =
+on_threads_shows : (p : Program) (input : List ℕ) (capacity : ℕ) (a : Answer) → on_threads input capacity p a →
+    Shows p input a
+on_threads_shows p input capacity a (h, within) =
     record { plain = h.plain; is_erased = h.is_erased; output = h.output; finals = h.finals }
 
 -- what the program of the text without directives does is what the answer has
@@ -65,17 +66,19 @@ source_answer law is bytes input shows p q e s few (Ok a) h =
       without = λ r spelled. plain_answer p r input a (shows p a here.answer) (law bytes p r s spelled);
     }
 
-pub answer_by_choices : ErasedTextRuns → (bytes input choices : List ℕ) (p q : Program) → q ≡ p → Spells bytes p →
-    length (plan p).items ≤ most_items → (r : Result Answer SourceFault) →
-    IfOk r (IsAcceptedAnswer (by_choices input choices) q) → IfOk r (IsSourceAnswer (by_choices input choices) bytes input)
-answer_by_choices law bytes input choices p q e s few r h =
-    source_answer law (by_choices input choices) bytes input (λ x a k. by_choices_shows x input choices a k) p q e s few r h
+pub answer_by_choices : ErasedTextRuns → (bytes input choices : List ℕ) (capacity : ℕ) (p q : Program) → q ≡ p →
+    Spells bytes p → length (plan p).items ≤ most_items → (r : Result Answer SourceFault) →
+    IfOk r (IsAcceptedAnswer (by_choices input choices capacity) q) →
+    IfOk r (IsSourceAnswer (by_choices input choices capacity) bytes input)
+answer_by_choices law bytes input choices capacity p q e s few r h =
+    source_answer law (by_choices input choices capacity) bytes input
+    (λ x a k. by_choices_shows x input choices capacity a k) p q e s few r h
 
-pub answer_on_threads : ErasedTextRuns → (bytes input : List ℕ) (p q : Program) → q ≡ p → Spells bytes p →
+pub answer_on_threads : ErasedTextRuns → (bytes input : List ℕ) (capacity : ℕ) (p q : Program) → q ≡ p → Spells bytes p →
     length (plan p).items ≤ most_items → (r : Result Answer SourceFault) →
-    IfOk r (IsAcceptedAnswer (on_threads input) q) → IfOk r (IsSourceAnswer (on_threads input) bytes input)
-answer_on_threads law bytes input p q e s few r h =
-    source_answer law (on_threads input) bytes input (λ x a k. on_threads_shows x input a k) p q e s few r h
+    IfOk r (IsAcceptedAnswer (on_threads input capacity) q) → IfOk r (IsSourceAnswer (on_threads input capacity) bytes input)
+answer_on_threads law bytes input capacity p q e s few r h =
+    source_answer law (on_threads input capacity) bytes input (λ x a k. on_threads_shows x input capacity a k) p q e s few r h
 
 pub source_fault : (is : Faults) (bytes : List ℕ) (p q : Program) → q ≡ p → Spells bytes p →
     length (plan p).items ≤ most_items → (r : Result Answer SourceFault) → IfErr r (IsProgramFault is q) →
@@ -87,6 +90,11 @@ source_fault is bytes p q e s few (Err (Run f)) h =
     record { program = p; spelled = s; few = few; stopped = subst (λ (r : Program). IsRunStopped is r f) e h }
 source_fault is bytes p q e s few (Err (Read f)) h = absurd h
 source_fault is bytes p q e s few (Err (Outline f)) h = absurd h
+
+-- two clauses on an answer
+pub both : (P Q : Answer → Type 0) (r : Result Answer RunFault) → IfOk r P → IfOk r Q → IfOk r (λ a. P a × Q a)
+both P Q (Ok a) p q = (p, q)
+both P Q (Err f) p q = tt
 
 pub accepted_too : (p q : Program) → q ≡ p → IsAccepted (plan q) → IsAccepted (plan p)
 accepted_too p q e h = subst (λ (r : Program). IsAccepted (plan r)) e h

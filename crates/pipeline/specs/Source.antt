@@ -12,27 +12,29 @@ use Rattle.base.specs.Limits.{most_items}
 use Rattle.base.specs.Meaning.{Plain, erased, lengths_of, output_of}
 use Rattle.c_read.specs.Spells.{Spells}
 use Rattle.device.specs.Answering.{IsAnswerFault}
+use Rattle.device.specs.Room.{IsAnswerWithin}
 use Rattle.erased_meaning.specs.Laws.{IsOneRegion}
 use Rattle.erasure.specs.Erased.{erased_text}
 use Rattle.host.specs.Threads.{IsThreadAnswer, IsThreadFault}
 use Rattle.mapcheck.specs.Passes.{IsCheckFault}
 use Rattle.pipeline.specs.Checking.{IsRefused}
 
--- what is answered of programs, and why they have no answer: by choices, or on threads
+-- what is answered of programs, and why they have no answer: by choices, or on threads; and no event of an answer leaves
+-- more cells in use than the device has room for
 abbrev pub Answers : Type 1
 Answers = Program → Answer → Type 0
 
 abbrev pub Faults : Type 1
 Faults = Program → RunFault → Type 0
 
-abbrev pub by_choices : List ℕ → List ℕ → Answers
-by_choices input choices p a = IsAnswer p input choices a
+abbrev pub by_choices : List ℕ → List ℕ → ℕ → Answers
+by_choices input choices capacity p a = IsAnswer p input choices a × IsAnswerWithin p input capacity a
 
 abbrev pub stopped_by_choices : List ℕ → List ℕ → ℕ → Faults
 stopped_by_choices input choices capacity p f = IsAnswerFault p input choices capacity f
 
-abbrev pub on_threads : List ℕ → Answers
-on_threads input p a = IsThreadAnswer p input a
+abbrev pub on_threads : List ℕ → ℕ → Answers
+on_threads input capacity p a = IsThreadAnswer p input a × IsAnswerWithin p input capacity a
 
 abbrev pub stopped_on_threads : List ℕ → ℕ → Faults
 stopped_on_threads input capacity p f = IsThreadFault p input capacity f

@@ -23,7 +23,7 @@ pub fn run_accepted(
     capacity: u64,
 ) -> Result<Answer, RunFault>
     requires { AreShort accepted.now }
-    ensures answer { IfOk result (by_choices input.now choices.now accepted.now) }
+    ensures answer { IfOk result (by_choices input.now choices.now capacity accepted.now) }
     ensures fault { IfErr result (stopped_by_choices input.now choices.now capacity accepted.now) }
 {
     let Ok(image) = lower(alloc, accepted) else {
@@ -42,7 +42,7 @@ fn run_outlined(
     capacity: u64,
 ) -> Result<Answer, SourceFault>
     requires { AreShort outlined.now }
-    ensures answer { IfOk result (IsAcceptedAnswer (by_choices input.now choices.now) outlined.now) }
+    ensures answer { IfOk result (IsAcceptedAnswer (by_choices input.now choices.now capacity) outlined.now) }
     ensures fault { IfErr result (IsProgramFault (stopped_by_choices input.now choices.now capacity) outlined.now) }
 {
     let accepted = match check(alloc, outlined) {
@@ -70,7 +70,7 @@ pub fn run_source(
     choices: &[u32],
     capacity: u64,
 ) -> Result<Answer, SourceFault>
-    ensures answer { IfOk result (IsSourceAnswer (by_choices input.now choices.now) bytes.now input.now) }
+    ensures answer { IfOk result (IsSourceAnswer (by_choices input.now choices.now capacity) bytes.now input.now) }
     ensures fault { IfErr result (IsSourceFault (stopped_by_choices input.now choices.now capacity) bytes.now) }
 {
     let program = match read_program(alloc, bytes) {

@@ -28,7 +28,7 @@ pub fn run_accepted_on_threads<T: Threads + Wait + Sync>(
     requires some { 1 ≤ workers }
     requires few { workers ≤ 16 }
     requires short { AreShort accepted.now }
-    ensures answer { IfOk result (on_threads input.now accepted.now) }
+    ensures answer { IfOk result (on_threads input.now capacity accepted.now) }
     ensures fault { IfErr result (stopped_on_threads input.now capacity accepted.now) }
 {
     let Ok(image) = lower(alloc, accepted) else {
@@ -50,7 +50,7 @@ fn run_outlined_on_threads<T: Threads + Wait + Sync>(
     requires some { 1 ≤ workers }
     requires few { workers ≤ 16 }
     requires short { AreShort outlined.now }
-    ensures answer { IfOk result (IsAcceptedAnswer (on_threads input.now) outlined.now) }
+    ensures answer { IfOk result (IsAcceptedAnswer (on_threads input.now capacity) outlined.now) }
     ensures fault { IfErr result (IsProgramFault (stopped_on_threads input.now capacity) outlined.now) }
 {
     let accepted = match check(alloc, outlined) {
@@ -77,7 +77,7 @@ pub fn run_source_on_threads<T: Threads + Wait + Sync>(
 ) -> Result<Answer, SourceFault>
     requires some { 1 ≤ workers }
     requires few { workers ≤ 16 }
-    ensures answer { IfOk result (IsSourceAnswer (on_threads input.now) bytes.now input.now) }
+    ensures answer { IfOk result (IsSourceAnswer (on_threads input.now capacity) bytes.now input.now) }
     ensures fault { IfErr result (IsSourceFault (stopped_on_threads input.now capacity) bytes.now) }
 {
     let program = match read_program(alloc, bytes) {

@@ -4,7 +4,7 @@ use Rattle.pipeline.proofs.source.run_source.Goals as goal
 
 pub returns-clause-answer : goal.returns-clause-answer
 returns-clause-answer c =
-    answer_by_choices c.erased_text_runs.ensures c.args.bytes.now c.args.input.now c.args.choices.now c.in-Ok.program _
+    answer_by_choices c.erased_text_runs.ensures c.args.bytes.now c.args.input.now c.args.choices.now c.args.capacity c.in-Ok.program _
     c.in-Ok-outline.ensures.outlined c.in-Ok.ensures.found c.in-Ok-outline.ensures.few c.run_outlined.result
     c.run_outlined.ensures.answer
 

@@ -4,7 +4,7 @@ use Rattle.pipeline.proofs.threads.run_source_on_threads.Goals as goal
 
 pub returns-clause-answer : goal.returns-clause-answer
 returns-clause-answer g c =
-    answer_on_threads c.erased_text_runs.ensures c.args.bytes.now c.args.input.now c.in-Ok.program _
+    answer_on_threads c.erased_text_runs.ensures c.args.bytes.now c.args.input.now c.args.capacity c.in-Ok.program _
     c.in-Ok-outline.ensures.outlined c.in-Ok.ensures.found c.in-Ok-outline.ensures.few c.run_outlined_on_threads.result
     c.run_outlined_on_threads.ensures.answer
 

@@ -7,6 +7,6 @@ use Rattle.device.proofs.state.RunState.answer.Goals as goal
 
 pub returns-in-Ok : goal.returns-in-Ok
 returns-in-Ok c =
-    is_run_answer c.marked-marked.result.now c.args.self.now c.in-Ok.answer c.is_reached.ensures c.requires
+    is_run_answer c.marked-marked.result.now c.args.self.now c.in-Ok.answer c.is_reached.ensures.reached c.requires
     (subst (λ (r : Run). AreMarked (plan r.program) c.marked-marked.result.now) c.self.view_is c.marked-marked.ensures)
     c.in-Ok.ensures

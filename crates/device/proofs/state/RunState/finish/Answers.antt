@@ -93,6 +93,7 @@ invariant_of-self-in-Err c =
       reached = c.self.invariant.reached;
       at = c.in-Err.ensures.unchanged _ _ c.self.invariant.at;
       room = c.close.ensures.kept.capacity ∙ c.self.invariant.room;
+      stayed = c.self.invariant.stayed;
     })
 
 pub returns-in-Err-clause-unchanged : goal.returns-in-Err-clause-unchanged

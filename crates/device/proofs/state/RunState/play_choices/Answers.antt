@@ -22,7 +22,7 @@ returns-in_default-next-clause-played c =
     let most = c.most_events-most.ensures in
     let below = c.loop-turn-test.true in
     ends_here c.loop-turn.turn c.args.choices.now c.args.self.now c.loop-turn.self c.loop-turn.invariant
-    c.is_reached.ensures (omega arith) (sym c.in-Ok.ensures ∙ c.in_default-next.is)
+    c.is_reached.ensures.reached (omega arith) (sym c.in-Ok.ensures ∙ c.in_default-next.is)
 
 pub take-requires : goal.take-requires
 take-requires c =
@@ -43,4 +43,4 @@ returns-clause-played c =
     let past = c.loop-turn-test.false in
     let x = c.loop-turn.auto in
     ends_at_most c.loop-turn.turn c.args.choices.now c.args.self.now c.loop-turn.self c.loop-turn.invariant
-    c.is_reached-2.ensures (omega arith) (omega arith)
+    c.is_reached-2.ensures.reached (omega arith) (omega arith)
