@@ -2,8 +2,6 @@
 #![tactic(auto)]
 
 #[cfg(test)]
-mod fit;
-#[cfg(test)]
 mod mapcheck_cases;
 #[cfg(test)]
 mod mapwalk_cases;

@@ -16,16 +16,17 @@
 // accepted ends with the check's refusal.
 
 ghost use Rattle.base.specs.Items.{plan};
+ghost use Rattle.mapwalk.specs.Footprints.{AreFootprints};
 ghost use Rattle.mapwalk.specs.Walk.{HasNoRangeFault};
 
-use crate::fit::{in_range, order_of};
 use base::fault::CheckFault;
 use base::item::{Cell, Item, Section};
 use base::tree::ArrayId;
 use c_read::read_program;
+use mapcheck::passes::{footprints_of, order_of};
 use mapcheck::{Accepted, check, current_at_end};
-use mapwalk::{Acts, footprint_of, walk};
-use order::{Order, OrderBuildFault};
+use mapwalk::{Acts, footprint_of, repeats, walk};
+use order::Order;
 use outline::{Outlined, RegionEntry, outline};
 use ranges::{CellSet, Footprint, FootprintFault, sections};
 use report::{accepted_text, list_text, refusal_text};
@@ -52,8 +53,11 @@ fn say_outlined(alloc: Global, outlined: &Outlined<'_>, out: &mut Vec<u8>) -> io
         say_region(outlined, number, entry, out)?;
     }
     say_cells(alloc, outlined, out)?;
-    if in_range(alloc, outlined)? {
-        say_passes(alloc, outlined, out)?;
+    match footprints_of(alloc, outlined, &repeats(alloc, outlined)?) {
+        Ok(found) => say_passes(alloc, outlined, &found, out)?,
+        Err(CheckFault::OutOfMemory) => return Err(io::Error::from(AllocError)),
+        // The lines of cells end with it.
+        Err(_) => {}
     }
     say_check(alloc, outlined, out)
 }
@@ -167,17 +171,21 @@ fn digits(alloc: Global, set: &CellSet, array: ArrayId, length: u32) -> Result<S
 }
 
 // The order and what the walk finds.
-fn say_passes(alloc: Global, outlined: &Outlined<'_>, out: &mut Vec<u8>) -> io::Result<()>
-    requires { HasNoRangeFault (plan outlined.now) }
+fn say_passes(
+    alloc: Global,
+    outlined: &Outlined<'_>,
+    found: &[Option<Footprint>],
+    out: &mut Vec<u8>,
+) -> io::Result<()>
+    requires fine { HasNoRangeFault (plan outlined.now) }
+    requires found { AreFootprints (plan outlined.now) found.now }
 {
     match order_of(alloc, outlined) {
-        Err(OrderBuildFault::OutOfMemory) => Err(io::Error::from(AllocError)),
-        Err(OrderBuildFault::Clash(fault)) => {
-            refusal_text(alloc, outlined.program(), &CheckFault::Order(fault), out)
-        }
+        Err(CheckFault::OutOfMemory) => Err(io::Error::from(AllocError)),
+        Err(fault) => refusal_text(alloc, outlined.program(), &fault, out),
         Ok(order) => {
             say_order(&order, outlined.items().len() as u32, out)?;
-            say_walk(alloc, outlined, out)
+            say_walk(alloc, outlined, found, out)
         }
     }
 }
@@ -195,19 +203,25 @@ fn say_order(order: &Order<'_>, items: u32, out: &mut Vec<u8>) -> io::Result<()>
     Ok(())
 }
 
-fn say_walk(alloc: Global, outlined: &Outlined<'_>, out: &mut Vec<u8>) -> io::Result<()>
-    requires { HasNoRangeFault (plan outlined.now) }
+fn say_walk(
+    alloc: Global,
+    outlined: &Outlined<'_>,
+    found: &[Option<Footprint>],
+    out: &mut Vec<u8>,
+) -> io::Result<()>
+    requires fine { HasNoRangeFault (plan outlined.now) }
+    requires found { AreFootprints (plan outlined.now) found.now }
 {
-    let found = walk(alloc, outlined)?;
-    for (number, row) in found.acts.iter().enumerate() {
+    let walked = walk(alloc, outlined, found)?;
+    for (number, row) in walked.acts.iter().enumerate() {
         say_acts(outlined, number, row, out)?;
     }
     write!(out, "marked")?;
-    for array in &found.current {
+    for array in &walked.current {
         write!(out, " {}", name_of(outlined, *array))?;
     }
     writeln!(out)?;
-    match found.fault {
+    match walked.fault {
         None => Ok(()),
         Some(fault) => refusal_text(alloc, outlined.program(), &CheckFault::Refused(fault), out),
     }

@@ -1,9 +1,10 @@
 // What the layers of the check say of sources.
 
-use crate::fit::{in_range, order_of};
 use crate::said::said;
 use crate::{mapcheck_cases, mapwalk_cases, order_cases, outline_cases, ranges_cases};
 use c_read::read_program;
+use mapcheck::passes::{footprints_of, order_of};
+use mapwalk::repeats;
 use outline::outline;
 use std::test::Fail;
 
@@ -53,7 +54,7 @@ fn a_long_chain_is_ordered(rt: HostRuntime) -> Result<(), Fail> {
     let program = read_program(alloc, LONG_CHAIN.as_bytes())?;
     let outlined = outline(alloc, &program)?;
     assert_eq!(rt; outlined.items().len(), 4096);
-    assert!(rt; in_range(alloc, &outlined)?);
+    footprints_of(alloc, &outlined, &repeats(alloc, &outlined)?)?;
     let order = order_of(alloc, &outlined)?;
     for item in 0..4096 {
         assert!(rt; item == 0 || order.before(0, item));

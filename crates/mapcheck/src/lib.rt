@@ -23,7 +23,7 @@ use std::marker::Model;
 pub mod accesses;
 pub mod conflict;
 mod items;
-mod passes;
+pub mod passes;
 mod reaches;
 mod third;
 pub mod unordered;

@@ -14,7 +14,7 @@ use crate::accesses::Accesses;
 use crate::unordered::first_conflict;
 use base::fault::{CheckFault, Refusal};
 use base::tree::ArrayId;
-use mapwalk::{Acts, Walked, walk_with};
+use mapwalk::{Acts, Walked, walk};
 use order::Order;
 use outline::Outlined;
 use ranges::Footprint;
@@ -91,7 +91,7 @@ pub fn third_pass(
     ensures passed { IfOk result (λ current. IsPassed (plan outlined.now) current.items) }
     ensures fault { IfErr result (IsCheckFault (plan outlined.now)) }
 {
-    let Ok(walked) = walk_with(alloc, outlined, found) else {
+    let Ok(walked) = walk(alloc, outlined, found) else {
         return Err(CheckFault::OutOfMemory);
     };
     let Walked {

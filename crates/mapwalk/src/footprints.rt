@@ -4,19 +4,17 @@ ghost use Rattle.std.specs.Prelude.{◌≡◌, ◌<◌, [], Some, IfOk, IfErr, O
 ghost use Rattle.base.specs.Accepted.{region_faults};
 ghost use Rattle.base.specs.Items.{Work, plan};
 ghost use Rattle.base.specs.Meaning.{lengths_of};
-ghost use Rattle.mapwalk.specs.Footprints.{AreFirstFootprints, AreFootprints, AreSameCells};
+ghost use Rattle.mapwalk.specs.Footprints.{AreFirstFootprints, AreSameCells};
 ghost use Rattle.mapwalk.specs.Regions.{IsFoundFor};
 ghost use Rattle.mapwalk.specs.Repeats.{AreRepeats};
-ghost use Rattle.mapwalk.specs.Walk.{HasNoRangeFault};
 ghost use Rattle.outline.specs.Regions.{entries_of};
 ghost use Rattle.outline.specs.Shown.{shown};
 ghost use Rattle.ranges.specs.Found.{IsFootprintFault};
 
-use crate::alike::repeats;
 use base::item::Item;
 use outline::Outlined;
 use ranges::{Footprint, FootprintFault, footprint};
-use std::alloc::{AllocError, Global};
+use std::alloc::Global;
 
 /// The cells that the region of an item touches, or none where it has no region. The error is the region's fault of
 /// range, or `OutOfMemory` where an allocation fails.
@@ -76,39 +74,4 @@ pub fn next_footprint(
         Some(earlier) => copied(&found[earlier]),
         None => footprint_of(alloc, outlined, &outlined.items()[number]),
     }
-}
-
-// The footprint of the region of the first item without one, where no item has a fault of range.
-fn fine_footprint(
-    alloc: Global,
-    outlined: &Outlined<'_>,
-    repeats: &[Option<usize>],
-    found: &[Option<Footprint>],
-) -> Result<Option<Footprint>, AllocError>
-    requires fine { HasNoRangeFault (plan outlined.now) }
-    requires repeats { AreRepeats (plan outlined.now) repeats.now }
-    requires before { AreFirstFootprints (plan outlined.now) (length found.now) found.now }
-    requires inside { length found.now < length (plan outlined.now).items }
-    ensures { (w : Work) → slice_get (plan outlined.now).items (length found.now) ≡ Some w → IfOk result (IsFoundFor (lengths_of outlined.now) w) }
-{
-    match next_footprint(alloc, outlined, repeats, found) {
-        Ok(found) => Ok(found),
-        Err(_) => Err(AllocError),
-    }
-}
-
-/// The footprint of each item's region.
-pub fn footprints(
-    alloc: Global,
-    outlined: &Outlined<'_>,
-) -> Result<Vec<Option<Footprint>>, AllocError>
-    requires { HasNoRangeFault (plan outlined.now) }
-    ensures { IfOk result (λ found. AreFootprints (plan outlined.now) found.items) }
-{
-    let repeats = repeats(alloc, outlined)?;
-    let mut found = Vec::new(alloc);
-    'items: for _ in 0..outlined.items().len() {
-        found.push(fine_footprint(alloc, outlined, &repeats, &found)?)?;
-    }
-    Ok(found)
 }

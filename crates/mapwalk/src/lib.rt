@@ -11,7 +11,6 @@ ghost use Rattle.mapwalk.specs.Walk.{AreActs, AreCurrent, HasNoRangeFault, IsFir
 
 pub use crate::alike::repeats;
 use crate::causes::Cause;
-use crate::footprints::footprints;
 pub use crate::footprints::{footprint_of, next_footprint};
 pub use crate::rows::Acts;
 use crate::steps::{State, Step};
@@ -45,21 +44,9 @@ pub struct Walked {
     pub fault: Option<Refusal>,
 }
 
-/// Does the items of a program one after the other on an abstract present table. The error comes where an allocation
-/// fails.
-pub fn walk(alloc: Global, outlined: &Outlined<'_>) -> Result<Walked, AllocError>
-    requires { HasNoRangeFault (plan outlined.now) }
-    ensures acts { IfOk result (λ w. AreActs (plan outlined.now) w) }
-    ensures fault { IfOk result (λ w. IsFirstRefusal (plan outlined.now) w.fault) }
-    ensures sound { IfOk result (λ w. IsSound (plan outlined.now) w.fault) }
-    ensures current { IfOk result (λ w. AreCurrent (plan outlined.now) w) }
-{
-    let found = footprints(alloc, outlined)?;
-    walk_with(alloc, outlined, &found)
-}
-
-/// The same, with the footprint of each item's region.
-pub fn walk_with(
+/// Does the items of a program one after the other on an abstract present table, with the footprint of each item's region.
+/// The error comes where an allocation fails.
+pub fn walk(
     alloc: Global,
     outlined: &Outlined<'_>,
     found: &[Option<Footprint>],

@@ -5,7 +5,7 @@ use Rattle.mapwalk.specs.Sides.{lengths_in, shown_by}
 use Rattle.mapwalk.specs.Table.{blocks_of}
 use Rattle.mapwalk.specs.Walk.{row_items}
 use Rattle.mapwalk.proofs.Walking.{Reached}
-use Rattle.mapwalk.proofs.walk_with.Given as goal
+use Rattle.mapwalk.proofs.walk.Given as goal
 
 abbrev pub invariant-items : goal.invariant-items
 invariant-items l = record {

@@ -17,7 +17,7 @@ use Rattle.mapwalk.proofs.Endings.{marked_at_end}
 use Rattle.mapwalk.proofs.Refusals.{first_alone, none_refused}
 use Rattle.mapwalk.proofs.SideRows.{lengths_count}
 use Rattle.mapwalk.proofs.Walking.{Reached, as_many, next, rows_before, work_at}
-use Rattle.mapwalk.proofs.walk_with.Goals as goal
+use Rattle.mapwalk.proofs.walk.Goals as goal
 
 pub bounds-found-len : goal.bounds-found-len
 bounds-found-len c =
