@@ -1,15 +1,14 @@
 -- The rows of the host memory.
-use Rattle.std.proofs.Common.{◌≡◌, ◌≢◌, ℕ, zero, suc, ◌+◌, ◌-◌, ◌<◌, ◌≤◌, ◌==◌, ◌&&◌, Bool, true, false, List, [], ◌∷◌, length, map, Option, Some, None, Vec, Global, refl, sym, ap, ◌∙◌, subst, arith, replicate, get_or, ◌⊎◌, inl, inr}
+use Rattle.std.proofs.Common.{◌≡◌, ℕ, zero, suc, ◌-◌, ◌<◌, ◌≤◌, ◌==◌, ◌&&◌, Bool, true, false, List, [], ◌∷◌, length, map, Some, None, Vec, Global, refl, sym, ap, ◌∙◌, arith, replicate, get_or, ◌⊎◌, inl, inr, leb-false, leb-true, ltb-true, ltb-false}
 use Rattle.std.specs.Prelude.{slice_get, slice_set, slice_index, unwrap_or, nat_le, nat_lt}
 use mathlib.Core.Path.{fun_ext}
-use Rattle.std.proofs.lemmas.Bool.{and_parts, eqb-true}
-use Rattle.std.proofs.lemmas.Bool.Decides.{nat_tests}
+use Rattle.std.proofs.lemmas.Bool.{eqb-true, eqb-false}
 use Rattle.std.proofs.lemmas.Option.{unwrap_or-slice_get, slice_get_cases}
 use Rattle.base.specs.declared.item.Cell.{Cell}
 use Rattle.base.specs.declared.item.Section.{Section}
 use Rattle.base.specs.declared.memory.Memory.{Memory as Arrays}
-use Rattle.base.specs.Memory.{is_in, within, zeros, end_of}
-use Rattle.base.specs.Arrays.{length_of, items_of, row_of, lengths_of, memory_of, overwritten, IsWithin}
+use Rattle.base.specs.Memory.{within, zeros, end_of}
+use Rattle.base.specs.Arrays.{length_of, items_of, row_of, memory_of, overwritten, IsWithin}
 use Rattle.base.proofs.Places.{get_set_same, get_set_other, overwritten_before, overwritten_in, overwritten_after, length_overwritten}
 
 abbrev pub row_items : Vec ℕ Global → List ℕ
@@ -58,21 +57,6 @@ zero_lengths (n ∷ lens) (r ∷ rest) e =
     let later : map length_of rest ≡ lens = zero_lengths lens rest more in
     cc
 
-differ : (a b : ℕ) → (a == b) ≡ false → a ≢ b
-differ a b h = grind (arith, nat_tests)
-
-below_first : (first i : ℕ) → nat_le first i ≡ false → i < first
-below_first first i h = grind (arith, nat_tests)
-
-from_first : (first i : ℕ) → nat_le first i ≡ true → first ≤ i
-from_first first i h = grind (arith, nat_tests)
-
-below_end : (i end : ℕ) → nat_lt i end ≡ true → i < end
-below_end i end h = grind (arith, nat_tests)
-
-from_end : (i end : ℕ) → nat_lt i end ≡ false → end ≤ i
-from_end i end h = grind (arith, nat_tests)
-
 -- a section that the memory has is one of its arrays'
 pub row_there : (m : Arrays) (s : Section) → IsWithin m s → s.array.0 < length m.arrays.items
 row_there m s h = go (slice_get_cases m.arrays.items s.array.0)
@@ -101,14 +85,14 @@ module _ (rows : List (Vec ℕ Global)) (s : Section) (v w : Vec ℕ Global) (nu
       ≡ elim (a && b) [ true ↦ slice_index numbers (i - s.first) | false ↦ unwrap_or (slice_get v.items i) 0 ]
   inside_row i false b p q =
       ap (λ xs. unwrap_or (slice_get xs i) 0) written
-      ∙ ap (λ o. unwrap_or o 0) (overwritten_before v.items numbers s.first (omega arith) i (below_first s.first i p))
+      ∙ ap (λ o. unwrap_or o 0) (overwritten_before v.items numbers s.first (omega arith) i (leb-false s.first i p))
   inside_row i true false p q =
-      let past : end_of s ≤ i = from_end i (end_of s) q in
+      let past : end_of s ≤ i = ltb-false i (end_of s) q in
       ap (λ xs. unwrap_or (slice_get xs i) 0) written
       ∙ ap (λ o. unwrap_or o 0) (overwritten_after v.items numbers s.first (omega arith) i (omega arith))
   inside_row i true true p q =
-      let above : s.first ≤ i = from_first s.first i p in
-      let below : i < end_of s = below_end i (end_of s) q in
+      let above : s.first ≤ i = leb-true s.first i p in
+      let below : i < end_of s = ltb-true i (end_of s) q in
       ap (λ xs. unwrap_or (slice_get xs i) 0) written
       ∙ ap (λ o. unwrap_or o 0) (overwritten_in v.items numbers s.first (omega arith) i above (omega arith))
       ∙ unwrap_or-slice_get numbers (i - s.first) 0
@@ -126,7 +110,7 @@ module _ (rows : List (Vec ℕ Global)) (s : Section) (v w : Vec ℕ Global) (nu
           ]
       go false e =
           ap (λ o. unwrap_or (slice_get (items_of o) c.index) 0)
-          (get_set_other rows s.array.0 w c.array.0 (λ x. differ c.array.0 s.array.0 e (sym x)))
+          (get_set_other rows s.array.0 w c.array.0 (λ x. eqb-false c.array.0 s.array.0 e (sym x)))
       go true e =
           let same : c.array.0 ≡ s.array.0 = eqb-true c.array.0 s.array.0 e in
           let old : unwrap_or (slice_get v.items c.index) 0 ≡ number_in rows c.array.0 c.index =

@@ -1,10 +1,8 @@
 -- What stands at a place of a list that is put together from parts.
-use Rattle.std.proofs.Common.{◌≡◌, ◌≢◌, ℕ, zero, suc, ◌+◌, ◌-◌, ◌<◌, ◌≤◌, Bool, true, false, ◌&&◌, List, [], ◌∷◌, ◌++◌, length, take, drop, Option, Some, None, refl, sym, ap, ◌∙◌, arith, length-append, length-take, if◌then◌else◌}
-use Rattle.std.specs.Prelude.{slice_get, slice_set, nat_le, nat_lt}
-use Rattle.std.proofs.lemmas.Bool.{and_parts}
+use Rattle.std.proofs.Common.{◌≡◌, ◌≢◌, ℕ, zero, suc, ◌+◌, ◌-◌, ◌<◌, ◌≤◌, List, [], ◌∷◌, ◌++◌, length, take, drop, Some, refl, ap, ◌∙◌, arith, length-take-le}
+use Rattle.std.specs.Prelude.{slice_get, slice_set}
 use Rattle.std.proofs.lemmas.Grind.{common_steps}
 use Rattle.base.specs.Arrays.{overwritten}
-use Rattle.std.proofs.lemmas.Bool.Decides.{nat_tests}
 
 pub get_left : {X : Type 0} (xs ys : List X) (k : ℕ) → k < length xs → slice_get (xs ++ ys) k ≡ slice_get xs k
 get_left [] ys k h = absurd (omega arith)
@@ -31,11 +29,6 @@ get_drop (suc n) (x ∷ xs) k =
     let e : suc (n + k) ≡ suc n + k = omega arith in
     get_drop n xs k ∙ ap (slice_get (x ∷ xs)) e
 
-pub length_take : {X : Type 0} (n : ℕ) (xs : List X) → n ≤ length xs → length (take n xs) ≡ n
-length_take zero xs h = refl
-length_take (suc n) [] h = absurd (omega arith)
-length_take (suc n) (x ∷ xs) h = let e : length (take n xs) ≡ n = length_take n xs (omega arith) in omega arith
-
 pub get_set_same : {X : Type 0} (xs : List X) (i : ℕ) (v : X) → i < length xs → slice_get (slice_set xs i v) i ≡ Some v
 get_set_same [] i v h = absurd (omega arith)
 get_set_same (x ∷ xs) zero v h = refl
@@ -53,13 +46,13 @@ module _ (xs ys : List ℕ) (a : ℕ) (fits : a + length ys ≤ length xs) where
   -- below what was written over
   pub overwritten_before : (k : ℕ) → k < a → slice_get (overwritten xs a ys) k ≡ slice_get xs k
   overwritten_before k h =
-      let n : length (take a xs) ≡ a = length_take a xs (omega arith) in
+      let n : length (take a xs) ≡ a = length-take-le a xs (omega arith) in
       get_left (take a xs) (ys ++ drop (a + length ys) xs) k (omega arith) ∙ get_take a xs k h
 
   -- what was written
   pub overwritten_in : (k : ℕ) → a ≤ k → k < a + length ys → slice_get (overwritten xs a ys) k ≡ slice_get ys (k - a)
   overwritten_in k h j =
-      let n : length (take a xs) ≡ a = length_take a xs (omega arith) in
+      let n : length (take a xs) ≡ a = length-take-le a xs (omega arith) in
       get_right (take a xs) (ys ++ drop (a + length ys) xs) k (omega arith)
       ∙ ap (λ m. slice_get (ys ++ drop (a + length ys) xs) (k - m)) n
       ∙ get_left ys (drop (a + length ys) xs) (k - a) (omega arith)
@@ -67,7 +60,7 @@ module _ (xs ys : List ℕ) (a : ℕ) (fits : a + length ys ≤ length xs) where
   -- above it
   pub overwritten_after : (k : ℕ) → a + length ys ≤ k → slice_get (overwritten xs a ys) k ≡ slice_get xs k
   overwritten_after k h =
-      let n : length (take a xs) ≡ a = length_take a xs (omega arith) in
+      let n : length (take a xs) ≡ a = length-take-le a xs (omega arith) in
       let e : a + length ys + (k - a - length ys) ≡ k = omega arith in
       get_right (take a xs) (ys ++ drop (a + length ys) xs) k (omega arith)
       ∙ ap (λ m. slice_get (ys ++ drop (a + length ys) xs) (k - m)) n

@@ -1,5 +1,5 @@
 -- The first and the last of the numbers at which a test holds, word by word.
-use Rattle.std.proofs.Common.{◌≡◌, ℕ, suc, ◌+◌, ◌-◌, ◌*◌, ◌/◌, ◌%◌, ◌^◌, ◌<◌, ◌≤◌, max, Bool, true, false, List, length, get_or, refl, sym, ap, ap₂, ◌∙◌, arith, w64, bit_and, ◌⊎◌, ⊎_elim}
+use Rattle.std.proofs.Common.{◌≡◌, ℕ, suc, ◌+◌, ◌-◌, ◌*◌, ◌/◌, ◌%◌, ◌^◌, ◌<◌, ◌≤◌, max, Bool, true, false, List, length, get_or, sym, ap, ap₂, ◌∙◌, arith, w64, bit_and, ◌⊎◌, ⊎_elim}
 use Rattle.std.specs.Prelude.{Some, not, ◌&&◌, ◌==◌, nat_le}
 use Rattle.std.specs.Int.{bit_at, bit_not, trailing_zeros, leading_zeros}
 use Rattle.std.proofs.lemmas.Bool.{cases_lt, true≢false, and_left, and_right, le-leb, lt-leb}
@@ -8,10 +8,11 @@ use Rattle.std.proofs.lemmas.Nat.{leading_top, div-mul-add}
 use Rattle.std.proofs.Math.Nat.{two-pow-succ, zero-div}
 use Rattle.std.proofs.Math.Pow.{shr-shr}
 use Rattle.std.proofs.lemmas.List.{get_or_past}
+use Rattle.std.proofs.Math.Bool.{and_comm}
 use Rattle.bits.specs.declared.set.BitSet.{BitSet}
 use Rattle.bits.specs.Sets.{IsFirstAt, IsEndOf, all_words, has, has_bit}
 use Rattle.bits.proofs.Bits.{bits_and, bits_minus}
-use Rattle.bits.proofs.Words.{past}
+use Rattle.bits.proofs.Words.{past, low}
 use Rattle.bits.proofs.Zeros.{below_start}
 
 pub no_bit : (word r : ℕ) → word ≡ 0 → (bit_at word r == 1) ≡ false
@@ -100,21 +101,12 @@ pub common_word : (a b : List ℕ) (k x y : ℕ) → x ≡ get_or a k 0 → y �
 common_word a b k x y is_x is_y i at =
     ap₂ (λ u v. u && v) (bit_in a k x is_x i at) (bit_in b k y is_y i at) ∙ sym (bits_and x y (i % 64))
 
-turned : (u v : Bool) → (u && not v) ≡ (not v && u)
-turned true true = refl
-turned true false = refl
-turned false true = refl
-turned false false = refl
-
-low : (i : ℕ) → i % 64 < 64
-low i = omega arith
-
 -- the numbers that another set has not
 pub rest_word : (a b : List ℕ) (k x y : ℕ) → x ≡ get_or a k 0 → y ≡ get_or b k 0 → y < 2 ^ 64 → (i : ℕ) → i / 64 ≡ k →
     (has_bit a i && not (has_bit b i)) ≡ (bit_at (bit_and x (bit_not w64 y)) (i % 64) == 1)
 rest_word a b k x y is_x is_y fits i at =
     ap₂ (λ u v. u && not v) (bit_in a k x is_x i at) (bit_in b k y is_y i at)
-    ∙ turned (bit_at x (i % 64) == 1) (bit_at y (i % 64) == 1)
+    ∙ and_comm (bit_at x (i % 64) == 1) (not (bit_at y (i % 64) == 1))
     ∙ sym (bits_minus x y (i % 64) fits (low i))
 
 pub none_common : (a b : List ℕ) (k : ℕ) → (length a ≤ k) ⊎ (length b ≤ k) →

@@ -7,7 +7,7 @@ use Rattle.std.proofs.lemmas.Bool.Decides.{nat_tests}
 use Rattle.std.proofs.lemmas.Nat.Bits.{bit_at-zero, bit_at_ones, bit_at-trailing_ones}
 use Rattle.std.proofs.Math.Bool.{or-false, or-true}
 use Rattle.bits.specs.Sets.{has_bit, is_from}
-use Rattle.bits.proofs.Words.{changed_here, changed_there, past}
+use Rattle.bits.proofs.Words.{changed_here, changed_there, past, low}
 
 -- from the first up to i as f says, the others as before
 abbrev pub spanned : (ℕ → Bool) → (ℕ → Bool) → ℕ → ℕ → ℕ → Bool
@@ -109,13 +109,10 @@ pub all_removed : (t b : Bool) → (if t then false else b) ≡ (not t && b)
 all_removed true b = refl
 all_removed false b = refl
 
-low_bit : (k : ℕ) → k % 64 < 64
-low_bit k = omega arith
-
 -- the bits of a word of ones, and of one of zeros
 pub bits_of_word : (on : Bool) (word k : ℕ) → word ≡ (if on then 2 ^ 64 - 1 else 0) → (bit_at word (k % 64) == 1) ≡ on
 bits_of_word true word k e =
-    ap (λ n. bit_at n (k % 64) == 1) e ∙ ap (λ n. n == 1) (bit_at_ones 64 (k % 64) (low_bit k))
+    ap (λ n. bit_at n (k % 64) == 1) e ∙ ap (λ n. n == 1) (bit_at_ones 64 (k % 64) (low k))
 bits_of_word false word k e = ap (λ n. bit_at n (k % 64) == 1) e ∙ ap (λ n. n == 1) (bit_at-zero (k % 64))
 
 -- ---- the least number that is missing

@@ -2,14 +2,14 @@
 use Rattle.std.proofs.Common.{◌≡◌, ℕ, ◌+◌, ◌*◌, ◌/◌, ◌%◌, ◌^◌, ◌<◌, ◌≤◌, Bool, true, false, List, length, get_or, refl, sym, ap, ap₂, ◌∙◌, subst, arith, w64, bit_and, bit_or, min, ◌⊎◌, inl, inr, ⊎_elim}
 use Rattle.std.specs.Prelude.{slice_set, not, ◌||◌, ◌&&◌, ◌==◌, nat_lt}
 use Rattle.std.specs.Int.{bit_at, bit_not}
-use Rattle.std.proofs.lemmas.Bool.{cases_eq, cases_lt, eq-eqb, ne_eqb, lt-ltb, le-ltb}
+use Rattle.std.proofs.lemmas.Bool.{cases_eq, cases_lt, eq-eqb, ne_eqb, lt-ltb, le-ltb, and_right}
 use Rattle.std.proofs.lemmas.List.{length-set, get_or-set_same, get_or-set_other, get_or_past}
 use Rattle.std.proofs.lemmas.Nat.Bits.{bit_at-zero, bit_at_set_same, bit_at_set_other, bit_at_clear_same, bit_at_clear_other}
 use Rattle.std.proofs.Math.Bool.{or-false, or-true}
 use Rattle.bits.specs.Sets.{has_bit}
 use Rattle.bits.proofs.Bits.{bits_or, bits_minus}
 
-low : (i : ℕ) → i % 64 < 64
+pub low : (i : ℕ) → i % 64 < 64
 low i = omega arith
 
 same_number : (i k : ℕ) → i / 64 ≡ k / 64 → i % 64 ≡ k % 64 → i ≡ k
@@ -168,10 +168,6 @@ in_room i k n h l = omega arith
 no_room : (i n : ℕ) → n ≤ i / 64 → 64 * n ≤ i
 no_room i n h = omega arith
 
-none_of : (b c : Bool) → c ≡ false → (b && c) ≡ false
-none_of true c e = e
-none_of false c e = refl
-
 -- all words that both have are joined; the other has no bits in those before
 pub united : (old other new : List ℕ) (first k : ℕ) → Changed bit_or old other first k new →
     ((i : ℕ) → i < 64 * first → has_bit other i ≡ false) → (length old ≤ k) ⊎ (length other ≤ k) →
@@ -185,7 +181,7 @@ united old other new first k h none end i = ⊎_elim before from (cases_lt (i / 
     before lt =
         kept_bit bit_or old other new first k h i (inl lt)
         ∙ nothing (nat_lt i (64 * length old) && has_bit other i)
-        (none_of (nat_lt i (64 * length old)) (has_bit other i) (none i (omega arith)))
+        (and_right (nat_lt i (64 * length old)) (has_bit other i) (none i (omega arith)))
 
     joined : first ≤ i / 64 → i / 64 < k →
         has_bit new i ≡ (has_bit old i || (nat_lt i (64 * length old) && has_bit other i))
@@ -202,7 +198,7 @@ united old other new first k h none end i = ⊎_elim before from (cases_lt (i / 
         (⊎_elim
         (λ (all : length old ≤ k). ap (λ b. b && has_bit other i)
         (le-ltb i (64 * length old) (no_room i (length old) (omega arith))))
-        (λ (all : length other ≤ k). none_of (nat_lt i (64 * length old)) (has_bit other i)
+        (λ (all : length other ≤ k). and_right (nat_lt i (64 * length old)) (has_bit other i)
         (past other i (omega arith))) end)
 
     from : first ≤ i / 64 → has_bit new i ≡ (has_bit old i || (nat_lt i (64 * length old) && has_bit other i))
@@ -235,7 +231,7 @@ rest_left old other new first k h none end i = ⊎_elim before from (cases_lt (i
         kept_bit minus old other new first k h i (inr le)
         ∙ apart (has_bit other i) (has_bit old i) (⊎_elim
         (λ (all : length old ≤ k). ap (λ b. b && has_bit other i) (past old i (omega arith)))
-        (λ (all : length other ≤ k). none_of (has_bit old i) (has_bit other i) (past other i (omega arith))) end)
+        (λ (all : length other ≤ k). and_right (has_bit old i) (has_bit other i) (past other i (omega arith))) end)
 
     from : first ≤ i / 64 → has_bit new i ≡ (not (has_bit other i) && has_bit old i)
     from le = ⊎_elim (made le) above (cases_lt (i / 64) k)

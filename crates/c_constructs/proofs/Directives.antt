@@ -1,5 +1,6 @@
 -- The clauses of a directive: their names, and the types of its map clauses.
-use Rattle.std.proofs.Common.{◌≡◌, ℕ, true, List, [], ◌∷◌, ◌++◌, None, refl, sym, ap, ◌∙◌, subst}
+use Rattle.std.proofs.Common.{◌≡◌, ℕ, true, List, [], ◌++◌, None, refl, sym, ap, ◌∙◌, subst}
+use Rattle.std.proofs.lemmas.List.{append-nil}
 use Rattle.c_grammar.specs.LineGrammar as line
 use Rattle.c_grammar.specs.LineRules.{IsLine}
 use Rattle.c_grammar.specs.Lines.{holds_kind}
@@ -11,28 +12,24 @@ use Rattle.directives.specs.declared.tree.Directive.{Directive}
 use Rattle.directives.specs.declared.tree.DirectiveKind.{DirectiveKind}
 use Rattle.directives.specs.declared.tree.DirectiveKind.TheVariants as kind
 use Rattle.directives.specs.Kinds.{seen_kind}
-use Rattle.directives.specs.Names.{Uses, clause_names, each_names, names_in}
+use Rattle.directives.specs.Names.{clause_names, each_names, names_in}
 use Rattle.directives.specs.Reading.{Failed}
 use Rattle.directives.specs.Trees.{text_of}
 use Rattle.c_constructs.specs.declared.clauses.Clauses.{Clauses}
 use Rattle.c_constructs.specs.Clauses.{AreRead, HaveTypes}
 use Rattle.c_constructs.specs.Directives.{IsTaskingAt}
 use Rattle.c_constructs.specs.Uses.{fault_in}
-use Rattle.c_constructs.proofs.Outcomes.{failed_from}
+use Rattle.directives.proofs.Outcomes.{failed_from}
 use Rattle.c_constructs.proofs.Reading.{types_fit}
 
 -- ---- all names
-
-append_nil : (us : Uses) → us ++ [] ≡ us
-append_nil [] = refl
-append_nil (u ∷ us) = ap (λ (vs : Uses). u ∷ vs) (append_nil us)
 
 all_names : (s : Scope) (d : Directive) (xs : List Clause) → xs ≡ d.clauses.items →
     fault_in s (names_in d) ≡ fault_in s (each_names clause_names xs ++ [])
 unfolding names_in
 all_names s d xs e =
     ap (λ (cs : List Clause). fault_in s (each_names clause_names cs)) (sym e)
-    ∙ ap (fault_in s) (sym (append_nil (each_names clause_names xs)))
+    ∙ ap (fault_in s) (sym (append-nil (each_names clause_names xs)))
 
 no_names : (s : Scope) → fault_in s [] ≡ None
 unfolding fault_in

@@ -1,5 +1,6 @@
 -- Lists that grow by what sections mean.
-use Rattle.std.proofs.Common.{◌≡◌, ℕ, ◌+◌, ◌<◌, ◌≤◌, Bool, List, [], ◌∷◌, ◌++◌, length, map, take, drop, get_or, refl, sym, ap, ◌∙◌, append_assoc, subst}
+use Rattle.std.proofs.Common.{◌≡◌, ℕ, ◌+◌, ◌<◌, ◌≤◌, Bool, List, [], ◌∷◌, ◌++◌, length, map, take, get_or, refl, sym, ap, ◌∙◌, append_assoc, subst}
+use Rattle.std.proofs.lemmas.List.{append-nil, map_more, take_all}
 use Rattle.base.specs.declared.tree.SectionText.{SectionText}
 use Rattle.base.specs.declared.tree.MapText.{MapText}
 use Rattle.base.specs.declared.tree.UpdateKind.{UpdateKind}
@@ -11,10 +12,6 @@ use Rattle.c_expressions.specs.Means.{Names}
 use Rattle.directives.specs.declared.tree.Section.{Section}
 use Rattle.c_constructs.specs.Sections.{Given, given_one, Pairs, Grows, IsMapAt, IsUpdateAt, IsDependAt, IsSectionAt}
 use Rattle.c_constructs.specs.Written.{seen_update, seen_depend}
-use Rattle.directives.specs.Names.{Uses, each_names, section_names}
-use Rattle.c_expressions.specs.declared.scope.Scope.{Scope}
-use Rattle.c_constructs.specs.Uses.{fault_in}
-use Rattle.c_constructs.proofs.Terms.{take_one, take_all, each_more, each_end}
 
 one_pair : {X : Type 0} → {Y : Type 0} → (R : X → Y → Type 0) (xs : List X) (ys : List Y) (x : X) (y : Y) →
     Pairs R xs ys → R x y → Pairs R (xs ++ x ∷ []) (ys ++ y ∷ [])
@@ -29,12 +26,8 @@ grows_one R x y old new h e = record {
   more = λ gs i. subst (λ zs. Pairs R (gs ++ x ∷ []) zs) (sym e) (one_pair R gs old x y i h);
 }
 
-append_nil : {X : Type 0} (xs : List X) → xs ++ [] ≡ xs
-append_nil [] = refl
-append_nil (x ∷ xs) = ap (λ ys. x ∷ ys) (append_nil xs)
-
 pub grows_none : {X : Type 0} → {Y : Type 0} → (R : X → Y → Type 0) (old : List Y) → Grows R [] old old
-grows_none R old = record { more = λ gs i. subst (λ zs. Pairs R zs old) (sym (append_nil gs)) i }
+grows_none R old = record { more = λ gs i. subst (λ zs. Pairs R zs old) (sym (append-nil gs)) i }
 
 pub grows_then : {X : Type 0} → {Y : Type 0} → (R : X → Y → Type 0) (xs us : List X) (a b c : List Y) →
     Grows R xs a b → Grows R us b c → Grows R (xs ++ us) a c
@@ -50,17 +43,11 @@ pub grows_next : {K : Type 0} → {Y : Type 0} → (R : Given K → Y → Type 0
 grows_next {K = K} R kind first xs ys k d a b c e l j h i =
     let more : map (given_one kind) (take (k + 1) xs) ≡ map (given_one kind) (take k xs) ++ given_one kind d ∷ [] =
     ap (λ (zs : List Section). map (given_one kind) (take (k + 1) zs)) (sym e)
-    ∙ ap (λ (zs : List Section). map (given_one kind) zs) (take_one ys k d l)
-    ∙ map_more (take k ys) (get_or ys k d)
+    ∙ map_more (given_one kind) ys k d l
     ∙ ap (λ (zs : List Section). map (given_one kind) (take k zs) ++ given_one kind (get_or ys k d) ∷ []) e
     ∙ ap (λ (z : Section). map (given_one kind) (take k xs) ++ given_one kind z ∷ []) (sym j) in
     subst (λ (us : List (Given K)). Grows R (given_one kind first ∷ us) a c) (sym more)
     (grows_then R (given_one kind first ∷ map (given_one kind) (take k xs)) (given_one kind d ∷ []) a b c h i)
-  where
-    map_more : (ts : List Section) (t : Section) →
-        map (given_one kind) (ts ++ t ∷ []) ≡ map (given_one kind) ts ++ given_one kind t ∷ []
-    map_more [] t = refl
-    map_more (u ∷ ts) t = ap (λ (us : List (Given K)). given_one kind u ∷ us) (map_more ts t)
 
 pub grows_map : {K : Type 0} → (seen : K → line.MapType) (names : Names) (at : ℕ) (kind : K) (always : Bool)
     (s : Section) (t : SectionText) (old new : List (MapText K)) → IsSectionAt names at s t →
@@ -86,22 +73,11 @@ grows_depend names at kind s t old new h e =
     grows_one (IsDependAt names at) (given_one (seen_depend kind) s) (record { kind = kind; section = t }) old new
     (refl, h) e
 
-pub sections_told : (s : Scope) (xs ys : List Section) (k : ℕ) (d : Section) (us : Uses) → ys ≡ xs → k < length ys →
-    d ≡ get_or ys k d → fault_in s (each_names section_names (drop k xs) ++ us) ≡ fault_in s
-    (section_names d ++ (each_names section_names (drop (k + 1) xs) ++ us))
-sections_told s xs ys k d us e h i =
-    each_more section_names s xs ys k d us e h
-    ∙ ap (λ (x : Section). fault_in s (section_names x ++ (each_names section_names (drop (k + 1) xs) ++ us))) (sym i)
-
-pub sections_over : (s : Scope) (xs ys : List Section) (k : ℕ) (us : Uses) → ys ≡ xs → length ys ≤ k →
-    fault_in s (each_names section_names (drop k xs) ++ us) ≡ fault_in s us
-sections_over s xs ys k us e h = each_end section_names s xs ys k us e h
-
 -- all that there are
 pub grows_all : {K : Type 0} → {Y : Type 0} → (R : Given K → Y → Type 0) (kind : K) (first : Section)
     (xs ys : List Section) (k : ℕ) (a b : List Y) → ys ≡ xs → length ys ≤ k →
     Grows R (given_one kind first ∷ map (given_one kind) (take k xs)) a b →
     Grows R (given_one kind first ∷ map (given_one kind) xs) a b
 grows_all R kind first xs ys k a b e h g =
-    let all : take k xs ≡ xs = ap (λ (zs : List Section). take k zs) (sym e) ∙ take_all ys k h ∙ e in
+    let all : take k xs ≡ xs = ap (λ (zs : List Section). take k zs) (sym e) ∙ take_all k ys h ∙ e in
     subst (λ (zs : List Section). Grows R (given_one kind first ∷ map (given_one kind) zs) a b) all g

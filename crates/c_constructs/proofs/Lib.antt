@@ -1,5 +1,5 @@
-pub mod Outcomes
 pub mod Known
+pub mod NameSteps
 pub mod Terms
 pub mod LineFaults
 pub mod Taken

@@ -1,7 +1,7 @@
 -- The first rule that a line breaks by its names.
-use Rattle.std.proofs.Common.{◌≡◌, ℕ, suc, ◌+◌, ◌<◌, ◌≤◌, Bool, true, false, eqb, cond, List, [], ◌∷◌, map, Option, Some, None, refl, ap, ◌∙◌, arith}
-use Rattle.std.specs.Prelude.{◌||◌}
-use Rattle.std.proofs.lemmas.Bool.{eq-eqb, eqb-true}
+use Rattle.std.proofs.Common.{◌≡◌, ℕ, suc, ◌+◌, ◌<◌, ◌≤◌, Bool, true, false, eqb, cond, List, [], ◌∷◌, map, Option, Some, None, refl, ap, ◌∙◌, arith, ne_eqb}
+use Rattle.std.proofs.lemmas.Bool.{eq-eqb}
+use Rattle.std.proofs.Math.Bool.{or-false}
 use Rattle.base.specs.declared.fault.ReadCode.{ReadCode as Code}
 use Rattle.base.specs.declared.fault.ReadCode.TheVariants.{Undeclared, BadBound}
 use Rattle.c_grammar.specs.Lexeme.{Lexeme}
@@ -48,36 +48,22 @@ all_rise ts = uses_rise ts 0 line_start
 
 -- ---- what is broken at one of them
 
-same_number : (k : ℕ) → eqb k k ≡ true
-same_number k = eq-eqb _ _ refl
-
-differs : (j k : ℕ) → (j ≡ k → ⊥) → eqb j k ≡ false
-differs j k h = go (eqb j k) refl
-  where
-    go : (b : Bool) → eqb j k ≡ b → eqb j k ≡ false
-    go true e = absurd (h (eqb-true _ _ e))
-    go false e = e
-
 other_number : (j k : ℕ) → j < k → eqb j k ≡ false
-other_number j k h = differs j k (λ e. omega (arith, e, h))
+other_number j k h = ne_eqb j k (λ e. omega (arith, e, h))
 
 after_number : (j k : ℕ) → k < j → eqb j k ≡ false
-after_number j k h = differs j k (λ e. omega (arith, e, h))
+after_number j k h = ne_eqb j k (λ e. omega (arith, e, h))
 
 none_below : (code : Code) (c : Context) (k j : ℕ) (us : Uses) → k < j → Rises j us → misused_at code c k us ≡ false
 none_below code c k j [] h r = refl
 none_below code c k j (u ∷ us) h r =
     rw (after_number u.0 k (omega (arith, h, r.0)), none_below code c k (u.0 + 1) us (omega (arith, h, r.0)) r.1) refl
 
-or_false : (b : Bool) → (b || false) ≡ b
-or_false true = refl
-or_false false = refl
-
 at_first : (code : Code) (c : Context) (u : ℕ × Use) (us : Uses) → Rises (u.0 + 1) us →
     misused_at code c u.0 (u ∷ us) ≡ misused code (sort_of c (name_of u.1)) u.1
 at_first code c u us r =
-    rw (same_number u.0, none_below code c u.0 (u.0 + 1) us (omega arith) r)
-    (or_false (misused code (sort_of c (name_of u.1)) u.1))
+    rw (eq-eqb u.0 u.0 refl, none_below code c u.0 (u.0 + 1) us (omega arith) r)
+    (or-false (misused code (sort_of c (name_of u.1)) u.1))
 
 past_first : (code : Code) (c : Context) (u : ℕ × Use) (us : Uses) (k : ℕ) → u.0 + 1 ≤ k →
     misused_at code c k (u ∷ us) ≡ misused_at code c k us

@@ -1,5 +1,5 @@
 -- The number of an array's token by the column of its name.
-use Rattle.std.proofs.Common.{◌≡◌, ℕ, zero, suc, ◌+◌, List, [], ◌∷◌, ◌++◌, length, map, drop, Option, Some, None, refl, sym, ap, ◌∙◌, append_assoc, subst, arith, length-append}
+use Rattle.std.proofs.Common.{◌≡◌, ℕ, zero, suc, ◌+◌, List, [], ◌∷◌, ◌++◌, length, map, drop, Option, Some, None, refl, sym, ap, ◌∙◌, append_assoc, subst, length-append, drop-drop}
 use Rattle.c_tokens.specs.declared.kind.Sign.TheVariants as sign
 use Rattle.base.specs.declared.fault.ReadCode.TheVariants.{BadBound}
 use Rattle.c_grammar.specs.Lexeme.{Lexeme, Signed, Worded}
@@ -94,21 +94,11 @@ placed_right [] ys cs p = p
 placed_right (x ∷ xs) ys [] p = absurd p
 placed_right (x ∷ xs) ys (c ∷ cs) p = placed_right xs ys cs p.1
 
-drop_none : (k : ℕ) → drop {A = ℕ} k [] ≡ []
-drop_none zero = refl
-drop_none (suc k) = refl
-
-drop_twice : (k j : ℕ) (cs : List ℕ) → drop j (drop k cs) ≡ drop (k + j) cs
-drop_twice zero j cs = let e : j ≡ 0 + j = omega arith in ap (λ (n : ℕ). drop n cs) e
-drop_twice (suc k) j [] = drop_none j ∙ sym (drop_none (suc k + j))
-drop_twice (suc k) j (c ∷ cs) =
-    let e : suc (k + j) ≡ suc k + j = omega arith in drop_twice k j cs ∙ ap (λ (n : ℕ). drop n (c ∷ cs)) e
-
 -- behind those
 pub placed_behind : (xs ys : Spelling) (cs : List ℕ) (k n : ℕ) → length xs ≡ n → Placed (xs ++ ys) (drop k cs) →
     Placed ys (drop (k + n) cs)
 placed_behind xs ys cs k n e p =
-    subst (λ (ds : List ℕ). Placed ys ds) (drop_twice k (length xs) cs ∙ ap (λ (m : ℕ). drop (k + m) cs) e)
+    subst (λ (ds : List ℕ). Placed ys ds) (drop-drop (length xs) k cs ∙ ap (λ (m : ℕ). drop (k + m) cs) e)
     (placed_right xs ys (drop k cs) p)
 
 first_column : (xs : Spelling) (t : Lexeme) (n : ℕ) (k : ℕ) (cs : List ℕ) → Placed ((t, Some n) ∷ xs) (drop k cs) →

@@ -1,6 +1,8 @@
 -- Clauses one after the other.
-use Rattle.std.proofs.Common.{◌≡◌, ℕ, zero, suc, ◌<◌, Bool, true, false, List, [], ◌∷◌, ◌++◌, length, map, get_or, refl, sym, ap, ◌∙◌, append_assoc, subst, arith}
+use Rattle.std.proofs.Common.{◌≡◌, ℕ, zero, suc, ◌<◌, true, List, [], ◌∷◌, ◌++◌, length, map, get_or, refl, sym, ap, ◌∙◌, append_assoc, subst, arith}
+use Rattle.std.proofs.lemmas.List.{append-nil}
 use Rattle.std.specs.Prelude.{◌||◌}
+use Rattle.std.proofs.Math.Bool.{or-false, or-true}
 use Rattle.c_grammar.specs.LineGrammar as line
 use Rattle.c_grammar.specs.LineRules.{AreClauses}
 use Rattle.c_expressions.specs.Means.{Names}
@@ -34,14 +36,6 @@ waits_both (Depend m ∷ xs) ys = waits_both xs ys
 waits_both (Motion m ∷ xs) ys = waits_both xs ys
 waits_both (NoWait ∷ xs) ys = refl
 
-append_nil : {X : Type 0} (xs : List X) → xs ≡ xs ++ []
-append_nil [] = refl
-append_nil (x ∷ xs) = ap (λ ys. x ∷ ys) (append_nil xs)
-
-or_false : (b c : Bool) → b ≡ c → b ≡ (c || false)
-or_false true c e = rw (sym e) refl
-or_false false c e = rw (sym e) refl
-
 none_more : {X : Type 0} → {Y : Type 0} → (R : X → Y → Type 0) (old new : List Y) → new ≡ old → Grows R [] old new
 none_more R old new e = subst (λ ys. Grows R [] old ys) (sym e) (grows_none R old)
 
@@ -51,13 +45,13 @@ pub reads_maps : {K : Type 0} → (seen : K → line.MapType) (names : Names) (a
     new.updates ≡ old.updates → new.tasking ≡ old.tasking → Reads seen names at (Map m ∷ []) old new
 reads_maps seen names at m kind old new k g u t = record {
   maps = subst (λ gs. Grows (IsMapAt seen names at) gs old.maps.items new.maps.items)
-      (append_nil (given (m.always, seen_map m.map_type) m.sections))
+      (sym (append-nil (given (m.always, seen_map m.map_type) m.sections)))
       (subst (λ (t : line.MapType). Grows (IsMapAt seen names at) (given (m.always, t) m.sections) old.maps.items
       new.maps.items) k g);
   updates = none_more (IsUpdateAt names at) old.updates.items new.updates.items (ap (λ us. us.items) u);
   depends = none_more (IsDependAt names at) old.tasking.depends.items new.tasking.depends.items
       (ap (λ (x : Tasking). x.depends.items) t);
-  nowait = or_false new.tasking.nowait old.tasking.nowait (ap (λ (x : Tasking). x.nowait) t);
+  nowait = ap (λ (x : Tasking). x.nowait) t ∙ sym (or-false old.tasking.nowait);
 }
 
 pub reads_updates : {K : Type 0} → (seen : K → line.MapType) (names : Names) (at : ℕ) (m : MotionClause)
@@ -67,12 +61,12 @@ pub reads_updates : {K : Type 0} → (seen : K → line.MapType) (names : Names)
 reads_updates seen names at m kind old new k g u t = record {
   maps = none_more (IsMapAt seen names at) old.maps.items new.maps.items (ap (λ us. us.items) u);
   updates = subst (λ gs. Grows (IsUpdateAt names at) gs old.updates.items new.updates.items)
-      (append_nil (given (seen_motion m.motion_type) m.sections))
+      (sym (append-nil (given (seen_motion m.motion_type) m.sections)))
       (subst (λ (t : line.MotionType). Grows (IsUpdateAt names at) (given t m.sections) old.updates.items
       new.updates.items) k g);
   depends = none_more (IsDependAt names at) old.tasking.depends.items new.tasking.depends.items
       (ap (λ (x : Tasking). x.depends.items) t);
-  nowait = or_false new.tasking.nowait old.tasking.nowait (ap (λ (x : Tasking). x.nowait) t);
+  nowait = ap (λ (x : Tasking). x.nowait) t ∙ sym (or-false old.tasking.nowait);
 }
 
 pub reads_depends : {K : Type 0} → (seen : K → line.MapType) (names : Names) (at : ℕ) (d : DependClause)
@@ -85,15 +79,11 @@ reads_depends seen names at d kind old new k g m u w = record {
   maps = none_more (IsMapAt seen names at) old.maps.items new.maps.items (ap (λ us. us.items) m);
   updates = none_more (IsUpdateAt names at) old.updates.items new.updates.items (ap (λ us. us.items) u);
   depends = subst (λ gs. Grows (IsDependAt names at) gs old.tasking.depends.items new.tasking.depends.items)
-      (append_nil (given (seen_depend d.depend_type) d.sections))
+      (sym (append-nil (given (seen_depend d.depend_type) d.sections)))
       (subst (λ (t : line.DependType). Grows (IsDependAt names at) (given t d.sections) old.tasking.depends.items
       new.tasking.depends.items) k g);
-  nowait = or_false new.tasking.nowait old.tasking.nowait w;
+  nowait = w ∙ sym (or-false old.tasking.nowait);
 }
-
-or_true : (b c : Bool) → b ≡ true → b ≡ (c || true)
-or_true b true e = e
-or_true b false e = e
 
 pub reads_nowait : {K : Type 0} → (seen : K → line.MapType) (names : Names) (at : ℕ) (old new : Clauses K) →
     new.maps ≡ old.maps → new.updates ≡ old.updates → new.tasking.depends ≡ old.tasking.depends →
@@ -103,7 +93,7 @@ reads_nowait seen names at old new m u d w = record {
   updates = none_more (IsUpdateAt names at) old.updates.items new.updates.items (ap (λ us. us.items) u);
   depends = none_more (IsDependAt names at) old.tasking.depends.items new.tasking.depends.items
       (ap (λ us. us.items) d);
-  nowait = or_true new.tasking.nowait old.tasking.nowait w;
+  nowait = w ∙ sym (or-true old.tasking.nowait);
 }
 
 -- ---- the types of map clauses

@@ -1,12 +1,10 @@
 -- The machine at a directive line outside a target.
-use Rattle.std.proofs.Common.{◌≡◌, ℕ, ◌<◌, ◌≤◌, Bool, true, false, List, ◌∷◌, map, Option, Some, None, refl, sym, ap, ◌∙◌, arith}
+use Rattle.std.proofs.Common.{◌≡◌, ℕ, ◌<◌, ◌≤◌, Bool, true, false, List, ◌∷◌, map, Option, Some, None, refl, sym, ap, ◌∙◌, le-leb}
 use Rattle.std.specs.Prelude.{nat_le}
-use Rattle.std.proofs.lemmas.Bool.{eq-eqb}
-use Rattle.std.proofs.lemmas.Bool.Decides.{nat_tests}
+use Rattle.std.proofs.lemmas.Bool.{lt-leb}
 use Rattle.base.specs.declared.fault.ReadCode.{ReadCode as Code}
 use Rattle.base.specs.declared.fault.ReadCode.TheVariants.{TooMany, DirectiveInTarget, DirectiveUnderIf}
 use Rattle.base.specs.declared.fault.TextFault.{TextFault}
-use Rattle.c_grammar.specs.Code.{is_code}
 use Rattle.c_grammar.specs.Lexeme.{Lexeme, lexemes_of}
 use Rattle.c_grammar.specs.Lines.{line_fault, uses_of}
 use Rattle.c_grammar.specs.Terminal.{Terminal, Fixed, Mark, Name, Num, Line, Unknown, End}
@@ -29,9 +27,7 @@ use Rattle.directives.specs.Spells.{at_columns, kinds_of, columns_of, line_answe
 use Rattle.c_constructs.specs.Uses.{fault_in, names_fault}
 use Rattle.c_constructs.specs.Steps.{act_of}
 use Rattle.c_constructs.proofs.LineFaults.{at_line, placed_rule, all_rise, first_name}
-
-same_code : (code : Code) → is_code code code ≡ true
-same_code code = eq-eqb _ _ refl
+use Rattle.c_grammar.proofs.SourceLaws.{same_itself}
 
 -- ---- the rules at the first byte
 
@@ -83,7 +79,7 @@ took_line c over s i is ts (Some r) e = rw e refl
 own_test : (c : Context) (ts : List Lexeme) (over : Bool) (n : Terminal) (f : ℕ × Code) → line_fault ts ≡ Some f →
     at_line c ts (act_of over) n (record { part = 1; code = f.1 }) ≡ true
 unfolding breaks
-own_test c ts over n f e = rw e (same_code f.1)
+own_test c ts over n f e = rw e (same_itself f.1)
 
 own_rule : (c : Context) (over : Bool) (i : Item Terminal) (ts : List Lexeme) (n : Terminal) (f : ℕ × Code) →
     line_fault ts ≡ Some f →
@@ -114,25 +110,19 @@ at_put : (c : Context) (over : Bool) (s : Stack) (ts : List Lexeme) (t : Cursor)
 at_put c over s ts t e = ap (λ (i : Item Terminal). took c (for (act_of over)) s (i ∷ behind t))
     (put_is (first_item t) (Line ts) e)
 
-many : (n : ℕ) → max_statements ≤ n → nat_le max_statements n ≡ true
-many n h = grind (arith, nat_tests, h)
-
-few : (n : ℕ) → n < max_statements → nat_le max_statements n ≡ false
-few n h = grind (arith, nat_tests, h)
-
 pub many_line : (sc : Scope) (over : Bool) (s : Stack) (ts : List Lexeme) (t : Cursor) →
     (first_item t).terminal ≡ Line ts → max_statements ≤ sc.statements →
     took (context_of sc 0 0) (for (act_of over)) s (items t) ≡ Some (fault_at (first_item t) TooMany)
 many_line sc over s ts t e h =
     at_put (context_of sc 0 0) over s ts t e
-    ∙ item_many (context_of sc 0 0) over s (first_item t) (behind t) ts (many sc.statements h)
+    ∙ item_many (context_of sc 0 0) over s (first_item t) (behind t) ts (le-leb max_statements sc.statements h)
 
 pub inside_line : (sc : Scope) (over : Bool) (s : Stack) (ts : List Lexeme) (t : Cursor) →
     (first_item t).terminal ≡ Line ts → sc.statements < max_statements → inside (context_of sc 0 0) ≡ true →
     took (context_of sc 0 0) (for (act_of over)) s (items t) ≡ Some (fault_at (first_item t) DirectiveInTarget)
 inside_line sc over s ts t e h b =
     at_put (context_of sc 0 0) over s ts t e
-    ∙ item_inside (context_of sc 0 0) over s (first_item t) (behind t) ts (few sc.statements h) b
+    ∙ item_inside (context_of sc 0 0) over s (first_item t) (behind t) ts (lt-leb max_statements sc.statements h) b
 
 pub under_line : (sc : Scope) (over : Bool) (s : Stack) (ts : List Lexeme) (t : Cursor) →
     (first_item t).terminal ≡ Line ts → sc.statements < max_statements → inside (context_of sc 0 0) ≡ false →
@@ -140,7 +130,7 @@ pub under_line : (sc : Scope) (over : Bool) (s : Stack) (ts : List Lexeme) (t : 
     took (context_of sc 0 0) (for (act_of over)) s (items t) ≡ Some (fault_at (first_item t) DirectiveUnderIf)
 under_line sc over s ts t e h b d =
     at_put (context_of sc 0 0) over s ts t e
-    ∙ item_under (context_of sc 0 0) over s (first_item t) (behind t) ts (few sc.statements h) b d
+    ∙ item_under (context_of sc 0 0) over s (first_item t) (behind t) ts (lt-leb max_statements sc.statements h) b d
 
 -- a line with a fault of its own
 pub bad_line : (sc : Scope) (over : Bool) (s : Stack) (line : List ℕ) (column : ℕ) (f : LineFault) (t : Cursor) →
@@ -173,7 +163,7 @@ bad_line sc over s line column f t e cs h b d w = go (line_fault ts) refl
         ∙ took_line c over s i (behind t) ts (first_rule (at_line c ts (act_of over)
         (next_of source_grammar (behind t)))
         (joined (fault_rules (line_fault ts)) (use_rules (uses_of ts))))
-        (front c over ts (next_of source_grammar (behind t)) (few sc.statements h) b d)
+        (front c over ts (next_of source_grammar (behind t)) (lt-leb max_statements sc.statements h) b d)
         ∙ ap (λ (p : Option LineFault). fault_on i.line p rest)
         (own_rule c over i ts (next_of source_grammar (behind t)) g o
         ∙ ap (λ (ks : List ℕ). at_columns ks (Some g)) cs
@@ -212,7 +202,7 @@ named_line sc over s line column d t e cs h b g w known = go (line_fault ts) ref
         ∙ took_line c over s i (behind t) ts (first_rule (at_line c ts (act_of over)
         (next_of source_grammar (behind t)))
         (joined (fault_rules (line_fault ts)) (use_rules (uses_of ts))))
-        (front c over ts (next_of source_grammar (behind t)) (few sc.statements h) b g)
+        (front c over ts (next_of source_grammar (behind t)) (lt-leb max_statements sc.statements h) b g)
         ∙ ap (λ (p : Option LineFault). fault_on i.line p rest)
         (name_rule c over i ts (next_of source_grammar (behind t)) o
         ∙ ap (λ (ks : List ℕ). names_fault c (map (at_column ks) (uses_of ts))) cs

@@ -15,7 +15,7 @@ use directives::{Bound, DirectiveFault, Term};
 use smallvec::SmallVec;
 
 /// What a term of a bound means.
-#[tactic(auto, using(crate::proofs::Outcomes::on_from))]
+#[tactic(auto, using(directives::proofs::Outcomes::on_from))]
 pub fn term(scope: &Scope<'_>, term: &Term<'_>) -> Result<tree::Term, DirectiveFault>
     ensures told { (us : Uses) → Outcome result (fault_in scope.now (term_names term.now ++ us))
         (fault_in scope.now us) }
@@ -31,7 +31,7 @@ pub fn term(scope: &Scope<'_>, term: &Term<'_>) -> Result<tree::Term, DirectiveF
 }
 
 /// What a bound means.
-#[tactic(auto, using(crate::proofs::Outcomes::on_from, crate::proofs::Terms::terms_told, crate::proofs::Terms::terms_over))]
+#[tactic(auto, using(directives::proofs::Outcomes::on_from, crate::proofs::NameSteps::all_read))]
 pub fn bound(scope: &Scope<'_>, bound: &Bound<'_>) -> Result<tree::Bound, DirectiveFault>
     ensures told { (us : Uses) → Outcome result (fault_in scope.now (bound_names bound.now ++ us))
         (fault_in scope.now us) }

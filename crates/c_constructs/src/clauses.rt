@@ -44,7 +44,7 @@ fn update_kind(motion_type: MotionType) -> UpdateKind
 }
 
 /// One more clause.
-#[tactic(auto, using(crate::proofs::Outcomes::on_from))]
+#[tactic(auto, using(directives::proofs::Outcomes::on_from))]
 fn clause<K: MapKind>(
     scope: &Scope<'_>,
     line: usize,

@@ -16,7 +16,7 @@ use directives::{DirectiveFault, Section, Sections};
 use smallvec::SmallVec;
 
 /// One more map item.
-#[tactic(auto, using(crate::proofs::Outcomes::on_from, crate::proofs::Growing::grows_map))]
+#[tactic(auto, using(directives::proofs::Outcomes::on_from, crate::proofs::Growing::grows_map))]
 fn map_item<K: MapKind>(
     scope: &Scope<'_>,
     line: usize,
@@ -61,7 +61,7 @@ pub fn map_items<K: MapKind>(
 }
 
 /// One more update.
-#[tactic(auto, using(crate::proofs::Outcomes::on_from, crate::proofs::Growing::grows_update))]
+#[tactic(auto, using(directives::proofs::Outcomes::on_from, crate::proofs::Growing::grows_update))]
 fn update_item(
     scope: &Scope<'_>,
     line: usize,
@@ -100,7 +100,7 @@ pub fn update_items(
 }
 
 /// One more depend item.
-#[tactic(auto, using(crate::proofs::Outcomes::on_from, crate::proofs::Growing::grows_depend))]
+#[tactic(auto, using(directives::proofs::Outcomes::on_from, crate::proofs::Growing::grows_depend))]
 fn depend_item(
     scope: &Scope<'_>,
     line: usize,

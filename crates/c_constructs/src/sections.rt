@@ -16,7 +16,7 @@ use c_expressions::Scope;
 use directives::{Bound, DirectiveFault, Section};
 
 /// What the bounds of a section mean.
-#[tactic(auto, using(crate::proofs::Outcomes::on_from, crate::proofs::Terms::two_names))]
+#[tactic(auto, using(directives::proofs::Outcomes::on_from, crate::proofs::NameSteps::two_names))]
 pub fn bounds(
     scope: &Scope<'_>,
     bounds: &Option<(Bound<'_>, Bound<'_>)>,
@@ -35,7 +35,7 @@ pub fn bounds(
 }
 
 /// What a section on that line of the source means.
-#[tactic(auto, using(crate::proofs::Outcomes::on_from))]
+#[tactic(auto, using(directives::proofs::Outcomes::on_from))]
 pub fn section(
     scope: &Scope<'_>,
     line: usize,

@@ -1,18 +1,17 @@
 -- How the open blocks and their names change.
-use Rattle.std.proofs.Common.{◌≡◌, ℕ, zero, suc, ◌+◌, ◌-◌, ◌<◌, Bool, true, false, List, [], ◌∷◌, ◌++◌, length, map, reverse, take, drop, set, get_or, eqb, Option, Some, None, refl, sym, ap, subst, ◌∙◌, arith, append_assoc}
+use Rattle.std.proofs.Common.{◌≡◌, ℕ, ◌+◌, ◌-◌, ◌<◌, Bool, true, false, List, [], ◌∷◌, ◌++◌, length, map, reverse, take, set, get_or, eqb, Option, Some, None, refl, sym, ap, ◌∙◌, arith, take_all, length-set}
 use Rattle.std.specs.Prelude.{◌||◌, Result, Ok, Err, OnErr}
 use Rattle.std.proofs.lemmas.Bool.Decides.{nat_tests}
 use Rattle.std.specs.List.{flat_map}
-use Rattle.std.proofs.lemmas.List.{reverse-append}
-use Rattle.c_grammar.specs.Rules.{Context, Frame, ALoop, inside, under_if, opened, declared, below, with_name}
+use Rattle.std.proofs.lemmas.List.{reverse-append, take_more_set, take_more}
+use Rattle.c_grammar.specs.Rules.{Context, Frame, ALoop, inside, under_if, opened, declared, with_name}
 use Rattle.c_expressions.specs.declared.changes.Turn.{Turn}
 use Rattle.c_expressions.specs.declared.scope.Frame.{Frame as GivenFrame}
-use Rattle.c_expressions.specs.declared.scope.Meaning.{Meaning}
 use Rattle.c_expressions.specs.declared.scope.Name.{Name}
 use Rattle.c_expressions.specs.declared.scope.Scope.{Scope}
 use Rattle.c_expressions.specs.Means.{Names}
-use Rattle.c_expressions.specs.Scopes.{context_of, frames_of, names_in, names_of, seen_frame, seen_name, fresh_name, sorted_name, sort_of_meaning}
-use Rattle.c_expressions.specs.Changes.{turn_name, turn_names, names_below, IsSameScope}
+use Rattle.c_expressions.specs.Scopes.{context_of, frames_of, names_in, seen_frame, seen_name, fresh_name, sorted_name, sort_of_meaning}
+use Rattle.c_expressions.specs.Changes.{turn_name, turn_names}
 
 -- ---- the last of a list
 
@@ -20,16 +19,11 @@ pub reverse_one : {A : Type 0} (xs : List A) (x : A) → reverse (xs ++ x ∷ []
 reverse_one xs x = reverse-append xs (x ∷ [])
 
 set_last : {A : Type 0} (xs : List A) (k : ℕ) (x : A) → k + 1 ≡ length xs → set xs k x ≡ take k xs ++ x ∷ []
-set_last [] k x e = absurd (omega arith)
-set_last (y ∷ []) zero x e = refl
-set_last (y ∷ z ∷ ys) zero x e = absurd (omega arith)
-set_last (y ∷ ys) (suc k) x e = ap (λ zs. y ∷ zs) (set_last ys k x (omega arith))
+set_last xs k x e =
+    sym (take_all (k + 1) (set xs k x) (omega (arith, e, length-set xs k x))) ∙ take_more_set xs k x (omega (arith, e))
 
 whole : {A : Type 0} (xs : List A) (k : ℕ) (d : A) → k + 1 ≡ length xs → xs ≡ take k xs ++ get_or xs k d ∷ []
-whole [] k d e = absurd (omega arith)
-whole (y ∷ []) zero d e = refl
-whole (y ∷ z ∷ ys) zero d e = absurd (omega arith)
-whole (y ∷ ys) (suc k) d e = ap (λ zs. y ∷ zs) (whole ys k d (omega arith))
+whole xs k d e = sym (take_all (k + 1) xs (omega (arith, e))) ∙ take_more xs k d (omega (arith, e))
 
 reverse_last : {A : Type 0} (xs : List A) (k : ℕ) (d : A) → k + 1 ≡ length xs →
     reverse xs ≡ get_or xs k d ∷ reverse (take k xs)
@@ -54,10 +48,6 @@ inside_last s d n k f h e = rw (reverse_last s.frames.items k f h) (ap (λ (g : 
 pub choice_last : (s : Scope) (d n k : ℕ) (f : GivenFrame) → k + 1 ≡ length s.frames.items →
     f ≡ get_or s.frames.items k f → under_if (context_of s d n) ≡ f.choice
 choice_last s d n k f h e = rw (reverse_last s.frames.items k f h) (ap (λ (g : GivenFrame). g.choice) (sym e))
-
-pub or_true : (a b : Bool) → a ≡ true → true ≡ (a || b)
-or_true true b e = refl
-or_true false b e = absurd cc
 
 pub or_other : (a b : Bool) → a ≡ false → b ≡ (a || b)
 or_other true b e = absurd cc

@@ -1,10 +1,10 @@
 -- What a name means where a token stands.
-use Rattle.std.proofs.Common.{◌≡◌, ℕ, zero, suc, ◌+◌, ◌<◌, ◌≤◌, Bool, true, false, cond, List, [], ◌∷◌, ◌++◌, length, map, reverse, take, get_or, Option, Some, None, refl, sym, ap, ◌∙◌, arith}
+use Rattle.std.proofs.Common.{◌≡◌, ℕ, ◌+◌, ◌<◌, ◌≤◌, Bool, true, false, cond, List, [], ◌∷◌, ◌++◌, length, map, reverse, take, get_or, Option, Some, None, refl, sym, ap, ◌∙◌, arith, take_all}
 use Rattle.std.specs.Str.{bytes_eq}
 use Rattle.std.specs.List.{flat_map}
 use Rattle.std.specs.Option.{option_map}
-use Rattle.std.proofs.lemmas.List.{reverse-append}
-use Rattle.c_grammar.specs.Rules.{Frame, Sort, found, sort_in, sort_of}
+use Rattle.std.proofs.lemmas.List.{reverse-append, take_more}
+use Rattle.c_grammar.specs.Rules.{Sort, found, sort_in, sort_of}
 use Rattle.c_expressions.specs.declared.scope.Frame.{Frame as GivenFrame}
 use Rattle.c_expressions.specs.declared.scope.Meaning.{Meaning}
 use Rattle.c_expressions.specs.declared.scope.Name.{Name}
@@ -12,25 +12,17 @@ use Rattle.c_expressions.specs.declared.scope.Scope.{Scope}
 use Rattle.c_expressions.specs.Means.{Names, meaning_of}
 use Rattle.c_expressions.specs.Scopes.{context_of, names_in, names_of, seen_frame, seen_name, sorted_name, sort_of_meaning}
 
-take_one : {A : Type 0} (xs : List A) (k : ℕ) (d : A) → k < length xs →
-    take (k + 1) xs ≡ take k xs ++ get_or xs k d ∷ []
-take_one [] k d h = absurd (omega arith)
-take_one (x ∷ xs) zero d h = refl
-take_one (x ∷ xs) (suc k) d h =
-    let more : suc k + 1 ≡ suc (k + 1) = omega arith in
-    ap (λ (n : ℕ). take n (x ∷ xs)) more ∙ ap (λ ys. x ∷ ys) (take_one xs k d (omega arith))
-
 -- the newest of some more
 pub reverse_more : {A : Type 0} (xs : List A) (k : ℕ) (d : A) → k < length xs → d ≡ get_or xs k d →
     reverse (take (k + 1) xs) ≡ d ∷ reverse (take k xs)
-reverse_more xs k d h e = ap reverse (take_one xs k d h ∙ ap (λ y. take k xs ++ y ∷ []) (sym e))
+reverse_more xs k d h e = ap reverse (take_more xs k d h ∙ ap (λ y. take k xs ++ y ∷ []) (sym e))
     ∙ reverse-append (take k xs) (d ∷ [])
 
 -- ---- the names of one block
 
 newest : (xs : List Name) (k : ℕ) (d : Name) → k < length xs →
     map seen_name (reverse (take (k + 1) xs)) ≡ seen_name (get_or xs k d) ∷ map seen_name (reverse (take k xs))
-newest xs k d h = ap (λ (ns : List Name). map seen_name ns) (ap reverse (take_one xs k d h)
+newest xs k d h = ap (λ (ns : List Name). map seen_name ns) (ap reverse (take_more xs k d h)
     ∙ reverse-append (take k xs) (get_or xs k d ∷ []))
 
 pub newest_is : (xs ys : List Name) (k : ℕ) (d : Name) (x : List ℕ) → ys ≡ xs → k < length ys →
@@ -46,16 +38,10 @@ newest_not xs ys k d x e h b = ap (λ (zs : List Name). meaning_of (map seen_nam
     (sym e) ∙ ap (λ (ns : Names). meaning_of ns x) (newest ys k d h)
     ∙ rw b (ap (λ (zs : List Name). meaning_of (map seen_name (reverse (take k zs))) x) e)
 
-take_whole : {A : Type 0} (xs : List A) (k : ℕ) → length xs ≤ k → take k xs ≡ xs
-take_whole [] zero h = refl
-take_whole [] (suc k) h = refl
-take_whole (x ∷ xs) zero h = absurd (omega arith)
-take_whole (x ∷ xs) (suc k) h = ap (λ ys. x ∷ ys) (take_whole xs k (omega arith))
-
 pub all_names : (xs ys : List Name) (k : ℕ) → ys ≡ xs → length ys ≤ k →
     map seen_name (reverse (take k xs)) ≡ map seen_name (reverse xs)
 all_names xs ys k e h = ap (λ (zs : List Name). map seen_name (reverse zs))
-    (take_whole xs k (omega (arith, h, ap (λ (zs : List Name). length zs) e)))
+    (take_all k xs (omega (arith, h, ap (λ (zs : List Name). length zs) e)))
 
 -- ---- the names of all blocks
 
@@ -128,5 +114,5 @@ pub all_sorts : (s : Scope) (fs : List GivenFrame) (k : ℕ) (x : List ℕ) (o :
     option_map sort_of_meaning o ≡ sort_of (context_of s d n) x
 all_sorts s fs k x o e h g d n =
     let whole : take k s.frames.items ≡ s.frames.items =
-    take_whole s.frames.items k (omega (arith, h, ap (λ (gs : List GivenFrame). length gs) e)) in
+    take_all k s.frames.items (omega (arith, h, ap (λ (gs : List GivenFrame). length gs) e)) in
     sort_is s d n x o (g ∙ ap (λ (gs : List GivenFrame). meaning_of (flat_map names_in (reverse gs)) x) whole)

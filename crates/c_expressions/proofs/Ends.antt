@@ -1,7 +1,6 @@
 -- The beginning and the end of a source.
-use Rattle.std.proofs.Common.{◌≡◌, ℕ, ◌+◌, ◌<◌, ◌≤◌, Bool, true, false, cond, eqb, List, [], ◌∷◌, ◌++◌, length, map, take, get_or, Option, Some, None, refl, sym, ap, subst, ◌∙◌, arith}
+use Rattle.std.proofs.Common.{◌≡◌, ℕ, ◌+◌, ◌<◌, false, eqb, List, [], ◌∷◌, length, take, get_or, Option, Some, None, refl, ap, ◌∙◌, ne_eqb}
 use Rattle.std.proofs.lemmas.List.Sums.{fold_more}
-use Rattle.std.proofs.lemmas.Bool.Decides.{nat_tests}
 use Rattle.base.specs.declared.fault.ReadCode.TheVariants.{Unexpected}
 use Rattle.c_tokens.specs.declared.kind.Kind.TheVariants as kind
 use Rattle.c_tokens.specs.declared.kind.Kind.{Kind}
@@ -79,10 +78,7 @@ after_feed p b e = rw e refl
 after_other : (p : Place) (b : ℕ) → (b ≡ 10 → ⊥) → after p b ≡
     record { at = p.at + 1; line = p.line; column = p.column + 1 }
 unfolding after
-after_other p b h = (let e : eqb b 10 ≡ false = neq b h in rw e refl)
-  where
-    neq : (b : ℕ) → (b ≡ 10 → ⊥) → eqb b 10 ≡ false
-    neq b h = grind (arith, nat_tests)
+after_other p b h = (let e : eqb b 10 ≡ false = ne_eqb b 10 h in rw e refl)
 
 pub at_feed : (bs : List ℕ) (i : ℕ) → i < length bs → get_or bs i 0 ≡ 10 →
     ((after_all start (take (i + 1) bs)).line ≡ (after_all start (take i bs)).line + 1) ×

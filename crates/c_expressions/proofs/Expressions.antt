@@ -1,5 +1,5 @@
 -- The terms that were read.
-use Rattle.std.proofs.Common.{◌≡◌, ℕ, ◌+◌, ◌<◌, ◌≤◌, Bool, true, false, List, [], ◌∷◌, ◌++◌, length, drop, Option, Some, None, refl, sym, ap, subst, ◌∙◌, append_assoc, arith, length-append}
+use Rattle.std.proofs.Common.{◌≡◌, ℕ, ◌+◌, ◌<◌, ◌≤◌, Bool, List, [], ◌∷◌, ◌++◌, length, drop, Option, Some, refl, sym, ap, subst, ◌∙◌, append_assoc, arith, length-append}
 use Rattle.std.proofs.lemmas.List.{map-append, drop-drop}
 use Rattle.c_tokens.specs.declared.kind.Sign.{Sign}
 use Rattle.c_tokens.specs.declared.kind.Sign.TheVariants as sign
@@ -10,9 +10,7 @@ use Rattle.base.specs.declared.tree.UnaryOp.{UnaryOp}
 use Rattle.base.specs.declared.tree.Expr.{Expr}
 use Rattle.base.specs.declared.tree.Expr.TheVariants as expr
 use Rattle.c_grammar.specs.Terminal.{Terminal, Mark, Name, Num}
-use Rattle.c_grammar.specs.Texts.{next_of}
-use Rattle.c_grammar.specs.Grammar.{Slot, Slots, Term, Literal, Named, Element, Group, Prefixed, Both, By, term, closing as closing_slot, prefix_sign, level_of, IsRanked}
-use Rattle.c_grammar.specs.Rules.{source_grammar}
+use Rattle.c_grammar.specs.Grammar.{Slot, Slots, Term, Literal, Named, Element, Group, Prefixed, Both, By, term, closing as closing_slot, prefix_sign, level_of}
 use Rattle.c_grammar.proofs.Goes.{level_high, fraction_high}
 use Rattle.c_expressions.specs.declared.cursor.Cursor.{Cursor}
 use Rattle.c_expressions.specs.declared.scope.Meaning.{Meaning}

@@ -1,24 +1,23 @@
 -- One token further, or not.
-use Rattle.std.proofs.Common.{◌≡◌, ℕ, ◌+◌, ◌<◌, ◌≤◌, Bool, true, false, cond, List, [], ◌∷◌, length, drop, Option, Some, None, refl, sym, ap, subst, ◌∙◌, arith}
+use Rattle.std.proofs.Common.{◌≡◌, ℕ, ◌≤◌, true, false, List, ◌∷◌, length, Some, None, refl, sym, ap, ◌∙◌, arith}
 use Rattle.std.specs.Prelude.{nat_lt}
 use Rattle.std.proofs.lemmas.Bool.Decides.{nat_tests}
 use Rattle.c_tokens.specs.declared.kind.Sign.{Sign}
 use Rattle.base.specs.declared.fault.ReadCode.{ReadCode as Code}
 use Rattle.base.specs.declared.fault.ReadCode.TheVariants.{Unexpected}
-use Rattle.base.specs.declared.fault.TextFault.{TextFault}
 use Rattle.c_grammar.specs.Lexeme.{Word}
 use Rattle.c_grammar.specs.LineRules.{max_name}
-use Rattle.c_grammar.specs.Terminal.{Terminal, Fixed, Mark, Name, Num, same}
+use Rattle.c_grammar.specs.Terminal.{Terminal, Fixed, Mark, Name, same}
 use Rattle.c_grammar.specs.Texts.{Item}
 use Rattle.c_grammar.specs.Machine.{run as machine_run}
 use Rattle.c_grammar.specs.Grammar.{Act, Plain, for}
-use Rattle.c_grammar.specs.Rules.{Context, enter, out, rule_here, misfit_of}
+use Rattle.c_grammar.specs.Rules.{Context, enter, out, rule_here}
 use Rattle.c_grammar.specs.Rules.{breaks}
-use Rattle.c_grammar.specs.Program.{Symbol, Want, Stack, m, w, advance, place_code, first_broken}
+use Rattle.c_grammar.specs.Program.{Want, Stack, m, w, advance, place_code, first_broken}
 use Rattle.c_expressions.specs.declared.cursor.Cursor.{Cursor}
 use Rattle.c_expressions.specs.Means.{Items}
 use Rattle.c_expressions.specs.Cursor.{items, first_item, behind}
-use Rattle.c_expressions.specs.Reading.{run, took, misfit_at}
+use Rattle.c_expressions.specs.Reading.{run, misfit_at}
 use Rattle.c_grammar.proofs.Terminals.{same-true, same_name}
 use Rattle.c_expressions.proofs.Terminals.{same_mark, same_fixed}
 

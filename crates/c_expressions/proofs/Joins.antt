@@ -1,5 +1,5 @@
 -- The terms that were read and joined by an operator.
-use Rattle.std.proofs.Common.{◌≡◌, ℕ, suc, ◌+◌, ◌<◌, ◌≤◌, List, [], ◌∷◌, ◌++◌, length, drop, Some, refl, sym, ap, subst, ◌∙◌, append_assoc, arith, length-append}
+use Rattle.std.proofs.Common.{◌≡◌, ℕ, suc, ◌+◌, ◌≤◌, List, [], ◌∷◌, ◌++◌, drop, Some, refl, sym, ap, subst, ◌∙◌, append_assoc, arith, length-append}
 use Rattle.std.specs.Prelude.{Result, Ok, Err, IfOk}
 use Rattle.base.specs.declared.tree.ShiftOp.{ShiftOp}
 use Rattle.base.specs.declared.tree.ShiftOp.TheVariants as shift
@@ -10,9 +10,7 @@ use Rattle.base.specs.declared.tree.Divisor.{Divisor}
 use Rattle.base.specs.declared.tree.Expr.{Expr}
 use Rattle.base.specs.declared.tree.Expr.TheVariants as expr
 use Rattle.c_grammar.specs.Terminal.{Terminal, Mark, Num}
-use Rattle.c_grammar.specs.Texts.{next_of}
-use Rattle.c_grammar.specs.Grammar.{Slots, Term, Both, By, Operator, Fraction, term, inner, value_of, operator_sign, fraction_sign, level, fraction_level, level_of, IsRanked}
-use Rattle.c_grammar.specs.Rules.{source_grammar}
+use Rattle.c_grammar.specs.Grammar.{Term, Both, By, Operator, Fraction, term, inner, value_of, operator_sign, fraction_sign, level, fraction_level, level_of}
 use Rattle.c_expressions.specs.declared.cursor.Cursor.{Cursor}
 use Rattle.c_expressions.specs.declared.fault.ReadError.{ReadError}
 use Rattle.c_expressions.specs.Means.{Items, Names, term_size, shift_of, divide_of, IsExpr}

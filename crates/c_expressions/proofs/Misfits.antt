@@ -1,11 +1,11 @@
 -- The fault at a token that may not come.
-use Rattle.std.proofs.Common.{◌≡◌, ℕ, zero, suc, ◌+◌, ◌<◌, ◌≤◌, Bool, true, false, cond, List, [], ◌∷◌, length, Option, Some, None, refl, sym, ap, subst, ◌∙◌, arith}
-use Rattle.std.specs.Prelude.{nat_lt, nat_le, not, ◌&&◌}
-use Rattle.std.proofs.lemmas.Bool.{eq-eqb}
+use Rattle.std.proofs.Common.{◌≡◌, ℕ, suc, ◌+◌, ◌<◌, ◌≤◌, Bool, true, false, cond, List, [], ◌∷◌, length, Option, Some, None, refl, sym, ap, subst, ◌∙◌, arith}
+use Rattle.std.specs.Prelude.{nat_lt, nat_le}
 use Rattle.std.proofs.lemmas.Bool.Decides.{nat_tests}
+use Rattle.std.proofs.Math.Bool.{and-false}
 use Rattle.base.specs.declared.fault.ReadCode.{ReadCode as Code}
 use Rattle.base.specs.declared.fault.ReadCode.TheVariants.{UnknownByte, BadNumber, TooMany, UnknownDirective}
-use Rattle.c_grammar.specs.Code.{code_number, is_code, lower_code}
+use Rattle.c_grammar.specs.Code.{code_number, lower_code}
 use Rattle.c_grammar.specs.Lexeme.{Lexeme, Placed, same}
 use Rattle.c_grammar.specs.LineRules.{max_name, line_breaks, line_wrong, line_enter}
 use Rattle.c_grammar.specs.LineMachine.{line_advance, line_place, line_first_broken, line_first_wrong}
@@ -22,6 +22,7 @@ use Rattle.c_expressions.specs.Seen.{kinds_on, columns_on}
 use Rattle.c_expressions.specs.Lines.{pragma, omp, misfit_on, seen_misfit, second_misfit, words_misfit}
 use Rattle.c_expressions.specs.Reading.{misfit_at, fault_at}
 use Rattle.c_expressions.proofs.Going.{put, put_is}
+use Rattle.c_grammar.proofs.SourceLaws.{same_itself}
 
 -- a token that breaks the rule of a code wherever it stands
 number_is : (n : ℕ) (code : Code) → nat_le n (rule_number (rule_here code)) ≡ nat_le n (code_number code)
@@ -123,9 +124,6 @@ item_quiet : (code : Code) (i : Item Terminal) (ts : List Lexeme) → foreign (L
 unfolding misfit_at first_wrong wrong
 item_quiet code i ts h = rw (h, quiet ts (line_fault ts) h) refl
 
-same_code : (code : Code) → is_code code code ≡ true
-same_code code = eq-eqb _ _ refl
-
 foreign_first : (ts : List Lexeme) (own : Code) (rs : List Rule) →
     wrong (record { part = 1; code = own }) (Line ts) ≡ true →
     first_rule (λ r. wrong r (Line ts)) (record { part = 1; code = own } ∷ rs) ≡
@@ -135,7 +133,7 @@ foreign_first ts own rs h = rw h refl
 is_wrong : (ts : List Lexeme) (k : ℕ) (own : Code) → is_omp ts ≡ false → line_fault ts ≡ Some (k, own) →
     wrong (record { part = 1; code = own }) (Line ts) ≡ true
 unfolding wrong
-is_wrong ts k own o e = rw (o, e) (same_code own)
+is_wrong ts k own o e = rw (o, e) (same_itself own)
 
 line_wrong_first : (ts : List Lexeme) → first_wrong (Line ts) ≡
     first_rule (λ r. wrong r (Line ts)) (joined (fault_rules (line_fault ts)) (use_rules (uses_of ts)))
@@ -200,11 +198,7 @@ first_omp t (u ∷ us) h = rw h refl
 
 second_omp : (t u : Lexeme) (us : List Lexeme) → same omp u ≡ false → is_omp (t ∷ u ∷ us) ≡ false
 unfolding is_omp
-second_omp t u us h = rw h (go (same pragma t))
-  where
-    go : (b : Bool) → (b && false) ≡ false
-    go true = refl
-    go false = refl
+second_omp t u us h = rw h (and-false (same pragma t))
 
 both_omp : (t u : Lexeme) (us : List Lexeme) → same pragma t ≡ true → same omp u ≡ true → is_omp (t ∷ u ∷ us) ≡ true
 unfolding is_omp

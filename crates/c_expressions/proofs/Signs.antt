@@ -1,5 +1,5 @@
 -- Which signs are operators behind an operand.
-use Rattle.std.proofs.Common.{◌≡◌, ◌<◌, ◌≤◌, ℕ, Option, Some, None, refl, sym, ap, ◌∙◌, arith}
+use Rattle.std.proofs.Common.{◌≡◌, ◌<◌, ◌≤◌, ℕ, Some, None, refl, sym, ap, ◌∙◌, arith}
 use Rattle.c_tokens.specs.declared.kind.Sign.{Sign}
 use Rattle.c_grammar.specs.Terminal.{Terminal, Fixed, Mark, Name, Num, Line, Unknown, End}
 use Rattle.c_grammar.specs.Grammar.{Operator, LogicOr, LogicAnd, BitOr, BitXor, BitAnd, Equal, NotEqual, Less, LessEqual, Greater, GreaterEqual, Add, Subtract, Multiply, Fraction, ShiftLeft, ShiftRight, Divide, Remainder, operator_sign, fraction_sign, level, fraction_level}

@@ -1,17 +1,16 @@
 -- The tokens of an expression.
-use Rattle.std.proofs.Common.{◌≡◌, ℕ, ◌+◌, ◌-◌, ◌<◌, ◌≤◌, Bool, true, false, cond, List, [], ◌∷◌, length, Option, Some, None, refl, sym, ap, ◌∙◌, arith}
-use Rattle.std.proofs.lemmas.Bool.{or_left, or_right}
+use Rattle.std.proofs.Common.{◌≡◌, ℕ, ◌+◌, ◌-◌, ◌<◌, ◌≤◌, Bool, true, false, cond, List, ◌∷◌, length, Option, Some, None, refl, ap, ◌∙◌, arith}
+use Rattle.std.proofs.lemmas.Bool.{or_left, or_right, or_from}
 use Rattle.std.specs.Prelude.{nat_lt, nat_le, not, ◌||◌}
 use Rattle.std.proofs.lemmas.Bool.Decides.{nat_tests}
 use Rattle.c_tokens.specs.declared.kind.Sign.{Sign}
 use Rattle.c_tokens.specs.declared.kind.Sign.TheVariants as sign
-use Rattle.base.specs.declared.fault.ReadCode.{ReadCode as Code}
 use Rattle.base.specs.declared.fault.ReadCode.TheVariants.{Undeclared, TooDeep, TooMany}
 use Rattle.c_grammar.specs.LineRules.{max_name}
 use Rattle.c_grammar.specs.Terminal.{Terminal, Fixed, Mark, Name, Num, Line, Unknown, End, same}
 use Rattle.c_grammar.specs.Texts.{Item, next_of}
 use Rattle.c_grammar.specs.Machine.{run as machine_run}
-use Rattle.c_grammar.specs.Grammar.{Act, Inner, Operand, OpensBracket, ClosesBracket, for}
+use Rattle.c_grammar.specs.Grammar.{Inner, Operand, OpensBracket, ClosesBracket, for}
 use Rattle.c_grammar.specs.Rules.{Context, Sort, enter, sort_of, is_array, is_scalar, max_tokens, max_brackets}
 use Rattle.c_grammar.specs.Rules.{source_grammar, breaks}
 use Rattle.c_grammar.specs.Program.{Stack, Want, advance, first_broken}
@@ -21,7 +20,6 @@ use Rattle.c_expressions.specs.Means.{Items}
 use Rattle.c_expressions.specs.Cursor.{items, first_item, behind}
 use Rattle.c_expressions.specs.Scopes.{context_of, is_operand}
 use Rattle.c_expressions.specs.Reading.{run, took, fault_at, IsSound}
-use Rattle.c_grammar.proofs.Terminals.{same-true}
 use Rattle.c_expressions.proofs.Terminals.{same_mark}
 use Rattle.c_expressions.proofs.Going.{put, put_is, put_same}
 
@@ -198,10 +196,6 @@ bad_operand sc d n s x b t t' e f g h =
     ∙ item_undeclared (context_of sc d n) s x (first_item t) (items t')
     (undeclared_is (first_item t').terminal (sort_of (context_of sc d n) x) b false g h)
 
-or_none : (a b : Bool) → a ≡ false → b ≡ false → (a || b) ≡ false
-or_none true b e f = absurd cc
-or_none false b e f = f
-
 over_operand : (sc : Scope) (d n : ℕ) (s : Stack) (x : List ℕ) (b : Bool) (t t' : Cursor) →
     (first_item t).terminal ≡ Name x → behind t ≡ items t' →
     same (Mark sign.OpenBracket) (first_item t').terminal ≡ b →
@@ -245,4 +239,4 @@ go_operand sc d n s x b t t' e f g h k l =
     (put (first_item t) (Name x) ∷ is)) f
     ∙ item_operand (context_of sc d n) s x (first_item t) (items t')
     (undeclared_is (first_item t').terminal (sort_of (context_of sc d n) x) b true g h)
-    (or_none (nat_lt max_name (length x)) (nat_le max_tokens n) short few)
+    (or_from (nat_lt max_name (length x)) (nat_le max_tokens n) short few)

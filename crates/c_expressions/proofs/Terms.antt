@@ -1,6 +1,6 @@
 -- The machine at the tokens of an expression.
-use Rattle.std.proofs.Common.{◌≡◌, ℕ, ◌+◌, ◌<◌, ◌≤◌, Bool, true, false, cond, List, [], ◌∷◌, Option, Some, None, refl, sym, ap, ◌∙◌, arith}
-use Rattle.std.specs.Prelude.{nat_le, ◌||◌}
+use Rattle.std.proofs.Common.{◌≡◌, ℕ, ◌≤◌, Bool, true, false, cond, List, [], ◌∷◌, Option, Some, None, refl, sym, ap, ◌∙◌, arith, le-leb}
+use Rattle.std.specs.Prelude.{nat_le}
 use Rattle.std.proofs.lemmas.Bool.Decides.{nat_tests}
 use Rattle.c_tokens.specs.declared.kind.Sign.{Sign}
 use Rattle.c_tokens.specs.declared.kind.Sign.TheVariants as sign
@@ -17,7 +17,7 @@ use Rattle.c_grammar.specs.Texts.{Item, next_of}
 use Rattle.c_grammar.specs.Machine.{Found, judged, run as machine_run}
 use Rattle.c_grammar.specs.Grammar.{Act, Inner, Operand, OpensBracket, ClosesBracket, for, Operator, Fraction, operator_sign, fraction_sign, prefix_sign, level, fraction_level}
 use Rattle.c_grammar.specs.Rules.{Context, rule_here, source_grammar, breaks}
-use Rattle.c_grammar.specs.Program.{Stack, Want, Atom, Tail, Behind, Fractional, expr, close, advance, place_code, first_broken, source_machine, operator_in, fraction_in, all_operators, all_fractions, operator_step, fraction_step}
+use Rattle.c_grammar.specs.Program.{Stack, Want, Atom, Tail, Behind, Fractional, advance, place_code, first_broken, source_machine, operator_in, fraction_in, all_operators, all_fractions, operator_step, fraction_step}
 use Rattle.c_grammar.specs.Source.{found_fault}
 use Rattle.c_expressions.specs.declared.cursor.Cursor.{Cursor}
 use Rattle.c_expressions.specs.Means.{Items, prefix_of, shift_of, divide_of}
@@ -160,13 +160,10 @@ behind_name c s t e = same_run c (Behind ∷ Tail 9 ∷ s) (Tail 9 ∷ s) (first
 
 -- ---- operators
 
-le_true : (a b : ℕ) → a ≤ b → nat_le a b ≡ true
-le_true a b h = grind (arith, nat_tests, h)
-
 tail_operator : (top : ℕ) (s : Stack) (o : Operator) (t : Terminal) → t ≡ Mark (operator_sign o) → level o ≤ top →
     advance (Tail top ∷ s) t ≡ Some (for Inner, Atom ∷ Tail 9 ∷ s)
 unfolding advance
-tail_operator top s o t e h = rw (e, operator_found o, le_true (level o) top h) refl
+tail_operator top s o t e h = rw (e, operator_found o, le-leb (level o) top h) refl
 
 pub go_operator : (c : Context) (top : ℕ) (s : Stack) (o : Operator) (t : Cursor) →
     (first_item t).terminal ≡ Mark (operator_sign o) → level o ≤ top →
@@ -177,7 +174,7 @@ go_operator c top s o t e h = item_took c (Tail top ∷ s) (Atom ∷ Tail 9 ∷ 
 tail_fraction : (top : ℕ) (s : Stack) (o : Fraction) (t : Terminal) → t ≡ Mark (fraction_sign o) →
     fraction_level o ≤ top → advance (Tail top ∷ s) t ≡ Some (for Inner, Fractional o ∷ Tail (fraction_level o) ∷ s)
 unfolding advance
-tail_fraction top s o t e h = rw (e, no_operator o, fraction_found o, le_true (fraction_level o) top h) refl
+tail_fraction top s o t e h = rw (e, no_operator o, fraction_found o, le-leb (fraction_level o) top h) refl
 
 pub go_fraction : (c : Context) (top : ℕ) (s : Stack) (o : Fraction) (t : Cursor) →
     (first_item t).terminal ≡ Mark (fraction_sign o) → fraction_level o ≤ top →

@@ -1,14 +1,11 @@
 -- The first words of a line that begins with #.
-use Rattle.std.proofs.Common.{◌≡◌, ℕ, ◌<◌, ◌≤◌, Bool, true, false, cond, List, [], ◌∷◌, length, Option, Some, None, refl, sym, ap, ◌∙◌, arith}
-use Rattle.std.specs.Prelude.{nat_lt, ◌&&◌}
+use Rattle.std.proofs.Common.{◌≡◌, ℕ, ◌<◌, ◌≤◌, true, false, List, [], ◌∷◌, length, Some, None, refl, arith}
+use Rattle.std.specs.Prelude.{nat_lt}
 use Rattle.std.proofs.lemmas.Bool.Decides.{nat_tests}
-use Rattle.base.specs.declared.fault.ReadCode.{ReadCode as Code}
-use Rattle.base.specs.declared.fault.ReadCode.TheVariants.{UnknownByte, BadNumber, TooMany, UnknownDirective}
+use Rattle.base.specs.declared.fault.ReadCode.TheVariants.{UnknownByte, BadNumber, TooMany}
 use Rattle.c_grammar.specs.Lexeme.{Lexeme, Reserved, Signed, Worded, Numbered, Strange, Ended, Placed, same}
 use Rattle.c_grammar.specs.LineRules.{max_name, line_wrong}
 use Rattle.c_grammar.specs.LineMachine.{line_first_wrong}
-use Rattle.c_grammar.specs.Lines.{is_omp}
-use Rattle.c_expressions.specs.Seen.{kinds_on}
 use Rattle.c_expressions.specs.Lines.{pragma, omp, misfit_on, words_misfit}
 
 -- ---- the code that a token has wherever it stands

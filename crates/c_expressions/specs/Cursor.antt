@@ -1,5 +1,5 @@
 -- What a cursor has left.
-use Rattle.std.specs.Prelude.{List, [], ◌∷◌, ◌++◌, map, Option, Some, None}
+use Rattle.std.specs.Prelude.{[], ◌∷◌, ◌++◌, map, Option, Some, None}
 use Rattle.c_tokens.specs.declared.kind.Token.{Token}
 use Rattle.c_tokens.specs.Ahead.{ahead}
 use Rattle.c_grammar.specs.Terminal.{Terminal, End}

@@ -1,5 +1,5 @@
 -- What the reader knows where a token stands.
-use Rattle.std.specs.Prelude.{◌≡◌, ℕ, ◌+◌, Bool, true, false, if◌then◌else◌, List, [], ◌∷◌, ◌++◌, map, reverse, Option, Some, None}
+use Rattle.std.specs.Prelude.{ℕ, Bool, true, false, List, map, reverse, Option, Some, None}
 use Rattle.std.specs.Borrow.{Bor}
 use Rattle.std.specs.List.{flat_map}
 use Rattle.c_grammar.specs.Rules.{Context, Frame, Sort, AnArray, AScalar, ALoop, out, is_array, is_scalar}
@@ -8,7 +8,7 @@ use Rattle.c_expressions.specs.declared.scope.Meaning.{Meaning}
 use Rattle.c_expressions.specs.declared.scope.Meaning.TheVariants as meaning
 use Rattle.c_expressions.specs.declared.scope.Name.{Name}
 use Rattle.c_expressions.specs.declared.scope.Scope.{Scope}
-use Rattle.c_expressions.specs.Means.{Names, meaning_of}
+use Rattle.c_expressions.specs.Means.{Names}
 
 -- what a name with that meaning is
 abbrev pub sort_of_meaning : Meaning → Sort

@@ -1,19 +1,12 @@
 -- What a machine with its laws answers of a text of bytes and its tokens.
-use Rattle.std.proofs.Common.{◌≡◌, ◌<◌, ◌≤◌, ℕ, Bool, true, false, cond, List, length, Option, Some, None, refl, sym, arith}
+use Rattle.std.proofs.Common.{◌≡◌, ◌<◌, ◌≤◌, ℕ, Bool, true, false, cond, List, length, Option, Some, None, refl, sym, arith, ltb-true, ltb-false}
 use Rattle.std.specs.Prelude.{nat_lt}
-use Rattle.std.proofs.lemmas.Bool.Decides.{nat_tests}
 use Rattle.base.specs.declared.fault.TextFault.{TextFault}
 use Rattle.c_grammar.specs.Texts.{Item, Grammar, IsFirst, Spelled, terminals, kinds}
 use Rattle.c_grammar.specs.Machine.{Machine, Found, Laws, run}
 use Rattle.c_grammar.specs.Source.{max_source}
 use Rattle.c_grammar.proofs.Ways.{some_of, same_some}
 use Rattle.c_grammar.proofs.First.{first_fault, spelled, not_spelled}
-
-lt_from : (n k : ℕ) → nat_lt n k ≡ true → n < k
-lt_from n k h = grind (arith, nat_tests)
-
-le_from : (n k : ℕ) → nat_lt n k ≡ false → k ≤ n
-le_from n k h = grind (arith, nat_tests)
 
 not_both : (n k : ℕ) → n < k → k ≤ n → ⊥
 not_both n k h l = omega (arith, h, l)
@@ -50,10 +43,10 @@ module _ (g : Grammar) (m : Machine g) (l : Laws g m) (long : TextFault)
           → cond b (some_of long) (found (run g m g.begin m.start items)) ≡ some_of f → FirstFault bytes items f
       go true h k = (
         λ _. sym (same_some long f k),
-        λ n. absurd (not_both max_source (length bytes) (lt_from max_source (length bytes) h) n),
+        λ n. absurd (not_both max_source (length bytes) (ltb-true max_source (length bytes) h) n),
       )
       go false h k = (
-        λ n. absurd (not_both max_source (length bytes) n (le_from max_source (length bytes) h)),
+        λ n. absurd (not_both max_source (length bytes) n (ltb-false max_source (length bytes) h)),
         λ _. found_first items f (run g m g.begin m.start items) refl k,
       )
 
@@ -71,7 +64,7 @@ module _ (g : Grammar) (m : Machine g) (l : Laws g m) (long : TextFault)
           → (length bytes ≤ max_source) × (run g m g.begin m.start items ≡ None)
       go true h k = absurd cc
       go false h k =
-          (le_from max_source (length bytes) h, none_found (run g m g.begin m.start items) k)
+          (ltb-false max_source (length bytes) h, none_found (run g m g.begin m.start items) k)
 
   pub text_spelled : (bytes : List ℕ) (items : List (Item g.Terminal)) (t : g.Text) → answered bytes items ≡ None
       → terminals g items ≡ kinds g (g.slots t) → g.IsText t → (length bytes ≤ max_source) × Spelled g items t
@@ -89,5 +82,5 @@ module _ (g : Grammar) (m : Machine g) (l : Laws g m) (long : TextFault)
     where
       go : (b : Bool) → nat_lt max_source (length bytes) ≡ b
           → cond b (some_of long) (found (run g m g.begin m.start items)) ≡ some_of f → ⊥
-      go true h k = not_both max_source (length bytes) (lt_from max_source (length bytes) h) n
+      go true h k = not_both max_source (length bytes) (ltb-true max_source (length bytes) h) n
       go false h k = found_not items f t (run g m g.begin m.start items) refl k s

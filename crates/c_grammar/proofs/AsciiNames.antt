@@ -1,10 +1,11 @@
 -- The names of a source are ASCII.
-use Rattle.std.proofs.Common.{◌≡◌, ℕ, zero, suc, ◌+◌, ◌-◌, ◌<◌, ◌≤◌, Bool, true, false, cond, eqb, List, [], ◌∷◌, ◌++◌, length, map, take, drop, Option, Some, None, refl, sym, ap, subst, ◌∙◌, ◌⊎◌, inl, inr, arith}
-use Rattle.std.specs.Prelude.{nat_le, nat_lt, ◌||◌, ◌&&◌, not, ◌^◌, slice_index}
+use Rattle.std.proofs.Common.{◌≡◌, ℕ, zero, suc, ◌+◌, ◌-◌, ◌<◌, Bool, true, false, cond, eqb, List, [], ◌∷◌, ◌++◌, map, take, drop, Option, Some, None, refl, sym, ap, subst, ◌∙◌, arith}
+use Rattle.std.specs.Prelude.{◌&&◌, slice_index}
 use Rattle.std.specs.List.{prefix_len}
 use Rattle.std.specs.Str.{IsAscii}
 use Rattle.std.proofs.lemmas.List.{drop-drop}
 use Rattle.std.proofs.lemmas.Bool.Decides.{nat_tests}
+use Rattle.std.proofs.lemmas.Bool.{or_left}
 use Rattle.c_tokens.specs.declared.kind.Sign.{Sign}
 use Rattle.c_tokens.specs.declared.kind.Kind.{Kind}
 use Rattle.c_tokens.specs.declared.kind.Kind.TheVariants as kind
@@ -14,9 +15,8 @@ use Rattle.c_tokens.specs.declared.kind.Piece.{Piece}
 use Rattle.c_tokens.specs.declared.kind.Piece.TheVariants as piece
 use Rattle.c_tokens.specs.declared.kind.Token.{Token}
 use Rattle.c_tokens.specs.Piece.{is_blank, is_not_feed, is_include, after_blank, comment_end, sign_at, starts_with_byte, is_name_start, is_name_part, is_digit, piece_at, number_of, name_piece, line_piece, comment_piece, sign_piece}
-use Rattle.c_tokens.specs.Text.{Place, start, after, after_kind, token_at, unknown_at, given, tokens_from, tokens_of}
+use Rattle.c_tokens.specs.Text.{Place, start, after, after_kind, token_at, unknown_at, given, tokens_from}
 use Rattle.c_grammar.specs.Lexeme.{Word, word_of, Placed}
-use Rattle.c_grammar.specs.Terminal.{Terminal}
 use Rattle.c_grammar.specs.Source.{text_of, word_or_name, kind_terminal, on_line, item_of, end_of, items_of}
 use Rattle.c_grammar.specs.AsciiNames.{IsAsciiTerminal, AreAscii, terminals_of}
 
@@ -80,13 +80,9 @@ chosen_piece : (b : ℕ) (bs : List ℕ) (t : Bool) (p q : Piece) → (t ≡ tru
 chosen_piece b bs true p q h k = h refl
 chosen_piece b bs false p q h k = k refl
 
-part_of : (s d : Bool) → s ≡ true → (s || d) ≡ true
-part_of true d e = refl
-part_of false d e = absurd cc
-
 named_piece : (mood : Mood) (b : ℕ) (bs : List ℕ) → is_name_start b ≡ true → IsNamePiece b bs (name_piece mood (b ∷ bs))
-named_piece Fresh b bs e = (part_of (is_name_start b) (is_digit b) e, refl)
-named_piece Inside b bs e = (part_of (is_name_start b) (is_digit b) e, refl)
+named_piece Fresh b bs e = (or_left (is_name_start b) (is_digit b) e, refl)
+named_piece Inside b bs e = (or_left (is_name_start b) (is_digit b) e, refl)
 named_piece AfterNumber b bs e = tt
 
 lined_piece : (mood : Mood) (b : ℕ) (bs : List ℕ) → IsNamePiece b bs (line_piece mood (b ∷ bs))
@@ -124,7 +120,7 @@ piece_named mood b bs =
     (λ i. chosen_piece b bs (eqb b 47 && starts_with_byte 42 bs) comment sixth (λ j. commented_piece b bs (comment_end (drop 1 bs)))
     (λ j. signed_piece b bs (sign_at all)))))))
 
-after_at : (p : Place) (b : ℕ) → (after p b).at ≡ p.at + 1
+pub after_at : (p : Place) (b : ℕ) → (after p b).at ≡ p.at + 1
 unfolding after
 after_at p b = step (eqb b 10) refl
   where
@@ -132,7 +128,7 @@ after_at p b = step (eqb b 10) refl
     step true e = rw e refl
     step false e = rw e refl
 
-next_rest : (bytes : List ℕ) (b : ℕ) (bs : List ℕ) (p : Place) → b ∷ bs ≡ drop p.at bytes → bs ≡ drop (after p b).at bytes
+pub next_rest : (bytes : List ℕ) (b : ℕ) (bs : List ℕ) (p : Place) → b ∷ bs ≡ drop p.at bytes → bs ≡ drop (after p b).at bytes
 next_rest bytes b bs p e = ap (drop 1) e ∙ drop-drop 1 p.at bytes ∙ ap (λ (n : ℕ). drop n bytes) (sym (after_at p b))
 
 name_text : (bytes : List ℕ) (b : ℕ) (bs : List ℕ) (p : Place) (n : ℕ) → b ∷ bs ≡ drop p.at bytes → is_name_part b ≡ true → n ≡ prefix_len is_name_part (b ∷ bs) → IsAscii (text_of bytes (token_at kind.Name n p))

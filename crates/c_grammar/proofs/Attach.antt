@@ -1,7 +1,6 @@
 -- A term with an operator put behind it, which takes as much on its left as its level says.
-use Rattle.std.proofs.Common.{◌≡◌, ℕ, ◌<◌, ◌≤◌, Bool, true, false, cond, ◌∷◌, ◌++◌, refl, sym, ap, ◌∙◌, append_assoc, arith}
+use Rattle.std.proofs.Common.{◌≡◌, ℕ, ◌<◌, ◌≤◌, Bool, true, false, cond, ◌∷◌, ◌++◌, refl, sym, ap, ◌∙◌, append_assoc, arith, leb-true, leb-false}
 use Rattle.std.specs.Prelude.{nat_le}
-use Rattle.std.proofs.lemmas.Bool.Decides.{nat_tests}
 use Rattle.c_grammar.specs.Grammar.{Slots, inner, Term, Literal, Named, Element, Group, Prefixed, Both, By, operator_sign, term, level, level_of, IsRanked}
 use Rattle.c_grammar.proofs.Goes.{after}
 
@@ -51,12 +50,6 @@ ranked_chosen : (c : Bool) (e f : Term) → (c ≡ true → IsRanked e) → (c �
 ranked_chosen true e f p q = p refl
 ranked_chosen false e f p q = q refl
 
-pub le_from : (n k : ℕ) → nat_le n k ≡ true → n ≤ k
-le_from n k h = grind (arith, nat_tests)
-
-pub gt_from : (n k : ℕ) → nat_le n k ≡ false → k < n
-gt_from n k h = grind (arith, nat_tests)
-
 -- the operator may stand behind a term of its level, and behind this term
 pub ranked_attach : (e : Term) (n : ℕ) (f : Term → Term) → ((a : Term) → level_of (f a) ≡ n)
     → ((a : Term) → n ≤ level_of a → IsRanked a → IsRanked (f a)) → n ≤ 9 → IsRanked e → n ≤ after e
@@ -68,6 +61,6 @@ ranked_attach (Group e) n f l g k r h = g (Group e) (omega (arith, k)) r
 ranked_attach (Prefixed op e) n f l g k r h = g (Prefixed op e) (omega (arith, k)) r
 ranked_attach (Both p x y) n f l g k r h =
     ranked_chosen (nat_le n (level p)) (f (Both p x y)) (Both p x (attach y n f))
-    (λ t. g (Both p x y) (le_from n (level p) t) r)
-    (λ t. (r.0, above_attach y n f (level p) l r.1 (gt_from n (level p) t), r.2, ranked_attach y n f l g k r.3 h))
+    (λ t. g (Both p x y) (leb-true n (level p) t) r)
+    (λ t. (r.0, above_attach y n f (level p) l r.1 (leb-false n (level p) t), r.2, ranked_attach y n f l g k r.3 h))
 ranked_attach (By p x v) n f l g k r h = g (By p x v) h r

@@ -5,16 +5,13 @@ use Rattle.c_grammar.specs.Texts.{Item, Grammar, Slots, terminals, kinds}
 use Rattle.c_grammar.specs.Machine.{Machine, Laws, run}
 use Rattle.c_grammar.proofs.Ways.{Slot, cut, terminals_append}
 use Rattle.c_grammar.proofs.Faults.{Runs, Told, run_told}
+use Rattle.base.proofs.Nils.{nil_parts}
 
 module _ (g : Grammar) (m : Machine g) (l : Laws g m) where
   -- behind the end of a text no token comes
   abbrev pub EndIsLast : Type 0
   EndIsLast = (t : g.Text) (front : Slots g) (x : Slot g m) (more : Slots g) → x.0 ≡ g.end
       → g.slots t ≡ front ++ (x ∷ more) → more ≡ []
-
-  nothing : (xs ys : Slots g) → xs ++ ys ≡ [] → ys ≡ []
-  nothing [] ys e = e
-  nothing (x ∷ xs) ys e = absurd cc
 
   -- a text with these tokens
   abbrev pub HasText : List (Item g.Terminal) → Type 0
@@ -29,7 +26,8 @@ module _ (g : Grammar) (m : Machine g) (l : Laws g m) where
       let c = cut g m r.front (terminals g init) last.terminal [] (r.kinds_are ∙ ends) in
       let path : g.slots t.0 ≡ c.front ++ (c.slot ∷ (c.rest ++ t.2)) =
       t.3 ∙ ap (λ (u : Slots g). u ++ t.2) c.split ∙ append_assoc c.front (c.slot ∷ c.rest) t.2 in
-      let over : t.2 ≡ [] = nothing c.rest t.2 (ending t.0 c.front c.slot (c.rest ++ t.2) (c.here ∙ h) path) in
+      let over : t.2 ≡ [] = (nil_parts c.rest t.2
+      (ending t.0 c.front c.slot (c.rest ++ t.2) (c.here ∙ h) path)).1 in
       let same : g.slots t.0 ≡ r.front = t.3 ∙ ap (λ (u : Slots g). r.front ++ u) over ∙ append-nil r.front in
       (t.0, t.1, sym r.kinds_are ∙ ap (λ (u : Slots g). kinds g u) (sym same))
 

@@ -1,6 +1,7 @@
 -- What goes on from where the machine for sources has come goes on from where it was: single tokens and expressions.
-use Rattle.std.proofs.Common.{◌≡◌, ◌≤◌, ℕ, true, cond, List, [], ◌∷◌, ◌++◌, Option, Some, None, refl, sym, ap, ◌∙◌, append_assoc, inl, inr}
+use Rattle.std.proofs.Common.{◌≡◌, ◌≤◌, ℕ, true, cond, List, [], ◌∷◌, ◌++◌, Option, Some, None, refl, sym, ap, ◌∙◌, append_assoc, inl, inr, leb-true}
 use Rattle.std.specs.Prelude.{◌||◌, nat_le}
+use Rattle.std.proofs.lemmas.Bool.{or_cases}
 use Rattle.c_tokens.specs.declared.kind.Sign.TheVariants as sign
 use Rattle.base.specs.declared.fault.ReadCode.{ReadCode as Code}
 use Rattle.base.specs.declared.fault.ReadCode.TheVariants.{BadOperand}
@@ -9,9 +10,8 @@ use Rattle.c_grammar.specs.Terminal.{Terminal, Fixed, Mark, Name, Num, Line, Unk
 use Rattle.c_grammar.specs.Grammar.{Act, Plain, Reads, Operand, OpensBracket, Inner, Slots, for, inner, opening, closing, value_of, Prefix, Not, Complement, Operator, Fraction, prefix_sign, operator_sign, fraction_sign, fraction_act, level, fraction_level, Literal, Named, Element, Group, Prefixed, term, Input, Value as ValueOf}
 use Rattle.c_grammar.specs.Program.{Symbol, Want, WantName, WantNum, Value, Atom, Behind, Tail, Fractional, Stack, Move, m, expr, close, operand_step, atom_step, all_operators, all_fractions, operator_in, fraction_in, operator_step, fraction_step, fractional_step, num_step, name_step, value_step, advance}
 use Rattle.c_grammar.proofs.Ways.{some_of}
-use Rattle.c_grammar.proofs.Lexemes.{chosen, some_is, or_true}
+use Rattle.c_grammar.proofs.Lexemes.{chosen, some_is}
 use Rattle.c_grammar.proofs.Terminals.{same-true, tested}
-use Rattle.c_grammar.proofs.Attach.{le_from}
 use Rattle.c_grammar.proofs.Operands.{WithTerm, WithNumber, operations}
 use Rattle.c_grammar.proofs.Parts.{index}
 use Rattle.c_grammar.proofs.SourceFits.{IsIndex, Fits, has_term}
@@ -100,7 +100,7 @@ IsPrefix t = (op : Prefix) × (Mark (prefix_sign op) ≡ t)
 
 prefix_of : (t : Terminal) → (same (Mark sign.Bang) t || same (Mark sign.Tilde) t) ≡ true → IsPrefix t
 prefix_of t e =
-    elim (or_true (same (Mark sign.Bang) t) (same (Mark sign.Tilde) t) e) [
+    elim (or_cases (same (Mark sign.Bang) t) (same (Mark sign.Tilde) t) e) [
       | inl h ↦ (Not, same-true (Mark sign.Bang) t h)
       | inr h ↦ (Complement, same-true (Mark sign.Tilde) t h)
     ]
@@ -202,7 +202,7 @@ back_fraction top s t q (Some op) other found ih e =
     let to : Taken = (for Inner, Fractional op ∷ Tail (fraction_level op) ∷ s) in
     elim (chosen (nat_le (fraction_level op) top) (some_of to) other (some_of q) e) [
       | inl h ↦ some_is to q (λ p. Back (Tail top) s t p) h.1
-          (fraction_fits op top s t (found op refl) (le_from (fraction_level op) top h.0))
+          (fraction_fits op top s t (found op refl) (leb-true (fraction_level op) top h.0))
       | inr h ↦ ih h.1
     ]
 
@@ -214,7 +214,7 @@ back_operator top s t q (Some op) other found ih e =
     let to : Taken = (for Inner, expr s) in
     elim (chosen (nat_le (level op) top) (some_of to) other (some_of q) e) [
       | inl h ↦ some_is to q (λ p. Back (Tail top) s t p) h.1
-          (operator_fits op top s t (found op refl) (le_from (level op) top h.0))
+          (operator_fits op top s t (found op refl) (leb-true (level op) top h.0))
       | inr h ↦ ih h.1
     ]
 

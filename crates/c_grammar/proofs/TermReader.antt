@@ -1,7 +1,8 @@
 -- A ranked term is known from its tokens: reading them gives it back.
-use Rattle.std.proofs.Common.{◌≡◌, ◌≤◌, ℕ, suc, Bool, true, false, cond, List, [], ◌∷◌, ◌++◌, Option, Some, None, refl, sym, ap, ◌∙◌, append_assoc, arith}
+use Rattle.std.proofs.Common.{◌≡◌, ◌≤◌, ℕ, suc, false, List, [], ◌∷◌, ◌++◌, Option, Some, None, refl, sym, ap, ◌∙◌, append_assoc, arith, le-leb}
 use Rattle.std.specs.Prelude.{nat_le, if◌then◌else◌}
-use Rattle.std.proofs.lemmas.Bool.Decides.{nat_tests}
+use Rattle.std.proofs.lemmas.Bool.{lt-leb, cond-true, cond-false}
+use Rattle.std.proofs.lemmas.Option.{same_Some}
 use Rattle.c_tokens.specs.declared.kind.Sign.TheVariants as sign
 use Rattle.c_grammar.specs.Terminal.{Terminal, Mark, Name, Num, same}
 use Rattle.c_grammar.specs.Grammar.{Slot, Slots, inner, closing, value_of, Prefix, Not, Complement, Operator, LogicOr, LogicAnd, BitOr, BitXor, BitAnd, Equal, NotEqual, Less, LessEqual, Greater, GreaterEqual, Add, Subtract, Multiply, Fraction, ShiftLeft, ShiftRight, Divide, Remainder, Term, Literal, Named, Element, Group, Prefixed, Both, By, prefix_sign, operator_sign, fraction_sign, term, level, fraction_level, level_of, IsRanked}
@@ -151,20 +152,6 @@ read_name fs p x (t ∷ xs) h = rw h refl
 
 -- ---- the whole term
 
-le_true : (n k : ℕ) → n ≤ k → nat_le n k ≡ true
-le_true n k h = grind (arith, nat_tests, h)
-
-le_false : (n k : ℕ) → suc k ≤ n → nat_le n k ≡ false
-le_false n k h = grind (arith, nat_tests, h)
-
-cond_true : (c : Bool) (e f : Term) → c ≡ true → cond c e f ≡ e
-cond_true true e f h = refl
-cond_true false e f h = absurd cc
-
-cond_false : (c : Bool) (e f : Term) → c ≡ false → cond c e f ≡ f
-cond_false false e f h = refl
-cond_false true e f h = absurd cc
-
 -- an operator that binds no tighter than the term takes all of it
 attach_low : (a : Term) (n : ℕ) (f : Term → Term) → n ≤ level_of a → attach a n f ≡ f a
 attach_low (Literal v) n f h = refl
@@ -173,7 +160,7 @@ attach_low (Element x i) n f h = refl
 attach_low (Group e) n f h = refl
 attach_low (Prefixed op e) n f h = refl
 attach_low (Both p x y) n f h =
-    cond_true (nat_le n (level p)) (f (Both p x y)) (Both p x (attach y n f)) (le_true n (level p) h)
+    cond-true (nat_le n (level p)) (f (Both p x y)) (Both p x (attach y n f)) (le-leb n (level p) h)
 attach_low (By p x v) n f h = refl
 
 -- what is put around a term does not hinder operators of a level from n on
@@ -185,7 +172,7 @@ around : (op : Operator) (a : Term) (n : ℕ) (K : Term → Term) → LetsThroug
 around op a n K g h y l f k high =
     let low : n ≤ l = omega (arith, h, k) in
     g (Both op a y) l f low high
-    ∙ ap K (cond_false (nat_le l (level op)) (f (Both op a y)) (Both op a (attach y l f)) (le_false l (level op) k))
+    ∙ ap K (cond-false (nat_le l (level op)) (f (Both op a y)) (Both op a (attach y l f)) (lt-leb l (level op) k))
 
 past : (n l : ℕ) → 10 ≤ l → l ≤ 9 → ⊥
 past n l h k = omega (arith, h, k)
@@ -237,14 +224,11 @@ Ends xs = IsClosed xs × ((e : Term) → read [] (Has e) xs ≡ Some (e, xs))
 read_all : (e : Term) → IsRanked e → (xs : Slots) → Ends xs → read [] (Wants Beginning) (term e ++ xs) ≡ Some (e, xs)
 read_all e r xs h = read_term e r [] Beginning (λ y. y) 0 (λ y l f _ _. refl) (omega arith) (λ y _. refl) xs h.0 ∙ h.1 e
 
-same_pair : (p q : Term × Slots) → Some p ≡ Some q → p ≡ q
-same_pair p q e = cc
-
 same_term : (a b : Term) → IsRanked a → IsRanked b → (xs ys : Slots) → Ends xs → Ends ys → term a ++ xs ≡ term b ++ ys
     → (a ≡ b) × (xs ≡ ys)
 same_term a b r s xs ys h k e =
     let both : (a, xs) ≡ (b, ys) =
-    same_pair (a, xs) (b, ys)
+    same_Some (a, xs) (b, ys)
     (sym (read_all a r xs h) ∙ ap (λ (u : Slots). read [] (Wants Beginning) u) e ∙ read_all b s ys k) in
     (ap (λ (z : Term × Slots). z.0) both, ap (λ (z : Term × Slots). z.1) both)
 

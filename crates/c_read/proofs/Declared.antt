@@ -1,13 +1,14 @@
 -- One global that was read.
-use Rattle.std.proofs.Common.{◌≡◌, ℕ, ◌+◌, ◌<◌, ◌≤◌, Bool, true, false, cond, List, [], ◌∷◌, ◌++◌, length, drop, map, Option, Some, None, refl, sym, ap, subst, ◌∙◌, append_assoc, arith, length-append}
+use Rattle.std.proofs.Common.{◌≡◌, ℕ, ◌+◌, ◌<◌, ◌≤◌, Bool, true, false, cond, List, [], ◌∷◌, ◌++◌, length, map, Some, None, refl, sym, ap, subst, ◌∙◌, arith, length-append}
 use Rattle.std.specs.Prelude.{nat_lt, nat_le, ◌||◌, ◌&&◌, is_some, string_bytes}
 use Rattle.std.specs.Str.{bytes_eq, IsAscii}
 use Rattle.std.proofs.lemmas.Slice.Eq.{bytes_eq-Decides}
 use Rattle.std.specs.Str.Lossy.{utf8_lossy}
 use Rattle.std.specs.String.{string_eq}
 use Rattle.std.proofs.lemmas.Bool.Decides.{nat_tests}
-use Rattle.std.proofs.lemmas.List.{append-nil, length-map}
+use Rattle.std.proofs.lemmas.List.{append-nil, length-map, map_push}
 use Rattle.std.specs.declared.string.String.{String}
+use Rattle.std.proofs.lemmas.Bool.{or_parts}
 use Rattle.indexmap.specs.IndexMap.{insert_entry}
 use Rattle.c_tokens.specs.declared.kind.Sign.TheVariants as sign
 use Rattle.base.specs.declared.fault.ReadCode.{ReadCode as Code}
@@ -19,7 +20,7 @@ use Rattle.c_grammar.specs.LineRules.{max_name}
 use Rattle.c_grammar.specs.Terminal.{Terminal, Fixed, Mark, Name, Num, same}
 use Rattle.c_grammar.specs.Texts.{Item}
 use Rattle.c_grammar.specs.Machine.{run as machine_run}
-use Rattle.c_grammar.specs.Grammar.{Global, Scalar, Array, DeclaresGlobal, global, globals}
+use Rattle.c_grammar.specs.Grammar.{Scalar, Array, DeclaresGlobal}
 use Rattle.c_grammar.specs.Rules.{Context, breaks, enter, inside, is_visible, sort_of, max_arrays, max_scalars, rule_here}
 use Rattle.c_grammar.specs.Program.{Stack, AfterGlobal, Globals, WantName, advance, place_code, first_broken}
 use Rattle.c_expressions.specs.declared.cursor.Cursor.{Cursor}
@@ -27,15 +28,15 @@ use Rattle.c_expressions.specs.declared.scope.Meaning.TheVariants as meaning
 use Rattle.c_expressions.specs.declared.scope.Scope.{Scope}
 use Rattle.c_expressions.specs.Means.{Items, Names, meaning_of}
 use Rattle.c_expressions.specs.Cursor.{items, first_item, behind}
-use Rattle.c_expressions.specs.Reading.{run, misfit_at, terminals, kinds}
+use Rattle.c_expressions.specs.Reading.{run, misfit_at, terminals}
 use Rattle.c_expressions.specs.Scopes.{context_of, names_of}
 use Rattle.c_expressions.proofs.Going.{put, put_is, stop, was_mark}
 use Rattle.c_expressions.proofs.Expressions.{behind_less}
 use Rattle.c_statements.specs.Loops.{IsGone}
 use Rattle.c_statements.specs.Simple.{loops_in}
 use Rattle.c_statements.proofs.Heads.{gone_one, gone_then}
-use Rattle.c_read.specs.Globals.{Front, naming, global_code, is_over, front_of, behind_globals, entry_of, AreGlobalsRead, AreKnown, IsArrayNamed, IsArrayRead, IsNamedAt, IsScalarNamed}
-use Rattle.c_read.proofs.Entries.{entries_last, insert_last, known_last, known_more, name_kept}
+use Rattle.c_read.specs.Globals.{Front, global_code, is_over, front_of, behind_globals, entry_of, AreGlobalsRead, AreKnown, IsArrayNamed, IsArrayRead, IsNamedAt, IsScalarNamed}
+use Rattle.c_read.proofs.Entries.{insert_last, known_last, known_more, name_kept}
 
 -- ---- the word
 
@@ -79,14 +80,6 @@ not_over true o code code' e = absurd cc
 not_over false true code code' e = absurd cc
 not_over false false code code' e = refl
 
-or_left : (a b : Bool) → (a || b) ≡ false → a ≡ false
-or_left true b e = absurd cc
-or_left false b e = refl
-
-or_right : (a b : Bool) → (a || b) ≡ false → b ≡ false
-or_right true b e = absurd cc
-or_right false b e = e
-
 and_right : (a b : Bool) → a ≡ true → (a && b) ≡ false → b ≡ false
 and_right true b h e = e
 and_right false b h e = absurd cc
@@ -102,7 +95,8 @@ few_arrays sc x next e h =
     let q = same (Mark sign.Semicolon) next && nat_le max_scalars sc.scalars in
     let few : nat_le max_arrays sc.arrays ≡ false =
     and_right p (nat_le max_arrays sc.arrays) h
-    (or_left (p && nat_le max_arrays sc.arrays) q (or_right (nat_lt max_name (length x)) ((p && nat_le max_arrays sc.arrays) || q) (within sc x next e))) in
+    (or_parts (p && nat_le max_arrays sc.arrays) q
+    (or_parts (nat_lt max_name (length x)) ((p && nat_le max_arrays sc.arrays) || q) (within sc x next e)).1).0 in
     grind (arith, nat_tests)
 
 pub few_scalars : (sc : Scope) (x : List ℕ) (next : Terminal) → global_code sc x next ≡ None →
@@ -112,7 +106,8 @@ few_scalars sc x next e h =
     let q = same (Mark sign.Semicolon) next in
     let few : nat_le max_scalars sc.scalars ≡ false =
     and_right q (nat_le max_scalars sc.scalars) h
-    (or_right p (q && nat_le max_scalars sc.scalars) (or_right (nat_lt max_name (length x)) (p || (q && nat_le max_scalars sc.scalars)) (within sc x next e))) in
+    (or_parts p (q && nat_le max_scalars sc.scalars)
+    (or_parts (nat_lt max_name (length x)) (p || (q && nat_le max_scalars sc.scalars)) (within sc x next e)).1).1 in
     grind (arith, nat_tests)
 
 pub name_ascii : (x : List ℕ) (before after : Items) → AreAscii (terminals before) → IsNamedAt x before after → IsAscii x
@@ -187,7 +182,7 @@ module _ {Z : Type 0} where
         gone = gone;
         named = named;
         entries =
-            ap (λ (us : List (String Z × ArrayInfo)). map entry_of us) last ∙ entries_last es (k, v)
+            ap (λ (us : List (String Z × ArrayInfo)). map entry_of us) last ∙ map_push entry_of es (k, v)
             ∙ ap (λ (y : List ℕ). map entry_of es ++ (y, Some v.length) ∷ []) same_bytes;
         known =
             subst (λ (us : List (String Z × ArrayInfo)). AreKnown (names_of new) us) (sym last)

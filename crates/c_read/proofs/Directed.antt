@@ -1,11 +1,8 @@
 -- The directives of main that were read.
-use Rattle.std.proofs.Common.{◌≡◌, ℕ, ◌+◌, ◌<◌, ◌≤◌, Bool, true, false, List, [], ◌∷◌, ◌++◌, length, drop, Option, Some, None, Vec, Global, refl, sym, ap, subst, ◌∙◌, append_assoc, arith, length-append, inl, inr, ◌⊎◌}
+use Rattle.std.proofs.Common.{◌≡◌, ℕ, ◌+◌, Bool, true, false, List, [], ◌∷◌, ◌++◌, length, drop, Vec, Global, refl, sym, ap, subst, ◌∙◌, arith, inl, inr, ◌⊎◌}
 use Rattle.c_tokens.specs.declared.kind.Sign.TheVariants as sign
 use Rattle.base.specs.declared.tree.Bounds.{Bounds}
-use Rattle.base.specs.declared.tree.Place.{Place}
 use Rattle.base.specs.declared.tree.Region.{Region}
-use Rattle.base.specs.declared.tree.RegionKind.{RegionKind}
-use Rattle.base.specs.declared.tree.MapText.{MapText}
 use Rattle.base.specs.declared.tree.Directive.{Directive as Alone}
 use Rattle.base.specs.declared.tree.Target.{Target}
 use Rattle.base.specs.declared.tree.Stmt.{Stmt as Statement}
@@ -13,11 +10,10 @@ use Rattle.base.specs.declared.tree.Stmt.TheVariants as statement
 use Rattle.base.specs.declared.tree.Part.{Part, Data as DataOf, items_hidden-the_row-Part-0}
 use Rattle.base.specs.declared.tree.Part.TheVariants as part
 use Rattle.c_grammar.specs.Lexeme.{Lexeme, For}
-use Rattle.c_grammar.specs.Lines.{is_omp, holds}
 use Rattle.c_grammar.specs.Texts.{Item}
 use Rattle.c_grammar.specs.Terminal.{Terminal, Fixed, Mark, Name, Num, Line, Unknown, End}
-use Rattle.c_grammar.specs.Rules.{Context, inside}
-use Rattle.c_grammar.specs.Grammar.{Slots, Head, Stmt, Stmts, Done, Then, Declare, Assign, Store, Repeat, Choose, ChooseElse, Show, Block, Directive, OverBlock, OverLoop, stmt, stmts, IsStmt as IsText}
+use Rattle.c_grammar.specs.Rules.{inside}
+use Rattle.c_grammar.specs.Grammar.{Head, Stmt, Stmts, Done, Then, Declare, Assign, Store, Repeat, Choose, ChooseElse, Show, Block, Directive, OverBlock, OverLoop, stmt, stmts, IsStmt as IsText}
 use Rattle.c_expressions.specs.declared.cursor.Cursor.{Cursor}
 use Rattle.c_expressions.specs.declared.scope.Scope.{Scope}
 use Rattle.c_expressions.specs.Means.{Items, place_of}
@@ -29,14 +25,14 @@ use Rattle.c_statements.specs.Bodies.{IsBodyRead}
 use Rattle.c_statements.specs.Simple.{env_of, IsStmtRead}
 use Rattle.c_statements.specs.Statements.{Env, stmt_size, head_size, declared_in, more, in_loop, IsHead, IsStatement, AreStatements, behind as behind_of}
 use Rattle.c_statements.proofs.Wholes.{kinds_ended, size_ended}
-use Rattle.c_constructs.specs.declared.resolved.Construct.{Construct}
 use Rattle.c_constructs.specs.declared.resolved.Construct.TheVariants as construct
 use Rattle.c_constructs.specs.declared.resolved.Resolved.TheVariants as resolved
 use Rattle.c_constructs.specs.LineMeaning.{IsRead, lexemes_on, scope_behind}
 use Rattle.c_read.specs.declared.piece.Piece.{Piece}
 use Rattle.c_read.specs.declared.piece.Piece.TheVariants as piece
-use Rattle.c_read.specs.Parts.{Placed, in_target, pieces_of, AreLongest, AreMixed, ArePieces, IsHostLoop, IsPart, IsPiece, OneLoop}
-use Rattle.c_read.specs.Read.{loop_slots, AreAlone, AreDataRead, IsBlockRead, IsLoop, IsLoopRead, IsOverRead, IsPieceRead, IsRegionRead}
+use Rattle.c_read.specs.Parts.{in_target, pieces_of, AreLongest, AreMixed, ArePieces, IsHostLoop, IsPiece, OneLoop}
+use Rattle.c_read.specs.Read.{loop_slots, AreAlone, IsBlockRead, IsLoop, IsLoopRead, IsPieceRead}
+use Rattle.c_statements.proofs.Prints.{more_none}
 
 line_is : (t : Terminal) → is_directive t ≡ true → t ≡ Line (lexemes_on t)
 line_is (Line ts) d = refl
@@ -46,9 +42,6 @@ line_is (Name x) d = absurd cc
 line_is (Num n) d = absurd cc
 line_is Unknown d = absurd cc
 line_is End d = absurd cc
-
-more_none : (env : Env) → env ≡ more 0 env
-more_none env = ap (λ (n : ℕ). (let v : Env = record env { scalars = n } in v)) (omega arith)
 
 -- ---- a directive that stands alone
 

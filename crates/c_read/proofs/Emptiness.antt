@@ -1,5 +1,5 @@
 -- Whether a list is empty, by its length.
-use Rattle.std.proofs.Common.{◌≡◌, ℕ, ◌<◌, Bool, true, false, eqb, List, [], ◌∷◌, length, refl, sym, ap, ◌∙◌, arith}
+use Rattle.std.proofs.Common.{◌≡◌, ℕ, ◌<◌, Bool, true, false, eqb, List, [], ◌∷◌, length, refl, ap, ◌∙◌, arith}
 use Rattle.std.proofs.lemmas.Bool.Decides.{nat_tests}
 
 pub empty_items : {A : Type 0} (xs : List A) (len : ℕ) (b : Bool) → b ≡ eqb len 0 → len ≡ length xs → b ≡ true → xs ≡ []

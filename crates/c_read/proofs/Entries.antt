@@ -1,5 +1,5 @@
 -- The entries of the arrays.
-use Rattle.std.proofs.Common.{◌≡◌, ℕ, Bool, true, false, cond, List, [], ◌∷◌, ◌++◌, map, Option, Some, None, refl, sym, ap, ◌∙◌}
+use Rattle.std.proofs.Common.{◌≡◌, ℕ, Bool, true, false, cond, List, [], ◌∷◌, ◌++◌, Option, Some, None, refl, sym, ap, ◌∙◌}
 use Rattle.std.specs.Prelude.{is_some, string_bytes}
 use Rattle.std.specs.Str.{bytes_eq, IsAscii}
 use Rattle.std.specs.Str.Lossy.{utf8_lossy}
@@ -11,7 +11,7 @@ use Rattle.indexmap.specs.IndexMap.{insert_entry}
 use Rattle.base.specs.declared.tree.ArrayInfo.{ArrayInfo}
 use Rattle.c_expressions.specs.declared.scope.Meaning.{Meaning}
 use Rattle.c_expressions.specs.Means.{Names, meaning_of}
-use Rattle.c_read.specs.Globals.{AreKnown, entry_of}
+use Rattle.c_read.specs.Globals.{AreKnown}
 
 -- a name of ASCII bytes is kept
 pub name_kept : (x : List ℕ) → IsAscii x → utf8_lossy x ≡ x
@@ -51,8 +51,3 @@ module _ {Z : Type 0} where
   insert_last k v ns (e ∷ es) h n =
       rw (apart (string_eq k e.0) (string_bytes k) (string_bytes e.0) ns refl n h.0)
       (ap (λ (fs : List (String Z × ArrayInfo)). e ∷ fs) (insert_last k v ns es h.1 n))
-
-  pub entries_last : (es : List (String Z × ArrayInfo)) (e : String Z × ArrayInfo) →
-      map entry_of (es ++ e ∷ []) ≡ map entry_of es ++ entry_of e ∷ []
-  entries_last [] e = refl
-  entries_last (f ∷ es) e = ap (λ (fs : List (List ℕ × Option ℕ)). entry_of f ∷ fs) (entries_last es e)

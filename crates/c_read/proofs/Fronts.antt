@@ -1,6 +1,5 @@
 -- The globals of a source, one after another.
-use Rattle.std.proofs.Common.{◌≡◌, ℕ, ◌+◌, List, [], ◌∷◌, ◌++◌, length, drop, map, Option, refl, sym, ap, subst, ◌∙◌, append_assoc, arith, length-append}
-use Rattle.std.proofs.lemmas.List.{append-nil}
+use Rattle.std.proofs.Common.{◌≡◌, ℕ, ◌+◌, List, [], ◌∷◌, ◌++◌, length, map, Option, refl, sym, ap, subst, ◌∙◌, append_assoc, length-append}
 use Rattle.std.specs.declared.string.String.{String}
 use Rattle.base.specs.declared.tree.ArrayInfo.{ArrayInfo}
 use Rattle.c_grammar.specs.AsciiNames.{AreAscii}

@@ -1,16 +1,15 @@
 -- The longest runs of statements become regions of the host.
-use Rattle.std.proofs.Common.{◌≡◌, ◌≢◌, Bool, true, false, List, [], ◌∷◌, ◌++◌, map, Option, Some, None, Vec, Global, refl, sym, ap, subst, ◌∙◌, append_assoc}
+use Rattle.std.proofs.Common.{◌≡◌, Bool, true, false, List, [], ◌∷◌, ◌++◌, Some, None, refl, sym, ap, subst, ◌∙◌, append_assoc}
 use Rattle.std.proofs.lemmas.List.{append-nil}
 use Rattle.base.specs.declared.tree.Place.{Place}
 use Rattle.base.specs.declared.tree.Region.{Region}
 use Rattle.base.specs.declared.tree.Stmt.{Stmt as Statement}
 use Rattle.base.specs.declared.tree.Part.{Part}
 use Rattle.base.specs.declared.tree.Part.TheVariants as part
-use Rattle.c_read.specs.declared.piece.Piece.{Piece}
 use Rattle.c_read.specs.declared.piece.Piece.TheVariants as piece
 use Rattle.c_read.specs.declared.gathered.Gathered.{Gathered}
 use Rattle.c_read.specs.Parts.{Placed, plain, pieces_in, pieces_of, is_host, are_mixed, AreLongest}
-use Rattle.c_read.specs.Gathering.{so_far, ends_host, AreNoneOrMixed, IsGathered, IsAt, Adds, Closes}
+use Rattle.c_read.specs.Gathering.{so_far, ends_host, AreNoneOrMixed, IsGathered, Adds, Closes}
 
 -- ---- pieces
 

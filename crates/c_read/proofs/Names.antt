@@ -1,7 +1,6 @@
 -- The machine at the name of a global.
 use Rattle.std.proofs.Common.{◌≡◌, ℕ, Bool, true, false, cond, List, ◌∷◌, length, Option, Some, None, refl, sym, ap, ◌∙◌}
-use Rattle.std.specs.Prelude.{nat_lt, nat_le, ◌||◌, ◌&&◌, is_some}
-use Rattle.std.specs.Option.{option_map}
+use Rattle.std.specs.Prelude.{nat_lt, nat_le, ◌||◌, ◌&&◌}
 use Rattle.c_tokens.specs.declared.kind.Sign.TheVariants as sign
 use Rattle.base.specs.declared.tree.Place.{Place}
 use Rattle.base.specs.declared.fault.ReadCode.{ReadCode as Code}
@@ -15,12 +14,11 @@ use Rattle.c_grammar.specs.Grammar.{DeclaresGlobal}
 use Rattle.c_grammar.specs.Rules.{Context, breaks, enter, is_visible, sort_of, rule_here, max_arrays, max_scalars, source_grammar}
 use Rattle.c_grammar.specs.Program.{Stack, WantName, AfterGlobal, advance, place_code, first_broken}
 use Rattle.c_expressions.specs.declared.cursor.Cursor.{Cursor}
-use Rattle.c_expressions.specs.declared.scope.Meaning.{Meaning}
 use Rattle.c_expressions.specs.declared.scope.Scope.{Scope}
 use Rattle.c_expressions.specs.Means.{Items, place_of}
 use Rattle.c_expressions.specs.Cursor.{items, first_item, behind}
 use Rattle.c_expressions.specs.Reading.{run, fault_at, misfit_at}
-use Rattle.c_expressions.specs.Scopes.{context_of, sort_of_meaning}
+use Rattle.c_expressions.specs.Scopes.{context_of}
 use Rattle.c_expressions.proofs.Going.{put, put_is, stop}
 use Rattle.c_read.specs.Globals.{naming, global_code, is_over}
 

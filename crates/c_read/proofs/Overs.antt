@@ -1,29 +1,24 @@
 -- What is read behind the line of a directive.
-use Rattle.std.proofs.Common.{◌≡◌, true, false, List, [], ◌∷◌, Vec, Global, refl, sym, ap, subst, ◌∙◌, inl, inr}
-use Rattle.base.specs.declared.tree.Place.{Place}
+use Rattle.std.proofs.Common.{◌≡◌, true, false, Vec, Global, sym, ap, subst, inl, inr}
 use Rattle.base.specs.declared.tree.Region.{Region}
 use Rattle.base.specs.declared.tree.Target.{Target}
 use Rattle.base.specs.declared.tree.Part.{Part, Data as DataOf}
 use Rattle.base.specs.declared.tree.Part.TheVariants as part
-use Rattle.c_grammar.specs.Lexeme.{For}
 use Rattle.c_grammar.specs.Rules.{inside}
-use Rattle.c_grammar.specs.Terminal.{Fixed}
 use Rattle.c_expressions.specs.declared.cursor.Cursor.{Cursor}
 use Rattle.c_expressions.specs.declared.scope.Scope.{Scope}
 use Rattle.c_expressions.specs.Means.{Items, place_of}
 use Rattle.c_expressions.specs.Cursor.{items, first_item, behind}
-use Rattle.c_expressions.specs.Reading.{terminals, is_directive}
+use Rattle.c_expressions.specs.Reading.{is_directive}
 use Rattle.c_expressions.specs.Scopes.{context_of}
 use Rattle.c_statements.specs.Simple.{env_of}
-use Rattle.c_statements.specs.Statements.{Env}
 use Rattle.c_constructs.specs.declared.resolved.Construct.{Construct}
 use Rattle.c_constructs.specs.declared.resolved.Construct.TheVariants as construct
 use Rattle.c_constructs.specs.declared.resolved.Resolved.TheVariants as resolved
-use Rattle.c_constructs.specs.LineMeaning.{IsRead, is_target, scope_behind}
-use Rattle.c_read.specs.declared.piece.Piece.{Piece}
+use Rattle.c_constructs.specs.LineMeaning.{IsRead, scope_behind}
 use Rattle.c_read.specs.declared.piece.Piece.TheVariants as piece
-use Rattle.c_read.specs.Parts.{Placed, pieces_of, AreLongest}
-use Rattle.c_read.specs.Read.{AreAlone, AreDataRead, IsBlockRead, IsLoopRead, IsOverRead, IsPieceRead, IsRegionRead}
+use Rattle.c_read.specs.Parts.{AreLongest}
+use Rattle.c_read.specs.Read.{AreDataRead, IsOverRead, IsPieceRead, IsRegionRead}
 use Rattle.c_read.proofs.Directed.{read_data_block, read_data_loop, read_region_block, read_region_loop}
 
 read_target : (old mid new : Scope) (u u' : Cursor) (after : Items) (g : Target) (r : Region) →

@@ -1,28 +1,26 @@
 -- Statements and parts one after another that were read.
-use Rattle.std.proofs.Common.{◌≡◌, ℕ, ◌+◌, ◌<◌, ◌≤◌, true, false, List, [], ◌∷◌, ◌++◌, length, drop, Option, Some, None, refl, sym, ap, subst, ◌∙◌, append_assoc, arith, length-append}
+use Rattle.std.proofs.Common.{◌≡◌, ℕ, ◌+◌, ◌≤◌, List, [], ◌∷◌, ◌++◌, length, drop, Option, Some, None, refl, sym, ap, subst, ◌∙◌, append_assoc, arith, length-append}
 use Rattle.std.proofs.lemmas.List.{drop-drop}
 use Rattle.c_tokens.specs.declared.kind.Sign.TheVariants as sign
 use Rattle.base.specs.declared.tree.Place.{Place}
 use Rattle.base.specs.declared.tree.Stmt.{Stmt as Statement}
-use Rattle.base.specs.declared.tree.Part.{Part}
 use Rattle.c_grammar.specs.Terminal.{Terminal, Mark}
 use Rattle.c_grammar.specs.Grammar.{Slots, Stmt, Stmts, Done, Then, stmt, stmts, AreStmts}
-use Rattle.c_grammar.specs.Rules.{Context, inside}
 use Rattle.c_expressions.specs.declared.cursor.Cursor.{Cursor}
 use Rattle.c_expressions.specs.declared.scope.Scope.{Scope}
 use Rattle.c_expressions.specs.Means.{Items, place_of}
 use Rattle.c_expressions.specs.Cursor.{items, first_item, behind as behind_first}
 use Rattle.c_expressions.specs.Reading.{terminals, kinds}
-use Rattle.c_expressions.specs.Scopes.{context_of, names_of}
+use Rattle.c_expressions.specs.Scopes.{names_of}
 use Rattle.c_expressions.proofs.Expressions.{first_then, kinds_append, behind_less, one_more, drops, drop_by}
-use Rattle.c_statements.specs.Bodies.{IsReady, IsSameBlock}
+use Rattle.c_statements.specs.Bodies.{IsSameBlock}
 use Rattle.c_statements.specs.Simple.{env_of, loops_in, IsStmtRead}
-use Rattle.c_statements.specs.Statements.{Env, stmt_size, behind, IsStatement, AreStatements}
+use Rattle.c_statements.specs.Statements.{Env, stmt_size, behind, AreStatements}
 use Rattle.c_statements.proofs.Fronts.{behind_all, snoc, stmts_snoc, are_snoc, behind_snoc, scalars_behind, loops_behind}
 use Rattle.c_read.specs.declared.piece.Piece.{Piece}
 use Rattle.c_read.specs.declared.piece.Piece.TheVariants as piece
 use Rattle.c_read.specs.declared.gathered.Gathered.{Gathered}
-use Rattle.c_read.specs.Parts.{Placed, plain, pieces_in, IsPlaceAt, IsPart, IsPiece, ArePieces}
+use Rattle.c_read.specs.Parts.{Placed, plain, pieces_in, IsPlaceAt, IsPiece, ArePieces}
 use Rattle.c_read.specs.Gathering.{so_far, Adds, IsAt}
 use Rattle.c_read.specs.Read.{IsOutside, IsPieceRead, AreInnerRead}
 

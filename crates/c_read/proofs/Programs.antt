@@ -1,8 +1,8 @@
 -- The machine and the reader at main, and at a whole source.
-use Rattle.std.proofs.Common.{◌≡◌, ℕ, ◌+◌, ◌≤◌, Bool, true, false, List, [], ◌∷◌, ◌++◌, length, map, reverse, drop, None, Vec, Global as Heap, refl, sym, ap, subst, ◌∙◌, arith}
-use Rattle.std.specs.Prelude.{◌||◌}
+use Rattle.std.proofs.Common.{◌≡◌, ℕ, ◌+◌, ◌≤◌, false, List, [], ◌∷◌, ◌++◌, length, map, reverse, drop, None, Vec, Global as Heap, refl, sym, ap, subst, ◌∙◌, arith}
 use Rattle.std.specs.List.{flat_map}
 use Rattle.std.specs.declared.string.String.{String}
+use Rattle.std.proofs.lemmas.Bool.{or_from}
 use Rattle.c_tokens.specs.declared.kind.Sign.TheVariants as sign
 use Rattle.base.specs.declared.tree.ArrayInfo.{ArrayInfo}
 use Rattle.base.specs.declared.tree.Program.{Program}
@@ -107,10 +107,6 @@ never_inside [] f e = e
 never_inside (Scalar x ∷ gs) f e = never_inside gs (with_global (Scalar x) f) e
 never_inside (Array x n ∷ gs) f e = never_inside gs (with_global (Array x n) f) e
 
-or_none : (a b : Bool) → a ≡ false → b ≡ false → (a || b) ≡ false
-or_none true b e f = absurd cc
-or_none false b e f = f
-
 module _ {Z : Type 0} where
   front_is : (s0 s1 : Scope) (fs : List (String Z × ArrayInfo)) (i0 i1 : Items) (r : AreGlobalsRead s0 s1 [] fs i0 i1) →
       IsStart s0 → front_of s1 ≡ behind_globals r.text no_front
@@ -128,8 +124,8 @@ module _ {Z : Type 0} where
       let under : under_if (context_of s1 0 0) ≡ false = r.still.always ∙ ap (λ (c : Context). under_if c) h.context in
       record {
         ready = record { target = ap (λ (c : Context). c.target) e; loops = omega (arith, loops) };
-        outside = ap (λ (c : Context). inside c) e ∙ or_none (inside (context_of s1 0 0)) s1.target within target;
-        always = ap (λ (c : Context). under_if c) e ∙ or_none (under_if (context_of s1 0 0)) s1.choice under choice;
+        outside = ap (λ (c : Context). inside c) e ∙ or_from (inside (context_of s1 0 0)) s1.target within target;
+        always = ap (λ (c : Context). under_if c) e ∙ or_from (under_if (context_of s1 0 0)) s1.choice under choice;
         waiting = ap (λ (c : Context). c.choice) e;
       }
 

@@ -1,7 +1,6 @@
 -- The region of a target that was read.
-use Rattle.std.proofs.Common.{◌≡◌, ℕ, ◌+◌, ◌≤◌, Bool, true, false, List, [], ◌∷◌, ◌++◌, Option, Some, None, Vec, Global, refl, sym, ap, subst, ◌∙◌, inl, inr, arith}
+use Rattle.std.proofs.Common.{◌≡◌, ℕ, ◌+◌, Bool, true, List, [], ◌∷◌, Some, None, Vec, Global, ap, subst, ◌∙◌, inl, inr}
 use Rattle.std.proofs.lemmas.Bool.{or_right}
-use Rattle.std.specs.Prelude.{◌||◌}
 use Rattle.std.specs.Borrow.{Bor}
 use Rattle.base.specs.declared.tree.Bounds.{Bounds}
 use Rattle.base.specs.declared.tree.Stmt.{Stmt as Statement, Loop as LoopOf}
@@ -16,10 +15,10 @@ use Rattle.c_expressions.specs.declared.scope.Meaning.TheVariants as meaning
 use Rattle.c_expressions.specs.Means.{Items}
 use Rattle.c_expressions.specs.Cursor.{items, first_item, behind}
 use Rattle.c_expressions.specs.Scopes.{context_of, names_of}
-use Rattle.c_statements.specs.Bodies.{inner_env, IsBodyRead, IsSameBlock}
+use Rattle.c_statements.specs.Bodies.{inner_env, IsBodyRead}
 use Rattle.c_statements.specs.Loops.{IsGone, IsNamedMore, bounds_tokens, with_limit}
 use Rattle.c_statements.specs.Simple.{env_of, loops_in, IsStmtRead}
-use Rattle.c_statements.specs.Statements.{Env, in_loop, more, declared_in}
+use Rattle.c_statements.specs.Statements.{Env, in_loop}
 use Rattle.c_statements.proofs.Nesting.{env_named}
 use Rattle.c_statements.proofs.Wholes.{read_loop}
 use Rattle.c_read.specs.Parts.{in_target}

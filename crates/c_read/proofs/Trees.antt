@@ -1,14 +1,12 @@
 -- Blocks, loops and directives of main that were read.
-use Rattle.std.proofs.Common.{◌≡◌, ℕ, ◌+◌, ◌<◌, ◌≤◌, Bool, true, false, List, [], ◌∷◌, ◌++◌, length, drop, Option, Some, None, Vec, Global, refl, sym, ap, subst, ◌∙◌, append_assoc, arith, length-append, inl, inr}
+use Rattle.std.proofs.Common.{◌≡◌, ℕ, ◌+◌, false, List, [], ◌∷◌, ◌++◌, length, drop, Option, Some, None, refl, sym, ap, subst, ◌∙◌, append_assoc, arith}
 use Rattle.std.specs.Borrow.{Bor}
 use Rattle.c_tokens.specs.declared.kind.Sign.TheVariants as sign
 use Rattle.base.specs.declared.tree.Bounds.{Bounds}
-use Rattle.base.specs.declared.tree.Place.{Place}
-use Rattle.base.specs.declared.tree.Part.{Part}
 use Rattle.c_grammar.specs.Lexeme.{For, Uint64}
 use Rattle.c_grammar.specs.Terminal.{Terminal, Fixed, Mark, Name}
 use Rattle.c_grammar.specs.Rules.{Context, opened}
-use Rattle.c_grammar.specs.Grammar.{Slots, Head, Stmt, Stmts, Repeat, Block, head_slots, body_opening, stmt, stmts}
+use Rattle.c_grammar.specs.Grammar.{Slots, Head, Stmts, Repeat, Block, head_slots, body_opening, stmts}
 use Rattle.c_expressions.specs.declared.changes.Turn.{Turn}
 use Rattle.c_expressions.specs.declared.cursor.Cursor.{Cursor}
 use Rattle.c_expressions.specs.declared.scope.Scope.{Scope}
@@ -19,17 +17,15 @@ use Rattle.c_expressions.specs.Reading.{terminals, kinds}
 use Rattle.c_expressions.specs.Scopes.{context_of, names_of}
 use Rattle.c_expressions.proofs.Expressions.{first_then, kinds_append, behind_less, drops, drop_by, drop_one}
 use Rattle.c_statements.specs.Blocks.{turned}
-use Rattle.c_statements.specs.Bodies.{inner_env, IsLeft, IsSameBlock}
+use Rattle.c_statements.specs.Bodies.{inner_env, IsLeft}
 use Rattle.c_statements.specs.Loops.{IsGone, IsNamedMore, bounds_tokens, with_limit}
 use Rattle.c_statements.specs.Simple.{counted, env_of, loops_in}
 use Rattle.c_statements.specs.Statements.{Env, stmt_size, head_size, declared_in, more, in_loop, IsHead}
 use Rattle.c_statements.proofs.Composes.{next_after, block_back}
-use Rattle.c_statements.proofs.Nesting.{IsBack, back_now, back_same, env_inner, env_named, inner_same, inner_turn}
-use Rattle.c_statements.proofs.Wholes.{ended, kinds_ended, size_ended}
+use Rattle.c_statements.proofs.Nesting.{back_now, env_inner, env_named, inner_same, inner_turn}
+use Rattle.c_statements.proofs.Wholes.{ended, kinds_ended, size_ended, gone_less}
 use Rattle.c_read.specs.declared.piece.Piece.{Piece}
-use Rattle.c_read.specs.declared.gathered.Gathered.{Gathered}
 use Rattle.c_read.specs.Parts.{Placed, ArePieces, IsPiece}
-use Rattle.c_read.specs.Gathering.{so_far}
 use Rattle.c_read.specs.Read.{loop_slots, AreInnerRead, IsBlockRead, IsLoopRead, IsPieceRead}
 
 -- ---- in braces
@@ -100,13 +96,6 @@ abbrev pub MakesLoop : Bounds → List Placed → Piece → Type 0
 MakesLoop b ps p =
     (env : Env) (is : Items) (h : Head) (body : Stmts) → IsHead h b →
     ArePieces (in_loop h.name env) (drop (head_size h) is) body ps → IsPiece env is (Repeat h body) p
-
-length_terminals : (is : Items) → length (terminals is) ≡ length is
-length_terminals [] = refl
-length_terminals (i ∷ is) = omega (arith, length_terminals is)
-
-gone_less : (us : List Terminal) (a b : Items) → IsGone us a b → length b ≤ length a
-gone_less us a b g = omega (arith, length_terminals a, length_terminals b, ap (λ (ts : List Terminal). length ts) g.tokens, length-append us (terminals b))
 
 read_turns : (env mid inner next : Env) (x : List ℕ) (b : Bounds) (i1 i2 i3 after : Items) (ps : List Placed) (p : Piece) →
     IsGone (Mark sign.OpenParen ∷ Fixed Uint64 ∷ Name x ∷ []) i1 i2 → IsGone (bounds_tokens x b) i2 i3 →

@@ -7,7 +7,7 @@ use Rattle.c_grammar.specs.Terminal.{Terminal, Fixed, Mark, same}
 use Rattle.c_grammar.specs.Texts.{Item}
 use Rattle.c_grammar.specs.Machine.{run as machine_run}
 use Rattle.c_grammar.specs.Rules.{Context, breaks, enter, rule_here}
-use Rattle.c_grammar.specs.Program.{Stack, Under, Body, body, loop, advance, place_code, first_broken}
+use Rattle.c_grammar.specs.Program.{Stack, Under, body, loop, advance, place_code, first_broken}
 use Rattle.c_expressions.specs.declared.cursor.Cursor.{Cursor}
 use Rattle.c_expressions.specs.declared.scope.Scope.{Scope}
 use Rattle.c_expressions.specs.Means.{Items}

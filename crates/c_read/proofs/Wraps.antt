@@ -1,5 +1,5 @@
 -- Blocks and loops of what was gathered.
-use Rattle.std.proofs.Common.{◌≡◌, Bool, true, false, List, [], ◌∷◌, ◌++◌, drop, Vec, Global, refl, sym, ap, subst, ◌∙◌}
+use Rattle.std.proofs.Common.{◌≡◌, true, false, List, [], ◌∷◌, ◌++◌, drop, Vec, Global, refl, sym, subst}
 use Rattle.base.specs.declared.tree.Bounds.{Bounds}
 use Rattle.base.specs.declared.tree.Stmt.{Stmt as Statement, Block as BlockOf, Loop as LoopOf}
 use Rattle.base.specs.declared.tree.Place.{Place}
@@ -9,10 +9,9 @@ use Rattle.c_grammar.specs.Grammar.{Head, Stmts, Block, Repeat}
 use Rattle.c_expressions.specs.Means.{Items}
 use Rattle.c_statements.specs.Statements.{Env, IsHead, head_size, in_loop, AreStatements}
 use Rattle.c_statements.proofs.Wholes.{block_at, loop_at}
-use Rattle.c_read.specs.declared.piece.Piece.{Piece}
 use Rattle.c_read.specs.declared.piece.Piece.TheVariants as piece
 use Rattle.c_read.specs.declared.gathered.Gathered.{Gathered}
-use Rattle.c_read.specs.Parts.{Placed, pieces_of, pieces_in, is_host, are_mixed, AreLongest, AreMixed, ArePieces, IsPart, IsPiece}
+use Rattle.c_read.specs.Parts.{Placed, pieces_of, pieces_in, is_host, are_mixed, AreLongest, AreMixed, ArePieces, IsPiece}
 use Rattle.c_read.specs.Gathering.{so_far, IsGathered, AreNoneOrMixed}
 use Rattle.c_read.specs.Read.{AreAlone}
 use Rattle.c_read.proofs.Gathering.{longest_alone}

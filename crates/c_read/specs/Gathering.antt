@@ -1,7 +1,6 @@
 -- The parts of a block so far.
 use Rattle.std.specs.Prelude.{◌≡◌, Bool, true, false, List, [], ◌∷◌, ◌++◌, Option, Some, None}
 use Rattle.base.specs.declared.tree.Place.{Place}
-use Rattle.base.specs.declared.tree.Stmt.{Stmt as Statement}
 use Rattle.base.specs.declared.tree.Part.{Part}
 use Rattle.c_read.specs.declared.piece.Piece.{Piece}
 use Rattle.c_read.specs.declared.piece.Piece.TheVariants as piece

@@ -1,12 +1,12 @@
 -- Which parts a text means: the longest runs of statements without a directive are regions of the host.
-use Rattle.std.specs.Prelude.{◌≡◌, ◌≢◌, ◌+◌, Bool, true, false, ◌||◌, List, [], ◌∷◌, ◌++◌, drop, map, Option, Some, None, ◌⊎◌}
+use Rattle.std.specs.Prelude.{◌≡◌, ◌≢◌, ◌+◌, Bool, true, false, List, [], ◌∷◌, ◌++◌, drop, map, Option, Some, None, ◌⊎◌}
 use Rattle.base.specs.declared.tree.Bounds.{Bounds}
 use Rattle.base.specs.declared.tree.Place.{Place}
 use Rattle.base.specs.declared.tree.Stmt.{Stmt as Statement}
 use Rattle.base.specs.declared.tree.Part.{Part, items-the_row-Part}
 use Rattle.base.specs.declared.tree.Part.TheVariants as part
 use Rattle.c_grammar.specs.LineGrammar.{Data}
-use Rattle.c_grammar.specs.Grammar.{Head, Stmt, Declare, Assign, Store, Repeat, Choose, ChooseElse, Show, Block, Directive, OverBlock, OverLoop, Stmts, Done, Then}
+use Rattle.c_grammar.specs.Grammar.{Head, Stmt, Repeat, Block, Directive, OverBlock, OverLoop, Stmts, Done, Then}
 use Rattle.c_expressions.specs.Means.{Items, place_of}
 use Rattle.c_statements.specs.Statements.{Env, IsHead, IsStatement, AreStatements, behind, in_loop, stmt_size, head_size}
 use Rattle.c_constructs.specs.LineMeaning.{LineOf}

@@ -1,5 +1,5 @@
 -- What was read of the statements and directives of main.
-use Rattle.std.specs.Prelude.{◌≡◌, ℕ, ◌+◌, ◌<◌, ◌≤◌, true, false, List, [], ◌∷◌, ◌++◌, length, drop, Option, ◌⊎◌, Vec}
+use Rattle.std.specs.Prelude.{◌≡◌, ℕ, ◌+◌, ◌<◌, ◌≤◌, true, false, List, [], ◌∷◌, ◌++◌, length, drop, ◌⊎◌, Vec}
 use Rattle.std.specs.declared.alloc.Global.{Global}
 use Rattle.c_tokens.specs.declared.kind.Sign.TheVariants as sign
 use Rattle.base.specs.declared.tree.Place.{Place}
@@ -23,7 +23,7 @@ use Rattle.c_constructs.specs.declared.resolved.Construct.{Construct}
 use Rattle.c_constructs.specs.declared.resolved.Construct.TheVariants as construct
 use Rattle.c_read.specs.declared.piece.Piece.{Piece}
 use Rattle.c_read.specs.declared.piece.Piece.TheVariants as piece
-use Rattle.c_read.specs.Parts.{Placed, in_target, pieces_of, AreLongest, IsPlaceAt, ArePieces, IsPiece}
+use Rattle.c_read.specs.Parts.{Placed, in_target, pieces_of, AreLongest, ArePieces, IsPiece}
 
 -- outside targets and ifs, where a directive may stand
 pub record IsOutside (s : Scope) : Type 0 where

@@ -1,5 +1,5 @@
 -- What is known before the first token of a source.
-use Rattle.std.specs.Prelude.{◌≡◌, [], ◌∷◌}
+use Rattle.std.specs.Prelude.{◌≡◌}
 use Rattle.c_grammar.specs.Rules.{begin}
 use Rattle.c_expressions.specs.declared.scope.Scope.{Scope}
 use Rattle.c_expressions.specs.Scopes.{context_of}

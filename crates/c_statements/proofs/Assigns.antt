@@ -3,6 +3,7 @@ use Rattle.std.proofs.Common.{◌≡◌, ℕ, ◌<◌, Bool, true, false, List, 
 use Rattle.std.specs.Prelude.{nat_lt, nat_le, ◌||◌}
 use Rattle.std.specs.Option.{option_map}
 use Rattle.std.proofs.lemmas.Bool.Decides.{nat_tests}
+use Rattle.std.proofs.lemmas.Bool.{or_parts}
 use Rattle.c_tokens.specs.declared.kind.Sign.TheVariants as sign
 use Rattle.base.specs.declared.tree.Place.{Place}
 use Rattle.base.specs.declared.fault.ReadCode.{ReadCode as Code}
@@ -122,17 +123,13 @@ within_limits (Some (AScalar i)) p true over w e = absurd cc
 within_limits (Some (AScalar i)) p false true w e = absurd cc
 within_limits (Some (AScalar i)) p false false w e = refl
 
-or_right_false : (a b : Bool) → (a || b) ≡ false → b ≡ false
-or_right_false true b e = absurd cc
-or_right_false false b e = e
-
 pub few_assigned : (sc : Scope) (x : List ℕ) (o : Option Sort) (next : Terminal) → code_at sc x o next ≡ None →
     sc.statements < max_statements
 few_assigned sc x o next e =
     let over : is_over sc x ≡ false = within_limits o (same (Mark sign.Equal) next)
     (same (Mark sign.OpenBracket) next) (is_over sc x) (inside (context_of sc 0 0)) e in
-    let few : nat_le max_statements sc.statements ≡ false = or_right_false (nat_lt max_name (length x))
-    (nat_le max_statements sc.statements) over in
+    let few : nat_le max_statements sc.statements ≡ false = (or_parts (nat_lt max_name (length x))
+    (nat_le max_statements sc.statements) over).1 in
     grind (arith, nat_tests)
 
 -- ---- behind the name

@@ -1,6 +1,6 @@
 -- The machine and the reader at declarations.
 use Rattle.std.proofs.Common.{◌≡◌, ℕ, ◌+◌, ◌<◌, ◌≤◌, true, false, List, ◌∷◌, length, Option, Some, None, refl, sym, ap, ◌∙◌, arith}
-use Rattle.std.proofs.lemmas.Bool.{or_left, or_right}
+use Rattle.std.proofs.lemmas.Bool.{or_left, or_right, or_from}
 use Rattle.std.specs.Prelude.{nat_lt, nat_le, ◌||◌}
 use Rattle.std.specs.Borrow.{Bor}
 use Rattle.std.proofs.lemmas.Bool.Decides.{nat_tests}
@@ -22,7 +22,7 @@ use Rattle.c_expressions.specs.Scopes.{context_of, fresh_name}
 use Rattle.c_expressions.proofs.Going.{put, put_is, stop}
 use Rattle.c_statements.specs.Bodies.{naming}
 use Rattle.c_statements.specs.Simple.{ending}
-use Rattle.c_statements.proofs.Heads.{NoName, or_none}
+use Rattle.c_statements.proofs.Heads.{NoName}
 
 -- ---- the name
 
@@ -80,7 +80,7 @@ go_local sc s x t t' e h k l d =
     let few : nat_le max_scalars sc.scalars ≡ false = grind (arith, nat_tests) in
     ap (λ (i : Item Terminal). run (context_of sc 0 0) (WantName DeclaresLocal ∷ s) (i ∷ behind t))
     (put_is (first_item t) (Name x.now) e) ∙ item_local (context_of sc 0 0) s x.now (first_item t) (behind t) h
-    (or_none (nat_lt max_name (length x.now)) (nat_le max_scalars sc.scalars) short few)
+    (or_from (nat_lt max_name (length x.now)) (nat_le max_scalars sc.scalars) short few)
     ∙ ap (run (context_of (naming sc x) 0 0) s) d
 
 name_none : (s : Stack) (t : Terminal) → NoName t → advance (WantName DeclaresLocal ∷ s) t ≡ None

@@ -1,6 +1,6 @@
 -- The machine and the reader at the heads of loops.
-use Rattle.std.proofs.Common.{◌≡◌, ℕ, ◌+◌, ◌<◌, ◌≤◌, Bool, true, false, List, [], ◌∷◌, ◌++◌, length, Option, Some, None, refl, sym, ap, ◌∙◌, append_assoc, arith, length-append}
-use Rattle.std.proofs.lemmas.Bool.{or_left, or_right}
+use Rattle.std.proofs.Common.{◌≡◌, ℕ, ◌+◌, ◌<◌, ◌≤◌, true, false, List, [], ◌∷◌, ◌++◌, length, Option, Some, None, refl, sym, ap, ◌∙◌, append_assoc, arith, length-append}
+use Rattle.std.proofs.lemmas.Bool.{or_left, or_right, or_from}
 use Rattle.std.specs.Prelude.{nat_lt, nat_le, ◌||◌, is_some}
 use Rattle.std.specs.Option.{option_map}
 use Rattle.std.proofs.lemmas.Bool.Decides.{nat_tests}
@@ -56,10 +56,6 @@ pub bad_turn : (sc : Scope) (s : Stack) (x : List ℕ) (t : Cursor) → (first_i
 bad_turn sc s x t e h = ap (λ (i : Item Terminal). run (context_of sc 0 0) (Turn ∷ s) (i ∷ behind t))
     (put_is (first_item t) (Name x) e) ∙ item_visible (context_of sc 0 0) s x (first_item t) (behind t) h
 
-pub or_none : (a b : Bool) → a ≡ false → b ≡ false → (a || b) ≡ false
-or_none true b e f = absurd cc
-or_none false b e f = f
-
 pub long_turn : (sc : Scope) (s : Stack) (x : List ℕ) (t : Cursor) → (first_item t).terminal ≡ Name x →
     is_visible (sort_of (context_of sc 0 0) x) ≡ false → max_name < length x →
     run (context_of sc 0 0) (Turn ∷ s) (items t) ≡ Some (fault_at (first_item t) TooMany)
@@ -87,7 +83,7 @@ go_turn sc s x t t' e h k l d =
     let few : nat_le max_scalars sc.scalars ≡ false = grind (arith, nat_tests) in
     ap (λ (i : Item Terminal). run (context_of sc 0 0) (Turn ∷ s) (i ∷ behind t)) (put_is (first_item t) (Name x) e)
     ∙ item_turn (context_of sc 0 0) s x (first_item t) (behind t) h
-    (or_none (nat_lt max_name (length x)) (nat_le max_scalars sc.scalars) short few)
+    (or_from (nat_lt max_name (length x)) (nat_le max_scalars sc.scalars) short few)
     ∙ ap (run (waiting x (one_scalar_more (context_of sc 0 0))) (head_of x s)) d
 
 abbrev pub NoName : Terminal → Type 0

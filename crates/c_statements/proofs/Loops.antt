@@ -1,7 +1,7 @@
 -- How many of some names are those of loops.
-use Rattle.std.proofs.Common.{◌≡◌, ℕ, zero, suc, ◌+◌, ◌<◌, ◌≤◌, List, [], ◌∷◌, ◌++◌, length, map, take, drop, reverse, get_or, refl, sym, ap, ◌∙◌, arith, append_assoc}
+use Rattle.std.proofs.Common.{◌≡◌, ℕ, ◌+◌, ◌<◌, ◌≤◌, List, [], ◌∷◌, ◌++◌, length, map, take, drop, reverse, get_or, refl, sym, ap, ◌∙◌, arith, append_assoc}
 use Rattle.std.specs.List.{flat_map}
-use Rattle.std.proofs.lemmas.List.{take-append-drop, reverse-append}
+use Rattle.std.proofs.lemmas.List.{take-append-drop, reverse-append, get_or_default, map-append}
 use Rattle.c_expressions.specs.declared.scope.Frame.{Frame}
 use Rattle.c_expressions.specs.declared.scope.Meaning.{Meaning}
 use Rattle.c_expressions.specs.declared.scope.Meaning.TheVariants as meaning
@@ -38,11 +38,6 @@ is_none x (meaning.Loop n) ns h = absurd h
 is_none x (meaning.Array a) ns h = refl
 is_none x (meaning.Scalar n i) ns h = refl
 
-default_or : (xs : List Name) (k : ℕ) (d e : Name) → k < length xs → get_or xs k d ≡ get_or xs k e
-default_or [] k d e h = absurd (omega arith)
-default_or (x ∷ xs) zero d e h = refl
-default_or (x ∷ xs) (suc k) d e h = default_or xs k d e (omega arith)
-
 pub loop_here : (xs : List Name) (k n : ℕ) (d : Name) → k < length xs → d ≡ get_or xs k d → d.meaning ≡ meaning.Loop n →
     loops_until xs (k + 1) ≡ loops_until xs k + 1
 loop_here xs k n d h e f = newest_first xs k d h e ∙ is_one d.text.now d.meaning n
@@ -52,10 +47,6 @@ pub other_here : (xs : List Name) (k : ℕ) (d : Name) → k < length xs → d �
     loops_until xs (k + 1) ≡ loops_until xs k
 other_here xs k d h e f = newest_first xs k d h e ∙ is_none d.text.now d.meaning (map seen_name (reverse (take k xs))) f
 
-map_append : (a b : List Name) → map seen_name (a ++ b) ≡ map seen_name a ++ map seen_name b
-map_append [] b = refl
-map_append (n ∷ a) b = ap (λ (ns : Names). seen_name n ∷ ns) (map_append a b)
-
 pub loops_least : (xs : List Name) (k : ℕ) → loops_until xs k ≤ loops_in (map seen_name (reverse xs))
 loops_least xs k =
     let back = reverse (take k xs) in
@@ -63,7 +54,7 @@ loops_least xs k =
     let whole : loops_in (map seen_name (reverse xs)) ≡ loops_in (map seen_name front) + loops_in (map seen_name back) =
     ap (λ (ns : List Name). loops_in (map seen_name (reverse ns))) (sym (take-append-drop k xs))
     ∙ ap (λ (ns : List Name). loops_in (map seen_name ns)) (reverse-append (take k xs) (drop k xs))
-    ∙ ap loops_in (map_append front back) ∙ loops_append (map seen_name front) (map seen_name back) in
+    ∙ ap loops_in (map-append seen_name front back) ∙ loops_append (map seen_name front) (map seen_name back) in
     omega (arith, whole)
 
 pub loop_fits : (xs ys : List Name) (k n count before high : ℕ) (d : Name) → ys ≡ xs → k < length ys →
@@ -72,7 +63,7 @@ pub loop_fits : (xs ys : List Name) (k n count before high : ℕ) (d : Name) →
 loop_fits xs ys k n count before high d e h f g b =
     let here : k < length xs = omega (arith, h, ap (λ (ns : List Name). length ns) e) in
     let same : get_or ys k d ≡ get_or xs k (get_or ys k d) =
-    ap (λ (ns : List Name). get_or ns k d) e ∙ default_or xs k d (get_or ys k d) here in
+    ap (λ (ns : List Name). get_or ns k d) e ∙ get_or_default xs k d (get_or ys k d) here in
     let more = loop_here xs k n (get_or ys k d) here same f in
     omega (arith, more, loops_least xs (k + 1))
 

@@ -93,7 +93,7 @@ length_terminals : (is : Items) → length (terminals is) ≡ length is
 length_terminals [] = refl
 length_terminals (i ∷ is) = omega (arith, length_terminals is)
 
-gone_less : (us : List Terminal) (a b : Items) → IsGone us a b → length b ≤ length a
+pub gone_less : (us : List Terminal) (a b : Items) → IsGone us a b → length b ≤ length a
 gone_less us a b g = omega (
   arith,
   length_terminals a,

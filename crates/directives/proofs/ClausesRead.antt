@@ -1,5 +1,5 @@
 -- The clauses that were read.
-use Rattle.std.proofs.Common.{◌≡◌, ℕ, ◌<◌, true, List, [], ◌∷◌, ◌++◌, length, map, None, refl, sym, ap, subst, ◌∙◌, append_assoc}
+use Rattle.std.proofs.Common.{◌≡◌, ℕ, ◌<◌, true, List, [], ◌∷◌, ◌++◌, length, map, None, sym, ap, subst, ◌∙◌, append_assoc, append-nil}
 use Rattle.std.specs.Prelude.{codes}
 use Rattle.c_tokens.specs.declared.kind.Sign.TheVariants as sign
 use Rattle.c_grammar.specs.Lexeme.{Signed, Worded, Ended, same}
@@ -86,11 +86,7 @@ clause_less NoWait a b r = spelled_less (word_mark (codes "nowait")) [] a b r.fi
 -- ---- clauses
 
 clauses_more : (cs : List Clause) (c : Clause) → clauses_marks (cs ++ c ∷ []) ≡ clauses_marks cs ++ clause_marks c
-clauses_more [] c = append_nil (clause_marks c)
-  where
-    append_nil : (zs : Spelling) → zs ++ [] ≡ zs
-    append_nil [] = refl
-    append_nil (z ∷ zs) = ap (λ (us : Spelling). z ∷ us) (append_nil zs)
+clauses_more [] c = append-nil (clause_marks c)
 clauses_more (d ∷ ds) c = ap (λ (zs : Spelling). clause_marks d ++ zs) (clauses_more ds c)
     ∙ sym (append_assoc (clause_marks d) (clauses_marks ds) (clause_marks c))
 

@@ -1,105 +1,68 @@
 -- The machine at the clauses of a directive.
-use Rattle.std.proofs.Common.{◌≡◌, Bool, true, false, ◌∷◌, Some, None, refl, sym, ap, ◌∙◌}
-use Rattle.std.specs.Prelude.{codes, ◌&&◌}
+use Rattle.std.proofs.Common.{◌≡◌, true, false, ◌∷◌, Some, None, refl, sym, ap, ◌∙◌}
+use Rattle.std.specs.Prelude.{codes}
+use Rattle.std.proofs.lemmas.Bool.{and_parts, and_right}
 use Rattle.c_tokens.specs.declared.kind.Sign.TheVariants as sign
 use Rattle.base.specs.declared.fault.ReadCode.TheVariants.{UnknownClause}
 use Rattle.c_grammar.specs.Lexeme.{Lexeme, Worded, Ended, same}
-use Rattle.c_grammar.specs.LineGrammar.{Plain, Meets, Once, Ends, Maps, Depends, of, DirectiveKind, Target, Data, Enter, Exit, Update, Wait, MotionType, ToDevice, FromDevice, motion_word, takes_map, takes_motion, takes_depend, takes_nowait}
+use Rattle.c_grammar.specs.LineGrammar.{Plain, Meets, Once, Ends, Maps, Depends, of, DirectiveKind, MotionType, motion_word, takes_map, takes_motion, takes_depend, takes_nowait}
 use Rattle.c_grammar.specs.LineMachine.{LineStack, Clauses, MapHead, DependHead, Name, w, is_word, line_advance, line_place}
 use Rattle.directives.specs.declared.line.Line.{Line}
 use Rattle.directives.specs.Cursor.{first_item}
 use Rattle.directives.specs.Reading.{rest, took, misfit_at}
 use Rattle.directives.specs.Clauses.{is_map, is_depend, is_nowait, IsNoMotion}
-use Rattle.c_grammar.proofs.Lexemes.{and_true, same-true}
+use Rattle.c_grammar.proofs.Lexemes.{same-true}
 use Rattle.directives.proofs.Moves.{goes, stops, word_is}
-
-map_goes : (k : DirectiveKind) (s : LineStack) → takes_map k ≡ true →
-    line_advance (Clauses k ∷ s) (Worded (codes "map")) ≡ Some
-    (of UnknownClause Meets, w sign.OpenParen ∷ MapHead k ∷ Clauses k ∷ s)
-unfolding line_advance
-map_goes k s h = rw h refl
+use Rattle.c_grammar.proofs.LineGoes.{map_step, depend_step, motion_step, nowait_step, end_step}
 
 map_word_is : (k : DirectiveKind) (t : Lexeme) → is_map k t ≡ true → t ≡ Worded (codes "map")
-map_word_is k t e = sym (same-true (Worded (codes "map")) t (and_true (takes_map k) (is_word (codes "map") t) e).1)
+map_word_is k t e = sym (same-true (Worded (codes "map")) t (and_parts (takes_map k) (is_word (codes "map") t) e).1)
 
 pub map_is : (l : Line) (k : DirectiveKind) → is_map k (first_item l).terminal ≡ true →
     (first_item l).terminal ≡ Worded (codes "map")
 map_is l k e = map_word_is k (first_item l).terminal e
 
 pub map_taken : (l : Line) (k : DirectiveKind) → is_map k (first_item l).terminal ≡ true → takes_map k ≡ true
-map_taken l k e = (and_true (takes_map k) (is_word (codes "map") (first_item l).terminal) e).0
+map_taken l k e = (and_parts (takes_map k) (is_word (codes "map") (first_item l).terminal) e).0
 
 pub at_map : (l : Line) (k : DirectiveKind) (s : LineStack) → is_map k (first_item l).terminal ≡ true →
     rest l (Clauses k ∷ s) ≡ took l (of UnknownClause Meets) (w sign.OpenParen ∷ MapHead k ∷ Clauses k ∷ s)
 at_map l k s e = goes l (Clauses k ∷ s) (w sign.OpenParen ∷ MapHead k ∷ Clauses k ∷ s) (of UnknownClause Meets)
-    (ap (line_advance (Clauses k ∷ s)) (map_is l k e) ∙ map_goes k s (map_taken l k e))
-
-depend_goes : (k : DirectiveKind) (s : LineStack) → takes_depend k ≡ true →
-    line_advance (Clauses k ∷ s) (Worded (codes "depend")) ≡ Some
-    (of UnknownClause Plain, w sign.OpenParen ∷ DependHead ∷ w sign.Colon ∷ Name Depends ∷ Clauses k ∷ s)
-unfolding line_advance
-depend_goes Target s h = refl
-depend_goes Data s h = absurd cc
-depend_goes Enter s h = refl
-depend_goes Exit s h = refl
-depend_goes Update s h = refl
-depend_goes Wait s h = refl
+    (ap (line_advance (Clauses k ∷ s)) (map_is l k e) ∙ map_step k s (map_taken l k e))
 
 pub depend_is : (l : Line) (k : DirectiveKind) → is_depend k (first_item l).terminal ≡ true →
     (first_item l).terminal ≡ Worded (codes "depend")
 depend_is l k e = word_is l (codes "depend")
-    (and_true (takes_depend k) (is_word (codes "depend") (first_item l).terminal) e).1
+    (and_parts (takes_depend k) (is_word (codes "depend") (first_item l).terminal) e).1
 
 pub depend_taken : (l : Line) (k : DirectiveKind) → is_depend k (first_item l).terminal ≡ true → takes_depend k ≡ true
-depend_taken l k e = (and_true (takes_depend k) (is_word (codes "depend") (first_item l).terminal) e).0
+depend_taken l k e = (and_parts (takes_depend k) (is_word (codes "depend") (first_item l).terminal) e).0
 
 pub at_depend : (l : Line) (k : DirectiveKind) (s : LineStack) → is_depend k (first_item l).terminal ≡ true →
     rest l (Clauses k ∷ s) ≡ took l (of UnknownClause Plain)
     (w sign.OpenParen ∷ DependHead ∷ w sign.Colon ∷ Name Depends ∷ Clauses k ∷ s)
 at_depend l k s e = goes l (Clauses k ∷ s) (w sign.OpenParen ∷ DependHead ∷ w sign.Colon ∷ Name Depends ∷ Clauses k ∷ s)
-    (of UnknownClause Plain) (ap (line_advance (Clauses k ∷ s)) (depend_is l k e) ∙ depend_goes k s
+    (of UnknownClause Plain) (ap (line_advance (Clauses k ∷ s)) (depend_is l k e) ∙ depend_step k s
     (depend_taken l k e))
-
-motion_goes : (k : DirectiveKind) (t : MotionType) (s : LineStack) → takes_motion k ≡ true →
-    line_advance (Clauses k ∷ s) (Worded (motion_word t)) ≡ Some
-    (of UnknownClause Meets, w sign.OpenParen ∷ Name Maps ∷ Clauses k ∷ s)
-unfolding line_advance
-motion_goes Target t s h = absurd cc
-motion_goes Data t s h = absurd cc
-motion_goes Enter t s h = absurd cc
-motion_goes Exit t s h = absurd cc
-motion_goes Update ToDevice s h = refl
-motion_goes Update FromDevice s h = refl
-motion_goes Wait t s h = absurd cc
 
 pub at_motion : (l : Line) (k : DirectiveKind) (t : MotionType) (s : LineStack) → takes_motion k ≡ true →
     (first_item l).terminal ≡ Worded (motion_word t) →
     rest l (Clauses k ∷ s) ≡ took l (of UnknownClause Meets) (w sign.OpenParen ∷ Name Maps ∷ Clauses k ∷ s)
 at_motion l k t s h e = goes l (Clauses k ∷ s) (w sign.OpenParen ∷ Name Maps ∷ Clauses k ∷ s) (of UnknownClause Meets)
-    (ap (line_advance (Clauses k ∷ s)) e ∙ motion_goes k t s h)
-
-nowait_goes : (k : DirectiveKind) (s : LineStack) → takes_nowait k ≡ true →
-    line_advance (Clauses k ∷ s) (Worded (codes "nowait")) ≡ Some (of UnknownClause Once, Clauses k ∷ s)
-unfolding line_advance
-nowait_goes Target s h = refl
-nowait_goes Data s h = absurd cc
-nowait_goes Enter s h = refl
-nowait_goes Exit s h = refl
-nowait_goes Update s h = refl
-nowait_goes Wait s h = absurd cc
+    (ap (line_advance (Clauses k ∷ s)) e ∙ motion_step k t s h)
 
 pub nowait_is : (l : Line) (k : DirectiveKind) → is_nowait k (first_item l).terminal ≡ true →
     (first_item l).terminal ≡ Worded (codes "nowait")
 nowait_is l k e = word_is l (codes "nowait")
-    (and_true (takes_nowait k) (is_word (codes "nowait") (first_item l).terminal) e).1
+    (and_parts (takes_nowait k) (is_word (codes "nowait") (first_item l).terminal) e).1
 
 pub nowait_taken : (l : Line) (k : DirectiveKind) → is_nowait k (first_item l).terminal ≡ true → takes_nowait k ≡ true
-nowait_taken l k e = (and_true (takes_nowait k) (is_word (codes "nowait") (first_item l).terminal) e).0
+nowait_taken l k e = (and_parts (takes_nowait k) (is_word (codes "nowait") (first_item l).terminal) e).0
 
 pub at_nowait : (l : Line) (k : DirectiveKind) (s : LineStack) → is_nowait k (first_item l).terminal ≡ true →
     rest l (Clauses k ∷ s) ≡ took l (of UnknownClause Once) (Clauses k ∷ s)
 at_nowait l k s e = goes l (Clauses k ∷ s) (Clauses k ∷ s) (of UnknownClause Once)
-    (ap (line_advance (Clauses k ∷ s)) (nowait_is l k e) ∙ nowait_goes k s (nowait_taken l k e))
+    (ap (line_advance (Clauses k ∷ s)) (nowait_is l k e) ∙ nowait_step k s (nowait_taken l k e))
 
 -- ---- no clause
 
@@ -122,20 +85,11 @@ no_motion k t h = (rw h refl, rw h refl)
 pub no_motion_word : (k : DirectiveKind) (t : Lexeme) → is_word (codes "to") t ≡ false →
     is_word (codes "from") t ≡ false → IsNoMotion k t
 no_motion_word k t e f = (
-  without (takes_motion k) (is_word (codes "to") t) e,
-  without (takes_motion k)
-      (is_word (codes "from") t) f,
+  and_right (takes_motion k) (is_word (codes "to") t) e,
+  and_right (takes_motion k) (is_word (codes "from") t) f,
 )
-  where
-    without : (a b : Bool) → b ≡ false → (a && b) ≡ false
-    without true b e = e
-    without false b e = refl
 
 -- ---- the end
-
-ends : (k : DirectiveKind) (s : LineStack) → line_advance (Clauses k ∷ s) Ended ≡ Some (of UnknownClause Ends, s)
-unfolding line_advance
-ends k s = refl
 
 pub end_is : (l : Line) → same Ended (first_item l).terminal ≡ true → (first_item l).terminal ≡ Ended
 end_is l e = sym (same-true Ended (first_item l).terminal e)
@@ -143,4 +97,4 @@ end_is l e = sym (same-true Ended (first_item l).terminal e)
 pub at_last : (l : Line) (k : DirectiveKind) (s : LineStack) → same Ended (first_item l).terminal ≡ true →
     rest l (Clauses k ∷ s) ≡ took l (of UnknownClause Ends) s
 at_last l k s e = goes l (Clauses k ∷ s) s (of UnknownClause Ends)
-    (ap (line_advance (Clauses k ∷ s)) (end_is l e) ∙ ends k s)
+    (ap (line_advance (Clauses k ∷ s)) (end_is l e) ∙ end_step k s)

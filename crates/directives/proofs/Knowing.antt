@@ -1,9 +1,10 @@
 -- What is known of a line, and which rule a token breaks.
-use Rattle.std.proofs.Common.{◌≡◌, ℕ, Bool, true, false, List, [], ◌∷◌, ◌++◌, Option, Some, None, refl, ◌∙◌}
+use Rattle.std.proofs.Common.{◌≡◌, ℕ, Bool, true, false, List, [], ◌∷◌, ◌++◌, Option, Some, None, refl, sym, ◌∙◌}
 use Rattle.std.specs.Prelude.{◌||◌, if◌then◌else◌}
 use Rattle.std.specs.List.{list_any}
 use Rattle.std.specs.Str.{bytes_eq}
 use Rattle.std.specs.Borrow.{Bor}
+use Rattle.std.proofs.Math.Bool.{or-false}
 use Rattle.base.specs.declared.fault.ReadCode.{ReadCode as Code}
 use Rattle.base.specs.declared.fault.ReadCode.TheVariants.{UnknownByte, BadNumber, TooMany, ClauseCount, ArrayTwice}
 use Rattle.c_grammar.specs.Lexeme.{Lexeme}
@@ -27,11 +28,7 @@ turned false false c = refl
 
 among : (xs : List (Bor (List ℕ))) (ys : List (List ℕ)) (y : List ℕ) →
     is_among (names_onto xs ys) y ≡ (is_among ys y || list_any (λ x. bytes_eq x.now y) xs)
-among [] ys y = or_false (is_among ys y)
-  where
-    or_false : (b : Bool) → b ≡ (b || false)
-    or_false true = refl
-    or_false false = refl
+among [] ys y = sym (or-false (is_among ys y))
 among (x ∷ xs) ys y = among xs (x.now ∷ ys) y ∙ turned (bytes_eq x.now y) (is_among ys y)
     (list_any (λ x. bytes_eq x.now y) xs)
 
@@ -78,10 +75,6 @@ broken_is c t Begins m n = lowest (is_strange t) (is_bad_number t) (is_long t)
 broken_is c t BeginsNamed m n = lowest (is_strange t) (is_bad_number t) (is_long t)
     (line_breaks_act TooMany c t BeginsNamed) false false
 broken_is c t Times m n = lowest (is_strange t) (is_bad_number t) (is_long t) false false false
-
-or_false : (b : Bool) → (b || false) ≡ b
-or_false true = refl
-or_false false = refl
 
 pub wrong_is : (t : Lexeme) → line_first_wrong t ≡ own_code t
 unfolding line_first_wrong line_wrong

@@ -1,5 +1,5 @@
 -- Tokens that spell one thing after another.
-use Rattle.std.proofs.Common.{◌≡◌, ℕ, ◌<◌, ◌≤◌, true, List, [], ◌∷◌, ◌++◌, length, Option, None, refl, sym, ap, subst, ◌∙◌, append_assoc, arith}
+use Rattle.std.proofs.Common.{◌≡◌, ℕ, ◌<◌, ◌≤◌, true, List, [], ◌∷◌, ◌++◌, length, Option, None, refl, sym, ap, subst, ◌∙◌, append_assoc, arith, append-nil}
 use Rattle.c_tokens.specs.declared.kind.Sign.{Sign}
 use Rattle.c_grammar.specs.Lexeme.{Lexeme, Signed, same}
 use Rattle.directives.specs.declared.line.Line.{Line}
@@ -43,11 +43,7 @@ spelled_first l l' t o xs after e h b r =
 -- one more behind a sign
 pub each_more : {X : Type 0} (s : Sign) (f : X → Spelling) (xs : List X) (x : X) →
     each_behind s f (xs ++ x ∷ []) ≡ each_behind s f xs ++ (sign_mark s ∷ f x)
-each_more s f [] x = ap (λ (zs : Spelling). sign_mark s ∷ zs) (append_nil (f x))
-  where
-    append_nil : (zs : Spelling) → zs ++ [] ≡ zs
-    append_nil [] = refl
-    append_nil (z ∷ zs) = ap (λ (us : Spelling). z ∷ us) (append_nil zs)
+each_more s f [] x = ap (λ (zs : Spelling). sign_mark s ∷ zs) (append-nil (f x))
 each_more s f (y ∷ ys) x = ap (λ (zs : Spelling). sign_mark s ∷ zs)
     (ap (λ (zs : Spelling). f y ++ zs) (each_more s f ys x)
     ∙ sym (append_assoc (f y) (each_behind s f ys) (sign_mark s ∷ f x)))

@@ -1,5 +1,5 @@
 -- Which names the tokens of a directive are.
-use Rattle.std.proofs.Common.{◌≡◌, ℕ, Bool, true, false, List, [], ◌∷◌, ◌++◌, map, Option, Some, None, refl, sym, ap, subst, append_assoc}
+use Rattle.std.proofs.Common.{◌≡◌, ℕ, Bool, true, false, List, [], ◌∷◌, ◌++◌, map, Option, Some, None, refl, sym, subst, append_assoc, append-nil}
 use Rattle.c_tokens.specs.declared.kind.Sign.TheVariants as sign
 use Rattle.base.specs.declared.fault.ReadCode.TheVariants.{BadBound, BadMapType}
 use Rattle.c_grammar.specs.Lexeme.{Signed, Worded, Ended}
@@ -56,15 +56,11 @@ tells_then (x ∷ xs) (u ∷ us) ns ys vs ms e h =
     tells_one x.1 (use_of u.0 u.1.1) ns ms (λ ks. Tells xs us ks) (λ ks. Tells (xs ++ ys) (us ++ vs) ks)
     (λ ks g. tells_then xs us ks ys vs ms g h) e
 
-uses_nil : (ns : Uses) → ns ++ [] ≡ ns
-uses_nil [] = refl
-uses_nil (n ∷ ns) = ap (λ (ms : Uses). n ∷ ms) (uses_nil ns)
-
 -- with tokens behind that are no names
 tells_end : (xs : Spelling) (us : Slots) (ns : Uses) (ys : Spelling) (vs : Slots) → Tells xs us ns → Tells ys vs [] →
     Tells (xs ++ ys) (us ++ vs) ns
 tells_end xs us ns ys vs e h =
-    subst (λ (ms : Uses). Tells (xs ++ ys) (us ++ vs) ms) (uses_nil ns) (tells_then xs us ns ys vs [] e h)
+    subst (λ (ms : Uses). Tells (xs ++ ys) (us ++ vs) ms) (append-nil ns) (tells_then xs us ns ys vs [] e h)
 
 -- with the tokens grouped otherwise
 tells_as : (xs ys : Spelling) (us : Slots) (ns : Uses) → xs ≡ ys → Tells ys us ns → Tells xs us ns

@@ -1,6 +1,7 @@
 -- The machine at the words behind which sections stand.
 use Rattle.std.proofs.Common.{◌≡◌, ℕ, true, false, List, [], ◌∷◌, Some, None, refl, sym, ap, ◌∙◌, inl, inr}
 use Rattle.std.specs.Prelude.{codes}
+use Rattle.std.proofs.lemmas.Bool.{or_cases}
 use Rattle.c_tokens.specs.declared.kind.Sign.TheVariants as sign
 use Rattle.base.specs.declared.fault.ReadCode.TheVariants.{Unexpected, BadMapType}
 use Rattle.c_grammar.specs.Lexeme.{Lexeme, Signed, Worded}
@@ -12,7 +13,6 @@ use Rattle.directives.specs.Kinds.{allows, IsNoMapWord, IsNoDependWord}
 use Rattle.directives.specs.Cursor.{first_item, behind, items}
 use Rattle.directives.specs.Reading.{rest, took, misfit_at, IsSpelled}
 use Rattle.directives.specs.Trees.{sign_mark, always_marks, type_marks}
-use Rattle.c_grammar.proofs.Lexemes.{or_true}
 use Rattle.directives.proofs.Moves.{goes, stops, word_is}
 use Rattle.directives.proofs.Bounding.{same_rest}
 use Rattle.directives.proofs.Spellings.{spelled_one, spelled_first, spelled_none}
@@ -59,7 +59,7 @@ same_type Delete Delete e = refl
 
 among : (us : List MapType) (t : MapType) → is_map_type us (Worded (map_word t)) ≡ true → IsAmong t us
 among [] t e = absurd cc
-among (u ∷ us) t e = elim (or_true (is_word (map_word u) (Worded (map_word t)))
+among (u ∷ us) t e = elim (or_cases (is_word (map_word u) (Worded (map_word t)))
     (is_map_type us (Worded (map_word t))) e) [
       | inl h ↦ inl (sym (same_type u t h))
       | inr h ↦ inr (among us t h)

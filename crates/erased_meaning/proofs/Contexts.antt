@@ -139,10 +139,6 @@ stands_kept c d env k s =
 
 -- ---- blocks
 
-pub or_none : (b : Bool) → (b || false) ≡ b
-or_none true = refl
-or_none false = refl
-
 pub record IsBefore (c : Context) (env : Env) (o : Option (List ℕ)) (i : Bool) : Type 0 where
   pub names : flat c.frames ≡ sorted env.names
   pub inside_is : inside c ≡ env.inside

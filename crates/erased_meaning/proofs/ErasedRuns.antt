@@ -2,6 +2,7 @@
 use Rattle.std.proofs.Common.{◌≡◌, ℕ, List, [], ◌∷◌, map, drop, Option, Some, None, refl, sym, ap, subst, ◌∙◌}
 use Rattle.std.specs.Prelude.{option_and_then, option_map}
 use Rattle.std.specs.declared.string.String.{String}
+use Rattle.std.proofs.lemmas.Option.{same_Some}
 use mathlib.Core.Path.{fun_ext}
 use Rattle.base.specs.declared.tree.ArrayInfo.{ArrayInfo}
 use Rattle.base.specs.declared.tree.Part.{Part}
@@ -89,16 +90,13 @@ module _ (lengths : List ℕ) (env : Env) (is js : Items) (b : Stmts) (ps : List
 abbrev lengths_in : {Z : Type 0} → List (String Z × ArrayInfo) → List ℕ
 lengths_in es = map (λ a. a.length) (map (λ e. e.1) es)
 
-some_back : (a b : ℕ) → Some a ≡ Some b → a ≡ b
-some_back a b e = cc
-
 same_lengths : {Y Z : Type 0} (es : List (String Y × ArrayInfo)) (fs : List (String Z × ArrayInfo)) → map entry_of es ≡ map entry_of fs →
     lengths_in es ≡ lengths_in fs
 same_lengths [] [] h = refl
 same_lengths (e ∷ es) (f ∷ fs) h =
     let head : entry_of e ≡ entry_of f = cc in
     let tail : map entry_of es ≡ map entry_of fs = cc in
-    let size : e.1.length ≡ f.1.length = some_back e.1.length f.1.length (ap (λ (u : List ℕ × Option ℕ). u.1) head) in
+    let size : e.1.length ≡ f.1.length = same_Some e.1.length f.1.length (ap (λ (u : List ℕ × Option ℕ). u.1) head) in
     ap (λ (n : ℕ). n ∷ lengths_in es) size ∙ ap (λ (ns : List ℕ). f.1.length ∷ ns) (same_lengths es fs tail)
 same_lengths [] (f ∷ fs) h = absurd cc
 same_lengths (e ∷ es) [] h = absurd cc

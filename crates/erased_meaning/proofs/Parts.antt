@@ -1,5 +1,5 @@
 -- Parts and regions, of which a text without directives makes one region.
-use Rattle.std.proofs.Common.{◌≡◌, ℕ, zero, suc, ◌+◌, ◌<◌, true, false, List, [], ◌∷◌, ◌++◌, Option, Some, None, refl, sym, ap, ◌∙◌, arith}
+use Rattle.std.proofs.Common.{◌≡◌, ℕ, zero, suc, ◌+◌, ◌<◌, true, false, List, [], ◌∷◌, Option, Some, None, refl, sym, ap, ◌∙◌, arith, append-nil}
 use Rattle.std.specs.Prelude.{option_and_then, option_map}
 use mathlib.Core.Former.{Count}
 use mathlib.Core.Path.{fun_ext}
@@ -35,16 +35,12 @@ BothEnd w names _ _ = ⊥
 abbrev pub fresh : Plain → Run
 fresh p = record { scalars = p.scalars; stores = []; input = p.input; printed = [] }
 
-append_nil : (xs : List ℕ) → xs ++ [] ≡ xs
-append_nil [] = refl
-append_nil (x ∷ xs) = ap (λ (ys : List ℕ). x ∷ ys) (append_nil xs)
-
 pub fresh_same : (p : Plain) → after_region p (fresh p) ≡ p
-fresh_same p = ap (λ (vs : List ℕ). record p { printed = vs }) (append_nil p.printed)
+fresh_same p = ap (λ (vs : List ℕ). record p { printed = vs }) (append-nil p.printed)
 
 pub region_starts : (w : Memory) (names : Names) (p : Plain) (q : Run) → Ended w names p q → Like p.memory w (OnHost p.printed) names (fresh p) q
 region_starts w names p q e =
-    record { memory = e.memory; scalars = e.scalars; passed = (e.input, e.printed ∙ sym (append_nil p.printed)) }
+    record { memory = e.memory; scalars = e.scalars; passed = (e.input, e.printed ∙ sym (append-nil p.printed)) }
 
 pub region_ends : (w : Memory) (names : Names) (p : Plain) (r q : Run) → Like p.memory w (OnHost p.printed) names r q → Ended w names (after_region p r) q
 region_ends w names p r q l = record { memory = l.memory; scalars = l.scalars; input = l.passed.0; printed = l.passed.1 }

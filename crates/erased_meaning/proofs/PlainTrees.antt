@@ -1,5 +1,6 @@
 -- A text without directives means one region of the host, or none.
-use Rattle.std.proofs.Common.{◌≡◌, Bool, true, false, List, [], ◌∷◌, ◌++◌, drop, refl}
+use Rattle.std.proofs.Common.{◌≡◌, false, List, [], ◌∷◌, ◌++◌, drop, refl}
+use Rattle.std.proofs.lemmas.Bool.{both_ways}
 use Rattle.base.specs.declared.tree.Place.{Place}
 use Rattle.base.specs.declared.tree.Part.{Part, items-the_row-Part}
 use Rattle.base.specs.declared.tree.Part.TheVariants as part
@@ -65,10 +66,6 @@ not_mixed (part.Target t r ∷ ps) h = absurd h
 not_mixed (part.Data' m c row ∷ ps) h = absurd h
 not_mixed (part.Alone t ∷ ps) h = absurd h
 
-mixed_not : (b : Bool) → b ≡ true → b ≡ false → ⊥
-mixed_not true e f = absurd cc
-mixed_not false e f = absurd cc
-
 mutual
   bare_no_parts : (b : Stmts) (env : Env) (is : Items) (ps : List Placed) → AreBare b → ArePieces env is b ps → NoParts ps
   bare_no_parts Done env is [] h k = tt
@@ -79,13 +76,14 @@ mutual
 
   bare_no_part : (s : Stmt) (env : Env) (is : Items) (p : Part) → IsBare s → IsPart env is s p → ⊥
   bare_no_part (Block b) env is (part.Block' c row) h k =
-      mixed_not (are_mixed (items-the_row-Part _ row)) k.0.0
+      both_ways (are_mixed (items-the_row-Part _ row))
       (not_mixed (items-the_row-Part _ row) (bare_no_parts b env (drop 1 is) (pieces_of (items-the_row-Part _ row)) h k.1))
+      k.0.0
   bare_no_part (Block b) env is _ h k = absurd k
   bare_no_part (Repeat d b) env is (part.Loop' a c row) h k =
-      mixed_not (are_mixed (items-the_row-Part _ row)) k.1.0
+      both_ways (are_mixed (items-the_row-Part _ row))
       (not_mixed (items-the_row-Part _ row)
-      (bare_no_parts b (in_loop d.name env) (drop (head_size d) is) (pieces_of (items-the_row-Part _ row)) h k.2))
+      (bare_no_parts b (in_loop d.name env) (drop (head_size d) is) (pieces_of (items-the_row-Part _ row)) h k.2)) k.1.0
   bare_no_part (Repeat d b) env is _ h k = absurd k
   bare_no_part (Declare x v) env is p h k = absurd k
   bare_no_part (Assign x v) env is p h k = absurd k

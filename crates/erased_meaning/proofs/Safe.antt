@@ -1,6 +1,7 @@
 -- A text that keeps the rules reads and prints nothing in a target, and assigns no scalar from outside there.
 use Rattle.std.proofs.Common.{◌≡◌, ℕ, ◌+◌, Bool, true, false, List, [], ◌∷◌, ◌++◌, Option, Some, None, refl, sym, ap, subst, ◌∙◌, append_assoc}
 use Rattle.std.specs.Prelude.{◌||◌, ◌&&◌, not}
+use Rattle.std.proofs.Math.Bool.{or-false}
 use Rattle.base.specs.declared.fault.ReadCode.TheVariants.{Undeclared, LoopNameAssigned, DirectiveInTarget, OuterAssigned, HostOnly, NoBody}
 use Rattle.c_tokens.specs.declared.kind.Sign.TheVariants as sign
 use Rattle.c_grammar.specs.Lexeme.{Lexeme, For, If, Else, Uint64}
@@ -15,7 +16,7 @@ use Rattle.c_statements.specs.Statements.{Env, behind, more, declared_in, in_loo
 use Rattle.erasure.proofs.Follows.{entered, entered_append, next_in, Keeps, keeps_split}
 use Rattle.erased_meaning.proofs.Envs.{IsQuietSource, IsInside, IsQuiet, AreQuiet}
 use Rattle.erased_meaning.proofs.Pieces.{IsSafe, AreSafe}
-use Rattle.erased_meaning.proofs.Contexts.{flat, Stands, sort_is, sort_known, are_still, kept_all, still_append, term_still, source_still, stands_kept, or_none, IsBefore, within, opens_block, opens_loop, Closed, stands_closed}
+use Rattle.erased_meaning.proofs.Contexts.{flat, Stands, sort_is, sort_known, are_still, kept_all, still_append, term_still, source_still, stands_kept, IsBefore, within, opens_block, opens_loop, Closed, stands_closed}
 
 -- what is known of statements there
 abbrev pub KnownAll : Env → Stmts → Type 0
@@ -50,7 +51,7 @@ closes b known c env n fs e s k =
 
 pub known_within : (env : Env) (b : Stmts) → KnownAll (within env false) b → KnownAll env b
 known_within env b k =
-    subst (λ (u : Bool). KnownAll (record env { inside = u }) b) (or_none env.inside) k
+    subst (λ (u : Bool). KnownAll (record env { inside = u }) b) (or-false env.inside) k
 
 braces : (b : Stmts) → StmtsKnown b → (c : Context) (env : Env) (n : Terminal) → Stands c env → Keeps c (body_opening ∷ (stmts b ++ close)) n →
     KnownAll env b × Closed (entered c (body_opening ∷ (stmts b ++ close))) c.frames

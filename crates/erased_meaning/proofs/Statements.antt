@@ -1,6 +1,7 @@
 -- Two lists of statements, one that a text means and one that it means without its directives, run alike.
 use Rattle.std.proofs.Common.{◌≡◌, ℕ, ◌+◌, ◌-◌, ◌/◌, Bool, List, [], ◌∷◌, ◌++◌, length, drop, Option, Some, None, refl, sym, ap, subst, ◌∙◌, append_assoc}
 use Rattle.std.specs.Prelude.{option_and_then, option_map}
+use Rattle.std.proofs.lemmas.Option.{same_Some}
 use mathlib.Core.Former.{Count}
 use mathlib.Core.Path.{fun_ext}
 use Rattle.base.specs.declared.item.Cell.{Cell}
@@ -34,12 +35,12 @@ row_runs n (more_of-Stmt first rest) view loops s =
 abbrev pub IsSameBounds : Bounds → Bounds → Type 0
 IsSameBounds a b = (a.first ≡ b.first) × (a.end ≡ b.end) × (a.step ≡ b.step)
 
-some_same : (a b : ℕ) → Some a ≡ Some b → a ≡ b
-some_same a b e = cc
-
 pub same_bounds : (h : Head) (a b : Bounds) → IsHead h a → IsHead h b → IsSameBounds a b
-same_bounds h a b p q =
-    (some_same a.first b.first (sym p.first ∙ q.first), some_same a.end b.end (sym p.limit ∙ q.limit), some_same a.step b.step (sym p.step ∙ q.step))
+same_bounds h a b p q = (
+  same_Some a.first b.first (sym p.first ∙ q.first),
+  same_Some a.end b.end (sym p.limit ∙ q.limit),
+  same_Some a.step b.step (sym p.step ∙ q.step),
+)
 
 pub turns_same : (a b : Bounds) → IsSameBounds a b → turns_of a ≡ turns_of b
 turns_same a b e =
@@ -183,7 +184,7 @@ module _ (lengths : List ℕ) (m w : Memory) (mode : Mode) where
       (option_and_then (λ i. stored there (record { array = b; index = i }) p) j)
   store_ends names a b None None o p e f g = tt
   store_ends names a b (Some i) (Some j) o p e f g =
-      let same : i ≡ j = some_same i j f in
+      let same : i ≡ j = same_Some i j f in
       subst (λ (c : ArrayId). Ends names (stored here (record { array = a; index = i }) o) (stored there (record { array = c; index = j }) p)) e
       (subst (λ (k : ℕ). Ends names (stored here (record { array = a; index = i }) o) (stored there (record { array = a; index = k }) p)) same
       (stored_ends names (record { array = a; index = i }) o p g))
@@ -194,7 +195,7 @@ module _ (lengths : List ℕ) (m w : Memory) (mode : Mode) where
       Ends env.names (option_map (printed r) o) (option_map (printed q) p)
   printed_ends env t None None r q e may l = tt
   printed_ends env t (Some v) (Some u) r q e may l =
-      let same : v ≡ u = some_same v u e in
+      let same : v ≡ u = same_Some v u e in
       subst (λ (i : ℕ). Alike env.names (printed r v) (printed q i)) same
       (record { memory = l.memory; scalars = l.scalars; passed = on mode may l.passed })
     where

@@ -16,7 +16,8 @@ use Rattle.c_tokens.specs.Text.{Place, start, after, after_kind, token_at, unkno
 use Rattle.erasure.specs.Erased.{is_line, covers, uncovered, erased_text, items_in, unlined}
 use Rattle.erasure.proofs.Cuts.{cut_piece, cut_from, items_from, feed_blank}
 use Rattle.erasure.proofs.Items.{cut_items}
-use Rattle.erasure.proofs.Tokens.{items_are, IsWithin, piece_within, IsLineEnd, piece_lined, after_at}
+use Rattle.erasure.proofs.Tokens.{items_are, IsWithin, piece_within, IsLineEnd, piece_lined}
+use Rattle.c_grammar.proofs.AsciiNames.{after_at}
 
 -- tokens that stand one behind another, from a place on and up to an end
 abbrev pub AreFrom : ℕ → ℕ → List Token → Type 0

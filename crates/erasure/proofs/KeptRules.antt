@@ -1,5 +1,5 @@
 -- A tree without its directives keeps the rules that the tree keeps.
-use Rattle.std.proofs.Common.{◌≡◌, ℕ, zero, suc, ◌+◌, ◌≤◌, false, List, [], ◌∷◌, ◌++◌, length, Some, refl, ap, ◌∙◌, arith, append_assoc}
+use Rattle.std.proofs.Common.{◌≡◌, ℕ, zero, suc, ◌+◌, ◌≤◌, false, List, [], ◌∷◌, ◌++◌, length, Some, refl, ap, ◌∙◌, arith, append_assoc, append-nil}
 use Rattle.std.specs.Prelude.{nat_le, nat_lt}
 use Rattle.base.specs.declared.fault.ReadCode.{ReadCode as Code}
 use Rattle.base.specs.declared.fault.ReadCode.TheVariants.{TooDeep, TooMany, NoBody}
@@ -220,11 +220,7 @@ plain_keeps t k front x more r e =
     let all : Keeps begin (ys ++ []) End =
     (keeping_slots t [] begin begin End End (entered begin (slots t)) (0, refl, omega arith) (refl, refl)
     (keeps_at (slots t) [] (slots t) k refl) (λ b f o. (tt, f))).0 in
-    keeps_all begin (ys ++ []) front x more r all (append_nil ys ∙ e)
-  where
-    append_nil : (xs : Slots) → xs ++ [] ≡ xs
-    append_nil [] = refl
-    append_nil (x ∷ xs) = ap (λ (zs : Slots). x ∷ zs) (append_nil xs)
+    keeps_all begin (ys ++ []) front x more r all (append-nil ys ∙ e)
 
 -- ---- a tree of the grammar
 

@@ -1,9 +1,9 @@
 -- What is known of the piece at the front of a text: its size, what it leaves, and which bytes it depends on.
 use Rattle.std.proofs.Common.{◌≡◌, ℕ, suc, ◌+◌, ◌-◌, ◌<◌, ◌≤◌, Bool, true, false, cond, eqb, List, [], ◌∷◌, length, take, drop, Option, Some, None, refl, sym, ap, subst, ◌∙◌, arith}
-use Rattle.std.specs.Prelude.{◌&&◌, ◌||◌}
+use Rattle.std.specs.Prelude.{◌&&◌}
 use Rattle.std.specs.List.{prefix_len}
 use Rattle.std.proofs.lemmas.List.Sums.{prefix_len-le-length}
-use Rattle.std.proofs.lemmas.Bool.{cond-true, cond-false, true≢false}
+use Rattle.std.proofs.lemmas.Bool.{cond-true, cond-false, true≢false, or_left}
 use Rattle.std.proofs.lemmas.Bool.Decides.{nat_tests}
 use Rattle.c_tokens.specs.declared.kind.Sign.{Sign}
 use Rattle.c_tokens.specs.declared.kind.Kind.{Kind}
@@ -80,15 +80,11 @@ module _ (mood : Mood) (b : ℕ) (bs : List ℕ) where
     λ cs a. let both = run is_digit cs e a in token_is number_of _ _ _ _ both.0 both.1,
   )
 
-  part_of : (s d : Bool) → s ≡ true → (s || d) ≡ true
-  part_of true d e = refl
-  part_of false d e = absurd cc
-
   name_sound : is_name_start b ≡ true → IsSound (λ u. name_piece mood (b ∷ u)) mood b bs (name_piece mood (b ∷ bs))
   name_sound e = go mood
     where
       is_part : is_name_part b ≡ true
-      is_part = part_of (is_name_start b) (is_digit b) e
+      is_part = or_left (is_name_start b) (is_digit b) e
 
       plain : IsSound (λ u. piece.Token kind.Name (prefix_len is_name_part (b ∷ u))) mood b bs
           (piece.Token kind.Name (prefix_len is_name_part (b ∷ bs)))

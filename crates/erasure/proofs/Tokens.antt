@@ -1,7 +1,6 @@
 -- The tokens of a text stand one behind another; its bytes that are those of no line are the text without its lines.
 use Rattle.std.proofs.Common.{◌≡◌, ℕ, zero, suc, ◌+◌, ◌-◌, ◌<◌, ◌≤◌, Bool, true, false, eqb, List, [], ◌∷◌, length, map, take, drop, refl, sym, ap, subst, ◌∙◌, arith}
 use Rattle.std.specs.List.{prefix_len}
-use Rattle.std.proofs.lemmas.List.{drop-drop}
 use Rattle.c_tokens.specs.declared.kind.Kind.{Kind}
 use Rattle.c_tokens.specs.declared.kind.Kind.TheVariants as kind
 use Rattle.c_tokens.specs.declared.kind.Mood.{Mood}
@@ -14,6 +13,7 @@ use Rattle.c_grammar.specs.Terminal.{Terminal}
 use Rattle.c_grammar.specs.Texts.{Item}
 use Rattle.erasure.proofs.Sound.{IsSound, piece_sound}
 use Rattle.erasure.proofs.Cuts.{line_after, column_after, item_at, made, items_from, piece_blank}
+use Rattle.c_grammar.proofs.AsciiNames.{next_rest}
 
 -- ---- the bytes of a piece are within the text
 
@@ -54,14 +54,6 @@ piece_lined mood b bs = step (is_blank b) refl
 
 -- ---- places
 
-pub after_at : (p : Place) (b : ℕ) → (after p b).at ≡ p.at + 1
-unfolding after
-after_at p b = step (eqb b 10) refl
-  where
-    step : (t : Bool) → eqb b 10 ≡ t → (after p b).at ≡ p.at + 1
-    step true e = rw e refl
-    step false e = rw e refl
-
 after_line : (p : Place) (b : ℕ) → (after p b).line ≡ line_after p.line b
 unfolding after
 after_line p b = step (eqb b 10) refl
@@ -77,9 +69,6 @@ after_column p b = step (eqb b 10) refl
     step : (t : Bool) → eqb b 10 ≡ t → (after p b).column ≡ column_after p.column b
     step true e = rw e refl
     step false e = rw e refl
-
-next_rest : (bytes : List ℕ) (b : ℕ) (bs : List ℕ) (p : Place) → b ∷ bs ≡ drop p.at bytes → bs ≡ drop (after p b).at bytes
-next_rest bytes b bs p e = ap (drop 1) e ∙ drop-drop 1 p.at bytes ∙ ap (λ (n : ℕ). drop n bytes) (sym (after_at p b))
 
 -- ---- the tokens as items
 

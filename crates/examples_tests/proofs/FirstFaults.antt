@@ -1,9 +1,8 @@
 -- The refusal that passes the test is the first fault.
-use Rattle.std.proofs.Common.{◌≡◌, ℕ, zero, suc, ◌<◌, Bool, true, false, List, [], ◌∷◌, length, Option, Some, None, refl, sym, ap, ap₂, ◌∙◌, arith, ⊎_elim, IsTrue}
+use Rattle.std.proofs.Common.{◌≡◌, ℕ, zero, suc, ◌<◌, Bool, true, false, List, [], ◌∷◌, length, Option, Some, None, refl, sym, ap, ap₂, ◌∙◌, arith, ⊎_elim, IsTrue, ltb-true, lt-ltb}
 use Rattle.std.specs.Prelude.{not, ◌&&◌, ◌||◌, nat_lt, slice_get}
 use Rattle.std.specs.List.{list_any, list_all, range_with_len}
 use Rattle.std.proofs.lemmas.Bool.{false≢true, and_parts, and_from, or_cases, or_left, or_right}
-use Rattle.std.proofs.lemmas.Bool.Decides.{nat_tests}
 use Rattle.std.proofs.lemmas.Option.{slice_get_within}
 use Rattle.base.specs.declared.item.Cell.{Cell}
 use Rattle.base.specs.declared.fault.Refusal.{Refusal}
@@ -16,9 +15,10 @@ use Rattle.base.specs.Order.{Before, in_line, after_predecessor, through}
 use Rattle.base.specs.Accepted.{cause, current_before, on_stage, touches_in, Conflicts, Fault, Range, Order, Refused, IsFault, IsRefusal, fault_key, key_less, range_faults}
 use Rattle.examples_tests.specs.Decide.{every_cell, every_pair, action_stays, section_stays, touches_stay, stage_stays, linked, chained, pair_clear}
 use Rattle.examples_tests.specs.FirstFault.{every_code, refusal, not_sooner, stage_later, alone_later, stages_later, pair_later, is_closed_under, refusal_holds, is_conflict, names_other, same_test, FirstFaultByTest}
-use Rattle.examples_tests.proofs.Cells.{not_true, in_range, at_pair, at_cell}
+use Rattle.examples_tests.proofs.Cells.{not_true, at_pair, at_cell}
 use Rattle.examples_tests.proofs.Named.{any_gives, conflict_cell, cause_cell}
 use Rattle.examples_tests.proofs.Accepts.{range_off, depends_off, chained_before}
+use Rattle.two_memories.proofs.RangeTests.{range_at}
 
 all_at : {X : Type 0} (p : X → Bool) (xs : List X) → list_all p xs ≡ true → (j : ℕ) (x : X) → slice_get xs j ≡ Some x →
     p x ≡ true
@@ -65,7 +65,7 @@ module _ (n : ℕ) (plan : Plan) (key : List ℕ) (stay : list_all (stage_stays 
         go None f e = absurd (false≢true e)
         go (Some s) f e =
             let within : j < length (stages plan) = slice_get_within (stages plan) j s f in
-            let at_j : on_stage plan j true (stage_later plan key j) ≡ true = in_range
+            let at_j : on_stage plan j true (stage_later plan key j) ≡ true = range_at
             (λ j. on_stage plan j true (stage_later plan key j)) 0 (length (stages plan)) j alone (omega arith)
             (omega arith) in
             let here : stage_later plan key j s ≡ true = sym (ap test f) ∙ at_j in
@@ -119,16 +119,13 @@ linked_within plan i j h =
     (λ e.
     let p = and_parts (nat_lt i j) (nat_lt j (length plan.items) && on_item plan i false (λ w. not w.deferred)) e in
     let q = and_parts (nat_lt j (length plan.items)) (on_item plan i false (λ w. not w.deferred)) p.1 in
-    (below i j p.0, below j (length plan.items) q.0))
+    (ltb-true i j p.0, ltb-true j (length plan.items) q.0))
     (λ e. let p = and_parts (nat_lt i j)
     (on_item plan i false (λ earlier. on_item plan j false (λ later. is_pred earlier later))) e in
-    (below i j p.0, within p.1))
+    (ltb-true i j p.0, within p.1))
     (or_cases (nat_lt i j && (nat_lt j (length plan.items) && on_item plan i false (λ w. not w.deferred)))
     (precedes plan i j) h)
   where
-    below : (a b : ℕ) → nat_lt a b ≡ true → a < b
-    below a b e = grind (arith, nat_tests)
-
     is_pred : Work → Work → Bool
     is_pred earlier later = is_predecessor earlier later
 
@@ -169,12 +166,9 @@ before_chained n plan h _ _ (in_line i j lt within e) =
     linked_chained plan n i j (or_left
     (nat_lt i j && (nat_lt j (length plan.items) && on_item plan i false (λ w. not w.deferred))) (precedes plan i j)
     (and_from (nat_lt i j) (nat_lt j (length plan.items) && on_item plan i false (λ w. not w.deferred))
-    (is_below i j lt)
+    (lt-ltb i j lt)
     (and_from (nat_lt j (length plan.items)) (on_item plan i false (λ w. not w.deferred))
-    (is_below j (length plan.items) within) e)))
-  where
-    is_below : (a b : ℕ) → a < b → nat_lt a b ≡ true
-    is_below a b e = grind (arith, nat_tests)
+    (lt-ltb j (length plan.items) within) e)))
 before_chained n plan h _ _ (after_predecessor i j e) =
     linked_chained plan n i j (or_right
     (nat_lt i j && (nat_lt j (length plan.items) && on_item plan i false (λ w. not w.deferred)))
@@ -188,7 +182,7 @@ before_chained n plan h _ _ (through i k j first second) =
     let at_ij = at_pair (length plan.items)
     (λ i j. list_all (λ k. not (chained plan n i k && chained plan n k j) || chained plan n i j)
     (range_with_len 0 (length plan.items))) h i j lt q.1 in
-    let at_k = in_range (λ k. not (chained plan n i k && chained plan n k j) || chained plan n i j) 0
+    let at_k = range_at (λ k. not (chained plan n i k && chained plan n k j) || chained plan n i j) 0
     (length plan.items) k at_ij (omega arith) (omega arith) in
     ⊎_elim (λ e. absurd (not_true (chained plan n i k && chained plan n k j) e
     (and_from (chained plan n i k) (chained plan n k j) a b))) (λ e. e)
@@ -212,13 +206,10 @@ holds_pair n plan r i h =
     let p = and_parts (nat_lt i r.item) (both && (not (chained plan n i r.item) && is_closed_under n plan)) h in
     let q = and_parts both (not (chained plan n i r.item) && is_closed_under n plan) p.1 in
     let t = and_parts (not (chained plan n i r.item)) (is_closed_under n plan) q.1 in
-    (below i r.item p.0, q.0, λ b. not_true (chained plan n i r.item) t.0 (before_chained n plan t.1 i r.item b))
+    (ltb-true i r.item p.0, q.0, λ b. not_true (chained plan n i r.item) t.0 (before_chained n plan t.1 i r.item b))
   where
     both : Bool
     both = on_stage plan i false (λ s. on_stage plan r.item false (λ t. conflict s t r.cell))
-
-    below : (a b : ℕ) → nat_lt a b ≡ true → a < b
-    below a b e = grind (arith, nat_tests)
 
 holds_either : (n : ℕ) (plan : Plan) (code : RefusalCode) (j : ℕ) (c : Cell) (other : Option ℕ) →
     same_test (is_conflict code) (names_other other) ≡ true →

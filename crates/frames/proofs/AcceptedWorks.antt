@@ -13,10 +13,11 @@ use Rattle.base.specs.Actions.{acts_of}
 use Rattle.base.specs.Current.{Current, after_actions, at_start}
 use Rattle.base.specs.Accepted.{is_target, region_faults, section_faults, touches_in}
 use Rattle.headline.proofs.AcceptedItems.{AllClean, NoFault, accepted_clean}
-use Rattle.headline.proofs.PlainWorks.{AllSensible, Sensible, list_sensible}
+use Rattle.headline.proofs.PlainWorks.{list_sensible}
 use Rattle.regions.proofs.StatementsDone.{list_small}
 use Rattle.ranges.specs.Reach.{is_touched}
 use Rattle.frames.specs.Laws.{AcceptedItemsAreFine}
+use Rattle.headline.proofs.NeverStuck.{sensible_at}
 
 -- an item of which nothing is refused
 record IsClean (lengths : List ℕ) (w : Work) : Type 0 where
@@ -32,11 +33,6 @@ clean_at lengths (x ∷ rest) blocks k h zero w e =
     record { blocks = blocks; current = k; clean = subst (λ y. NoFault lengths y blocks k) is h.0 }
 clean_at lengths (x ∷ rest) blocks k h (suc i) w e =
     clean_at lengths rest (acts_of x blocks).blocks (after_actions (acts_of x blocks).actions k) h.1 i w e
-
-sensible_at : (items : List Work) → AllSensible items → (i : ℕ) (w : Work) → slice_get items i ≡ Some w → Sensible w
-sensible_at [] h i w e = absurd (cc e)
-sensible_at (x ∷ rest) h zero w e = let is : x ≡ w = cc e in subst Sensible is h.0
-sensible_at (x ∷ rest) h (suc i) w e = sensible_at rest h.1 i w e
 
 -- a touched cell in no section would be refused
 all_mapped : (t u v : Bool) → t ≡ true → u ≡ true → (t && (u && not v)) ≡ false → v ≡ true

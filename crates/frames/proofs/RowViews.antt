@@ -22,6 +22,7 @@ use Rattle.ranges.specs.Reach.{AreOfArrays, cell_of}
 use Rattle.frames.specs.Reach.{in_reach}
 use Rattle.frames.specs.Rows.{AreEach, AreNumbers, AreRows, IsRow, in_run}
 use Rattle.frames.specs.Views.{every}
+use Rattle.present.proofs.Entries.{get_replicate}
 
 -- One row.
 
@@ -104,12 +105,6 @@ filled_row m s xs r w e b f g = record {
   cells = λ i. (λ j. in_row (g j) ((f ∙ e) j) i) ∙ row_of_host m s w i;
   bounded = subst AreNumbers (sym f) b;
 }
-
--- zeros
-get_replicate : (n k x : ℕ) → k < n → slice_get (replicate n x) k ≡ Some x
-get_replicate zero k x h = absurd (omega arith)
-get_replicate (suc n) zero x h = refl
-get_replicate (suc n) (suc k) x h = get_replicate n k x (omega arith)
 
 pub row_of_zeros : (s : Section) (xs : List ℕ) → xs ≡ replicate s.length 0 → (i : ℕ) →
     in_row s.first xs i ≡ in_run (every 0) s i

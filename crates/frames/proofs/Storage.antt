@@ -20,7 +20,7 @@ use Rattle.present.proofs.Orders.{Stored, parts, stored_parts}
 use Rattle.present.proofs.Rules.{enters}
 use Rattle.present.proofs.Shown.{stored_has}
 use Rattle.present.proofs.Storing.{number_there}
-use Rattle.present.proofs.Turns.{found}
+use Rattle.present.proofs.Turns.{found, no_enter}
 use Rattle.frames.specs.Laws.{EntriesGiveStorage}
 
 -- a block has the cell
@@ -93,16 +93,12 @@ copied_blocks : (b : Bool) (s : Section) (m : Memories) → (when b (copy_in s) 
 copied_blocks true s m = refl
 copied_blocks false s m = refl
 
-enters_none : (fill : Fill) (item : MapItem) (m : Memories) → entry item m.device.blocks ≡ None →
-    enter fill item m ≡ None
-enters_none fill item m e = rw (e, enter) refl
-
 enter_holds : (fill : Fill) (item : MapItem) (m next : Memories) → enter fill item m ≡ Some next →
     Holds item.section m.device.blocks next.device.blocks
 enter_holds fill item m next h = go (entry item m.device.blocks) refl
   where
     go : (o : Option Move) → entry item m.device.blocks ≡ o → Holds item.section m.device.blocks next.device.blocks
-    go None e = absurd (cc (sym (enters_none fill item m e) ∙ h))
+    go None e = absurd (cc (sym (no_enter fill item m e) ∙ h))
     go (Some move) e =
         let f : ◌≡◌ {A = Option Memories} (Some (when move.copies (copy_in item.section)
         (record { host = m.host; device = with_created fill move m.device }))) (Some next) =

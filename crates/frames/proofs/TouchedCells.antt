@@ -1,8 +1,8 @@
 -- A region depends on the cells that it may touch alone, and stores in cells of its arrays.
 use Rattle.std.proofs.Common.{◌≡◌, ◌⊎◌, ℕ, ◌-◌, ◌≤◌, Bool, true, false, List, [], ◌∷◌, Option, Some, None, refl, sym, ap, ◌∙◌, inl, inr, arith}
-use Rattle.std.specs.Prelude.{IsSome, ◌||◌, ◌&&◌, ◌==◌, not, option_map, slice_get, slice_index, unwrap_or, if◌then◌else◌}
+use Rattle.std.specs.Prelude.{IsSome, ◌&&◌, not, option_map, slice_get, slice_index, unwrap_or, if◌then◌else◌}
 use Rattle.std.specs.List.{list_any}
-use Rattle.std.proofs.lemmas.Bool.{and_parts, eqb-true, ltb-true, or_left, or_right, false≢true}
+use Rattle.std.proofs.lemmas.Bool.{and_parts, ltb-true, or_left, or_right, false≢true, or_cases}
 use Rattle.base.specs.declared.item.Cell.{Cell}
 use Rattle.base.specs.declared.item.Section.{Section}
 use Rattle.base.specs.Memory.{View, Stores, end_of, is_cell, is_in, last_stored, same_cell, view_of}
@@ -23,6 +23,7 @@ use Rattle.frames.specs.Views.{every}
 use Rattle.frames.specs.Laws.{HostFrameMeans, KernelFrameMeans, LeastRunsReach, StoresAreCells, TouchedCellsDecide}
 use Rattle.frames.proofs.RowViews.{past_end}
 use Rattle.frames.proofs.StoredRows.{array_there}
+use Rattle.kernel.proofs.SeenStores.{same_cell_is}
 
 pub touched_cells_decide : TouchedCellsDecide
 touched_cells_decide r loops u v scalars input n b h =
@@ -60,15 +61,11 @@ kernel_frame_means r loops reach t d u scalars input n b h shows stored e =
 
 -- A touched cell is a cell of its array.
 
-either : (a b : Bool) → (a || b) ≡ true → (a ≡ true) ⊎ (b ≡ true)
-either true b e = inl refl
-either false b e = inr e
-
 one_touches : (lengths : List ℕ) (c : Cell) (p : Touch → Bool) →
     ((t : Touch) → p t ≡ true → has_cell c t ≡ true) → (xs : List Touch) →
     Every (InRange lengths) xs → list_any p xs ≡ true → is_cell lengths c ≡ true
 one_touches lengths c p q [] g e = absurd (false≢true e)
-one_touches lengths c p q (t ∷ xs) g e = go (λ f. one_touches lengths c p q xs g.1 f) (either (p t) (list_any p xs) e)
+one_touches lengths c p q (t ∷ xs) g e = go (λ f. one_touches lengths c p q xs g.1 f) (or_cases (p t) (list_any p xs) e)
   where
     go : (list_any p xs ≡ true → is_cell lengths c ≡ true) → (p t ≡ true) ⊎ (list_any p xs ≡ true) →
         is_cell lengths c ≡ true
@@ -77,7 +74,7 @@ one_touches lengths c p q (t ∷ xs) g e = go (λ f. one_touches lengths c p q x
 
 touched_is : (lengths : List ℕ) (xs : List Touch) (c : Cell) → Every (InRange lengths) xs →
     is_touched xs c ≡ true → is_cell lengths c ≡ true
-touched_is lengths xs c h k = by_both (either (reads xs c) (writes xs c) k)
+touched_is lengths xs c h k = by_both (or_cases (reads xs c) (writes xs c) k)
   where
     by_both : (reads xs c ≡ true) ⊎ (writes xs c ≡ true) → is_cell lengths c ≡ true
     by_both (inl e) = one_touches lengths c (λ t. not t.is_write && has_cell c t)
@@ -125,13 +122,6 @@ least_runs_reach r loops lengths p reach fine same h = record {
 
 -- Stores.
 
-cell_is : (c d : Cell) → same_cell c d ≡ true → c ≡ d
-cell_is c d e =
-    let p = and_parts (c.array.0 == d.array.0) (c.index == d.index) e in
-    let a = eqb-true c.array.0 d.array.0 p.0 in
-    let i = eqb-true c.index d.index p.1 in
-    (λ j. record { array = record { 0 = a j }; index = i j })
-
 -- what was stored last in a cell was stored where the test holds
 pub last_in : (p : Cell → Bool) (stores : Stores) → StoresIn p stores → (c : Cell) (n : ℕ) →
     last_stored stores c ≡ Some n → p c ≡ true
@@ -140,7 +130,7 @@ last_in p (x ∷ later) h c n e = go (λ f. last_in p later h.rest c n f) (last_
   where
     first : (t : Bool) → same_cell x.0 c ≡ t → (if t then Some x.1 else None) ≡ Some n → p c ≡ true
     first false f g = absurd (cc g)
-    first true f g = ap p (sym (cell_is x.0 c f)) ∙ h.here
+    first true f g = ap p (sym (same_cell_is x.0 c f)) ∙ h.here
 
     go : (last_stored later c ≡ Some n → p c ≡ true) → (o : Option ℕ) → last_stored later c ≡ o → p c ≡ true
     go again (Some v) f =

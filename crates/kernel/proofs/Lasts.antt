@@ -1,5 +1,5 @@
 -- The last number of a list.
-use Rattle.std.proofs.Common.{◌≡◌, ℕ, ◌-◌, List, [], ◌∷◌, ◌++◌, length, Option, refl, ap, ◌∙◌, arith, length-append}
+use Rattle.std.proofs.Common.{◌≡◌, ℕ, ◌-◌, List, [], ◌∷◌, ◌++◌, length, Option, refl, ap, ◌∙◌, arith, length-append, take_at}
 use Rattle.std.specs.Prelude.{take, slice_index}
 use Rattle.kernel.specs.Machine.{last_of, front_of, with_last}
 
@@ -10,15 +10,11 @@ at_seam : (xs : List ℕ) (v : ℕ) → slice_index (xs ++ v ∷ []) (length xs)
 at_seam [] v = refl
 at_seam (x ∷ xs) v = at_seam xs v
 
-take_seam : (xs : List ℕ) (v : ℕ) → take (length xs) (xs ++ v ∷ []) ≡ xs
-take_seam [] v = refl
-take_seam (x ∷ xs) v = ap (λ ys. x ∷ ys) (take_seam xs v)
-
 pub last_more : (xs : List ℕ) (v : ℕ) → last_of (xs ++ v ∷ []) ≡ v
 last_more xs v = ap (λ n. slice_index (xs ++ v ∷ []) n) (length_more xs v) ∙ at_seam xs v
 
 pub front_more : (xs : List ℕ) (v : ℕ) → front_of (xs ++ v ∷ []) ≡ xs
-front_more xs v = ap (λ n. take n (xs ++ v ∷ [])) (length_more xs v) ∙ take_seam xs v
+front_more xs v = ap (λ n. take n (xs ++ v ∷ [])) (length_more xs v) ∙ take_at xs (v ∷ []) (length xs) refl
 
 filled : {A : Type 0} (ys xs : List ℕ) (v : ℕ) (f : ℕ → List ℕ → Option A) → ys ≡ xs ++ v ∷ [] →
     with_last (xs ++ v ∷ []) f ≡ f (last_of (xs ++ v ∷ [])) (front_of (xs ++ v ∷ []))

@@ -1,10 +1,10 @@
 -- The items that have rows, and their accesses.
-use Rattle.std.proofs.Common.{◌≡◌, ℕ, zero, suc, ◌+◌, ◌<◌, ◌≤◌, Bool, true, false, List, [], ◌∷◌, ◌++◌, length, take, map, get_or, Some, None, refl, sym, ap, ◌∙◌, subst, arith, ⊎_elim, length-append}
+use Rattle.std.proofs.Common.{◌≡◌, ℕ, zero, suc, ◌+◌, ◌<◌, ◌≤◌, false, List, [], ◌∷◌, ◌++◌, length, take, map, get_or, Some, None, refl, sym, ap, ◌∙◌, subst, arith, ⊎_elim, length-append, option_map}
 use Rattle.std.specs.Prelude.{slice_get, Vec}
 use Rattle.std.specs.declared.alloc.Global.{Global}
-use Rattle.std.proofs.lemmas.Bool.{cases_eq}
+use Rattle.std.proofs.lemmas.Bool.{cases_eq, false_from_ne_true}
 use Rattle.std.proofs.lemmas.List.{length-map}
-use Rattle.std.proofs.lemmas.Option.{same_Some, slice_get-get_or, slice_get_within}
+use Rattle.std.proofs.lemmas.Option.{same_Some, slice_get-get_or, slice_get_within, slice_get-map}
 use Rattle.base.specs.declared.item.Cell.{Cell}
 use Rattle.base.specs.declared.fault.RefusalCode.TheVariants.{OverlapsInPart}
 use Rattle.base.specs.declared.tree.Program.{Program}
@@ -49,12 +49,6 @@ get_taken (suc n) [] i x e = e
 get_taken (suc n) (y ∷ xs) zero x e = e
 get_taken (suc n) (y ∷ xs) (suc i) x e = get_taken n xs i x e
 
-get_mapped : {A B : Type 0} (f : A → B) (xs : List A) (i : ℕ) (x : A) → slice_get xs i ≡ Some x →
-    slice_get (map f xs) i ≡ Some (f x)
-get_mapped f [] i x e = absurd cc
-get_mapped f (y ∷ xs) zero x e = ap (λ z. Some (f z)) (same_Some y x e)
-get_mapped f (y ∷ xs) (suc i) x e = get_mapped f xs i x e
-
 -- there is an item for each row
 pub rows_inside : (plan : Plan) (rows : List (Vec Acts Global)) → AreFirstRows plan rows → length rows ≤ length plan.items
 rows_inside plan rows h =
@@ -70,7 +64,8 @@ pub row_at : (plan : Plan) (rows : List (Vec Acts Global)) (i : ℕ) (row : Vec 
 row_at plan rows i row h lt is =
     get_taken (length rows) (acts_rows plan.items []) i row.items
     (ap (λ xs. slice_get xs i) (sym h)
-    ∙ get_mapped row_items rows i row (slice_get-get_or rows i row lt ∙ ap (λ (x : Vec Acts Global). Some x) (sym is)))
+    ∙ slice_get-map row_items rows i
+    ∙ ap (option_map row_items) (slice_get-get_or rows i row lt ∙ ap (λ (x : Vec Acts Global). Some x) (sym is)))
 
 record StageAt (works : List Work) (blocks : List Block) (i : ℕ) (w : Work) : Type 0 where
   stage : Stage
@@ -86,10 +81,6 @@ stage_at (x ∷ works) blocks (suc i) w e =
     let rest = stage_at works (acts_of x blocks).blocks i w e in
     record { stage = rest.stage; there = rest.there; work = rest.work }
 
-not_true : (b : Bool) → (b ≡ true → ⊥) → b ≡ false
-not_true true h = absurd (h refl)
-not_true false h = refl
-
 -- the accesses of an item that is not refused by itself
 pub accesses_at : (p : Program) (n i : ℕ) (w : Work) (row : List Acts) (a : Accesses) → HasNoRangeFault (plan p) →
     NoneAlone (plan p) n → i < n → slice_get (plan p).items i ≡ Some w → slice_get (acts_rows (plan p).items []) i ≡ Some row →
@@ -103,7 +94,7 @@ accesses_at p n i w row a none alone lt there spelled are =
   where
     clean : (s : Stage) → slice_get (stages (plan p)) i ≡ Some s →
         (c : Cell) → cause OverlapsInPart s (current_before (plan p) i) c ≡ false
-    clean s e c = not_true (cause OverlapsInPart s (current_before (plan p) i) c) (λ t.
+    clean s e c = false_from_ne_true (cause OverlapsInPart s (current_before (plan p) i) c) (λ t.
         alone (record { code = OverlapsInPart; item = i; cell = c; other = None }) lt refl
         (on_stage_is (plan p) i s (λ x. cause OverlapsInPart x (current_before (plan p) i) c) e ∙ t))
 

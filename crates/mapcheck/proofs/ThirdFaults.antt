@@ -1,5 +1,5 @@
 -- The first fault of the third pass.
-use Rattle.std.proofs.Common.{◌≡◌, ◌≢◌, ℕ, zero, suc, ◌+◌, ◌<◌, ◌≤◌, Bool, true, false, List, [], ◌∷◌, ◌⊎◌, inl, inr, length, take, map, Option, Some, None, refl, sym, ap, ◌∙◌, subst, arith, ⊎_elim, true≢false}
+use Rattle.std.proofs.Common.{◌≡◌, ◌≢◌, ℕ, ◌+◌, ◌<◌, ◌≤◌, Bool, true, false, List, [], ◌⊎◌, inl, inr, length, take, map, Option, Some, None, refl, sym, ap, ◌∙◌, subst, arith, ⊎_elim, true≢false, length-take-le}
 use Rattle.std.specs.Prelude.{is_some, slice_get, Vec}
 use Rattle.std.specs.declared.alloc.Global.{Global}
 use Rattle.std.proofs.lemmas.Bool.{cases_eq, cases_lt}
@@ -102,17 +102,12 @@ none_alone plan None first sound g lt alone fault = sound g alone fault
 none_alone plan (Some r) first sound g lt alone fault =
     true≢false (sym (earlier_key g r lt) ∙ first.first g alone fault)
 
-take_long : {A : Type 0} (n : ℕ) (xs : List A) → n ≤ length xs → length (take n xs) ≡ n
-take_long zero xs h = refl
-take_long (suc n) [] h = absurd (omega arith)
-take_long (suc n) (x ∷ xs) h = let rest : length (take n xs) ≡ n = take_long n xs (omega arith) in omega arith
-
 -- how many rows there are
 pub rows_count : (plan : Plan) (n : ℕ) (rows : List (Vec Acts Global)) → map row_items rows ≡ take n (acts_rows plan.items []) →
     n ≤ length plan.items → length rows ≡ n
 rows_count plan n rows e h =
     sym (length-map rows row_items) ∙ ap (λ xs. length xs) e
-    ∙ take_long n (acts_rows plan.items []) (let long = rows_long plan.items [] in omega (arith, long, h))
+    ∙ length-take-le n (acts_rows plan.items []) (let long = rows_long plan.items [] in omega (arith, long, h))
 
 stage_inside : (plan : Plan) (j : ℕ) (f : Stage → Bool) →
     elim (slice_get (stages plan) j) as (λ z. Bool) [ None ↦ false | Some s ↦ f s ] ≡ true → j < length plan.items

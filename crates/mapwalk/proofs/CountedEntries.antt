@@ -1,8 +1,9 @@
 -- Each block has a count for each of some entries in it.
 use Rattle.std.proofs.Common.{◌≡◌, ℕ, ◌+◌, ◌<◌, ◌≤◌, Bool, true, false, List, [], ◌∷◌, ◌++◌, ◌⊎◌, inl, inr, map, Option, Some, None, refl, sym, ap, ◌∙◌, subst, arith, true≢false}
-use Rattle.std.specs.Prelude.{find, ◌||◌, option_map, if◌then◌else◌}
-use Rattle.std.proofs.lemmas.Bool.{cases_Bool, cond-true, cond-false}
+use Rattle.std.specs.Prelude.{find, option_map, if◌then◌else◌}
+use Rattle.std.proofs.lemmas.Bool.{cases_Bool, cond-true, cond-false, or_parts}
 use Rattle.std.proofs.lemmas.Option.{same_Some}
+use Rattle.base.proofs.Sections.{same_self, inside_self}
 use Rattle.base.specs.declared.item.MapItem.{MapItem}
 use Rattle.base.specs.declared.item.Section.{Section}
 use Rattle.base.specs.Memory.{is_inside, overlaps, same_section}
@@ -11,7 +12,8 @@ use Rattle.base.specs.Accepted.{in_part, met_at}
 use Rattle.mapwalk.specs.Acts.{entries_after}
 use Rattle.mapwalk.specs.Laws.{AllWide, meets_in_part}
 use Rattle.mapwalk.specs.Seen.{entry_mets}
-use Rattle.mapwalk.proofs.HeldBlocks.{after_absent, after_inside, absent_at, counted_other, counted_same, find_added, find_kept, find_no, find_other, find_yes, has_length, held, held_counted, inside_at, inside_itself, meets, meets_itself, name, name_absent, name_inside, names, no_block, part_at, same_is, same_itself, section_counted}
+use Rattle.mapwalk.proofs.HeldBlocks.{after_absent, after_inside, absent_at, counted_other, counted_same, find_added, find_kept, find_other, has_length, held, held_counted, inside_at, meets_itself, name, name_absent, name_inside, names, no_block, part_at, same_is, section_counted}
+use Rattle.base.proofs.Blocks.{find_yes, find_no, meets}
 
 -- how many of some entries are in a block
 
@@ -34,7 +36,7 @@ same_turned s t e = go (cases_Bool (same_section t s))
     go : (same_section t s ≡ true) ⊎ (same_section t s ≡ false) → same_section t s ≡ false
     go (inr h) = h
     go (inl h) =
-        absurd (true≢false (sym (same_itself s) ∙ ap (same_section s) (sym (same_is t s h)) ∙ e))
+        absurd (true≢false (sym (same_self s) ∙ ap (same_section s) (sym (same_is t s h)) ∙ e))
 
 -- each block has a count for these many entries
 abbrev pub Enough : (Section → ℕ) → List Block → Type 0
@@ -98,7 +100,7 @@ enough_more f s n k (b ∷ blocks) h = (go (cases_Bool (same_section b.section s
     go : (same_section b.section s ≡ true) ⊎ (same_section b.section s ≡ false) →
         f (counted s n b).section + one s (counted s n b).section ≤ (counted s n b).count
     go (inl t) = subst (λ (x : Block). f x.section + one s x.section ≤ x.count) (sym (counted_same s n b t))
-        (let o = one_same s s (same_itself s) in omega (arith, o, k))
+        (let o = one_same s s (same_self s) in omega (arith, o, k))
     go (inr t) = subst (λ (x : Block). f x.section + one s x.section ≤ x.count) (sym (counted_other s n b t))
         (let o = one_other s b.section (same_turned b.section s t) in let le = h.0 in omega (arith, o, le))
 
@@ -150,7 +152,7 @@ step_absent f m blocks long h e = (record { enough = enough; none = none }, here
     enough : Enough (λ u. f u + one m.section u) (blocks ++ record { section = m.section; count = 1 } ∷ [])
     enough = enough_added (λ u. f u + one m.section u) blocks (record { section = m.section; count = 1 })
         (enough_absent f m.section long blocks e h.enough)
-        (let z = h.none m.section e in let o = one_same m.section m.section (same_itself m.section) in omega (arith, z, o))
+        (let z = h.none m.section e in let o = one_same m.section m.section (same_self m.section) in omega (arith, z, o))
 
     none : (u : Section) → held u (blocks ++ record { section = m.section; count = 1 } ∷ []) ≡ None → f u + one m.section u ≡ 0
     none u k = go (held u blocks) refl
@@ -173,7 +175,7 @@ step_absent f m blocks long h e = (record { enough = enough; none = none }, here
       count = 1;
       is = find_added (meets m.section) blocks (record { section = m.section; count = 1 } ∷ []) e
           ∙ find_yes (meets m.section) (record { section = m.section; count = 1 }) [] (meets_itself m.section long);
-      inside = inside_itself m.section;
+      inside = inside_self m.section;
     }
 
     stays : Stays blocks (blocks ++ record { section = m.section; count = 1 } ∷ [])
@@ -214,7 +216,7 @@ step_inside f m blocks b long h e inside =
     here = record {
       count = b.count + 1;
       is = held_counted m.section b.section (b.count + 1) blocks ∙ ap (option_map (counted b.section (b.count + 1))) e
-          ∙ ap (λ (x : Block). Some x) (counted_same b.section (b.count + 1) b (same_itself b.section));
+          ∙ ap (λ (x : Block). Some x) (counted_same b.section (b.count + 1) b (same_self b.section));
       inside = inside;
     }
 
@@ -253,14 +255,6 @@ holds_same : (f g : Section → ℕ) → ((s : Section) → f s ≡ g s) → (bl
 holds_same f g e blocks h =
     record { enough = enough_same f g e blocks h.enough; none = λ s k. sym (e s) ∙ h.none s k }
 
-or_first : (a b : Bool) → (a || b) ≡ false → a ≡ false
-or_first false b e = refl
-or_first true b e = absurd cc
-
-or_second : (a b : Bool) → (a || b) ≡ false → b ≡ false
-or_second false b e = e
-or_second true b e = absurd cc
-
 pub steps : (f : Section → ℕ) (maps : List MapItem) (blocks : List Block) → AllWide maps → Holds f blocks →
     meets_in_part (entry_mets maps blocks) ≡ false → Steps f maps blocks
 steps f [] blocks wide h part =
@@ -268,9 +262,9 @@ steps f [] blocks wide h part =
 steps f (m ∷ maps) blocks wide h part =
     let next = blocks_after blocks (entry m blocks) in
     let t = name m blocks in
-    let first = step f m blocks wide.0 h (or_first (in_part (met_at (record { item = m; blocks = blocks }))) _ part) in
+    let first = step f m blocks wide.0 h (or_parts (in_part (met_at (record { item = m; blocks = blocks }))) _ part).0 in
     let rest = steps (λ s. f s + one t s) maps next wide.1 first.holds
-    (or_second (in_part (met_at (record { item = m; blocks = blocks }))) _ part) in
+    (or_parts (in_part (met_at (record { item = m; blocks = blocks }))) _ part).1 in
     record {
       holds = holds_same (λ s. (f s + one t s) + uses (names maps next) s) (λ s. f s + (one t s + uses (names maps next) s))
           (λ s. omega arith) (entries_after maps next) rest.holds;

@@ -1,7 +1,7 @@
 -- The first block that a section overlaps, after an entry or an exit.
 use Rattle.std.proofs.Common.{◌≡◌, ℕ, ◌+◌, ◌<◌, ◌≤◌, Bool, true, false, ◌==◌, List, [], ◌∷◌, ◌++◌, ◌⊎◌, inl, inr, map, Option, Some, None, refl, sym, ap, ◌∙◌, arith, true≢false}
 use Rattle.std.specs.Prelude.{find, filter, ◌&&◌, nat_le, option_map, if◌then◌else◌}
-use Rattle.std.proofs.lemmas.Bool.{cases_Bool, cond-true, cond-false, and_from, eqb-true, eq-eqb, lt-ltb, le-leb, leb-true}
+use Rattle.std.proofs.lemmas.Bool.{cases_Bool, cond-true, cond-false, and_from, eqb-true, eq-eqb, lt-ltb, leb-true, and_parts}
 use Rattle.std.proofs.lemmas.Option.{same_Some}
 use Rattle.base.specs.declared.item.MapItem.{MapItem}
 use Rattle.base.specs.declared.item.Section.{Section}
@@ -9,19 +9,11 @@ use Rattle.base.specs.Memory.{end_of, is_inside, overlaps, same_section}
 use Rattle.base.specs.Map.{Block, Presence, Absent, Inside, InPart, blocks_after, counted, entry, presence}
 use Rattle.mapwalk.specs.Acts.{entry_of, entry_row}
 use Rattle.mapwalk.specs.Laws.{block_named}
-
-abbrev pub meets : Section → Block → Bool
-meets s b = overlaps b.section s
+use Rattle.base.proofs.Blocks.{find_yes, find_no, meets}
 
 -- the first block that a section overlaps
 abbrev pub held : Section → List Block → Option Block
 held s blocks = find (meets s) blocks
-
-pub find_yes : (p : Block → Bool) (x : Block) (xs : List Block) → p x ≡ true → find p (x ∷ xs) ≡ Some x
-find_yes p x xs h = cond-true (p x) _ _ h
-
-pub find_no : (p : Block → Bool) (x : Block) (xs : List Block) → p x ≡ false → find p (x ∷ xs) ≡ find p xs
-find_no p x xs h = cond-false (p x) _ _ h
 
 pub no_block : {P : Type 0} (b : Block) → ◌≡◌ {A = Option Block} None (Some b) → P
 no_block b e = absurd cc
@@ -91,25 +83,13 @@ find_filtered p q (x ∷ xs) b e h = go (λ f. find_filtered p q xs b f h) (case
 
 -- sections
 
-pub and_first : (a b : Bool) → (a && b) ≡ true → a ≡ true
-and_first true b e = refl
-and_first false b e = absurd cc
-
-pub and_second : (a b : Bool) → (a && b) ≡ true → b ≡ true
-and_second true b e = e
-and_second false b e = absurd cc
-
 pub same_is : (s t : Section) → same_section s t ≡ true → s ≡ t
 same_is s t h =
-    let a = eqb-true s.array.0 t.array.0 (and_first _ ((s.first == t.first) && (s.length == t.length)) h) in
-    let rest = and_second (s.array.0 == t.array.0) _ h in
-    let f = eqb-true s.first t.first (and_first _ (s.length == t.length) rest) in
-    let l = eqb-true s.length t.length (and_second (s.first == t.first) _ rest) in
+    let a = eqb-true s.array.0 t.array.0 (and_parts _ ((s.first == t.first) && (s.length == t.length)) h).0 in
+    let rest = (and_parts (s.array.0 == t.array.0) _ h).1 in
+    let f = eqb-true s.first t.first (and_parts _ (s.length == t.length) rest).0 in
+    let l = eqb-true s.length t.length (and_parts (s.first == t.first) _ rest).1 in
     (λ i. record { array = record { 0 = a i }; first = f i; length = l i })
-
-pub same_itself : (s : Section) → same_section s s ≡ true
-same_itself s = and_from _ _ (eq-eqb s.array.0 s.array.0 refl)
-    (and_from _ _ (eq-eqb s.first s.first refl) (eq-eqb s.length s.length refl))
 
 pub meets_itself : (s : Section) → 0 < s.length → overlaps s s ≡ true
 meets_itself s h = and_from _ _ (eq-eqb s.array.0 s.array.0 refl)
@@ -118,14 +98,10 @@ meets_itself s h = and_from _ _ (eq-eqb s.array.0 s.array.0 refl)
 -- a section in which one with a cell lies has a cell
 pub has_length : (s t : Section) → 0 < t.length → is_inside t s ≡ true → 0 < s.length
 has_length s t long i =
-    let rest = and_second (t.array.0 == s.array.0) _ i in
-    let first : s.first ≤ t.first = leb-true s.first t.first (and_first _ (nat_le (end_of t) (end_of s)) rest) in
-    let end : end_of t ≤ end_of s = leb-true (end_of t) (end_of s) (and_second (nat_le s.first t.first) _ rest) in
+    let rest = (and_parts (t.array.0 == s.array.0) _ i).1 in
+    let first : s.first ≤ t.first = leb-true s.first t.first (and_parts _ (nat_le (end_of t) (end_of s)) rest).0 in
+    let end : end_of t ≤ end_of s = leb-true (end_of t) (end_of s) (and_parts (nat_le s.first t.first) _ rest).1 in
     omega arith
-
-pub inside_itself : (s : Section) → is_inside s s ≡ true
-inside_itself s = and_from _ _ (eq-eqb s.array.0 s.array.0 refl)
-    (and_from _ _ (le-leb s.first s.first (omega arith)) (le-leb (end_of s) (end_of s) (omega arith)))
 
 -- where a section lies
 

@@ -2,6 +2,7 @@
 use Rattle.std.proofs.Common.{◌≡◌, ℕ, ◌+◌, ◌-◌, ◌≤◌, Bool, true, false, ◌==◌, List, [], ◌∷◌, ◌⊎◌, inl, inr, map, length, refl, sym, ap, ◌∙◌, subst, arith}
 use Rattle.std.specs.Prelude.{filter, not, if◌then◌else◌}
 use Rattle.std.proofs.lemmas.Bool.{cases_Bool, cond-true, cond-false, eqb-true}
+use Rattle.base.proofs.Sections.{same_self}
 use Rattle.base.specs.declared.item.MapItem.{MapItem}
 use Rattle.base.specs.declared.item.MapKind.{MapKind}
 use Rattle.base.specs.declared.item.MapKind.TheVariants.{To, From, ToFrom, Alloc, Release, Delete}
@@ -11,8 +12,9 @@ use Rattle.base.specs.Map.{Block, Inside, blocks_after, counted, entry, exit, ex
 use Rattle.base.specs.Actions.{rests}
 use Rattle.mapwalk.specs.Acts.{entries_after, exit_of, exit_row}
 use Rattle.mapwalk.specs.Laws.{NoDelete, TargetsKeepBlocks, block_named}
-use Rattle.mapwalk.proofs.HeldBlocks.{counted_other, counted_same, entries_named, find_filtered, held, inside_at, meets, names, same_itself}
+use Rattle.mapwalk.proofs.HeldBlocks.{counted_other, counted_same, entries_named, find_filtered, held, inside_at, names}
 use Rattle.mapwalk.proofs.CountedEntries.{AllHeld, Enough, Stays, enough_found, enough_less, enough_same, one_same, stays_counted, steps, uses}
+use Rattle.base.proofs.Blocks.{meets}
 
 -- the exits
 
@@ -112,7 +114,7 @@ exits_named f (m ∷ maps) (t ∷ ts) blocks keeps long h held =
     let b : Block = record { section = t; count = held.0.count } in
     let at = inside_at blocks m.section b held.0.is held.0.inside in
     let some : uses (t ∷ ts) t ≤ held.0.count = enough_found (uses (t ∷ ts)) (meets m.section) blocks b h held.0.is in
-    let own = one_same t t (same_itself t) in
+    let own = one_same t t (same_self t) in
     let less : uses ts t ≤ held.0.count - 1 = omega (arith, some, own) in
     let rest = left_one maps ts t (held.0.count - 1) blocks less h held.1 in
     let later : blocks_after blocks (exit m blocks) ≡ left_with blocks t (held.0.count - 1) =

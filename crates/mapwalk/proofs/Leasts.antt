@@ -1,9 +1,10 @@
 -- The least of some cells.
-use Rattle.std.proofs.Common.{◌≡◌, ◌==◌, Bool, true, false, List, [], ◌∷◌, Option, Some, None, refl, sym, ◌∙◌, arith}
-use Rattle.std.proofs.lemmas.Bool.{or_left, or_right}
+use Rattle.std.proofs.Common.{◌≡◌, ◌==◌, Bool, true, false, List, [], ◌∷◌, Option, Some, None, refl, sym, ◌∙◌, arith, ⊎_elim}
+use Rattle.std.proofs.lemmas.Bool.{or_left, or_right, or_from, or_cases}
 use Rattle.std.specs.Prelude.{nat_lt, max, ◌&&◌, ◌||◌, if◌then◌else◌}
 use Rattle.std.specs.List.{list_any}
 use Rattle.std.proofs.lemmas.Bool.Decides.{nat_tests}
+use Rattle.std.proofs.Math.Bool.{or_assoc, or-false}
 use Rattle.base.specs.declared.item.Cell.{Cell}
 use Rattle.base.specs.declared.item.Section.{Section}
 use Rattle.base.specs.Memory.{end_of, is_in, same_cell}
@@ -15,10 +16,7 @@ use Rattle.base.specs.Least.{is_less}
 use Rattle.mapwalk.specs.Seen.{also, least_shared, lesser, seen_all, seen_at, shared}
 use Rattle.base.specs.Least.{IsLeast}
 use Rattle.mapwalk.specs.Causes.{is_absent_cell, is_part_cell}
-
-pub least_same : (p q : Cell → Bool) (o : Option Cell) → ((c : Cell) → p c ≡ q c) → IsLeast p o → IsLeast q o
-least_same p q None e h = λ c. sym (e c) ∙ h c
-least_same p q (Some x) e h = (sym (e x) ∙ h.0, λ d t. h.1 d (e d ∙ t))
+use Rattle.base.proofs.Leasts.{least_same}
 
 -- none is before the lesser of two that is before neither
 before_less : (c d e : Cell) → is_less c d ≡ true → is_less e d ≡ false → is_less e c ≡ true → is_less e d ≡ true
@@ -34,29 +32,21 @@ after_both c d e a b = go (is_less e c) refl
 later_still : (c d e : Cell) → is_less c d ≡ false → is_less e c ≡ false → is_less e d ≡ false
 later_still c d e a b = grind (arith, nat_tests)
 
-or_cases : {P : Type 0} (a b : Bool) → (a || b) ≡ true → (a ≡ true → P) → (b ≡ true → P) → P
-or_cases true b e f g = f refl
-or_cases false b e f g = g e
-
-or_none : (a b : Bool) → a ≡ false → b ≡ false → (a || b) ≡ false
-or_none false b e f = f
-or_none true b e f = absurd cc
-
 -- the least of two kinds of cells
 pub least_also : (p q : Cell → Bool) (found o : Option Cell) → IsLeast p found → IsLeast q o → IsLeast
     (λ c. p c || q c) (also o found)
-least_also p q None None h k = λ c. or_none (p c) (q c) (h c) (k c)
+least_also p q None None h k = λ c. or_from (p c) (q c) (h c) (k c)
 least_also p q (Some x) None h k =
-    (or_left (p x) (q x) h.0, λ d t. or_cases (p d) (q d) t (h.1 d) (λ u. absurd (let n = k d in cc)))
+    (or_left (p x) (q x) h.0, λ d t. ⊎_elim (h.1 d) (λ u. absurd (let n = k d in cc)) (or_cases (p d) (q d) t))
 least_also p q None (Some y) h k =
-    (or_right (p y) (q y) k.0, λ d t. or_cases (p d) (q d) t (λ u. absurd (let n = h d in cc)) (k.1 d))
+    (or_right (p y) (q y) k.0, λ d t. ⊎_elim (λ u. absurd (let n = h d in cc)) (k.1 d) (or_cases (p d) (q d) t))
 least_also p q (Some x) (Some y) h k = go (is_less y x) refl
   where
     go : (t : Bool) → is_less y x ≡ t → IsLeast (λ c. p c || q c) (Some (if t then y else x))
     go true e =
-        (or_right (p y) (q y) k.0, λ d t. or_cases (p d) (q d) t (λ u. after_both y x d e (h.1 d u)) (k.1 d))
+        (or_right (p y) (q y) k.0, λ d t. ⊎_elim (λ u. after_both y x d e (h.1 d u)) (k.1 d) (or_cases (p d) (q d) t))
     go false e =
-        (or_left (p x) (q x) h.0, λ d t. or_cases (p d) (q d) t (h.1 d) (λ u. later_still y x d e (k.1 d u)))
+        (or_left (p x) (q x) h.0, λ d t. ⊎_elim (h.1 d) (λ u. later_still y x d e (k.1 d u)) (or_cases (p d) (q d) t))
 
 abbrev first_of : Section → Section → Cell
 first_of s t = record { array = s.array; index = max s.first t.first }
@@ -117,14 +107,6 @@ pub record AreNoted (p q : Cell → Bool) (mets : List Met) (s : Seen) : Type 0 
   pub part_cells : IsLeast (λ c. p c || list_any (is_part_cell c) mets) s.in_part
   pub absent_cells : IsLeast (λ c. q c || list_any (is_absent_cell c) mets) s.absent
 
-or_rest : (p a b : Bool) → ((p || a) || b) ≡ (p || (a || b))
-or_rest true a b = refl
-or_rest false a b = refl
-
-or_false : (p : Bool) → p ≡ (p || false)
-or_false true = refl
-or_false false = refl
-
 abbrev seen_of : Section → List Block → Seen → Presence → Seen
 seen_of s blocks seen Absent = record seen { absent = Some (lesser (first_cell s) seen.absent) }
 seen_of s blocks seen (Inside b) = seen
@@ -134,8 +116,8 @@ pub all_noted : (mets : List Met) (p q : Cell → Bool) (s : Seen) → IsLeast p
     AreNoted p q mets (seen_all mets s)
 all_noted [] p q s h k =
     record {
-      part_cells = least_same p _ s.in_part (λ c. or_false (p c)) h;
-      absent_cells = least_same q _ s.absent (λ c. or_false (q c)) k;
+      part_cells = least_same p _ s.in_part (λ c. sym (or-false (p c))) h;
+      absent_cells = least_same q _ s.absent (λ c. sym (or-false (q c))) k;
     }
 all_noted (m ∷ mets) p q s h k =
     let rest = all_noted mets (λ c. p c || is_part_cell c m) (λ c. q c || is_absent_cell c m)
@@ -143,9 +125,9 @@ all_noted (m ∷ mets) p q s h k =
     (one (met_at m) refl).0 (one (met_at m) refl).1 in
     record {
       part_cells = least_same _ _ (seen_all mets (seen_at m.item.section m.blocks s)).in_part
-          (λ c. or_rest (p c) (is_part_cell c m) (list_any (is_part_cell c) mets)) rest.part_cells;
+          (λ c. or_assoc (p c) (is_part_cell c m) (list_any (is_part_cell c) mets)) rest.part_cells;
       absent_cells = least_same _ _ (seen_all mets (seen_at m.item.section m.blocks s)).absent
-          (λ c. or_rest (q c) (is_absent_cell c m) (list_any (is_absent_cell c) mets)) rest.absent_cells;
+          (λ c. or_assoc (q c) (is_absent_cell c m) (list_any (is_absent_cell c) mets)) rest.absent_cells;
     }
   where
     one : (at : Presence) → met_at m ≡ at →
@@ -155,13 +137,13 @@ all_noted (m ∷ mets) p q s h k =
         (seen_of m.item.section m.blocks s (met_at m)).absent
     one Absent e =
         rw e (
-          least_same p _ s.in_part (λ c. or_false (p c)) h,
+          least_same p _ s.in_part (λ c. sym (or-false (p c))) h,
           least_also q (λ c. same_cell c (first_cell m.item.section)) s.absent (Some (first_cell m.item.section)) k
               (least_of_one (first_cell m.item.section)),
         )
     one (Inside b) e =
         rw e
-        (least_same p _ s.in_part (λ c. or_false (p c)) h, least_same q _ s.absent (λ c. or_false (q c)) k)
+        (least_same p _ s.in_part (λ c. sym (or-false (p c))) h, least_same q _ s.absent (λ c. sym (or-false (q c))) k)
     one InPart e =
         rw e
-        (least_of_blocks m.item.section m.blocks p s.in_part h, least_same q _ s.absent (λ c. or_false (q c)) k)
+        (least_of_blocks m.item.section m.blocks p s.in_part h, least_same q _ s.absent (λ c. sym (or-false (q c))) k)

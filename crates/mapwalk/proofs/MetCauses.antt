@@ -1,7 +1,8 @@
 -- The first cause that map items make.
-use Rattle.std.proofs.Common.{◌≡◌, Bool, true, false, List, Some, None, refl, sym, ◌∙◌, subst}
+use Rattle.std.proofs.Common.{◌≡◌, true, false, List, Some, None, refl, sym, subst}
 use Rattle.std.specs.Prelude.{◌&&◌}
 use Rattle.std.specs.List.{list_any}
+use Rattle.std.proofs.lemmas.Bool.{and_right, and_from, and_left, and_parts, both_ways}
 use Rattle.base.specs.declared.item.Cell.{Cell}
 use Rattle.base.specs.declared.item.ItemKind.{ItemKind}
 use Rattle.base.specs.declared.fault.RefusalCode.{RefusalCode}
@@ -22,25 +23,6 @@ pub noted : (mets : List Met) (s : Seen) → s ≡ seen_all mets nothing → Not
 noted mets s e =
     let all = all_noted mets (λ c. false) (λ c. false) nothing (λ c. refl) (λ c. refl) in
     subst (Noted mets) (sym e) (record { part_cells = all.part_cells; absent_cells = all.absent_cells })
-
-and_false : (a b : Bool) → b ≡ false → (a && b) ≡ false
-and_false true b e = e
-and_false false b e = refl
-
-and_both : (a b : Bool) → a ≡ true → b ≡ true → (a && b) ≡ true
-and_both true b e f = f
-and_both false b e f = absurd cc
-
-not_first : (a b : Bool) → a ≡ false → (a && b) ≡ false
-not_first false b e = refl
-not_first true b e = absurd cc
-
-second_of : (a b : Bool) → (a && b) ≡ true → b ≡ true
-second_of true b e = e
-second_of false b e = absurd cc
-
-contrary : {P : Type 0} (b : Bool) → b ≡ false → b ≡ true → P
-contrary b e f = absurd (let x : true ≡ false = sym f ∙ e in cc)
 
 part_none : (mets : List Met) (s : Seen) → Noted mets s → s.in_part ≡ None → (c : Cell) → list_any (is_part_cell c) mets ≡ false
 part_none mets s n e = subst (IsLeast (λ c. list_any (is_part_cell c) mets)) e n.part_cells
@@ -71,8 +53,8 @@ absent_none kind mets s n e f = all
 
     all : (code : RefusalCode) (c : Cell) → met_causes kind mets code c ≡ false
     all OverlapsInPart c = part_none mets s n e c
-    all ExitOfAbsent c = and_false (is_exit kind) (list_any (is_absent_cell c) mets) (least c)
-    all UpdateOfAbsent c = and_false (is_update kind) (list_any (is_absent_cell c) mets) (least c)
+    all ExitOfAbsent c = and_right (is_exit kind) (list_any (is_absent_cell c) mets) (least c)
+    all UpdateOfAbsent c = and_right (is_update kind) (list_any (is_absent_cell c) mets) (least c)
     all Unmapped c = refl
     all HostNotCurrent c = refl
     all DeviceNotCurrent c = refl
@@ -85,8 +67,8 @@ other_none kind mets s n e x u = all
   where
     all : (code : RefusalCode) (c : Cell) → met_causes kind mets code c ≡ false
     all OverlapsInPart c = part_none mets s n e c
-    all ExitOfAbsent c = not_first (is_exit kind) (list_any (is_absent_cell c) mets) x
-    all UpdateOfAbsent c = not_first (is_update kind) (list_any (is_absent_cell c) mets) u
+    all ExitOfAbsent c = and_left (is_exit kind) (list_any (is_absent_cell c) mets) x
+    all UpdateOfAbsent c = and_left (is_update kind) (list_any (is_absent_cell c) mets) u
     all Unmapped c = refl
     all HostNotCurrent c = refl
     all DeviceNotCurrent c = refl
@@ -95,15 +77,15 @@ other_none kind mets s n e x u = all
 pub exit_first : (kind : ItemKind) (mets : List Met) (s : Seen) (cell : Cell) → Noted mets s → s.in_part ≡ None →
     s.absent ≡ Some cell → is_exit kind ≡ true →
     IsFirstOf (met_causes kind mets) (Some (record { code = ExitOfAbsent; cell = cell }))
-exit_first kind mets s cell n e f x = (and_both (is_exit kind) (list_any (is_absent_cell cell) mets) x least.0, order)
+exit_first kind mets s cell n e f x = (and_from (is_exit kind) (list_any (is_absent_cell cell) mets) x least.0, order)
   where
     least : IsLeast (λ c. list_any (is_absent_cell c) mets) (Some cell)
     least = subst (IsLeast (λ c. list_any (is_absent_cell c) mets)) f n.absent_cells
 
     order : (code : RefusalCode) (c : Cell) → met_causes kind mets code c ≡ true →
         is_less code c (record { code = ExitOfAbsent; cell = cell }) ≡ false
-    order OverlapsInPart c h = contrary (list_any (is_part_cell c) mets) (part_none mets s n e c) h
-    order ExitOfAbsent c h = least.1 c (second_of (is_exit kind) (list_any (is_absent_cell c) mets) h)
+    order OverlapsInPart c h = absurd (both_ways (list_any (is_part_cell c) mets) (part_none mets s n e c) h)
+    order ExitOfAbsent c h = least.1 c (and_parts (is_exit kind) (list_any (is_absent_cell c) mets) h).1
     order UpdateOfAbsent c h = refl
     order Unmapped c h = refl
     order HostNotCurrent c h = refl
@@ -113,17 +95,18 @@ exit_first kind mets s cell n e f x = (and_both (is_exit kind) (list_any (is_abs
 pub update_first : (kind : ItemKind) (mets : List Met) (s : Seen) (cell : Cell) → Noted mets s → s.in_part ≡ None →
     s.absent ≡ Some cell → is_exit kind ≡ false → is_update kind ≡ true →
     IsFirstOf (met_causes kind mets) (Some (record { code = UpdateOfAbsent; cell = cell }))
-update_first kind mets s cell n e f x u = (and_both (is_update kind) (list_any (is_absent_cell cell) mets) u least.0, order)
+update_first kind mets s cell n e f x u = (and_from (is_update kind) (list_any (is_absent_cell cell) mets) u least.0, order)
   where
     least : IsLeast (λ c. list_any (is_absent_cell c) mets) (Some cell)
     least = subst (IsLeast (λ c. list_any (is_absent_cell c) mets)) f n.absent_cells
 
     order : (code : RefusalCode) (c : Cell) → met_causes kind mets code c ≡ true →
         is_less code c (record { code = UpdateOfAbsent; cell = cell }) ≡ false
-    order OverlapsInPart c h = contrary (list_any (is_part_cell c) mets) (part_none mets s n e c) h
+    order OverlapsInPart c h = absurd (both_ways (list_any (is_part_cell c) mets) (part_none mets s n e c) h)
     order ExitOfAbsent c h =
-        contrary (is_exit kind && list_any (is_absent_cell c) mets) (not_first (is_exit kind) (list_any (is_absent_cell c) mets) x) h
-    order UpdateOfAbsent c h = least.1 c (second_of (is_update kind) (list_any (is_absent_cell c) mets) h)
+        absurd (both_ways (is_exit kind && list_any (is_absent_cell c) mets)
+        (and_left (is_exit kind) (list_any (is_absent_cell c) mets) x) h)
+    order UpdateOfAbsent c h = least.1 c (and_parts (is_update kind) (list_any (is_absent_cell c) mets) h).1
     order Unmapped c h = refl
     order HostNotCurrent c h = refl
     order DeviceNotCurrent c h = refl

@@ -2,7 +2,7 @@
 use Rattle.std.proofs.Common.{◌≡◌, ℕ, ◌+◌, ◌<◌, ◌≤◌, max, Bool, true, false, ◌==◌, List, [], ◌∷◌, ◌++◌, ◌⊎◌, inl, inr, map, Option, Some, None, refl, sym, ap, ◌∙◌, subst, arith, true≢false}
 use Rattle.std.specs.Prelude.{find, filter, not, ◌&&◌, ◌||◌, nat_lt, if◌then◌else◌}
 use Rattle.std.specs.List.{list_any}
-use Rattle.std.proofs.lemmas.Bool.{cases_Bool, cond-true, cond-false, and_from, eqb-true, eq-eqb, ltb-true, lt-ltb, le-leb, or_right, or_left}
+use Rattle.std.proofs.lemmas.Bool.{cases_Bool, cond-true, cond-false, and_from, eqb-true, eq-eqb, ltb-true, lt-ltb, le-leb, or_right, or_left, and_parts, or_parts, or_from}
 use Rattle.std.proofs.lemmas.Option.{same_Some}
 use Rattle.base.specs.declared.item.Cell.{Cell}
 use Rattle.base.specs.declared.item.MapItem.{MapItem}
@@ -18,7 +18,8 @@ use Rattle.mapwalk.specs.Causes.{is_part_cell}
 use Rattle.mapwalk.specs.Kinds.{after_maps, met_by}
 use Rattle.mapwalk.specs.Laws.{AllWide, meets_in_part}
 use Rattle.mapwalk.specs.Seen.{entry_mets, exit_mets, update_mets}
-use Rattle.mapwalk.proofs.HeldBlocks.{absent_at, and_first, and_second, find_no, find_passes, find_yes, held, meets, no_block, section_counted}
+use Rattle.mapwalk.proofs.HeldBlocks.{absent_at, find_passes, held, no_block, section_counted}
+use Rattle.base.proofs.Blocks.{find_yes, find_no, meets}
 
 -- each block has a cell
 abbrev pub BlocksWide : List Block → Type 0
@@ -129,10 +130,11 @@ shared s t = record { array = s.array; index = max s.first t.first }
 shared_cell : (s t : Section) → 0 < s.length → 0 < t.length → overlaps t s ≡ true →
     (is_in (shared s t) s ≡ true) × (is_in (shared s t) t ≡ true)
 shared_cell s t long other o =
-    let array : t.array.0 ≡ s.array.0 = eqb-true t.array.0 s.array.0 (and_first _ (nat_lt t.first (end_of s) && nat_lt s.first (end_of t)) o) in
-    let rest = and_second (t.array.0 == s.array.0) _ o in
-    let below : t.first < end_of s = ltb-true t.first (end_of s) (and_first _ (nat_lt s.first (end_of t)) rest) in
-    let above : s.first < end_of t = ltb-true s.first (end_of t) (and_second (nat_lt t.first (end_of s)) _ rest) in
+    let array : t.array.0 ≡ s.array.0 = eqb-true t.array.0 s.array.0
+    (and_parts _ (nat_lt t.first (end_of s) && nat_lt s.first (end_of t)) o).0 in
+    let rest = (and_parts (t.array.0 == s.array.0) _ o).1 in
+    let below : t.first < end_of s = ltb-true t.first (end_of s) (and_parts _ (nat_lt s.first (end_of t)) rest).0 in
+    let above : s.first < end_of t = ltb-true s.first (end_of t) (and_parts (nat_lt t.first (end_of s)) _ rest).1 in
     let k = max s.first t.first in
     let a : s.first ≤ k = omega arith in
     let b : k < end_of s = omega arith in
@@ -161,22 +163,10 @@ part_cell m long wide none = go (held m.item.section m.blocks) refl
     go None e = ap in_part (absent_at m.blocks m.item.section e)
     go (Some b) e = inner b e (cases_Bool (in_part (met_at m)))
 
-false_first : (a b : Bool) → (a || b) ≡ false → a ≡ false
-false_first false b e = refl
-false_first true b e = absurd cc
-
-false_second : (a b : Bool) → (a || b) ≡ false → b ≡ false
-false_second false b e = e
-false_second true b e = absurd cc
-
-or_none : (a b : Bool) → a ≡ false → b ≡ false → (a || b) ≡ false
-or_none false b e f = f
-or_none true b e f = absurd cc
-
 pub no_part : (mets : List Met) → MetsWide mets → ((c : Cell) → list_any (is_part_cell c) mets ≡ false) →
     meets_in_part mets ≡ false
 no_part [] wide none = refl
 no_part (m ∷ mets) wide none =
-    or_none (in_part (met_at m)) (meets_in_part mets)
-    (part_cell m wide.0.0 wide.0.1 (λ c. false_first (is_part_cell c m) (list_any (is_part_cell c) mets) (none c)))
-    (no_part mets wide.1 (λ c. false_second (is_part_cell c m) (list_any (is_part_cell c) mets) (none c)))
+    or_from (in_part (met_at m)) (meets_in_part mets)
+    (part_cell m wide.0.0 wide.0.1 (λ c. (or_parts (is_part_cell c m) (list_any (is_part_cell c) mets) (none c)).0))
+    (no_part mets wide.1 (λ c. (or_parts (is_part_cell c m) (list_any (is_part_cell c) mets) (none c)).1))

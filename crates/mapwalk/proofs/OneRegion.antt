@@ -1,6 +1,6 @@
 -- Items whose regions touch alike.
 use Rattle.std.proofs.Common.{◌≡◌, ℕ, ◌+◌, ◌<◌, ◌==◌, Bool, true, false, List, [], ◌∷◌, ◌++◌, length, map, get_or, Option, Some, None, refl, sym, ap, ◌∙◌, subst, ⊎_elim, length-append, arith}
-use Rattle.std.specs.Prelude.{not, slice_get, IsTrue}
+use Rattle.std.specs.Prelude.{not, slice_get}
 use Rattle.std.specs.Option.{option_eq}
 use Rattle.std.proofs.lemmas.Bool.{cases_eq, eqb-true}
 use Rattle.std.proofs.lemmas.Option.{same_Some, slice_get_within}
@@ -25,10 +25,6 @@ same_region (Some n) k differs e f = go (n == k) refl
     go : (b : Bool) → (n == k) ≡ b → ◌≡◌ {A = Option ℕ} (Some n) (Some k)
     go true same = ap (λ (a : ℕ). Some a) (eqb-true n k same)
     go false other = absurd (let d : not (n == k) ≡ false = sym e ∙ f in cc)
-
-pub unread : (reads : Bool) → IsTrue (not reads) → reads ≡ false
-unread true h = absurd cc
-unread false h = refl
 
 -- two items of one region, which names none of the loops around it
 pub one_region : (lengths : List ℕ) (regions : List RegionEntry) (entries : List Entry) (earlier item : Item) (k : ℕ)

@@ -1,7 +1,7 @@
 -- The first item that is refused by itself.
-use Rattle.std.proofs.Common.{◌≡◌, ◌≢◌, ℕ, zero, suc, ◌<◌, ◌≤◌, ◌==◌, Bool, true, false, List, [], ◌∷◌, length, drop, Option, Some, None, refl, sym, ap, ◌∙◌, subst, arith}
+use Rattle.std.proofs.Common.{◌≡◌, ◌≢◌, ℕ, zero, suc, ◌<◌, ◌≤◌, ◌==◌, Bool, true, false, List, [], ◌∷◌, length, drop, Option, Some, None, refl, sym, ap, ◌∙◌, subst, arith, eqb-true}
 use Rattle.std.specs.Prelude.{slice_get, nat_lt, unwrap_or, ◌&&◌, ◌||◌}
-use Rattle.std.proofs.lemmas.Bool.{and_left, and_right, eqb-false, le-ltb, ltb-false, ltb-true, ne_eqb, or_from}
+use Rattle.std.proofs.lemmas.Bool.{and_left, and_right, eqb-false, le-ltb, ltb-false, ltb-true, ne_eqb, or_from, both_ways}
 use Rattle.std.proofs.lemmas.List.{drop_all}
 use Rattle.base.specs.declared.item.Cell.{Cell}
 use Rattle.base.specs.declared.fault.Refusal.{Refusal}
@@ -19,7 +19,6 @@ use Rattle.mapwalk.specs.Steps.{stage_of}
 use Rattle.mapwalk.specs.Walk.{HasNoRangeFault, IsFirstAlone}
 use Rattle.mapwalk.proofs.Agreeing.{cause_agree}
 use Rattle.mapwalk.proofs.Walking.{Reached, no_fault_at, on_stage_is, stage_at}
-use Rattle.mapwalk.proofs.SideRows.{same_number}
 
 nowhere_true : (o : Option Stage) → (elim o as (λ z. Bool) [ None ↦ false | Some s ↦ false ]) ≡ true → ⊥
 nowhere_true None e = cc
@@ -58,9 +57,6 @@ no_conflict Unmapped s k c h e = cc
 no_conflict HostNotCurrent s k c h e = cc
 no_conflict DeviceNotCurrent s k c h e = cc
 no_conflict Conflict s k c h e = cc
-
-contrary : {P : Type 0} (b : Bool) → b ≡ false → b ≡ true → P
-contrary b e f = absurd (let x : true ≡ false = sym f ∙ e in cc)
 
 -- keys of the third pass
 abbrev key : ℕ → ℕ → ℕ → ℕ → ℕ → List ℕ
@@ -118,9 +114,9 @@ first_alone plan i blocks k rows w x none e r h =
     go : (g : Refusal) → on_stage plan g.item false (λ s. cause g.code s (current_before plan g.item) g.cell) ≡ true →
         (a : Bool) → nat_lt g.item i ≡ a → (b : Bool) → (g.item == i) ≡ b →
         key_less (fault_key (Refused g)) (fault_key (Refused (refusal_of x i))) ≡ false
-    go g t true p b q = contrary _ (r.clean g.item (ltb-true g.item i p) g.code g.cell) t
+    go g t true p b q = absurd (both_ways _ (r.clean g.item (ltb-true g.item i p) g.code g.cell) t)
     go g t false p true q =
-        let same : g.item ≡ i = same_number g.item i q in
+        let same : g.item ≡ i = eqb-true g.item i q in
         same_item g.item (refusal_rank g.code) g.cell.array.0 g.cell.index (unwrap_or g.other 0) i (refusal_rank x.code)
         x.cell.array.0 x.cell.index same
         (h.1 g.code g.cell
@@ -149,8 +145,8 @@ none_refused plan i blocks k rows h r g o f = go (nat_lt g.item i) refl
     t = caused plan g o f
 
     go : (a : Bool) → nat_lt g.item i ≡ a → ⊥
-    go true p = contrary _ (r.clean g.item (ltb-true g.item i p) g.code g.cell) t
+    go true p = absurd (both_ways _ (r.clean g.item (ltb-true g.item i p) g.code g.cell) t)
     go false p =
-        contrary _
+        absurd (both_ways _
         (ap (λ (s : Option Stage). elim s as (λ z. Bool) [ None ↦ false | Some v ↦ cause g.code v (current_before plan g.item) g.cell ])
-        (past (stages plan) i g.item (stages_end plan i blocks k rows h r) (ltb-false g.item i p))) t
+        (past (stages plan) i g.item (stages_end plan i blocks k rows h r) (ltb-false g.item i p))) t)

@@ -2,7 +2,7 @@
 use Rattle.std.proofs.Common.{◌≡◌, Bool, true, false, List, Some, None, refl, sym, ap, ap₂, ◌∙◌}
 use Rattle.std.specs.Prelude.{◌&&◌, ◌||◌, not}
 use Rattle.std.specs.List.{list_any}
-use Rattle.std.proofs.lemmas.Bool.{and_from, and_left, and_right}
+use Rattle.std.proofs.lemmas.Bool.{and_from, and_left, and_right, both_ways, and_parts}
 use Rattle.base.specs.declared.item.Cell.{Cell}
 use Rattle.base.specs.declared.item.MapItem.{MapItem}
 use Rattle.base.specs.declared.item.ItemKind.TheVariants as kind
@@ -18,14 +18,7 @@ use Rattle.ranges.specs.declared.cells.Footprint.{Footprint}
 use Rattle.ranges.specs.Cells.{has}
 use Rattle.mapwalk.specs.Causes.{IsFirstOf, is_less, region_causes}
 use Rattle.mapwalk.specs.Regions.{AreTouches}
-use Rattle.mapwalk.proofs.Leasts.{least_same}
-
-contrary : {P : Type 0} (b : Bool) → b ≡ false → b ≡ true → P
-contrary b e f = absurd (let x : true ≡ false = sym f ∙ e in cc)
-
-second_of : (a b : Bool) → (a && b) ≡ true → b ≡ true
-second_of true b e = e
-second_of false b e = absurd cc
+use Rattle.base.proofs.Leasts.{least_same}
 
 -- the cells that a region reads first and that are not current
 abbrev pub stale : Footprint → (Cell → Bool) → Cell → Bool
@@ -82,8 +75,8 @@ host_first w f k cell e t h = (and_from (is_host w.kind) (stale_in w k.host cell
     order OverlapsInPart c g = absurd cc
     order ExitOfAbsent c g = absurd cc
     order UpdateOfAbsent c g = absurd cc
-    order Unmapped c g = contrary _ (and_left (is_target w.kind) (unmapped_in w c) (ap is_target e)) g
-    order HostNotCurrent c g = least.1 c (second_of (is_host w.kind) (stale_in w k.host c) g)
+    order Unmapped c g = absurd (both_ways _ (and_left (is_target w.kind) (unmapped_in w c) (ap is_target e)) g)
+    order HostNotCurrent c g = least.1 c (and_parts (is_host w.kind) (stale_in w k.host c) g).1
     order DeviceNotCurrent c g = refl
     order Conflict c g = refl
 
@@ -117,7 +110,7 @@ kernel_unmapped w f k maps cell e m t u = (and_from (is_target w.kind) (unmapped
     order OverlapsInPart c g = absurd cc
     order ExitOfAbsent c g = absurd cc
     order UpdateOfAbsent c g = absurd cc
-    order Unmapped c g = least.1 c (second_of (is_target w.kind) (unmapped_in w c) g)
+    order Unmapped c g = least.1 c (and_parts (is_target w.kind) (unmapped_in w c) g).1
     order HostNotCurrent c g = refl
     order DeviceNotCurrent c g = refl
     order Conflict c g = refl
@@ -139,7 +132,7 @@ kernel_stale w f k maps cell e m t u h =
     order ExitOfAbsent c g = absurd cc
     order UpdateOfAbsent c g = absurd cc
     order Unmapped c g =
-        contrary _ (and_right (is_target w.kind) (unmapped_in w c) (sym (touched_same w f maps t m c) ∙ u c)) g
-    order HostNotCurrent c g = contrary _ (and_left (is_host w.kind) (stale_in w k.host c) (ap is_host e)) g
-    order DeviceNotCurrent c g = least.1 c (second_of (is_target w.kind) (stale_in w k.device c) g)
+        absurd (both_ways _ (and_right (is_target w.kind) (unmapped_in w c) (sym (touched_same w f maps t m c) ∙ u c)) g)
+    order HostNotCurrent c g = absurd (both_ways _ (and_left (is_host w.kind) (stale_in w k.host c) (ap is_host e)) g)
+    order DeviceNotCurrent c g = least.1 c (and_parts (is_target w.kind) (stale_in w k.device c) g).1
     order Conflict c g = refl

@@ -1,7 +1,7 @@
 -- What an item does, spelled out of the row of its map items.
 use Rattle.std.proofs.Common.{◌≡◌, ℕ, Bool, true, false, List, [], ◌∷◌, ◌++◌, Option, Some, None, map, refl, sym, ap, ◌∙◌}
-use Rattle.std.specs.Prelude.{◌||◌}
 use Rattle.std.proofs.lemmas.List.Folds.{list_any-append}
+use Rattle.std.proofs.lemmas.Bool.{or_parts}
 use Rattle.base.specs.declared.item.Depend.{Depend}
 use Rattle.base.specs.declared.item.MapItem.{MapItem}
 use Rattle.base.specs.declared.item.ItemKind.{ItemKind}
@@ -18,14 +18,6 @@ use Rattle.mapwalk.specs.Seen.{entry_mets, exit_mets, update_mets}
 use Rattle.mapwalk.specs.Laws.{ActsAreActions, KeepsBlocks, actions_of, block_named, entry_actions, exit_actions, meets_in_part, update_actions}
 use Rattle.mapwalk.proofs.ActedParts.{all_entered, all_left, all_updated}
 use Rattle.mapwalk.proofs.WorkParts.{target_met}
-
-no_first : (a b : Bool) → (a || b) ≡ false → a ≡ false
-no_first false b e = refl
-no_first true b e = absurd cc
-
-no_second : (a b : Bool) → (a || b) ≡ false → b ≡ false
-no_second false b e = e
-no_second true b e = absurd cc
 
 abbrev met : MapItem → List Block → Met
 met item blocks = record { item = item; blocks = blocks }
@@ -118,10 +110,10 @@ each_entered f (item ∷ maps) blocks h =
     let next = blocks_after blocks (entry item blocks) in
     ap (λ xs. xs ++ (each_acts (entry_acts f) maps (entry_acts f item blocks).blocks).actions)
     (entry_one f item blocks ∙ entry_spelled (f item) item (entry item blocks)
-    (enters item blocks (no_first (in_part (met_at (met item blocks))) _ h)))
+    (enters item blocks (or_parts (in_part (met_at (met item blocks))) _ h).0))
     ∙ ap (λ bs. entry_part item (entry_of (f item) item blocks) ++ (each_acts (entry_acts f) maps bs).actions) (entry_next f item blocks)
     ∙ ap (λ ys. entry_part item (entry_of (f item) item blocks) ++ ys)
-    (each_entered f maps next (no_second (in_part (met_at (met item blocks))) _ h))
+    (each_entered f maps next (or_parts (in_part (met_at (met item blocks))) _ h).1)
 
 each_left : (f : MapItem → Bool) (maps : List MapItem) (blocks : List Block) → meets_in_part (exit_mets maps blocks) ≡ false →
     (each_acts (exit_acts f) maps blocks).actions ≡ exit_actions maps (exit_row f maps blocks)
@@ -130,10 +122,10 @@ each_left f (item ∷ maps) blocks h =
     let next = blocks_after blocks (exit item blocks) in
     ap (λ xs. xs ++ (each_acts (exit_acts f) maps (exit_acts f item blocks).blocks).actions)
     (exit_one f item blocks ∙ exit_spelled (f item) item (exit item blocks)
-    (leaves item blocks (no_first (in_part (met_at (met item blocks))) _ h)))
+    (leaves item blocks (or_parts (in_part (met_at (met item blocks))) _ h).0))
     ∙ ap (λ bs. exit_part item (exit_of (f item) item blocks) ++ (each_acts (exit_acts f) maps bs).actions) (exit_next f item blocks)
     ∙ ap (λ ys. exit_part item (exit_of (f item) item blocks) ++ ys)
-    (each_left f maps next (no_second (in_part (met_at (met item blocks))) _ h))
+    (each_left f maps next (or_parts (in_part (met_at (met item blocks))) _ h).1)
 
 abbrev update_part : MapItem → Acts → List Action
 update_part item a =
@@ -163,9 +155,9 @@ each_updated [] blocks h = refl
 each_updated (item ∷ maps) blocks h =
     let part = update_part item (updated item (presence blocks item.section)) in
     ap (λ xs. xs ++ (each_acts update_acts maps (update_acts item blocks).blocks).actions)
-    (update_one item blocks (no_first (in_part (met_at (met item blocks))) _ h))
+    (update_one item blocks (or_parts (in_part (met_at (met item blocks))) _ h).0)
     ∙ ap (λ bs. part ++ (each_acts update_acts maps bs).actions) (update_next item blocks)
-    ∙ ap (λ ys. part ++ ys) (each_updated maps blocks (no_second (in_part (met_at (met item blocks))) _ h))
+    ∙ ap (λ ys. part ++ ys) (each_updated maps blocks (or_parts (in_part (met_at (met item blocks))) _ h).1)
 
 abbrev resting : Acts → Bool
 resting a = a.rests
@@ -174,8 +166,8 @@ entry_rests : (f : MapItem → Bool) (maps : List MapItem) (blocks : List Block)
     map resting (entry_row f maps blocks) ≡ map f maps
 entry_rests f [] blocks h = refl
 entry_rests f (item ∷ maps) blocks h =
-    (λ i. go (entry item blocks) (enters item blocks (no_first (in_part (met_at (met item blocks))) _ h)) i
-    ∷ entry_rests f maps (blocks_after blocks (entry item blocks)) (no_second (in_part (met_at (met item blocks))) _ h) i)
+    (λ i. go (entry item blocks) (enters item blocks (or_parts (in_part (met_at (met item blocks))) _ h).0) i
+    ∷ entry_rests f maps (blocks_after blocks (entry item blocks)) (or_parts (in_part (met_at (met item blocks))) _ h).1 i)
   where
     go : (o : Option Move) → is_move o ≡ true → (moved (entered (f item)) item.section o).rests ≡ f item
     go None e = absurd cc
@@ -185,8 +177,8 @@ exit_rests : (f : MapItem → Bool) (maps : List MapItem) (blocks : List Block) 
     map resting (exit_row f maps blocks) ≡ map f maps
 exit_rests f [] blocks h = refl
 exit_rests f (item ∷ maps) blocks h =
-    (λ i. go (exit item blocks) (leaves item blocks (no_first (in_part (met_at (met item blocks))) _ h)) i
-    ∷ exit_rests f maps (blocks_after blocks (exit item blocks)) (no_second (in_part (met_at (met item blocks))) _ h) i)
+    (λ i. go (exit item blocks) (leaves item blocks (or_parts (in_part (met_at (met item blocks))) _ h).0) i
+    ∷ exit_rests f maps (blocks_after blocks (exit item blocks)) (or_parts (in_part (met_at (met item blocks))) _ h).1 i)
   where
     go : (o : Option Move) → is_move o ≡ true → (moved (left (f item)) item.section o).rests ≡ f item
     go None e = absurd cc
@@ -227,8 +219,10 @@ target_actions maps blocks region h keeps =
     let er = entry_row f maps blocks in
     let xr = exit_row f maps later in
     let apart = sym (list_any-append (λ (m : Met). in_part (met_at m)) (entry_mets maps blocks) (exit_mets maps later)) ∙ h in
-    let first : meets_in_part (entry_mets maps blocks) ≡ false = no_first _ (meets_in_part (exit_mets maps later)) apart in
-    let second : meets_in_part (exit_mets maps later) ≡ false = no_second (meets_in_part (entry_mets maps blocks)) _ apart in
+    let first : meets_in_part (entry_mets maps blocks) ≡ false =
+    (or_parts _ (meets_in_part (exit_mets maps later)) apart).0 in
+    let second : meets_in_part (exit_mets maps later) ≡ false =
+    (or_parts (meets_in_part (entry_mets maps blocks)) _ apart).1 in
     ap (λ xs. (xs ++ region) ++ (each_acts (exit_acts f) maps (each_acts (entry_acts f) maps blocks).blocks).actions)
     (each_entered f maps blocks first ∙ sym (joined_entries maps er xr))
     ∙ ap (λ bs. (entry_actions maps (joined er xr) ++ region) ++ (each_acts (exit_acts f) maps bs).actions)

@@ -1,5 +1,5 @@
 -- Sides, array by array.
-use Rattle.std.proofs.Common.{◌≡◌, ◌≢◌, ℕ, zero, suc, ◌+◌, ◌<◌, ◌≤◌, ◌==◌, Bool, true, false, List, [], ◌∷◌, ◌++◌, length, get_or, refl, sym, ap, ◌∙◌, arith, add-one}
+use Rattle.std.proofs.Common.{◌≡◌, ◌≢◌, ℕ, zero, suc, ◌+◌, ◌<◌, ◌≤◌, ◌==◌, Bool, true, false, List, [], ◌∷◌, ◌++◌, length, get_or, refl, sym, ap, ◌∙◌, arith, add-one, eqb-true, ltb-true}
 use Rattle.std.specs.Prelude.{nat_lt, nat_le, if◌then◌else◌, ◌&&◌, slice_set, slice_index, filter, cond}
 use Rattle.std.specs.List.{list_all, range_with_len}
 use Rattle.std.proofs.lemmas.Bool.Decides.{nat_tests}
@@ -12,9 +12,6 @@ use Rattle.base.proofs.Places.{get_set_same, get_set_other}
 use Rattle.mapwalk.specs.declared.marks.Marks.{Marks}
 use Rattle.mapwalk.specs.Current.{AreInside, is_full_in, marked, marks_at, marks_in, row_lengths}
 use Rattle.mapwalk.specs.Marks.{copied, covers, has_mark}
-
-pub same_number : (i j : ℕ) → (i == j) ≡ true → i ≡ j
-same_number i j e = grind (arith, nat_tests)
 
 pub other_number : (i j : ℕ) → (i == j) ≡ false → j ≢ i
 other_number i j e = grind (arith, nat_tests)
@@ -59,7 +56,7 @@ marks_set rows a v h c = go (c.array.0 == a) refl
     go : (t : Bool) → (c.array.0 == a) ≡ t →
         marks_in (slice_set rows a v) c ≡ (if t then has_mark v c.index else marks_in rows c)
     go true e =
-        ap (λ k. marks_at (slice_set rows a v) k c.index) (same_number c.array.0 a e)
+        ap (λ k. marks_at (slice_set rows a v) k c.index) (eqb-true c.array.0 a e)
         ∙ ap (λ o. marked o c.index) (get_set_same rows a v h)
     go false e =
         ap (λ o. marked o c.index) (get_set_other rows a v c.array.0 (other_number c.array.0 a e))
@@ -91,7 +88,7 @@ changed_side rows s v d from f h written same =
         (if t then has_mark v c.index else marks_in rows c)
         ≡ elim (t && (nat_le s.first c.index && nat_lt c.index (end_of s))) [ true ↦ from c | false ↦ marks_in rows c ]
     go c false e = refl
-    go c true e = written c.index ∙ pick c (same_number c.array.0 s.array.0 e) (covers s c.index)
+    go c true e = written c.index ∙ pick c (eqb-true c.array.0 s.array.0 e) (covers s c.index)
 
 -- no array is written where there is none
 pub unchanged_side : (rows : List Marks) (s : Section) (from : Cell → Bool) → length rows ≤ s.array.0 →
@@ -106,7 +103,7 @@ unchanged_side rows s from h none = fun_ext (λ (c : Cell). go c (c.array.0 == s
     go : (c : Cell) (t : Bool) → (c.array.0 == s.array.0) ≡ t → marks_in rows c
         ≡ elim (t && (nat_le s.first c.index && nat_lt c.index (end_of s))) [ true ↦ from c | false ↦ marks_in rows c ]
     go c false e = refl
-    go c true e = pick c (same_number c.array.0 s.array.0 e) (nat_le s.first c.index && nat_lt c.index (end_of s))
+    go c true e = pick c (eqb-true c.array.0 s.array.0 e) (nat_le s.first c.index && nat_lt c.index (end_of s))
 
 -- the rows below a are changed
 abbrev pub up_to : ℕ → ((Cell → Bool) → Cell → Bool) → (Cell → Bool) → Cell → Bool
@@ -130,7 +127,7 @@ up_step rows a v change before h inv here c = marks_set rows a v h c ∙ go (c.a
     go : (t : Bool) → (c.array.0 == a) ≡ t →
         (if t then has_mark v c.index else marks_in rows c) ≡ up_to (a + 1) change before c
     go true e =
-        let same : c.array.0 ≡ a = same_number c.array.0 a e in
+        let same : c.array.0 ≡ a = eqb-true c.array.0 a e in
         here c same (inv c ∙ ap (λ t. if t then change before c else before c) (at_itself c.array.0 a same))
         ∙ sym (ap (λ t. if t then change before c else before c) (just_below c.array.0 a same))
     go false e =
@@ -177,14 +174,11 @@ are_more [] mark v all new (suc a) i h = absurd (omega arith)
 are_more (r ∷ rows) mark v all new zero i h = all 0 i h
 are_more (r ∷ rows) mark v all new (suc a) i h = are_more rows mark v (λ b. all (suc b)) new a i h
 
-below : (i n : ℕ) → nat_lt i n ≡ true → i < n
-below i n e = grind (arith, nat_tests)
-
 pub all_start : (rows : List Marks) (lengths : List ℕ) (mark : Bool) → row_lengths rows ≡ lengths → AllAre mark rows →
     (c : Cell) → is_cell lengths c ≡ true → marks_in rows c ≡ mark
 all_start rows lengths mark e all c h =
     let long : slice_index (row_lengths rows) c.array.0 ≡ slice_index lengths c.array.0 = ap (λ ls. slice_index ls c.array.0) e in
-    let low : c.index < slice_index lengths c.array.0 = below c.index (slice_index lengths c.array.0) h in
+    let low : c.index < slice_index lengths c.array.0 = ltb-true c.index (slice_index lengths c.array.0) h in
     all c.array.0 c.index (omega arith)
 
 range_more : (a n : ℕ) → range_with_len a (suc n) ≡ range_with_len a n ++ (a + n) ∷ []

@@ -1,8 +1,8 @@
 -- What an item of a program does is spelled out of its row, where it meets nothing in part.
-use Rattle.std.proofs.Common.{◌≡◌, ℕ, zero, suc, ◌<◌, Bool, true, false, ◌==◌, List, [], ◌∷◌, ◌++◌, ◌⊎◌, inl, inr, map, Option, Some, None, refl, sym, ap, ◌∙◌, subst, arith}
-use Rattle.std.specs.Prelude.{filter, ◌||◌, nat_lt, slice_get, slice_index}
+use Rattle.std.proofs.Common.{◌≡◌, ℕ, zero, suc, ◌<◌, true, false, ◌==◌, List, [], ◌∷◌, ◌++◌, ◌⊎◌, inl, inr, map, Option, Some, None, refl, sym, ap, ◌∙◌, subst, arith}
+use Rattle.std.specs.Prelude.{filter, nat_lt, slice_get, slice_index}
 use Rattle.std.specs.List.{list_any}
-use Rattle.std.proofs.lemmas.Bool.{cases_Bool, cond-true, cond-false}
+use Rattle.std.proofs.lemmas.Bool.{cases_Bool, cond-true, cond-false, or_parts}
 use Rattle.std.proofs.lemmas.List.Folds.{list_any-append}
 use Rattle.std.proofs.lemmas.Option.{same_Some}
 use Rattle.base.proofs.Nils.{nil_parts}
@@ -32,10 +32,6 @@ use Rattle.mapwalk.proofs.TargetMaps.{target_keeps_maps}
 use Rattle.mapwalk.proofs.Walking.{no_fault_at}
 use Rattle.mapwalk.proofs.WorkParts.{parts}
 
-or_first : (a b : Bool) → (a || b) ≡ false → a ≡ false
-or_first false b e = refl
-or_first true b e = absurd cc
-
 long_from : (n : ℕ) → (n == 0) ≡ false → 0 < n
 long_from zero e = absurd cc
 long_from (suc n) e = omega arith
@@ -55,7 +51,8 @@ none_fail lengths (m ∷ maps) e = go (none_fail lengths maps) (cases_Bool (sect
         some : {x : RangeFault} {xs : List RangeFault} → x ∷ xs ≡ [] → ⊥
         some e = cc e
     go again (inr t) = (
-      long_from m.section.length (or_first (m.section.length == 0) (nat_lt (slice_index lengths m.section.array.0) (end_of m.section)) t),
+      long_from m.section.length
+          (or_parts (m.section.length == 0) (nat_lt (slice_index lengths m.section.array.0) (end_of m.section)) t).0,
       again (sym (ap (map map_fault)
           (cond-false (section_fails lengths m.section) (m ∷ filter (λ x. section_fails lengths x.section) maps)
           (filter (λ x. section_fails lengths x.section) maps) t)) ∙ e),
@@ -87,10 +84,10 @@ spelled_one w blocks k wide keeps h none = acts_are_actions w blocks apart targe
         let is : (acts_of w blocks).met ≡ entry_mets w.maps blocks ++ exit_mets w.maps (entries_after w.maps blocks) =
         met ∙ ap (λ kind. met_by kind w.maps blocks) e in
         kept_blocks w.maps blocks wide (keeps e)
-        (or_first (meets_in_part (entry_mets w.maps blocks)) (meets_in_part (exit_mets w.maps (entries_after w.maps blocks)))
+        (or_parts (meets_in_part (entry_mets w.maps blocks)) (meets_in_part (exit_mets w.maps (entries_after w.maps blocks)))
         (sym (list_any-append (λ (m : Met). in_part (met_at m)) (entry_mets w.maps blocks)
         (exit_mets w.maps (entries_after w.maps blocks)))
-        ∙ ap meets_in_part (sym is) ∙ apart))
+        ∙ ap meets_in_part (sym is) ∙ apart)).0
 
 record IsFine (w : Work) : Type 0 where
   wide : AllWide w.maps

@@ -1,9 +1,10 @@
 -- The cells that a region touches are cells of arrays.
-use Rattle.std.proofs.Common.{◌≡◌, ℕ, zero, suc, ◌==◌, Bool, true, false, List, [], ◌∷◌, ◌++◌, map, Option, Some, None, refl, sym, ap, ◌∙◌, arith}
-use Rattle.std.specs.Prelude.{nat_lt, nat_le, not, ◌&&◌, ◌||◌, if◌then◌else◌, filter, slice_get, slice_index, option_map}
+use Rattle.std.proofs.Common.{◌≡◌, ℕ, ◌==◌, Bool, true, false, List, [], ◌∷◌, map, Option, Some, None, refl, sym, ap, ◌∙◌, arith, ⊎_elim}
+use Rattle.std.specs.Prelude.{nat_lt, nat_le, not, ◌&&◌, if◌then◌else◌, filter, slice_get, slice_index, option_map}
 use Rattle.std.specs.List.{list_any}
-use Rattle.std.proofs.lemmas.Bool.{eqb-true}
+use Rattle.std.proofs.lemmas.Bool.{eqb-true, and_parts, or_cases}
 use Rattle.std.proofs.lemmas.Bool.Decides.{nat_tests}
+use Rattle.std.proofs.lemmas.Option.{slice_get-map}
 use Rattle.base.specs.declared.item.Cell.{Cell}
 use Rattle.base.specs.declared.item.Item.{Item}
 use Rattle.base.specs.declared.tree.Region.{Region}
@@ -17,14 +18,11 @@ use Rattle.outline.specs.Shown.{shown, work_with}
 use Rattle.ranges.specs.declared.cells.Footprint.{Footprint}
 use Rattle.ranges.specs.Cells.{has}
 use Rattle.mapwalk.specs.Regions.{IsWithin}
-
-no_second : {X : Type 0} (xs ys : List X) → xs ++ ys ≡ [] → ys ≡ []
-no_second [] ys e = e
-no_second (x ∷ xs) ys e = absurd cc
+use Rattle.base.proofs.Nils.{nil_parts}
 
 -- an item with no fault of range has none in its region
 pub no_region_fault : (lengths : List ℕ) (w : Work) → range_faults lengths w ≡ [] → region_faults lengths w.loops w.region ≡ []
-no_region_fault lengths w e = no_second _ (region_faults lengths w.loops w.region) e
+no_region_fault lengths w e = (nil_parts _ (region_faults lengths w.loops w.region) e).1
 
 in_array : (lengths : List ℕ) (a b i hi : ℕ) → a ≡ b → nat_le (slice_index lengths a) hi ≡ false → nat_le i hi ≡ true →
     nat_lt i (slice_index lengths b) ≡ true
@@ -35,20 +33,12 @@ in_array lengths a b i hi e far low =
     between : (m n i hi : ℕ) → m ≡ n → nat_le m hi ≡ false → nat_le i hi ≡ true → nat_lt i n ≡ true
     between m n i hi e f l = grind (arith, nat_tests)
 
-first_of : (a b : Bool) → (a && b) ≡ true → a ≡ true
-first_of true b e = refl
-first_of false b e = absurd cc
-
-second_of : (a b : Bool) → (a && b) ≡ true → b ≡ true
-second_of true b e = e
-second_of false b e = absurd cc
-
 touch_inside : (lengths : List ℕ) (t : Touch) (c : Cell) → leaves_array lengths t ≡ false → has_cell c t ≡ true →
     is_cell lengths c ≡ true
 touch_inside lengths t c far has =
-    let same : t.array.0 ≡ c.array.0 = eqb-true t.array.0 c.array.0 (first_of (t.array.0 == c.array.0) _ has) in
-    let low : nat_le c.index t.cells.hi ≡ true = second_of (nat_le t.cells.lo c.index) (nat_le c.index t.cells.hi)
-    (second_of (t.array.0 == c.array.0) _ has) in
+    let same : t.array.0 ≡ c.array.0 = eqb-true t.array.0 c.array.0 (and_parts (t.array.0 == c.array.0) _ has).0 in
+    let low : nat_le c.index t.cells.hi ≡ true = (and_parts (nat_le t.cells.lo c.index) (nat_le c.index t.cells.hi)
+    (and_parts (t.array.0 == c.array.0) _ has).1).1 in
     in_array lengths t.array.0 c.array.0 c.index t.cells.hi same far low
 
 abbrev NoneLeaves : List ℕ → List Touch → Type 0
@@ -69,25 +59,23 @@ none_leaves lengths (t ∷ rest) e = go (none_leaves lengths rest) (leaves_array
 
 pub none_of_region : (lengths loops : List ℕ) (r : Region) → region_faults lengths loops (Some r) ≡ [] →
     NoneLeaves lengths (touches_of r loops)
-none_of_region lengths loops r e = none_leaves lengths (touches_of r loops) (no_second _ _ e)
-
-or_cases : {P : Type 0} (a b : Bool) → (a || b) ≡ true → (a ≡ true → P) → (b ≡ true → P) → P
-or_cases true b e f g = f refl
-or_cases false b e f g = g e
+none_of_region lengths loops r e = none_leaves lengths (touches_of r loops) (nil_parts _ _ e).1
 
 any_inside : (lengths : List ℕ) (c : Cell) (g : Touch → Bool) → ((t : Touch) → g t ≡ true → has_cell c t ≡ true) →
     (touches : List Touch) → NoneLeaves lengths touches → list_any g touches ≡ true → is_cell lengths c ≡ true
 any_inside lengths c g h [] none e = absurd cc
 any_inside lengths c g h (t ∷ rest) none e =
-    or_cases (g t) (list_any g rest) e (λ x. touch_inside lengths t c none.0 (h t x)) (any_inside lengths c g h rest none.1)
+    ⊎_elim (λ x. touch_inside lengths t c none.0 (h t x)) (any_inside lengths c g h rest none.1)
+    (or_cases (g t) (list_any g rest) e)
 
 exposes_inside : (lengths : List ℕ) (c : Cell) (touches : List Touch) → NoneLeaves lengths touches → exposes touches c ≡ true →
     is_cell lengths c ≡ true
 exposes_inside lengths c [] none e = absurd cc
 exposes_inside lengths c (t ∷ rest) none e =
-    or_cases (not t.is_write && has_cell c t) (exposes rest c) (second_of (not (is_sure c t)) _ e)
-    (λ x. touch_inside lengths t c none.0 (second_of (not t.is_write) (has_cell c t) x))
+    ⊎_elim
+    (λ x. touch_inside lengths t c none.0 (and_parts (not t.is_write) (has_cell c t) x).1)
     (exposes_inside lengths c rest none.1)
+    (or_cases (not t.is_write && has_cell c t) (exposes rest c) (and_parts (not (is_sure c t)) _ e).1)
 
 abbrev touches_with : List ℕ → Option Region → List Touch
 touches_with loops None = []
@@ -112,18 +100,13 @@ all_inside lengths loops r f e exposed read write sure =
     record {
       exposed = λ c h. exposes_inside lengths c touches none (sym (exposed c) ∙ h);
       read = λ c h. any_inside lengths c (λ t. not t.is_write && has_cell c t)
-          (λ t x. second_of (not t.is_write) (has_cell c t) x) touches none (sym (read c) ∙ h);
+          (λ t x. (and_parts (not t.is_write) (has_cell c t) x).1) touches none (sym (read c) ∙ h);
       write = λ c h. any_inside lengths c (λ t. t.is_write && has_cell c t)
-          (λ t x. second_of t.is_write (has_cell c t) x) touches none (sym (write c) ∙ h);
+          (λ t x. (and_parts t.is_write (has_cell c t) x).1) touches none (sym (write c) ∙ h);
       sure = λ c h. any_inside lengths c (is_sure c)
-          (λ t x. second_of _ (has_cell c t) (second_of t.certain _ (second_of t.is_write _ x))) touches none (sym (sure c) ∙ h);
+          (λ t x. (and_parts _ (has_cell c t) (and_parts t.certain _ (and_parts t.is_write _ x).1).1).1) touches none
+          (sym (sure c) ∙ h);
     }
-
-get_entry : (regions : List RegionEntry) (k : ℕ) (e : RegionEntry) → slice_get regions k ≡ Some e →
-    slice_get (map entry_of regions) k ≡ Some (entry_of e)
-get_entry [] k e h = absurd cc
-get_entry (r ∷ regions) zero e h = let same : r ≡ e = cc in ap (λ x. Some (entry_of x)) same
-get_entry (r ∷ regions) (suc k) e h = get_entry regions k e h
 
 -- what an item with this region is shown as
 pub shown_is : (regions : List RegionEntry) (entries : List Entry) (item : Item) (k : ℕ) (e : RegionEntry) →
@@ -135,7 +118,8 @@ shown_is regions entries item k e are number held = rw number there
         ≡ Some (work_with item (Some e.region.now))
     there =
         ap (λ es. option_map (λ (x : Entry). work_with item (Some x.region)) (slice_get es k)) (sym are)
-        ∙ ap (option_map (λ (x : Entry). work_with item (Some x.region))) (get_entry regions k e held)
+        ∙ ap (option_map (λ (x : Entry). work_with item (Some x.region)))
+        (slice_get-map entry_of regions k ∙ ap (option_map entry_of) held)
 
 pub same_work : (a b : Work) (o : Option Work) → o ≡ Some a → o ≡ Some b → a ≡ b
 same_work a b o e f = let x : ◌≡◌ {A = Option Work} (Some a) (Some b) = sym e ∙ f in cc

@@ -1,12 +1,8 @@
 -- The first number of some that another test does not have, found from one number to the next.
 use Rattle.std.proofs.Common.{◌≡◌, ℕ, ◌+◌, ◌<◌, ◌≤◌, Bool, true, false, Some, None, ap, ◌∙◌, arith, ⊎_elim}
 use Rattle.std.specs.Prelude.{nat_le, not, ◌&&◌}
-use Rattle.std.proofs.lemmas.Bool.{and_from, and_left, and_right, cases_eq, cases_lt, le-leb, not_from_true, not_from_false}
+use Rattle.std.proofs.lemmas.Bool.{and_from, and_left, and_right, cases_eq, cases_lt, le-leb, not_from_true, not_from_false, and_parts}
 use Rattle.bits.specs.Sets.{IsFirstAt}
-
-second_of : (a b : Bool) → (a && b) ≡ true → b ≡ true
-second_of true b e = e
-second_of false b e = absurd cc
 
 not_second : (a b : Bool) → a ≡ true → (a && b) ≡ false → b ≡ false
 not_second true b e f = f
@@ -22,7 +18,7 @@ module _ (some had : ℕ → Bool) (from : ℕ) (before : (j : ℕ) → j < from
   pub first_lacking : (i : ℕ) → IsFirstAt (λ j. nat_le from j && some j) (Some i) → had i ≡ false →
       IsFirstAt (λ j. some j && not (had j)) (Some i)
   first_lacking i first e = (
-    and_from (some i) (not (had i)) (second_of (nat_le from i) (some i) first.0) (not_from_false (had i) e),
+    and_from (some i) (not (had i)) (and_parts (nat_le from i) (some i) first.0).1 (not_from_false (had i) e),
     λ j l. unseen j (first.1 j l),
   )
 

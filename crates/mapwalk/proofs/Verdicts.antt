@@ -1,6 +1,6 @@
 -- The first cause of an item.
-use Rattle.std.proofs.lemmas.Bool.{or_left}
-use Rattle.std.proofs.Common.{◌≡◌, ℕ, ◌≤◌, ◌==◌, Bool, true, false, List, Option, Some, None, refl, sym, ap, ◌∙◌, subst, arith}
+use Rattle.std.proofs.lemmas.Bool.{or_left, or_cases}
+use Rattle.std.proofs.Common.{◌≡◌, ℕ, ◌≤◌, ◌==◌, Bool, true, false, List, Option, Some, None, refl, sym, ap, ◌∙◌, subst, arith, ⊎_elim}
 use Rattle.std.specs.Prelude.{nat_lt, ◌&&◌, ◌||◌}
 use Rattle.std.proofs.lemmas.Bool.Decides.{nat_tests}
 use Rattle.base.specs.declared.item.Cell.{Cell}
@@ -52,10 +52,6 @@ region_high w k Conflict c h = absurd cc
 not_less : (r x : ℕ) (b : Bool) → 4 ≤ r → x ≤ 3 → (nat_lt r x || ((r == x) && b)) ≡ false
 not_less r x b low high = grind (arith, nat_tests)
 
-or_cases : {P : Type 0} (a b : Bool) → (a || b) ≡ true → (a ≡ true → P) → (b ≡ true → P) → P
-or_cases true b e f g = f refl
-or_cases false b e f g = g e
-
 or_last : (a b : Bool) → a ≡ false → (a || b) ≡ b
 or_last false b e = refl
 or_last true b e = absurd cc
@@ -81,9 +77,10 @@ module _ (w : Work) (blocks : List Block) (k : Current) where
   met_is_first x h =
       whole (Some x) (
         or_left (met x.code x.cell) (region x.code x.cell) h.0,
-        λ code c t. or_cases (met code c) (region code c) t (h.1 code c)
+        λ code c t. ⊎_elim (h.1 code c)
             (λ u. not_less (refusal_rank code) (refusal_rank x.code) (is_cell_less c x.cell)
-            (region_high w (at_region w blocks k) code c u) (met_low w.kind (met_by w.kind w.maps blocks) x.code x.cell h.0)),
+            (region_high w (at_region w blocks k) code c u) (met_low w.kind (met_by w.kind w.maps blocks) x.code x.cell h.0))
+            (or_cases (met code c) (region code c) t),
       )
 
   -- where map items make none, the region's is the first

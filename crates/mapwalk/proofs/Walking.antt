@@ -1,5 +1,5 @@
 -- The walk, item by item.
-use Rattle.std.proofs.Common.{◌≡◌, ◌≢◌, ℕ, zero, suc, ◌+◌, ◌<◌, ◌==◌, Bool, true, false, List, [], ◌∷◌, ◌++◌, length, take, drop, get_or, Option, Some, None, refl, sym, ap, ◌∙◌, subst, arith, append_assoc, add-one}
+use Rattle.std.proofs.Common.{◌≡◌, ◌≢◌, ℕ, zero, suc, ◌+◌, ◌<◌, ◌==◌, Bool, true, false, List, [], ◌∷◌, ◌++◌, length, take, drop, get_or, Option, Some, None, refl, sym, ap, ◌∙◌, subst, arith, append_assoc, add-one, eqb-true}
 use Rattle.std.specs.Prelude.{slice_get}
 use Rattle.std.proofs.Math.Seq.{take-append_seam}
 use Rattle.base.specs.declared.item.Cell.{Cell}
@@ -18,7 +18,7 @@ use Rattle.mapwalk.specs.Acts.{acts_rows}
 use Rattle.mapwalk.specs.Steps.{HasDone, stage_of}
 use Rattle.mapwalk.specs.Walk.{HasNoRangeFault}
 use Rattle.mapwalk.proofs.Agreeing.{Agree, actions_agree, cause_agree}
-use Rattle.mapwalk.proofs.SideRows.{same_number, other_number}
+use Rattle.mapwalk.proofs.SideRows.{other_number}
 
 -- the item with its region in full
 pub record WorkAt (entries : List Entry) (works : List Work) (i : ℕ) (x : Item) : Type 0 where
@@ -162,5 +162,5 @@ next plan i blocks now k j rows row w none e r d =
     all_clean n h = go (n == i) refl
       where
         go : (t : Bool) → (n == i) ≡ t → IsClean plan n
-        go true same = subst (IsClean plan) (sym (same_number n i same)) this_clean
+        go true same = subst (IsClean plan) (sym (eqb-true n i same)) this_clean
         go false other = r.clean n (let ne : i ≢ n = other_number n i other in omega arith)

@@ -1,7 +1,8 @@
 -- What an item does, by the rows of its map items and its region.
-use Rattle.std.proofs.Common.{◌≡◌, ℕ, Bool, true, false, List, [], ◌∷◌, ◌++◌, Option, Some, None, refl, sym, ap, ◌∙◌, append-nil, append_assoc}
+use Rattle.std.proofs.Common.{◌≡◌, ℕ, Bool, false, List, [], ◌∷◌, ◌++◌, Option, Some, None, refl, sym, ap, ◌∙◌, append-nil, append_assoc}
 use Rattle.std.specs.Prelude.{not, ◌&&◌, ◌||◌}
 use Rattle.std.specs.List.{list_any}
+use Rattle.std.proofs.Math.Bool.{or-false}
 use Rattle.base.specs.declared.item.Cell.{Cell}
 use Rattle.base.specs.declared.item.Depend.{Depend}
 use Rattle.base.specs.declared.item.MapItem.{MapItem}
@@ -208,20 +209,16 @@ parts_of Wait d maps ds region loops blocks =
 pub parts : (w : Work) (blocks : List Block) → Parts w blocks
 parts w blocks = parts_of w.kind w.deferred w.maps w.depends w.region w.loops blocks
 
-or_false : (b : Bool) → b ≡ (b || false)
-or_false true = refl
-or_false false = refl
-
 -- a cause is one that map items make, or one that the region makes
 pub cause_split : (w : Work) (blocks : List Block) (k : Current) (code : RefusalCode) (c : Cell) →
     cause code (stage_of w blocks) k c
     ≡ (met_causes w.kind (met_by w.kind w.maps blocks) code c || region_causes w (at_region w blocks k) code c)
 cause_split w blocks k OverlapsInPart c =
-    ap (λ ms. list_any (is_part_cell c) ms) (parts w blocks).met ∙ or_false _
+    ap (λ ms. list_any (is_part_cell c) ms) (parts w blocks).met ∙ sym (or-false _)
 cause_split w blocks k ExitOfAbsent c =
-    ap (λ ms. is_exit w.kind && list_any (is_absent_cell c) ms) (parts w blocks).met ∙ or_false _
+    ap (λ ms. is_exit w.kind && list_any (is_absent_cell c) ms) (parts w blocks).met ∙ sym (or-false _)
 cause_split w blocks k UpdateOfAbsent c =
-    ap (λ ms. is_update w.kind && list_any (is_absent_cell c) ms) (parts w blocks).met ∙ or_false _
+    ap (λ ms. is_update w.kind && list_any (is_absent_cell c) ms) (parts w blocks).met ∙ sym (or-false _)
 cause_split w blocks k Unmapped c = refl
 cause_split w blocks k HostNotCurrent c = (parts w blocks).host_stale k c
 cause_split w blocks k DeviceNotCurrent c = (parts w blocks).device_stale k c

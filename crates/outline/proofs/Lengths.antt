@@ -2,6 +2,7 @@
 use Rattle.std.proofs.Common.{◌≡◌, ℕ, zero, suc, ◌+◌, ◌*◌, ◌≤◌, min, List, [], ◌∷◌, ◌++◌, length, refl, sym, ap, ◌∙◌, arith, length-append}
 use Rattle.std.proofs.Math.Nat.{zero-mul, suc-mul}
 use Rattle.std.proofs.lemmas.List.Sums.{sum_by-cons}
+use Rattle.std.proofs.lemmas.List.{nil_from_length}
 use Rattle.base.specs.declared.tree.Bounds.{Bounds}
 use Rattle.base.specs.declared.tree.Part.{Part, Row_of-Part, end_of-Part, more_of-Part}
 use Rattle.base.specs.declared.tree.Part.TheVariants as part
@@ -53,10 +54,6 @@ pub list_is_parts : (parts : List Part) (lengths : List ℕ) → list_items part
 list_is_parts [] lengths = refl
 list_is_parts (p ∷ parts) lengths = ap (λ ws. items_of p lengths [] ++ ws) (list_is_parts parts lengths)
 
-none : (ws : List Work) → length ws ≡ 0 → ws ≡ []
-none [] h = refl
-none (w ∷ ws) h = absurd (omega (arith, h))
-
 none_turned : (n v step : ℕ) (body : ℕ → List Work) → ((u : ℕ) → body u ≡ []) → turned_out n v step body ≡ []
 none_turned zero v step body h = refl
 none_turned (suc n) v step body h = (λ i. h v i ++ none_turned n (v + step) step body h i)
@@ -68,7 +65,7 @@ pub no_turns : (b : Bounds) (body : List Part) (lengths loops : List ℕ) (n m :
 no_turns b body lengths loops n m n_is zero_is some =
     let empty : list_count body ≡ 0 = omega (arith, n_is, zero_is, some) in
     none_turned (turns_left b.first b) b.first b.step (λ v. parts_items body lengths (loops ++ v ∷ []))
-    (λ v. none _ (list_length body lengths (loops ++ v ∷ []) ∙ empty))
+    (λ v. nil_from_length _ (list_length body lengths (loops ++ v ∷ []) ∙ empty))
 
 pub plan_length : (p : Program) → length (plan p).items ≡ list_count p.body.items
 plan_length p =

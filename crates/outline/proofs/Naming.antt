@@ -1,7 +1,8 @@
 -- What statements name whose own statements stand in a vector.
-use Rattle.std.proofs.Common.{◌≡◌, ℕ, Bool, true, false, List, refl, sym, ap, ap₂, ◌∙◌, Vec, Global}
+use Rattle.std.proofs.Common.{◌≡◌, ℕ, Bool, List, refl, sym, ap, ap₂, ◌∙◌, Vec, Global}
 use Rattle.std.specs.Prelude.{◌||◌}
 use Rattle.std.specs.List.{list_any}
+use Rattle.std.proofs.Math.Bool.{or_assoc}
 use mathlib.Core.Former.{Count}
 use Rattle.base.specs.declared.tree.Expr.{Expr}
 use Rattle.base.specs.declared.tree.Bounds.{Bounds}
@@ -9,10 +10,6 @@ use Rattle.base.specs.declared.tree.Stmt.{Stmt, Block, Loop, If, Row_of-Stmt, en
 use Rattle.base.specs.Items.{expr_uses, stmt_uses, row_uses}
 use Rattle.outline.specs.Captures.{expr_reads, stmt_reads, row_reads, stmt_declares, row_declares}
 use Rattle.outline.proofs.Rows.{StmtRow, first_row, second_row}
-
-or_grouped : (p q r : Bool) → ((p || q) || r) ≡ (p || (q || r))
-or_grouped true q r = refl
-or_grouped false q r = refl
 
 uses_list : (a : ℕ) (n : Count) (row : Row_of-Stmt n) → row_uses a row ≡ list_any (stmt_uses a)
     (items-the_row-Stmt n row)
@@ -47,7 +44,7 @@ pub uses_in_If : (a : ℕ) (s : Stmt) (c : Expr) (all other : Vec Stmt Global) (
     p ≡ expr_uses a c → q ≡ list_any (stmt_uses a) xs → r ≡ list_any (stmt_uses a) ys →
     ((p || q) || r) ≡ stmt_uses a s
 uses_in_If a s c all other xs ys p q r is xs_is ys_is p_is q_is r_is =
-    or_grouped p q r
+    or_assoc p q r
     ∙ (λ i. p_is i || ((q_is ∙ ap (λ zs. list_any (stmt_uses a) zs) xs_is) i
     || (r_is ∙ ap (λ zs. list_any (stmt_uses a) zs) ys_is) i))
     ∙ sym (uses_If a c all other) ∙ ap (λ t. stmt_uses a t) (sym is)
@@ -85,7 +82,7 @@ pub reads_in_If : (x : ℕ) (s : Stmt) (c : Expr) (all other : Vec Stmt Global) 
     p ≡ expr_reads x c → q ≡ list_any (stmt_reads x) xs → r ≡ list_any (stmt_reads x) ys →
     ((p || q) || r) ≡ stmt_reads x s
 reads_in_If x s c all other xs ys p q r is xs_is ys_is p_is q_is r_is =
-    or_grouped p q r
+    or_assoc p q r
     ∙ (λ i. p_is i || ((q_is ∙ ap (λ zs. list_any (stmt_reads x) zs) xs_is) i
     || (r_is ∙ ap (λ zs. list_any (stmt_reads x) zs) ys_is) i))
     ∙ sym (reads_If x c all other) ∙ ap (λ t. stmt_reads x t) (sym is)

@@ -21,7 +21,7 @@ use Rattle.present.proofs.Shown.{presence_absent, presence_inside, presence_part
 use Rattle.present.proofs.Moves.{created_move, raised_move, entry_absent, entry_there, entry_part}
 use Rattle.present.proofs.BlockReads.{change_insert, change_set}
 
-get_replicate : (n i v : ℕ) → i < n → slice_get (replicate n v) i ≡ Some v
+pub get_replicate : (n i v : ℕ) → i < n → slice_get (replicate n v) i ≡ Some v
 get_replicate zero i v h = absurd (omega arith)
 get_replicate (suc n) zero v h = refl
 get_replicate (suc n) (suc i) v h = get_replicate n i v (omega arith)

@@ -177,7 +177,7 @@ after_is fill t blocks true false m = refl
 after_is fill t blocks false true m = refl
 after_is fill t blocks false false m = refl
 
-no_enter : (fill : Fill) (item : MapItem) (m : Memories) → entry item m.device.blocks ≡ None →
+pub no_enter : (fill : Fill) (item : MapItem) (m : Memories) → entry item m.device.blocks ≡ None →
     enter fill item m ≡ None
 no_enter fill item m e = ap (option_map _) e
 

@@ -1,16 +1,13 @@
 -- The loops that decide what statements touch which stand in a vector.
-use Rattle.std.proofs.Common.{◌≡◌, ℕ, Bool, true, false, List, refl, sym, ap, ap₂, ◌∙◌, Vec, Global}
+use Rattle.std.proofs.Common.{◌≡◌, ℕ, Bool, true, List, refl, sym, ap, ap₂, ◌∙◌, Vec, Global}
 use Rattle.std.specs.Prelude.{◌||◌}
+use Rattle.std.proofs.Math.Bool.{or_assoc}
 use mathlib.Core.Former.{Count}
 use Rattle.base.specs.declared.tree.Expr.{Expr}
 use Rattle.base.specs.declared.tree.Bounds.{Bounds}
 use Rattle.base.specs.declared.tree.Stmt.{Stmt, Block, Loop, If, Row_of-Stmt, end_of-Stmt, more_of-Stmt, items-the_row-Stmt, items_hidden-the_row-Stmt-0}
 use Rattle.ranges.specs.Deciding.{expr_decided, stmt_decided, row_decided, list_decided}
 use Rattle.ranges.proofs.Touches.{first_row, second_row}
-
-or_grouped : (p q r : Bool) → ((p || q) || r) ≡ (p || (q || r))
-or_grouped true q r = refl
-or_grouped false q r = refl
 
 decided_list : (k : ℕ) (n : Count) (row : Row_of-Stmt n) → row_decided k row ≡ list_decided k (items-the_row-Stmt n row)
 decided_list k n end_of-Stmt = refl
@@ -44,7 +41,7 @@ pub decided_in_If : (k : ℕ) (s : Stmt) (c : Expr) (all other : Vec Stmt Global
     p ≡ expr_decided true k c → q ≡ list_decided k xs → r ≡ list_decided k ys →
     ((p || q) || r) ≡ stmt_decided k s
 decided_in_If k s c all other xs ys p q r is xs_is ys_is p_is q_is r_is =
-    or_grouped p q r
+    or_assoc p q r
     ∙ (λ i. p_is i || ((q_is ∙ ap (λ zs. list_decided k zs) xs_is) i
     || (r_is ∙ ap (λ zs. list_decided k zs) ys_is) i))
     ∙ sym (decided_If k c all other) ∙ ap (λ t. stmt_decided k t) (sym is)

@@ -8,7 +8,7 @@ use Rattle.bits.specs.Sets.{IsEndOf, IsFirstAt}
 use Rattle.ranges.specs.Reach.{AreLeastRuns, IsFirstOr, IsLeastRun, cell_of}
 use Rattle.base.specs.declared.item.Cell.{Cell}
 use Rattle.base.proofs.Places.{get_left, get_right}
-use Rattle.std.proofs.lemmas.Option.{slice_get_within}
+use Rattle.std.proofs.lemmas.Option.{slice_get_within, same_Some}
 
 from_none : (p : ℕ → Bool) (i : ℕ) → (nat_le 0 i && p i) ≡ p i
 from_none p i = ap (λ b. b && p i) (le-leb 0 i (omega arith))
@@ -58,9 +58,6 @@ least_run p q m n first second s ends ends' begins begins' is length_is = record
       or_left (p (end_of s - 1)) (q (end_of s - 1)) (ap p e ∙ ends.last (omega arith))) (cases_lt m n);
 }
 
-same_one : {A : Type 0} (o : Option A) (x y : A) → o ≡ Some x → o ≡ Some y → x ≡ y
-same_one o x y e f = let g : Some x ≡ Some y = sym e ∙ f in cc
-
 -- Runs of several arrays, one more.
 pub least_more : (p : Cell → Bool) (n : ℕ) (runs after : List Section) (s : Section) → s.array.0 ≡ n →
     IsLeastRun (λ i. p (cell_of n i)) s → after ≡ runs ++ s ∷ [] → AreLeastRuns p n runs → AreLeastRuns p (n + 1) after
@@ -94,7 +91,7 @@ least_more p n runs after s a one e h = record {
             let none : k - length runs ≡ 0 = omega arith in
             let last : slice_get (runs ++ s ∷ []) k ≡ Some s =
             get_right runs (s ∷ []) k (omega arith) ∙ ap (slice_get (s ∷ [])) none in
-            let same : s ≡ t = same_one (slice_get (runs ++ s ∷ []) k) s t last g in
+            let same : s ≡ t = same_Some s t (sym last ∙ g) in
             subst (λ x. (x.array.0 ≡ k) × IsLeastRun (λ i. p (cell_of k i)) x) same
             (subst (λ (m : ℕ). (s.array.0 ≡ m) × IsLeastRun (λ i. p (cell_of m i)) s) is (a, one))
 

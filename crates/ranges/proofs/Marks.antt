@@ -1,5 +1,5 @@
 -- Cells that are added to a row one after the other.
-use Rattle.std.proofs.Common.{◌≡◌, ℕ, ◌+◌, ◌<◌, ◌≤◌, ◌==◌, Bool, true, false, refl, sym, ap, ap₂, ◌∙◌, arith}
+use Rattle.std.proofs.Common.{◌≡◌, ℕ, ◌+◌, ◌<◌, ◌≤◌, ◌==◌, Bool, true, false, refl, sym, ap, ap₂, ◌∙◌, arith, eqb-true}
 use Rattle.std.specs.Prelude.{not, ◌&&◌, ◌||◌, nat_le, nat_lt}
 use Rattle.std.proofs.Math.Bool.{or-false, or-true}
 use Rattle.std.proofs.lemmas.Bool.Decides.{nat_tests}
@@ -27,9 +27,6 @@ pub marks_begin : (row now : ℕ → Bool) (lo end : ℕ) (excluded : ℕ → Bo
     now ≡ marked_to row lo lo end excluded
 marks_begin row now lo end excluded e = fun_ext (λ j. e j ∙ begins row lo end excluded j)
 
-pub number_is : (i j : ℕ) → (i == j) ≡ true → i ≡ j
-number_is i j e = grind (arith, nat_tests)
-
 one_later : (i j : ℕ) → (i == j) ≡ false → nat_lt j i ≡ nat_lt j (i + 1)
 one_later i j e = grind (arith, nat_tests)
 
@@ -43,7 +40,7 @@ passed before excluded lo i end h j = go (i == j) refl
   where
     go : (b : Bool) → (i == j) ≡ b → marked_to before lo i end excluded j ≡ marked_to before lo (i + 1) end excluded j
     go true e =
-        let x : excluded j ≡ true = ap excluded (sym (number_is i j e)) ∙ h in
+        let x : excluded j ≡ true = ap excluded (sym (eqb-true i j e)) ∙ h in
         ap (λ m. before j || m) (excluded_is (nat_le lo j && (nat_lt j i && nat_lt j end)) (excluded j) x
         ∙ sym (excluded_is (nat_le lo j && (nat_lt j (i + 1) && nat_lt j end)) (excluded j) x))
     go false e = ap (λ m. before j || ((nat_le lo j && (m && nat_lt j end)) && not (excluded j))) (one_later i j e)
@@ -64,7 +61,7 @@ set_here before excluded lo i end h low high j = go (i == j) refl
     go : (b : Bool) → (i == j) ≡ b → (marked_to before lo i end excluded j || b) ≡ marked_to before lo (i + 1) end
         excluded j
     go true e =
-        let x : excluded j ≡ false = ap excluded (sym (number_is i j e)) ∙ h in
+        let x : excluded j ≡ false = ap excluded (sym (eqb-true i j e)) ∙ h in
         or-true (marked_to before lo i end excluded j)
         ∙ sym (ap₂ (λ m y. before j || (m && not y)) (reached lo i j end e low high) x ∙ or-true (before j))
     go false e =

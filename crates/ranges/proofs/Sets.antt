@@ -1,8 +1,9 @@
 -- Sets of cells by their rows.
-use Rattle.std.proofs.Common.{◌≡◌, ◌≢◌, ℕ, zero, suc, ◌<◌, ◌==◌, Bool, true, false, List, [], ◌∷◌, ◌++◌, length, get_or, Some, refl, sym, ap, ◌∙◌, arith}
-use Rattle.std.specs.Prelude.{slice_get, slice_set}
-use Rattle.std.proofs.lemmas.Bool.Decides.{nat_tests}
+use Rattle.std.proofs.Common.{◌≡◌, ℕ, zero, suc, ◌<◌, ◌==◌, Bool, true, false, List, [], ◌∷◌, ◌++◌, length, get_or, Some, refl, sym, ap, ◌∙◌, eqb-true}
+use Rattle.std.specs.Prelude.{slice_set}
 use Rattle.std.proofs.lemmas.Option.{slice_get-get_or}
+use Rattle.std.proofs.lemmas.Bool.{eqb-false}
+use Rattle.base.proofs.Places.{get_set_same, get_set_other}
 use mathlib.Core.Path.{fun_ext}
 use Rattle.base.specs.declared.tree.ArrayId.{ArrayId}
 use Rattle.base.specs.declared.item.Cell.{Cell}
@@ -10,7 +11,6 @@ use Rattle.ranges.specs.declared.row.Row.{Row}
 use Rattle.bits.specs.declared.set.BitSet.{BitSet}
 use Rattle.bits.specs.Sets.{has}
 use Rattle.ranges.specs.Cells.{row_at, cells_of}
-use Rattle.ranges.proofs.Marks.{number_is}
 
 module _ (none : BitSet) (empty : (i : ℕ) → has none i ≡ false) where
   one_row_more : (rows : List Row) (row : Row) → ((i : ℕ) → has row.cells i ≡ false) → (a i : ℕ) →
@@ -26,21 +26,6 @@ module _ (none : BitSet) (empty : (i : ℕ) → has none i ≡ false) where
   rows_more rows after row is e = ap (λ xs (c : Cell). has (row_at none xs c.array.0) c.index) is
       ∙ fun_ext (λ (c : Cell). one_row_more rows row e c.array.0 c.index)
 
-get_in : {X : Type 0} (xs : List X) (i : ℕ) (v : X) → i < length xs → slice_get (slice_set xs i v) i ≡ Some v
-get_in [] i v h = absurd (omega arith)
-get_in (x ∷ xs) zero v h = refl
-get_in (x ∷ xs) (suc i) v h = get_in xs i v (omega arith)
-
-get_else : {X : Type 0} (xs : List X) (i : ℕ) (v : X) (j : ℕ) → i ≢ j → slice_get (slice_set xs i v) j ≡ slice_get xs j
-get_else [] i v j h = refl
-get_else (x ∷ xs) zero v zero h = absurd (h refl)
-get_else (x ∷ xs) zero v (suc j) h = refl
-get_else (x ∷ xs) (suc i) v zero h = refl
-get_else (x ∷ xs) (suc i) v (suc j) h = get_else xs i v j (λ e. h (ap suc e))
-
-differ : (a b : ℕ) → (a == b) ≡ false → a ≢ b
-differ a b h = grind (arith, nat_tests)
-
 -- one row has other marks
 pub row_changed : (none : BitSet) (rows : List Row) (a : ArrayId) (old new : Row) (now : Bool → ℕ → ℕ → Bool → Bool) →
     a.0 < length rows →
@@ -54,13 +39,13 @@ row_changed none rows a old new now within is other here c = go (a.0 == c.array.
     go : (b : Bool) → (a.0 == c.array.0) ≡ b → has (row_at none (slice_set rows a.0 new) c.array.0) c.index
         ≡ now b c.array.0 c.index (has (row_at none rows c.array.0) c.index)
     go true h =
-        let same : a.0 ≡ c.array.0 = number_is a.0 c.array.0 h in
+        let same : a.0 ≡ c.array.0 = eqb-true a.0 c.array.0 h in
         let held : row_at none rows c.array.0 ≡ old.cells = ap (row_at none rows) (sym same) ∙ ap (cells_of none)
         (slice_get-get_or rows a.0 old within ∙ ap Some (sym is)) in
         ap (λ k. has (row_at none (slice_set rows a.0 new) k) c.index) (sym same)
-        ∙ ap (λ o. has (cells_of none o) c.index) (get_in rows a.0 new within)
+        ∙ ap (λ o. has (cells_of none o) c.index) (get_set_same rows a.0 new within)
         ∙ here c.index
         ∙ (λ i. now true (same i) c.index (has (sym held i) c.index))
     go false h =
-        ap (λ o. has (cells_of none o) c.index) (get_else rows a.0 new c.array.0 (differ a.0 c.array.0 h))
+        ap (λ o. has (cells_of none o) c.index) (get_set_other rows a.0 new c.array.0 (eqb-false a.0 c.array.0 h))
         ∙ sym (other c.array.0 c.index (has (row_at none rows c.array.0) c.index))

@@ -1,5 +1,5 @@
 -- What is seen after some touches and then others.
-use Rattle.std.proofs.Common.{◌≡◌, ℕ, zero, suc, ◌+◌, ◌<◌, ◌≤◌, Bool, List, [], ◌∷◌, ◌++◌, refl, sym, ap, ◌∙◌, Vec, Global, arith, drop, length, get_or, add-one}
+use Rattle.std.proofs.Common.{◌≡◌, ℕ, suc, ◌+◌, ◌<◌, ◌≤◌, Bool, List, [], ◌∷◌, ◌++◌, refl, sym, ap, ◌∙◌, Vec, Global, drop, length, get_or, add-one, drop-cons}
 use Rattle.std.specs.Prelude.{◌&&◌}
 use Rattle.base.specs.declared.fault.Interval.{Interval}
 use Rattle.base.specs.declared.tree.Expr.{Expr}
@@ -80,11 +80,6 @@ from_Loop lengths s b all xs loops certain seen is xs_is =
     ∙ ap (λ ts. after lengths ts seen) (sym (touches_Loop b all loops certain) ∙ ap
     (λ t. stmt_touches t loops certain) (sym is))
 
-drop_next : {X : Type 0} (xs : List X) (k : ℕ) (d : X) → k < length xs → drop k xs ≡ get_or xs k d ∷ drop (suc k) xs
-drop_next [] k d h = absurd (omega arith)
-drop_next (x ∷ xs) zero d h = refl
-drop_next (x ∷ xs) (suc k) d h = drop_next xs k d (omega arith)
-
 -- the next statement was walked
 pub walked_next : (lengths : List ℕ) (all : List Stmt) (k : ℕ) (item : Stmt) (loops held : List ℕ) (certain : Bool)
     (seen new : Seen) →
@@ -101,7 +96,7 @@ walked_next lengths all k item loops held certain seen new within is held_is new
     ∙ sym (after_append lengths (stmt_touches item loops certain) (list_touches (drop (suc k) all) loops certain) seen)
     ∙ ap (λ x. after lengths (stmt_touches x loops certain ++ list_touches (drop (suc k) all) loops certain)
     seen) is
-    ∙ ap (λ xs. after lengths (list_touches xs loops certain) seen) (sym (drop_next all k item within))
+    ∙ ap (λ xs. after lengths (list_touches xs loops certain) seen) (sym (drop-cons all k item within))
 
 -- one turn, and the turns after it
 pub turn_touches : (v : ℕ) (b : Bounds) (body : List Stmt) (loops : List ℕ) (certain : Bool) → v < b.end →

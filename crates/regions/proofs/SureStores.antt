@@ -3,6 +3,7 @@ use Rattle.std.proofs.Common.{◌≡◌, ◌⊎◌, ℕ, zero, suc, ◌+◌, ◌
 use Rattle.std.specs.Prelude.{◌&&◌, flat_map, option_and_then, option_map, if◌then◌else◌}
 use Rattle.std.proofs.lemmas.Bool.{false≢true, and_right, or_cases}
 use Rattle.std.proofs.lemmas.List.Folds.{list_any-append}
+use Rattle.std.proofs.lemmas.Option.{same_Some, none-some}
 use Rattle.base.specs.declared.item.Cell.{Cell}
 use Rattle.base.specs.declared.fault.Interval.{Interval}
 use Rattle.base.specs.declared.tree.ArrayId.{ArrayId}
@@ -22,7 +23,6 @@ use Rattle.regions.proofs.Intervals.{Has}
 use Rattle.regions.proofs.Needs.{Every, Unsure, expr_reads}
 use Rattle.regions.proofs.ExprValues.{in_cells}
 use Rattle.regions.proofs.StatementsDone.{AllSmall, small_push, SmallView, small_list, last_push, sure_is}
-use Rattle.regions.proofs.KnownValues.{some_is, none_is}
 use Rattle.regions.proofs.StatementOutcomes.{Met, Sound, source_known, value_known}
 use Rattle.regions.proofs.RegionsDone.{reads_unsure, source_unsure, unless_unsure, row_unsure, turn_below}
 use Rattle.regions.proofs.FootprintsHold.{all_met, not_nonzero, not_zero, stmt_outcome, row_outcome}
@@ -91,7 +91,7 @@ module _ (view : View) (small_view : SmallView view) where
       ((m : Run) → o ≡ Some m → g m ≡ Some t → Covers ys m t) →
       option_and_then g o ≡ Some t →
       Covers (xs ++ ys) s t
-  both_covered xs ys s None g t p q e = absurd (none_is t e)
+  both_covered xs ys s None g t p q e = absurd (none-some t e)
   both_covered xs ys s (Some m) g t p q e = then_covers xs ys s m t (p m refl) (q m refl e)
 
   assign_covered : (loops : List ℕ) (x : ℕ) (src : Source) (certain : Bool) → AllSmall loops →
@@ -103,10 +103,10 @@ module _ (view : View) (small_view : SmallView view) where
     where
       go : (o : Option (ℕ × Run)) → ((r : ℕ × Run) → o ≡ Some r → r.1.stores ≡ s.stores) → assigned x o ≡ Some t →
           t.stores ≡ s.stores
-      go None h i = absurd (none_is t i)
+      go None h i = absurd (none-some t i)
       go (Some r) h i =
           let next : Run = record (r.1) { scalars = set_scalar x r.0 r.1.scalars } in
-          ap (λ (y : Run). y.stores) (sym (some_is next t i)) ∙ h r refl
+          ap (λ (y : Run). y.stores) (sym (same_Some next t i)) ∙ h r refl
 
   print_covered : (loops : List ℕ) (e : Expr) (certain : Bool) →
       Covered (λ s. option_map (printed s) (value e (names_in view loops s))) (expr_touches e loops certain)
@@ -115,8 +115,8 @@ module _ (view : View) (small_view : SmallView view) where
       (go (value e (names_in view loops s)) i)
     where
       go : (o : Option ℕ) → option_map (printed s) o ≡ Some t → t.stores ≡ s.stores
-      go None h = absurd (none_is t h)
-      go (Some n) h = ap (λ (y : Run). y.stores) (sym (some_is (printed s n) t h))
+      go None h = absurd (none-some t h)
+      go (Some n) h = ap (λ (y : Run). y.stores) (sym (same_Some (printed s n) t h))
 
   module _ (loops : List ℕ) (a : ArrayId) (place : Place) (e : Expr) (src : Source) (certain : Bool) where
     abbrev written : Touch
@@ -175,17 +175,17 @@ module _ (view : View) (small_view : SmallView view) where
         viewed : (i : ℕ) (r : ℕ × Run) (old : Option ℕ) → Has (interval e loops) i → r.1.stores ≡ s.stores →
             option_map (λ (x : ℕ). let next : Run = record (r.1) { stores = r.1.stores ++ (cell_at i, r.0) ∷ [] } in
             next) old ≡ Some t → Covers touches s t
-        viewed i r None has same k = absurd (none_is t k)
+        viewed i r None has same k = absurd (none-some t k)
         viewed i r (Some x) has same k =
             let next : Run = record (r.1) { stores = r.1.stores ++ (cell_at i, r.0) ∷ [] } in
-            pushed i r has same (ap (λ (y : Run). y.stores) (sym (some_is next t k)))
+            pushed i r has same (ap (λ (y : Run). y.stores) (sym (same_Some next t k)))
 
         indexed : (o : Option ℕ) → ((n : ℕ) → o ≡ Some n → Has (interval e loops) n) →
             (q : Option (ℕ × Run)) → ((r : ℕ × Run) → q ≡ Some r → r.1.stores ≡ s.stores) →
             option_and_then (λ i. stored view (cell_at i) q) o ≡ Some t →
             Covers touches s t
-        indexed None has q same k = absurd (none_is t k)
-        indexed (Some i) has None same k = absurd (none_is t k)
+        indexed None has q same k = absurd (none-some t k)
+        indexed (Some i) has None same k = absurd (none-some t k)
         indexed (Some i) has (Some r) same k = viewed i r (view (cell_at i)) (has i refl) (same r refl) k
 
   if_covered : (o : Option ℕ) (i : Interval) (f g : Run → Option Run) (xs ys : List Touch) →
@@ -195,7 +195,7 @@ module _ (view : View) (small_view : SmallView view) where
       Covered f xs →
       Covered g ys →
       Covered (choose o f g) (unless (is_known_zero i) xs ++ unless (is_known_nonzero i) ys)
-  if_covered None i f g xs ys has ux uy cf cg s h t e = absurd (none_is t e)
+  if_covered None i f g xs ys has ux uy cf cg s h t e = absurd (none-some t e)
   if_covered (Some zero) i f g xs ys has ux uy cf cg s h t e =
       let d = cg s h t e in
       let no = unless_unsure (is_known_zero i) xs (ux (not_nonzero i (has 0 refl))) in
@@ -224,7 +224,7 @@ module _ (view : View) (small_view : SmallView view) where
       Covered (turn n at b.step (λ k. run_row row view (loops ++ k ∷ [])))
       (turns_touch n at b.step (λ k. row_touches row (loops ++ k ∷ []) certain))
   turns_covered b loops certain row l each zero at le s h t e = same_stores [] s t tt
-      (ap (λ (y : Run). y.stores) (sym (some_is s t e)))
+      (ap (λ (y : Run). y.stores) (sym (same_Some s t e)))
   turns_covered b loops certain row l each (suc n) at le s h t e =
       let below = turn_below b at n le in
       let here = loops ++ at ∷ [] in
@@ -266,7 +266,7 @@ module _ (view : View) (small_view : SmallView view) where
     row_covered : {m : _} (row : Row_of-Stmt m) (loops : List ℕ) (certain : Bool) → AllSmall loops →
         Covered (run_row row view loops) (row_touches row loops certain)
     row_covered end_of-Stmt loops certain l s h t e = same_stores [] s t tt
-        (ap (λ (y : Run). y.stores) (sym (some_is s t e)))
+        (ap (λ (y : Run). y.stores) (sym (same_Some s t e)))
     row_covered (more_of-Stmt first rest) loops certain l s h t e =
         both_covered (stmt_touches first loops certain) (row_touches rest loops certain) s (run_stmt first view loops s)
         (run_row rest view loops) t
@@ -277,7 +277,7 @@ module _ (view : View) (small_view : SmallView view) where
 
   list_covered : (all : List Stmt) (loops : List ℕ) → AllSmall loops →
       Covered (run_list all view loops) (flat_map (λ st. stmt_touches st loops true) all)
-  list_covered [] loops l s h t e = same_stores [] s t tt (ap (λ (y : Run). y.stores) (sym (some_is s t e)))
+  list_covered [] loops l s h t e = same_stores [] s t tt (ap (λ (y : Run). y.stores) (sym (same_Some s t e)))
   list_covered (first ∷ rest) loops l s h t e =
       both_covered (stmt_touches first loops true) (flat_map (λ st. stmt_touches st loops true) rest) s
       (run_stmt first view loops s) (run_list rest view loops) t
@@ -292,7 +292,7 @@ sure_writes_are_stored r loops view scalars input run l bv bs bi e c h =
     (list_covered view bv r.body.items loops (small_list loops l)
     (record { scalars = scalars; stores = []; input = input; printed = [] })
     (record {
-      fine = record { scalars = bs; input = small_list input bi; stores = λ c n e. absurd (none_is n e) };
+      fine = record { scalars = bs; input = small_list input bi; stores = λ c n e. absurd (none-some n e) };
       within = tt;
     })
     run e).sure

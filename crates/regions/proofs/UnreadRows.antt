@@ -1,7 +1,8 @@
 -- The loops that statements name whose own statements stand in a vector.
-use Rattle.std.proofs.Common.{◌≡◌, ℕ, Bool, true, false, List, refl, sym, ap, ap₂, ◌∙◌, Vec, Global}
+use Rattle.std.proofs.Common.{◌≡◌, ℕ, Bool, List, refl, sym, ap, ap₂, ◌∙◌, Vec, Global}
 use Rattle.std.specs.Prelude.{◌||◌}
 use Rattle.std.specs.List.{list_any}
+use Rattle.std.proofs.Math.Bool.{or_assoc}
 use mathlib.Core.Former.{Count}
 use Rattle.base.specs.declared.tree.Expr.{Expr}
 use Rattle.base.specs.declared.tree.Bounds.{Bounds}
@@ -21,10 +22,6 @@ first_row _ = (_, end_of-Stmt)
 abbrev second_row : Stmt → StmtRow
 second_row (If' _ _ _ _ row) = (_, row)
 second_row _ = (_, end_of-Stmt)
-
-or_grouped : (p q r : Bool) → ((p || q) || r) ≡ (p || (q || r))
-or_grouped true q r = refl
-or_grouped false q r = refl
 
 reads_list : (k : ℕ) (n : Count) (row : Row_of-Stmt n) → row_reads_outer k row ≡ list_any (stmt_reads_outer k)
     (items-the_row-Stmt n row)
@@ -61,7 +58,7 @@ pub reads_in_If : (k : ℕ) (s : Stmt) (c : Expr) (all other : Vec Stmt Global) 
     p ≡ expr_reads_outer k c → q ≡ list_any (stmt_reads_outer k) xs → r ≡ list_any (stmt_reads_outer k) ys →
     ((p || q) || r) ≡ stmt_reads_outer k s
 reads_in_If k s c all other xs ys p q r is xs_is ys_is p_is q_is r_is =
-    or_grouped p q r
+    or_assoc p q r
     ∙ (λ i. p_is i || ((q_is ∙ ap (λ zs. list_any (stmt_reads_outer k) zs) xs_is) i
     || (r_is ∙ ap (λ zs. list_any (stmt_reads_outer k) zs) ys_is) i))
     ∙ sym (reads_If k c all other) ∙ ap (λ t. stmt_reads_outer k t) (sym is)

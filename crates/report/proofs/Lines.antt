@@ -4,6 +4,7 @@ use Rattle.std.proofs.lemmas.List.{take_more, length-take}
 use Rattle.std.specs.Prelude.{slice_get, option_map}
 use Rattle.std.specs.Io.KnownBytes.{Appends}
 use Rattle.std.proofs.KnownBytes.{Appends-trans}
+use Rattle.std.proofs.lemmas.Option.{same_Some}
 use Rattle.base.specs.declared.item.Item.{Item}
 use Rattle.base.specs.declared.tree.Program.{Program}
 use Rattle.base.specs.Items.{Work, plan}
@@ -18,20 +19,17 @@ abbrev pub item_lines : Program → ℕ → List Item → List ℕ
 item_lines p n [] = []
 item_lines p n (it ∷ its) = item_line p n it ++ item_lines p (n + 1) its
 
-some_same : {X : Type 0} (x y : X) → Some x ≡ Some y → x ≡ y
-some_same x y h = cc
-
 by_entry : (p : Program) (n : ℕ) (it : Item) (w : Work) (o : Option Entry) →
     option_map (λ (e : Entry). work_with it (Some e.region)) o ≡ Some w → item_line p n it ≡ work_line p n w
 by_entry p n it w None h = cc
-by_entry p n it w (Some e) h = ap (λ v. work_line p n v) (some_same (work_with it (Some e.region)) w h)
+by_entry p n it w (Some e) h = ap (λ v. work_line p n v) (same_Some (work_with it (Some e.region)) w h)
 
 by_region : (es : List Entry) (p : Program) (n : ℕ) (it : Item) (w : Work) (o : Option ℕ) →
     (elim o [
       | None ↦ Some (work_with it None)
       | Some k ↦ option_map (λ (e : Entry). work_with it (Some e.region)) (slice_get es k)
     ]) ≡ Some w → item_line p n it ≡ work_line p n w
-by_region es p n it w None h = ap (λ v. work_line p n v) (some_same (work_with it None) w h)
+by_region es p n it w None h = ap (λ v. work_line p n v) (same_Some (work_with it None) w h)
 by_region es p n it w (Some k) h = by_entry p n it w (slice_get es k) h
 
 -- an item has the line of the work that it shows

@@ -4,6 +4,7 @@ use Rattle.std.specs.Prelude.{◌&&◌, nat_le, nat_lt, slice_get, slice_index, 
 use Rattle.std.proofs.lemmas.Bool.{cases_lt}
 use Rattle.std.proofs.lemmas.List.{length-set}
 use Rattle.std.proofs.lemmas.Option.{slice_get-map}
+use Rattle.std.proofs.Math.Bool.{and-false}
 use Rattle.base.specs.declared.item.Event.TheVariants.{Close}
 use Rattle.base.specs.Items.{Work}
 use Rattle.base.specs.Machine.{is_closed, is_wait, is_predecessor, on_item, precedes}
@@ -14,7 +15,6 @@ use Rattle.taskgraph.proofs.Counts.{closed_in, set_at, close_keeps, close_takes}
 use Rattle.taskgraph.proofs.Kept.{may_close}
 use Rattle.taskgraph.proofs.Stays.{after}
 use Rattle.taskgraph.proofs.Releases.{uncounted}
-use Rattle.taskgraph.proofs.Laws.{and_false}
 
 -- what item j waits for, before and after item i is closed
 pub closing : (b : Board) (s i j place : ℕ) → i < length b.stages → closed_in b i ≡ false →
@@ -40,7 +40,7 @@ host_precedes b i j f e d =
     slice_get-map work_of b.tasks i ∙ ap (option_map work_of) e in
     ap (λ (o : Option Work). nat_lt i j && elim o
     [ None ↦ false | Some v ↦ on_item (plan_in b) j false (λ w. is_predecessor v w) ]) at
-    ∙ ap (λ x. nat_lt i j && x) (no_one (slice_get (map work_of b.tasks) j)) ∙ and_false (nat_lt i j)
+    ∙ ap (λ x. nat_lt i j && x) (no_one (slice_get (map work_of b.tasks) j)) ∙ and-false (nat_lt i j)
   where
     no_one : (o : Option Work) → elim o [ None ↦ false | Some w ↦ is_predecessor (work_of f) w ] ≡ false
     no_one None = refl
@@ -48,7 +48,7 @@ host_precedes b i j f e d =
 
 pub host_counted : (b : Board) (s i j : ℕ) (f : Facts) → slice_get b.tasks i ≡ Some f → f.deferred ≡ false →
     is_counted (plan_in b) s i j ≡ false
-host_counted b s i j f e d = ap (λ x. nat_le s i && x) (host_precedes b i j f e d) ∙ and_false (nat_le s i)
+host_counted b s i j f e d = ap (λ x. nat_le s i && x) (host_precedes b i j f e d) ∙ and-false (nat_le s i)
 
 pub was_open : (b : Board) (i : ℕ) → stage_at b i ≡ stage.Open → closed_in b i ≡ false
 was_open b i e = ap (λ x. is_closed (condition_of x)) e

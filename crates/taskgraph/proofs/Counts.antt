@@ -4,12 +4,12 @@ use Rattle.std.specs.Prelude.{◌&&◌, not}
 use Rattle.std.specs.List.{slice_set}
 use Rattle.std.proofs.lemmas.Bool.{cases_eq}
 use Rattle.std.proofs.lemmas.List.{get_or-set_same, get_or-set_other}
+use Rattle.std.proofs.Math.Bool.{and-false, and-true}
 use Rattle.base.specs.Machine.{is_closed}
 use Rattle.taskgraph.specs.declared.Stage.{Stage}
 use Rattle.taskgraph.specs.declared.Stage.TheVariants as stage
 use Rattle.taskgraph.specs.Board.{Board, plan_in, stage_at, condition_of}
 use Rattle.taskgraph.specs.Waiting.{is_counted, holds_back, one_if, held_by}
-use Rattle.taskgraph.proofs.Laws.{and_false, and_true}
 
 abbrev pub closed_in : Board → ℕ → Bool
 closed_in b k = is_closed (condition_of (stage_at b k))
@@ -69,9 +69,9 @@ close_takes b i place s j zero lt was =
     let c = set_at b i stage.Closed place in
     let p = is_counted (plan_in b) s i j in
     let first : held_by b s j (suc i) ≡ held_by b s j i + one_if p =
-    ap (λ x. held_by b s j i + one_if (p && not x)) was ∙ ap (λ x. held_by b s j i + one_if x) (and_true p) in
+    ap (λ x. held_by b s j i + one_if (p && not x)) was ∙ ap (λ x. held_by b s j i + one_if x) (and-true p) in
     let second : held_by c s j (suc i) ≡ held_by c s j i + 0 =
-    ap (λ x. held_by c s j i + one_if (p && not x)) now ∙ ap (λ x. held_by c s j i + one_if x) (and_false p) in
+    ap (λ x. held_by c s j i + one_if (p && not x)) now ∙ ap (λ x. held_by c s j i + one_if x) (and-false p) in
     let kept = close_keeps b i place s j i (omega arith) in
     let taken : held_by b s j (suc i) ≡ held_by c s j (suc i) + one_if p = omega (arith, first, second, kept) in
     let none : suc i ≡ suc i + 0 = omega arith in

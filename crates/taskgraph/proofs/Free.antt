@@ -4,6 +4,7 @@ use Rattle.std.specs.Prelude.{◌==◌, ◌&&◌, ◌||◌, not, nat_le, slice_g
 use Rattle.std.proofs.lemmas.Bool.{and_parts, cases_lt, eq-eqb, eqb-true, le-leb, ne_eqb}
 use Rattle.std.proofs.lemmas.List.{length-map}
 use Rattle.std.proofs.lemmas.Option.{slice_get-map, slice_get_within}
+use Rattle.std.proofs.Math.Bool.{and-false, and_comm}
 use Rattle.base.specs.declared.item.Event.TheVariants.{Open, Wait}
 use Rattle.base.specs.Items.{Work}
 use Rattle.base.specs.Machine.{is_closed, is_wait, is_waiting, is_ready, precedes}
@@ -14,7 +15,6 @@ use Rattle.taskgraph.specs.Waiting.{IsBarred, IsBehind, IsFirst, IsGraph, IsStar
 use Rattle.taskgraph.proofs.Counts.{closed_in, free}
 use Rattle.taskgraph.proofs.Readiness.{closed_ready, freed, ready_closed}
 use Rattle.taskgraph.proofs.Kept.{is_generated}
-use Rattle.taskgraph.proofs.Laws.{and_false}
 use Rattle.taskgraph.proofs.Precedence.{bare_precedes, before, deferred_of}
 use Rattle.taskgraph.proofs.Ready.{at}
 
@@ -76,7 +76,7 @@ begins_here b f j h e = go (is_wait f.kind) f.deferred refl refl e
 
 settle : (x y : Bool) → (y ≡ true → x ≡ true) → y ≡ (x && y)
 settle x true h = sym (ap (λ z. z && true) (h refl))
-settle x false h = sym (and_false x)
+settle x false h = sym (and-false x)
 
 pub free_is : (b : Board) (starts ends counts : List ℕ) (first j : ℕ) (f : Facts) → IsGraph b starts ends counts first →
     slice_get b.tasks j ≡ Some f → is_bare (work_of f) ≡ false → waits_for b starts j ≡ 0 →
@@ -118,7 +118,8 @@ bare_ready b first j h here bare = go (cases_lt first j)
 pub bare_is : (b : Board) (first j : ℕ) (f : Facts) → IsFirst b first → slice_get b.tasks j ≡ Some f →
     is_bare (work_of f) ≡ true →
     ((b.place == j) && (first == j)) ≡ (allows b (Open j) || allows b (Wait j))
-bare_is b first j f h e bare = go (b.place == j) refl ∙ sym (waits ∙ and_comm)
+bare_is b first j f h e bare =
+    go (b.place == j) refl ∙ sym (waits ∙ and_comm (is_ready (plan_in b) (state_in b) j) (b.place == j))
   where
     wait : is_wait f.kind ≡ true
     wait = (and_parts (is_wait f.kind) _ bare).0
@@ -127,15 +128,6 @@ bare_is b first j f h e bare = go (b.place == j) refl ∙ sym (waits ∙ and_com
     waits =
         at b j f e ∙ ap (λ w. is_ready (plan_in b) (state_in b) j && (if w then (b.place == j)
         else ((f.deferred || (b.place == j)) && is_waiting f.deferred (condition_of (stage_at b j))))) wait
-
-    swap : (x y : Bool) → (x && y) ≡ (y && x)
-    swap true true = refl
-    swap true false = refl
-    swap false true = refl
-    swap false false = refl
-
-    and_comm : (is_ready (plan_in b) (state_in b) j && (b.place == j)) ≡ ((b.place == j) && is_ready (plan_in b) (state_in b) j)
-    and_comm = swap (is_ready (plan_in b) (state_in b) j) (b.place == j)
 
     bare_here : is_bare_at (plan_in b) j ≡ true
     bare_here =

@@ -1,7 +1,7 @@
 -- What each event keeps of a graph.
 use Rattle.std.proofs.Common.{◌≡◌, ℕ, ◌<◌, Bool, true, false, length, map, Option, Some, None, refl, sym, ap, subst, ◌∙◌}
 use Rattle.std.specs.Prelude.{◌||◌, ◌==◌, not, slice_get, option_map}
-use Rattle.std.proofs.lemmas.Bool.{and_parts, eqb-true}
+use Rattle.std.proofs.lemmas.Bool.{and_parts, eqb-true, not-true}
 use Rattle.std.proofs.lemmas.Option.{slice_get-map, slice_get_within}
 use Rattle.base.specs.declared.item.Event.TheVariants.{Gen, Open, Close, Wait}
 use Rattle.base.specs.Items.{Work}
@@ -85,10 +85,6 @@ is_untouched stage.Open e = absurd cc
 is_untouched stage.Closed e = absurd cc
 is_untouched stage.Passed e = absurd cc
 
-pub not_true : (x : Bool) → not x ≡ true → x ≡ false
-not_true false e = refl
-not_true true e = absurd cc
-
 pub may_open : (b : Board) (i : ℕ) → allows b (Open i) ≡ true → MayOpen b i
 may_open b i e =
     let f = find_item b i _ e in
@@ -99,7 +95,7 @@ may_open b i e =
       facts = f.facts;
       is = f.is;
       inside = f.inside;
-      no_wait = not_true (is_wait f.facts.kind) p.0;
+      no_wait = not-true (is_wait f.facts.kind) p.0;
       deferred = λ d. is_generated (stage_at b i)
           (subst (λ x. is_waiting x ((state_in b).condition i) ≡ true) d r.0);
       here = λ d. (

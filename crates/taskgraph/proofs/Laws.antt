@@ -4,6 +4,7 @@ use Rattle.std.specs.Prelude.{◌==◌, ◌&&◌, ◌||◌, not, nat_lt, slice_g
 use Rattle.std.specs.List.{list_all, range_with_len}
 use Rattle.std.proofs.lemmas.Option.{slice_get-map, slice_get_within}
 use Rattle.std.proofs.lemmas.List.{length-map}
+use Rattle.std.proofs.Math.Bool.{and-false}
 use Rattle.taskgraph.specs.Laws.{AllowedIsEnabled}
 use Rattle.base.specs.declared.item.Event.{Event}
 use Rattle.base.specs.declared.item.Event.TheVariants as event
@@ -84,14 +85,6 @@ all_same : (p q : ℕ → Bool) (xs : List ℕ) → ((x : ℕ) → p x ≡ q x) 
 all_same p q [] h = refl
 all_same p q (x ∷ xs) h = rw (h x, all_same p q xs h) refl
 
-pub and_false : (x : Bool) → (x && false) ≡ false
-and_false true = refl
-and_false false = refl
-
-pub and_true : (x : Bool) → (x && true) ≡ x
-and_true true = refl
-and_true false = refl
-
 -- an item that precedes another is one
 pub precedes_inside : (b : Board) (i j : ℕ) → precedes (plan_in b) i j ≡ true → i < length b.tasks
 precedes_inside b i j e = go (slice_get b.tasks i) refl
@@ -103,7 +96,7 @@ precedes_inside b i j e = go (slice_get b.tasks i) refl
         slice_get-map work_of b.tasks i ∙ ap (option_map work_of) f in
         let no : precedes (plan_in b) i j ≡ false =
         ap (λ x. nat_lt i j && elim x [ None ↦ false | Some e ↦ on_item (plan_in b) j false (is_predecessor e) ]) none
-        ∙ and_false (nat_lt i j) in
+        ∙ and-false (nat_lt i j) in
         absurd (let bad : true ≡ false = sym e ∙ no in cc)
 
 implied_same : (x y p : Bool) → (p ≡ true → x ≡ y) → (not p || x) ≡ (not p || y)

@@ -1,15 +1,15 @@
 -- Which tasks precede which.
-use Rattle.std.proofs.Common.{◌≡◌, ℕ, zero, suc, ◌+◌, ◌<◌, ◌≤◌, Bool, true, false, List, map, Option, Some, None, refl, ap, ◌∙◌, arith}
+use Rattle.std.proofs.Common.{◌≡◌, ℕ, zero, suc, ◌+◌, ◌<◌, ◌≤◌, Bool, true, false, List, map, Option, Some, None, refl, ap, ◌∙◌, arith, add-one}
 use Rattle.std.specs.Prelude.{◌&&◌, not, nat_le, nat_lt, slice_get, option_map}
 use Rattle.std.proofs.lemmas.Bool.{le-leb, lt-ltb}
 use Rattle.std.proofs.lemmas.Bool.Decides.{nat_tests}
 use Rattle.std.proofs.lemmas.Option.{slice_get-map}
+use Rattle.std.proofs.Math.Bool.{and-true}
 use Rattle.base.specs.Items.{Work}
 use Rattle.base.specs.Machine.{is_closed, is_predecessor, precedes}
 use Rattle.taskgraph.specs.declared.Task.{Task}
 use Rattle.taskgraph.specs.Board.{Facts, Board, task_facts, work_of, untouched, plan_in, state_in}
 use Rattle.taskgraph.specs.Waiting.{is_counted, one_if, held_by}
-use Rattle.taskgraph.proofs.Laws.{and_true}
 
 abbrev pub facts_in : List Task → List Facts
 facts_in ts = map task_facts ts
@@ -41,24 +41,21 @@ one_more : (ts : List Task) (s k j : ℕ) (t u : Task) → slice_get ts k ≡ So
 unfolding held_by
 one_more ts s k j t u e f le lt =
     ap (λ x. held_by (untouched (facts_in ts)) s j k + one_if x)
-    (and_true (is_counted (plan_in (untouched (facts_in ts))) s k j)
+    (and-true (is_counted (plan_in (untouched (facts_in ts))) s k j)
     ∙ ap (λ x. x && precedes (plan_in (untouched (facts_in ts))) k j) (le-leb s k le)
     ∙ precedes_is (untouched (facts_in ts)) ts k j t u refl e f lt)
-
-next : (k : ℕ) → k + 1 ≡ suc k
-next k = omega arith
 
 pub counted : (ts : List Task) (s k j : ℕ) (t u : Task) → slice_get ts k ≡ Some t → slice_get ts j ≡ Some u → s ≤ k → k < j →
     is_predecessor (work_of (task_facts t)) (work_of (task_facts u)) ≡ true →
     held_by (untouched (facts_in ts)) s j (k + 1) ≡ held_by (untouched (facts_in ts)) s j k + 1
 counted ts s k j t u e f le lt p =
-    ap (held_by (untouched (facts_in ts)) s j) (next k) ∙ one_more ts s k j t u e f le lt ∙ ap (λ x. held_by (untouched (facts_in ts)) s j k + one_if x) p
+    ap (held_by (untouched (facts_in ts)) s j) (add-one k) ∙ one_more ts s k j t u e f le lt ∙ ap (λ x. held_by (untouched (facts_in ts)) s j k + one_if x) p
 
 pub passed : (ts : List Task) (s k j : ℕ) (t u : Task) → slice_get ts k ≡ Some t → slice_get ts j ≡ Some u → s ≤ k → k < j →
     is_predecessor (work_of (task_facts t)) (work_of (task_facts u)) ≡ false →
     held_by (untouched (facts_in ts)) s j (k + 1) ≡ held_by (untouched (facts_in ts)) s j k + 0
 passed ts s k j t u e f le lt p =
-    ap (held_by (untouched (facts_in ts)) s j) (next k) ∙ one_more ts s k j t u e f le lt ∙ ap (λ x. held_by (untouched (facts_in ts)) s j k + one_if x) p
+    ap (held_by (untouched (facts_in ts)) s j) (add-one k) ∙ one_more ts s k j t u e f le lt ∙ ap (λ x. held_by (untouched (facts_in ts)) s j k + one_if x) p
 
 -- none is counted before the start
 before : (b : Board) (s j n : ℕ) → n ≤ s → 0 ≡ held_by b s j n

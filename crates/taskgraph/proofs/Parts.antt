@@ -1,27 +1,23 @@
 -- The parts of readiness: whether an item may be opened, passed or closed.
-use Rattle.std.proofs.Common.{◌≡◌, ℕ, ◌≤◌, Bool, true, false, length, map, Option, Some, None, refl, sym, ap, ◌∙◌}
+use Rattle.std.proofs.Common.{◌≡◌, ℕ, ◌≤◌, Bool, true, false, length, map, Option, Some, None, sym, ap, ◌∙◌}
 use Rattle.std.specs.Prelude.{◌==◌, ◌&&◌, ◌||◌, not, slice_get, option_map}
 use Rattle.std.proofs.lemmas.List.{get_or_past}
 use Rattle.std.proofs.lemmas.Option.{slice_get-map, slice_get_past}
+use Rattle.std.proofs.Math.Bool.{and-false, and-true, or-false}
 use Rattle.base.specs.declared.item.Event.TheVariants.{Open, Close, Wait}
 use Rattle.base.specs.Items.{Work}
 use Rattle.base.specs.Machine.{is_open, is_wait, is_waiting, is_ready, on_item}
 use Rattle.taskgraph.specs.declared.Stage.TheVariants as stage
 use Rattle.taskgraph.specs.Board.{Facts, Board, work_of, plan_in, state_in, condition_of, allows}
 use Rattle.taskgraph.proofs.Ready.{answered}
-use Rattle.taskgraph.proofs.Laws.{and_false, and_true}
-
-or_false : (x : Bool) → (x || false) ≡ x
-or_false true = refl
-or_false false = refl
 
 open_table : (x a p r : Bool) → (((not x && a) || (p && (x && r))) && not x) ≡ (not x && a)
-open_table true a p r = and_false (p && (true && r))
-open_table false a p r = and_true (a || (p && false)) ∙ ap (λ y. a || y) (and_false p) ∙ or_false a
+open_table true a p r = and-false (p && (true && r))
+open_table false a p r = and-true (a || (p && false)) ∙ ap (λ y. a || y) (and-false p) ∙ or-false a
 
 wait_table : (x a p r : Bool) → (((not x && a) || (p && (x && r))) && x) ≡ (p && (x && r))
-wait_table true a p r = and_true (p && (true && r))
-wait_table false a p r = and_false (a || (p && false)) ∙ sym (and_false p)
+wait_table true a p r = and-true (p && (true && r))
+wait_table false a p r = and-false (a || (p && false)) ∙ sym (and-false p)
 
 abbrev waits : Option Work → Bool
 waits o = elim o [ None ↦ false | Some w ↦ is_wait w.kind ]
@@ -40,7 +36,7 @@ pub open_part : (b : Board) (i : ℕ) →
 open_part b i = go (slice_get (map work_of b.tasks) i)
   where
     go : (o : Option Work) → (answered b i o && not (waits o)) ≡ opens b i o
-    go None = and_true (answered b i None) ∙ and_false (b.place == i)
+    go None = and-true (answered b i None) ∙ and-false (b.place == i)
     go (Some w) =
         open_table (is_wait w.kind)
         ((w.deferred || (b.place == i)) &&
@@ -53,7 +49,7 @@ wait_part b i = go (slice_get (map work_of b.tasks) i)
   where
     go : (o : Option Work) →
         (answered b i o && waits o) ≡ ((b.place == i) && (waits o && is_ready (plan_in b) (state_in b) i))
-    go None = and_false (answered b i None) ∙ sym (and_false (b.place == i))
+    go None = and-false (answered b i None) ∙ sym (and-false (b.place == i))
     go (Some w) =
         wait_table (is_wait w.kind)
         ((w.deferred || (b.place == i)) &&

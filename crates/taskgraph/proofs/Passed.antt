@@ -2,12 +2,12 @@
 use Rattle.std.proofs.Common.{◌≡◌, inl, ℕ, ◌+◌, ◌<◌, true, false, Option, Some, None, sym, ap, ◌∙◌, arith}
 use Rattle.std.specs.Prelude.{◌&&◌, ◌||◌, nat_lt, slice_get}
 use Rattle.std.specs.List.{list_any}
-use Rattle.std.proofs.lemmas.Bool.{and_parts, le-leb, lt-ltb}
+use Rattle.std.proofs.lemmas.Bool.{and_parts, le-leb, lt-ltb, or_right}
 use Rattle.base.specs.Items.{Work, Plan}
 use Rattle.base.specs.Machine.{is_empty, is_predecessor, match_depends, on_item, precedes}
 use Rattle.taskgraph.specs.Cover.{covers}
 use Rattle.taskgraph.specs.Waiting.{IsStart, is_bare}
-use Rattle.taskgraph.proofs.Covers.{any_covered, or_right}
+use Rattle.taskgraph.proofs.Covers.{any_covered}
 use Rattle.taskgraph.proofs.Starts.{IsScan, bare_start, named}
 
 -- whatever item j waits for before an item that covers it, that item waits for too

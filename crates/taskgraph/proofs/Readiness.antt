@@ -1,5 +1,5 @@
 -- Readiness, from what is closed and from the counts.
-use Rattle.std.proofs.Common.{◌≡◌, ℕ, zero, suc, ◌+◌, ◌<◌, Bool, true, false, refl, sym, ap, subst, ◌∙◌, arith}
+use Rattle.std.proofs.Common.{◌≡◌, ℕ, zero, suc, ◌+◌, ◌<◌, Bool, true, false, refl, sym, ap, subst, ◌∙◌, arith, zero-add}
 use Rattle.std.specs.Prelude.{◌&&◌, ◌||◌, not, nat_le, nat_lt}
 use Rattle.std.specs.List.{list_all, range_with_len}
 use Rattle.std.proofs.lemmas.Bool.{and_parts, ltb-true}
@@ -41,22 +41,19 @@ pub implied : (p c : Bool) → (p ≡ true → c ≡ true) → (not p || c) ≡ 
 implied true c h = h refl
 implied false c h = refl
 
-from_zero : (k : ℕ) → k ≡ 0 + k
-from_zero k = omega arith
-
 -- an item is ready where all that precede it are closed
 pub ready_closed : (b : Board) (j : ℕ) →
     ((i : ℕ) → i < j → precedes (plan_in b) i j ≡ true → closed_in b i ≡ true) →
     is_ready (plan_in b) (state_in b) j ≡ true
 ready_closed b j h =
     all_from (λ i. not (precedes (plan_in b) i j) || closed_in b i) 0 j
-    (λ k lt. subst (λ i. (not (precedes (plan_in b) i j) || closed_in b i) ≡ true) (from_zero k)
+    (λ k lt. subst (λ i. (not (precedes (plan_in b) i j) || closed_in b i) ≡ true) (sym (zero-add k))
     (implied (precedes (plan_in b) k j) (closed_in b k) (h k lt)))
 
 ready_at : (b : Board) (j : ℕ) → is_ready (plan_in b) (state_in b) j ≡ true → (k : ℕ) → k < j →
     (not (precedes (plan_in b) k j) || closed_in b k) ≡ true
 ready_at b j e k lt =
-    subst (λ i. (not (precedes (plan_in b) i j) || closed_in b i) ≡ true) (sym (from_zero k))
+    subst (λ i. (not (precedes (plan_in b) i j) || closed_in b i) ≡ true) (zero-add k)
     (all_in (λ i. not (precedes (plan_in b) i j) || closed_in b i) 0 j e k lt)
 
 pub stated : (p c : Bool) → (not p || c) ≡ true → p ≡ true → c ≡ true

@@ -2,13 +2,13 @@
 use Rattle.std.proofs.Common.{◌≡◌, ℕ, ◌<◌, ◌≤◌, Bool, true, false, List, map, length, Option, Some, None, refl, sym, ap, ◌∙◌, arith}
 use Rattle.std.specs.Prelude.{◌==◌, ◌&&◌, ◌||◌, not, slice_get, slice_index, option_map, if◌then◌else◌}
 use Rattle.std.proofs.lemmas.Option.{slice_get-map, slice_get_past}
+use Rattle.std.proofs.Math.Bool.{and-false}
 use Rattle.base.specs.declared.item.Event.TheVariants.{Open, Wait}
 use Rattle.base.specs.Items.{Work}
 use Rattle.base.specs.Machine.{is_wait, is_waiting, is_ready}
 use Rattle.taskgraph.specs.Board.{Facts, Board, work_of, plan_in, state_in, stage_at, allows}
 use Rattle.taskgraph.specs.Waiting.{begins, waits_for}
 use Rattle.taskgraph.proofs.Readiness.{free_ready}
-use Rattle.taskgraph.proofs.Laws.{and_false}
 
 -- the questions that the machine asks of an item
 abbrev may_open : Board → ℕ → Work → Bool
@@ -25,7 +25,7 @@ none : (b : Board) (i : ℕ) → slice_get b.tasks i ≡ None → false ≡ (all
 none b i e =
     let no : slice_get (map work_of b.tasks) i ≡ None =
     slice_get-map work_of b.tasks i ∙ ap (option_map work_of) e in
-    sym (ap (answered b i) no ∙ and_false (b.place == i))
+    sym (ap (answered b i) no ∙ and-false (b.place == i))
 
 pub past : (b : Board) (i : ℕ) → length b.tasks ≤ i → false ≡ (allows b (Open i) || allows b (Wait i))
 past b i h = none b i (slice_get_past b.tasks i h)

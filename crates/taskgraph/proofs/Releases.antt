@@ -5,11 +5,11 @@ use Rattle.std.specs.List.{slice_set}
 use Rattle.std.proofs.lemmas.Bool.{cases_eq, cases_lt}
 use Rattle.std.proofs.lemmas.Bool.Decides.{nat_tests}
 use Rattle.std.proofs.lemmas.List.{get_or-set_same, get_or-set_other, length-set}
+use Rattle.std.proofs.Math.Bool.{and-false}
 use Rattle.base.specs.Machine.{is_predecessor, precedes, on_item}
 use Rattle.taskgraph.specs.declared.Task.{Task}
 use Rattle.taskgraph.specs.Board.{Board, work_of, task_facts, plan_in, untouched}
 use Rattle.taskgraph.specs.Waiting.{counted_in, is_counted, one_if, plan_for}
-use Rattle.taskgraph.proofs.Laws.{and_false}
 use Rattle.taskgraph.proofs.Pairs.{facts_in, precedes_is}
 
 -- an item precedes none before it
@@ -20,7 +20,7 @@ none_before b i j le =
 
 -- nor is it counted for one
 pub uncounted : (b : Board) (s i j : ℕ) → j ≤ i → is_counted (plan_in b) s i j ≡ false
-uncounted b s i j le = ap (λ x. nat_le s i && x) (none_before b i j le) ∙ and_false (nat_le s i)
+uncounted b s i j le = ap (λ x. nat_le s i && x) (none_before b i j le) ∙ and-false (nat_le s i)
 
 pub precedes_tasks : (ts : List Task) (i j : ℕ) (t u : Task) → slice_get ts i ≡ Some t → slice_get ts j ≡ Some u → i < j →
     precedes (plan_for ts) i j ≡ is_predecessor (work_of (task_facts t)) (work_of (task_facts u))

@@ -1,7 +1,7 @@
 -- Which items may neither be opened nor closed, and when the run may end.
 use Rattle.std.proofs.Common.{◌≡◌, ◌⊎◌, inl, inr, ℕ, ◌+◌, ◌<◌, ◌≤◌, Bool, true, false, List, length, Option, Some, None, refl, sym, ap, ◌∙◌, arith}
 use Rattle.std.specs.Prelude.{◌==◌, ◌&&◌, ◌||◌, not, slice_get, option_map}
-use Rattle.std.proofs.lemmas.Bool.{and_parts, cases_lt, eq-eqb, eqb-true, ne_eqb}
+use Rattle.std.proofs.lemmas.Bool.{and_parts, cases_lt, eq-eqb, eqb-true, ne_eqb, false_from_ne_true}
 use Rattle.std.proofs.lemmas.List.{length-map}
 use Rattle.std.proofs.lemmas.Option.{slice_get-map}
 use Rattle.base.specs.declared.item.Event.TheVariants.{Open, Close, End}
@@ -16,10 +16,6 @@ use Rattle.taskgraph.proofs.Readiness.{all_from, all_in, implied, stated}
 use Rattle.taskgraph.proofs.Kept.{may_close, may_open}
 use Rattle.taskgraph.proofs.Closes.{opened_at}
 
-refuted : (x : Bool) → (x ≡ true → ⊥) → x ≡ false
-refuted true h = absurd (h refl)
-refuted false h = refl
-
 told : (b : Board) (i : ℕ) (f : Facts) → slice_get b.tasks i ≡ Some f → f.deferred ≡ true → is_deferred (plan_in b) i ≡ true
 told b i f e d =
     ap (λ (o : Option Work). elim o [ None ↦ false | Some w ↦ w.deferred ])
@@ -33,7 +29,7 @@ closed_not b i st e still h =
 pub settled_below : (b : Board) (starts ends counts : List ℕ) (first i : ℕ) → IsGraph b starts ends counts first → i < first →
     IsSettled b i
 settled_below b starts ends counts first i g lt =
-    (refuted (allows b (Open i)) opens, refuted (allows b (Close i)) closes)
+    (false_from_ne_true (allows b (Open i)) opens, false_from_ne_true (allows b (Close i)) closes)
   where
     opens : allows b (Open i) ≡ true → ⊥
     opens a = go (may_open b i a).facts.deferred refl
@@ -61,7 +57,7 @@ settled_below b starts ends counts first i g lt =
 
 pub settled_above : (b : Board) (starts counts : List ℕ) (i : ℕ) → IsCounted b starts counts → b.place < i → IsSettled b i
 settled_above b starts counts i h lt =
-    (refuted (allows b (Open i)) opens, refuted (allows b (Close i)) closes)
+    (false_from_ne_true (allows b (Open i)) opens, false_from_ne_true (allows b (Close i)) closes)
   where
     opens : allows b (Open i) ≡ true → ⊥
     opens a = go (may_open b i a).facts.deferred refl
@@ -136,7 +132,7 @@ may_end b starts ends counts first g = go (cases_lt first (length b.tasks))
 
     go : (first < length b.tasks) ⊎ (length b.tasks ≤ first) → (first == length b.tasks) ≡ allows b End
     go (inl less) =
-        ne_eqb first (length b.tasks) (λ q. omega (arith, less, q)) ∙ sym (refuted (allows b End) (goes_on less))
+        ne_eqb first (length b.tasks) (λ q. omega (arith, less, q)) ∙ sym (false_from_ne_true (allows b End) (goes_on less))
     go (inr all) =
         let a = g.first.inside in
         let c = g.ordered.inside in

@@ -3,11 +3,11 @@ use Rattle.std.proofs.Common.{◌≡◌, ◌⊎◌, inl, inr, ℕ, ◌+◌, ◌<
 use Rattle.std.specs.Prelude.{◌&&◌, ◌||◌, not, nat_lt, slice_get}
 use Rattle.std.specs.List.{list_any}
 use Rattle.std.proofs.lemmas.Bool.{and_parts, cases_lt}
+use Rattle.std.proofs.Math.Bool.{and-false}
 use Rattle.base.specs.Items.{Work, Plan}
 use Rattle.base.specs.Machine.{is_empty, is_predecessor, is_wait, match_depends, on_item, precedes}
 use Rattle.taskgraph.specs.Waiting.{IsBarred, IsBehind, IsStart, is_bare, is_bare_at, is_barrier, is_deferred}
 use Rattle.taskgraph.proofs.Covers.{none_match}
-use Rattle.taskgraph.proofs.Laws.{and_false}
 use Rattle.taskgraph.proofs.Precedence.{deferred_of}
 
 -- the items from here to item j have been seen, and of its predecessors among them the first is the start
@@ -68,7 +68,7 @@ start_empty p j u e empty = record {
 
 -- a bare wait has no depend items
 pub named : (p : Plan) (j : ℕ) (u : Work) → slice_get p.items j ≡ Some u → is_empty u.depends ≡ false → is_bare u ≡ false
-named p j u e some = ap (λ x. is_wait u.kind && x) some ∙ and_false (is_wait u.kind)
+named p j u e some = ap (λ x. is_wait u.kind && x) some ∙ and-false (is_wait u.kind)
 
 not_bare : (p : Plan) (j : ℕ) (u : Work) → slice_get p.items j ≡ Some u → is_empty u.depends ≡ false → is_bare_at p j ≡ false
 not_bare p j u e some =

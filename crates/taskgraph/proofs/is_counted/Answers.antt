@@ -1,7 +1,6 @@
-use Rattle.std.proofs.Common.{◌≡◌, ◌<◌, ℕ, false, Some, sym, ap, ◌∙◌, arith}
+use Rattle.std.proofs.Common.{◌≡◌, false, Some, sym, ap, ◌∙◌, arith}
 use Rattle.std.specs.Prelude.{◌&&◌, nat_le, slice_get, slice_index}
-use Rattle.std.proofs.lemmas.Bool.{le-leb}
-use Rattle.std.proofs.lemmas.Bool.Decides.{nat_tests}
+use Rattle.std.proofs.lemmas.Bool.{le-leb, lt-leb}
 use Rattle.std.proofs.lemmas.Option.{slice_get-get_or}
 use Rattle.base.specs.Machine.{precedes}
 use Rattle.taskgraph.specs.declared.Task.{Task}
@@ -22,11 +21,8 @@ returns-then-starts-later c =
     c.is_predecessor.ensures ∙ sym (precedes_tasks ts i j t u f g c.requires.before)
     ∙ ap (λ x. x && precedes (plan_for ts) i j) (sym (le-leb (slice_index c.args.starts.now j) i c.if-starts-later.true))
 
-after : (s i : ℕ) → i < s → nat_le s i ≡ false
-after s i lt = grind (arith, nat_tests)
-
 pub returns-else-starts-later : goal.returns-else-starts-later
 returns-else-starts-later c =
     let late : nat_le (slice_index c.args.starts.now c.args.later) c.args.item ≡ false =
-    after (slice_index c.args.starts.now c.args.later) c.args.item c.if-starts-later.false in
+    lt-leb (slice_index c.args.starts.now c.args.later) c.args.item c.if-starts-later.false in
     late ∙ ap (λ x. x && precedes (plan_for c.args.tasks.now) c.args.item c.args.later) (sym late)

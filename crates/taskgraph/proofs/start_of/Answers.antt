@@ -1,6 +1,6 @@
 use Rattle.std.proofs.Common.{◌≡◌, ◌<◌, ◌+◌, ◌-◌, ℕ, List, true, length, get_or, Some, sym, ap, subst, ◌∙◌, arith}
 use Rattle.std.specs.Prelude.{not, slice_get}
-use Rattle.std.proofs.lemmas.Bool.{and_parts}
+use Rattle.std.proofs.lemmas.Bool.{and_parts, not-true}
 use Rattle.std.proofs.lemmas.Option.{slice_get-get_or}
 use Rattle.base.specs.declared.item.Depend.{Depend}
 use Rattle.base.specs.Machine.{precedes}
@@ -8,7 +8,6 @@ use Rattle.taskgraph.specs.declared.Task.{Task}
 use Rattle.taskgraph.specs.Board.{task_facts, work_of}
 use Rattle.taskgraph.specs.Cover.{covers}
 use Rattle.taskgraph.specs.Waiting.{is_bare, plan_for}
-use Rattle.taskgraph.proofs.Kept.{not_true}
 use Rattle.taskgraph.proofs.Pairs.{work_at}
 use Rattle.taskgraph.proofs.Releases.{precedes_tasks}
 use Rattle.taskgraph.proofs.Starts.{IsScan, scan_past, start_all, start_barred, start_empty}
@@ -41,7 +40,7 @@ returns-then-is_barrier c =
     start_barred (plan_for ts) j c.earlier.earlier w c.earlier.start (work_of (task_facts u)) (work_of (task_facts v))
     (work_at ts j u (task_at ts j u c.requires c.index-tasks-item.is))
     (sym c.is_without.ensures ∙ c.if-is_without.false) c.earlier.invariant one
-    (work_at ts w v (task_at ts w v inside c.index-tasks-earlier.is)) p.0 (not_true v.deferred p.1)
+    (work_at ts w v (task_at ts w v inside c.index-tasks-earlier.is)) p.0 (not-true v.deferred p.1)
 
 pub returns-then-covers : goal.returns-then-covers
 returns-then-covers c =

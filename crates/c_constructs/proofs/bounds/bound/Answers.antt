@@ -1,19 +1,17 @@
-use Rattle.std.proofs.Common.{◌+◌, ◌++◌, ◌∙◌, drop}
+use Rattle.std.proofs.Common.{◌+◌, ◌++◌, drop, refl}
 use Rattle.std.proofs.lemmas.Result.{err_from_is_err_and}
 use Rattle.c_expressions.specs.Scopes.{names_of}
 use Rattle.directives.specs.Names.{each_names, term_names}
-use Rattle.c_constructs.proofs.Outcomes.{failed_from}
-use Rattle.c_constructs.proofs.Terms.{terms_told, terms_more}
+use Rattle.c_constructs.proofs.NameSteps.{next_failed, next_read}
+use Rattle.c_constructs.proofs.Terms.{terms_more}
 use Rattle.c_constructs.proofs.bounds.bound.Goals as goal
 
 pub terms-preserved : goal.terms-preserved
 terms-preserved c = record {
-  read = λ us.
-      c.terms.invariant.read us
-      ∙ terms_told c.args.scope.now c.args.bound.now.more.items c.deref-more-items.result.now c.terms.more-index _ us
-      c.deref-more-items.ensures.value c.terms-test.true
-      ∙ c.in_ok-next.ensures.told
-      (each_names term_names (drop (c.terms.more-index + 1) c.args.bound.now.more.items) ++ us);
+  read = λ us. next_read term_names c.args.scope.now c.args.bound.now.more.items c.deref-more-items.result.now
+      c.terms.more-index _ _ us _ c.deref-more-items.ensures.value c.terms-test.true refl (c.terms.invariant.read us)
+      (c.in_ok-next.ensures.told
+      (each_names term_names (drop (c.terms.more-index + 1) c.args.bound.now.more.items) ++ us));
   means = terms_more (names_of c.args.scope.now) c.args.bound.now.first c.args.bound.now.more.items
       c.deref-more-items.result.now c.terms.more-index _ c.terms.terms.items c.push-in-terms.new.self.items
       c.in_ok-next.next c.deref-more-items.ensures.value c.terms-test.true c.in_ok-push-2.ensures.ok
@@ -23,9 +21,7 @@ terms-preserved c = record {
 pub returns-in_err-next-clause-told : goal.returns-in_err-next-clause-told
 returns-in_err-next-clause-told c = λ us.
     let p = err_from_is_err_and c.from_residual-in_err-next.result c.from_residual-in_err-next.ensures.1 in
-    rw (p.1, p.2) (failed_from _ _ _
-    (c.terms.invariant.read us
-    ∙ terms_told c.args.scope.now c.args.bound.now.more.items c.deref-more-items.result.now c.terms.more-index _ us
-    c.deref-more-items.ensures.value c.terms-test.true)
-    (c.in_err-next.ensures.told
+    rw (p.1, p.2) (next_failed term_names c.args.scope.now c.args.bound.now.more.items
+    c.deref-more-items.result.now c.terms.more-index _ _ us _ _ c.deref-more-items.ensures.value c.terms-test.true refl
+    (c.terms.invariant.read us) (c.in_err-next.ensures.told
     (each_names term_names (drop (c.terms.more-index + 1) c.args.bound.now.more.items) ++ us)))

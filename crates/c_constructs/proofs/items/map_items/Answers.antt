@@ -4,7 +4,8 @@ use Rattle.c_expressions.specs.Scopes.{names_of}
 use Rattle.directives.specs.Names.{each_names, section_names}
 use Rattle.c_constructs.specs.Sections.{IsMapAt}
 use Rattle.c_constructs.proofs.Growing.{grows_all, grows_next}
-use Rattle.c_constructs.proofs.SectionSteps.{all_read, first_failed, first_read, next_failed, next_read}
+use Rattle.c_constructs.proofs.NameSteps.{all_read, next_failed, next_read}
+use Rattle.c_constructs.proofs.SectionSteps.{first_failed, first_read}
 use Rattle.c_constructs.proofs.items.map_items.Goals as goal
 
 pub returns-in_err-map_item-clause-told : goal.returns-in_err-map_item-clause-told
@@ -23,15 +24,15 @@ sections-init g c = record {
 pub returns-in_err-map_item-2-clause-told : goal.returns-in_err-map_item-2-clause-told
 returns-in_err-map_item-2-clause-told g c = λ us.
     let p = err_from_is_err_and c.from_residual-in_err-map_item-2.result c.from_residual-in_err-map_item-2.ensures.1 in
-    rw (p.1, p.2) (next_failed c.args.scope.now c.args.sections.now c.deref-one-items.result.now c.sections.one-index
-    c.one-item.result us _ c.deref-one-items.ensures.value c.sections-test.true c.one-item.is
-    (c.sections.invariant.read us) (c.in_err-map_item-2.ensures.told
+    rw (p.1, p.2) (next_failed section_names c.args.scope.now c.args.sections.now.more.items
+    c.deref-one-items.result.now c.sections.one-index _ c.one-item.result us _ _ c.deref-one-items.ensures.value c.sections-test.true
+    c.one-item.is (c.sections.invariant.read us) (c.in_err-map_item-2.ensures.told
     (each_names section_names (drop (c.sections.one-index + 1) c.args.sections.now.more.items) ++ us)))
 
 pub sections-preserved : goal.sections-preserved
 sections-preserved g c = record {
-  read = λ us. next_read c.args.scope.now c.args.sections.now c.deref-one-items.result.now c.sections.one-index
-      c.one-item.result us c.deref-one-items.ensures.value c.sections-test.true c.one-item.is
+  read = λ us. next_read section_names c.args.scope.now c.args.sections.now.more.items c.deref-one-items.result.now
+      c.sections.one-index _ c.one-item.result us _ c.deref-one-items.ensures.value c.sections-test.true c.one-item.is
       (c.sections.invariant.read us) (c.in_ok-map_item-2.ensures.told
       (each_names section_names (drop (c.sections.one-index + 1) c.args.sections.now.more.items) ++ us));
   means = grows_next (IsMapAt g.K.MapKind.seen (names_of c.args.scope.now) c.args.line) (c.args.always, g.K.MapKind.seen c.args.kind) c.args.sections.now.first
@@ -41,8 +42,9 @@ sections-preserved g c = record {
 }
 
 pub returns-clause-told : goal.returns-clause-told
-returns-clause-told g c = λ us. all_read c.args.scope.now c.args.sections.now c.deref-one-items.result.now
-    c.sections.one-index us c.deref-one-items.ensures.value c.sections-test.false (c.sections.invariant.read us)
+returns-clause-told g c = λ us. all_read section_names c.args.scope.now c.args.sections.now.more.items
+    c.deref-one-items.result.now c.sections.one-index us _ c.deref-one-items.ensures.value c.sections-test.false
+    (c.sections.invariant.read us)
 
 pub returns-clause-means : goal.returns-clause-means
 returns-clause-means g c =

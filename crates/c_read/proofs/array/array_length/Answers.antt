@@ -1,4 +1,4 @@
-use Rattle.std.proofs.Common.{rules, ◌≡◌, Some, ap, sym, ◌∙◌, refl}
+use Rattle.std.proofs.Common.{Some, ap, sym, ◌∙◌}
 use Rattle.c_expressions.specs.Scopes.{context_of}
 use Rattle.c_read.proofs.Counting.{cells_is}
 use Rattle.c_read.proofs.Lengths.{zero_length, large_length}

@@ -1,4 +1,4 @@
-use Rattle.std.proofs.Common.{◌≡◌, ◌∙◌, List, ◌∷◌, ◌++◌, [], None, Some, refl, sym, ap, subst, arith, inl, inr, true}
+use Rattle.std.proofs.Common.{◌∙◌, List, ◌∷◌, None, Some, refl, sym, ap, subst, arith, inl, inr}
 use Rattle.std.proofs.lemmas.Result.{err_from_is_err_and}
 use Rattle.c_tokens.specs.declared.kind.Sign.TheVariants as sign
 use Rattle.base.specs.declared.tree.Place.{Place}
@@ -9,7 +9,6 @@ use Rattle.c_expressions.specs.Reading.{terminals}
 use Rattle.base.specs.declared.tree.Part.{Data as DataOf}
 use Rattle.base.specs.declared.tree.Part.TheVariants as part
 use Rattle.c_expressions.specs.Cursor.{items, first_item, behind}
-use Rattle.c_expressions.specs.Scopes.{context_of}
 use Rattle.c_expressions.proofs.Going.{was_mark, went}
 use Rattle.c_expressions.proofs.Outcomes.{failed_from}
 use Rattle.c_statements.specs.Simple.{env_of}

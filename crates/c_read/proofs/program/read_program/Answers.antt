@@ -1,4 +1,4 @@
-use Rattle.std.proofs.Common.{◌≤◌, [], ◌∷◌, length, arith, subst}
+use Rattle.std.proofs.Common.{◌≤◌, length, arith, subst}
 use Rattle.c_grammar.specs.Program.{start}
 use Rattle.c_grammar.specs.Rules.{begin}
 use Rattle.c_grammar.specs.Source.{items_of, max_source}

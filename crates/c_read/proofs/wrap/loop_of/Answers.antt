@@ -1,4 +1,4 @@
-use Rattle.std.proofs.Common.{◌≡◌, length, arith}
+use Rattle.std.proofs.Common.{arith}
 use Rattle.c_read.proofs.Emptiness.{empty_items}
 use Rattle.c_read.proofs.Wraps.{loop_statement}
 use Rattle.c_read.proofs.wrap.loop_of.Goals as goal

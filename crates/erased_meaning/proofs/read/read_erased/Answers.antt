@@ -1,4 +1,4 @@
-use Rattle.std.proofs.Common.{◌≡◌, ◌∙◌}
+use Rattle.std.proofs.Common.{◌∙◌}
 use Rattle.erased_meaning.proofs.Reading.{on_erased, on_memory}
 use Rattle.erased_meaning.proofs.read.read_erased.Goals as goal
 

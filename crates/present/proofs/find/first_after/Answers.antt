@@ -1,15 +1,9 @@
-use Rattle.std.proofs.Common.{◌≡◌, ℕ, ◌+◌, ◌-◌, ◌/◌, ◌<◌, ◌≤◌, length, get_or, Some, List, arith}
-use Rattle.std.specs.Prelude.{slice_get}
+use Rattle.std.proofs.Common.{◌+◌, ◌-◌, ◌/◌, ◌<◌, ◌≤◌, length, get_or, arith}
 use Rattle.std.proofs.lemmas.Option.{slice_get-get_or}
-use Rattle.present.specs.declared.block.Block.{Block}
 use Rattle.present.specs.Blocks.{stop_of}
 use Rattle.present.proofs.Orders.{Stored, stored_each}
 use Rattle.present.proofs.Founds.{before_more, after_less}
 use Rattle.present.proofs.find.first_after.Goals as goal
-
--- a block that is read is one of the list
-block_at : (bs : List Block) (m : ℕ) (b : Block) → m < length bs → slice_get bs m ≡ Some (get_or bs m b)
-block_at bs m b h = slice_get-get_or bs m b h
 
 pub start-requires : goal.start-requires
 start-requires c =
@@ -17,7 +11,7 @@ start-requires c =
     let m = c.loop-low.low + (c.loop-low.high - c.loop-low.low) / 2 in
     let within : m < length bs = omega arith in
     let w : Stored (get_or bs m c.index-blocks-middle.result) = stored_each bs c.requires m _
-    (block_at bs m _ within) in
+    (slice_get-get_or bs m _ within) in
     let end = w.end in
     omega arith
 
@@ -27,7 +21,7 @@ overflow_add-start c =
     let m = c.loop-low.low + (c.loop-low.high - c.loop-low.low) / 2 in
     let within : m < length bs = omega arith in
     let w : Stored (get_or bs m c.index-blocks-middle.result) = stored_each bs c.requires m _
-    (block_at bs m _ within) in
+    (slice_get-get_or bs m _ within) in
     let end = w.end in
     omega arith
 
@@ -41,7 +35,7 @@ loop-low-preserved-then-start-section c =
     record {
       order = omega arith;
       bound = c.loop-low.invariant.bound;
-      before = before_more bs c.requires m c.args.place b (block_at bs m _ within) stops;
+      before = before_more bs c.requires m c.args.place b (slice_get-get_or bs m _ within) stops;
       after = c.loop-low.invariant.after;
     }
 
@@ -56,5 +50,5 @@ loop-low-preserved c =
       order = omega arith;
       bound = omega arith;
       before = c.loop-low.invariant.before;
-      after = after_less bs c.requires m c.args.place b (block_at bs m _ within) stops;
+      after = after_less bs c.requires m c.args.place b (slice_get-get_or bs m _ within) stops;
     }

@@ -1,10 +1,10 @@
-use Rattle.std.proofs.Common.{◌≡◌, ◌<◌, List, Some, Vec, Global, ℕ, ◌+◌, ◌≤◌, length, ap, sym, ◌∙◌, subst, arith}
+use Rattle.std.proofs.Common.{◌≡◌, ◌<◌, Some, ◌+◌, ◌≤◌, length, ap, ◌∙◌, subst, arith}
 use Rattle.std.specs.Prelude.{slice_get}
 use Rattle.std.specs.Vec.{with_items}
 use Rattle.std.proofs.lemmas.List.{with_items_is}
 use Rattle.std.proofs.lemmas.Option.{slice_get_read}
 use mathlib.Core.Path.{fun_ext}
-use Rattle.base.specs.Arrays.{items_of, lengths_of, memory_of, overwritten, row_of}
+use Rattle.base.specs.Arrays.{items_of, overwritten}
 use Rattle.base.proofs.HostRows.{row_there, set_number, lengths_set, same_length}
 use Rattle.base.proofs.memory.Memory.set_section.Goals as goal
 

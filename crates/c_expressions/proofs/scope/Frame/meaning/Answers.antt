@@ -1,7 +1,6 @@
 use Rattle.std.proofs.Common.{◌∙◌, sym}
 use Rattle.c_expressions.proofs.Contexts.{newest_is, newest_not, all_names}
-use Rattle.std.proofs.Common.{ap, map, List}
-use Rattle.std.specs.Prelude.{ℕ}
+use Rattle.std.proofs.Common.{ap}
 use Rattle.c_expressions.specs.Means.{Names, meaning_of}
 use Rattle.c_expressions.proofs.scope.Frame.meaning.Goals as goal
 use Rattle.c_expressions.proofs.scope.Frame.meaning.Goals.{then-eq, else-eq}

@@ -1,4 +1,4 @@
-use Rattle.std.proofs.Common.{◌≡◌, length, arith, refl, sym, ap, ◌∙◌}
+use Rattle.std.proofs.Common.{arith, refl, ap, ◌∙◌}
 use Rattle.c_read.proofs.Emptiness.{not_empty}
 use Rattle.c_read.proofs.Gathering.{closes_run}
 use Rattle.c_read.proofs.gathered.Gathered.close.Goals as goal
