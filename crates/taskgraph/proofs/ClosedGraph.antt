@@ -1,5 +1,5 @@
 -- A graph of which an item is closed, from its fields.
-use Rattle.std.proofs.Common.{◌≡◌, ℕ, ◌+◌, ◌<◌, ◌≤◌, Bool, true, false, List, ◌++◌, length, map, take, drop, get_or, Some, sym, ap, ◌∙◌, arith}
+use Rattle.std.proofs.Common.{◌≡◌, ℕ, ◌+◌, ◌<◌, ◌≤◌, Bool, true, false, List, ◌++◌, length, map, take, drop, get_or, Some, sym, ap, subst, ◌∙◌, arith}
 use Rattle.std.specs.Prelude.{slice_get, slice_index, option_map}
 use Rattle.std.specs.List.{slice_set}
 use Rattle.std.proofs.Math.Seq.{take-append_seam}
@@ -13,14 +13,16 @@ use Rattle.taskgraph.specs.declared.Stage.{Stage}
 use Rattle.taskgraph.specs.declared.Stage.TheVariants as stage
 use Rattle.taskgraph.specs.declared.Task.{Task}
 use Rattle.taskgraph.specs.Board.{Facts, Stands, task_facts, work_of, plan_in, allows}
-use Rattle.taskgraph.specs.Waiting.{IsCounted, IsFirst, IsGraph, board_of, counted_in, one_if}
+use Rattle.taskgraph.specs.Waiting.{IsCounted, IsFirst, IsGraph, IsGraphWith, board_of, count_free, counted_in, one_if}
 use Rattle.taskgraph.proofs.Parts.{asked_at}
 use Rattle.taskgraph.proofs.Kept.{may_close}
 use Rattle.taskgraph.proofs.Closes.{in_count, opened_at}
 use Rattle.taskgraph.proofs.Events.{host_closed, task_closed}
+use Rattle.taskgraph.proofs.FreeGraph.{closed_keeps}
 use Rattle.taskgraph.proofs.Standing.{place_after, closed}
 
-facts_at : (ts : List Task) (i : ℕ) (t : Task) → slice_get ts i ≡ Some t →
+-- what the order asks of one of the tasks
+pub facts_at : (ts : List Task) (i : ℕ) (t : Task) → slice_get ts i ≡ Some t →
     slice_get (map task_facts ts) i ≡ Some (task_facts t)
 facts_at ts i t e = slice_get-map task_facts ts i ∙ ap (option_map task_facts) e
 
@@ -65,6 +67,33 @@ task_left ts ss place starts ends counts less first next i t g a e d long taken 
     task_closed (board_of ts ss place) starts ends counts less first next i g a (long ∙ sym (length-map ts task_facts))
     (λ j lt. taken j (omega (arith, lt, length-map ts task_facts)))
     (λ v q. ap (λ (w : Facts). w.deferred) (same_Some v (task_facts t) (sym q ∙ facts_at ts i t e)) ∙ d) f
+
+-- and how many of its items are ready
+pub host_with : (ts : List Task) (ss : List Stage) (place : ℕ) (starts ends counts : List ℕ) (first next ready i : ℕ) (t : Task) →
+    IsGraphWith (board_of ts ss place) starts ends counts first ready → allows (board_of ts ss place) (Close i) ≡ true →
+    slice_get ts i ≡ Some t → t.deferred ≡ false → IsFirst (board_of ts (slice_set ss i stage.Closed) (place + 1)) next →
+    IsGraphWith (board_of ts (slice_set ss i stage.Closed) (place + 1)) starts ends counts next ready
+host_with ts ss place starts ends counts first next ready i t g a e d f =
+    record {
+      graph = host_left ts ss place starts ends counts first next i t g.graph a e d f;
+      free = closed_keeps (board_of ts ss place) starts ends counts first ready i g a;
+    }
+
+pub task_with : (ts : List Task) (ss : List Stage) (place : ℕ) (starts ends counts less : List ℕ)
+    (first next ready added i : ℕ) (t : Task) →
+    IsGraphWith (board_of ts ss place) starts ends counts first ready → allows (board_of ts ss place) (Close i) ≡ true →
+    slice_get ts i ≡ Some t → t.deferred ≡ true → length less ≡ length ts →
+    ((j : ℕ) → j < length ts → slice_index less j + one_if (counted_in ts starts i j) ≡ slice_index counts j) →
+    count_free (slice_set ss i stage.Closed) counts (length ts) + added ≡ count_free (slice_set ss i stage.Closed) less (length ts) →
+    IsFirst (board_of ts (slice_set ss i stage.Closed) place) next →
+    IsGraphWith (board_of ts (slice_set ss i stage.Closed) place) starts ends less next (ready + added)
+task_with ts ss place starts ends counts less first next ready added i t g a e d long taken more f =
+    let kept = closed_keeps (board_of ts ss place) starts ends counts first ready i g a in
+    record {
+      graph = task_left ts ss place starts ends counts less first next i t g.graph a e d long taken f;
+      free = subst (λ n. ready + added ≡ count_free (slice_set ss i stage.Closed) less n) (sym (length-map ts task_facts))
+          (omega (arith, more, subst (λ n. ready ≡ count_free (slice_set ss i stage.Closed) counts n) (length-map ts task_facts) kept));
+    }
 
 pub host_follows : (ts : List Task) (ss : List Stage) (place : ℕ) (starts counts : List ℕ) (i : ℕ) (t : Task) →
     IsCounted (board_of ts ss place) starts counts → allows (board_of ts ss place) (Close i) ≡ true → slice_get ts i ≡ Some t →

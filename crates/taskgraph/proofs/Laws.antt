@@ -13,7 +13,7 @@ use Rattle.base.specs.Machine.{Condition, Untouched, Generated, Opened, Closed, 
 use Rattle.taskgraph.specs.Board.{Facts, Board, Stands, facts_of, work_of, plan_in, state_in, condition_of, stage_of}
 
 -- a question to an item of the plan has the same answer of its task
-on_same : {A : Type 0} → (plan : Plan) (b : Board) (i : ℕ) (other : A) (f g : Work → A) → map facts_of plan.items ≡ b.tasks →
+pub on_same : {A : Type 0} → (plan : Plan) (b : Board) (i : ℕ) (other : A) (f g : Work → A) → map facts_of plan.items ≡ b.tasks →
     ((w : Work) → i < length b.tasks → f w ≡ g (work_of (facts_of w))) →
     on_item plan i other f ≡ on_item (plan_in b) i other g
 on_same {A = A} plan b i other f g h k = go (slice_get plan.items i) refl

@@ -21,3 +21,6 @@ pub mod Standing
 pub mod Parts
 pub mod ClosedGraph
 pub mod Fresh
+pub mod FreeTasks
+pub mod FreeGraph
+pub mod NextTask

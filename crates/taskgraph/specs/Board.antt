@@ -1,5 +1,5 @@
 -- A task graph as a state of the machine with two memories.
-use Rattle.std.specs.Prelude.{◌≡◌, ℕ, ◌<◌, Bool, false, List, [], map, Some, None, length}
+use Rattle.std.specs.Prelude.{◌≡◌, ℕ, ◌<◌, ◌≤◌, Bool, true, false, List, [], map, Some, None, length}
 use Rattle.std.specs.List.{slice_index_or}
 use Rattle.base.specs.declared.item.Event.{Event}
 use Rattle.base.specs.declared.item.Event.TheVariants.{Open, Close}
@@ -8,7 +8,7 @@ use Rattle.base.specs.declared.item.ItemKind.{ItemKind}
 use Rattle.base.specs.declared.item.Depend.{Depend}
 use Rattle.base.specs.Items.{Work, Plan}
 use Rattle.base.specs.Map.{Fill}
-use Rattle.base.specs.Machine.{Condition, Untouched, Generated, Opened, Closed, Passed, State, start, enabled, step}
+use Rattle.base.specs.Machine.{Condition, Untouched, Generated, Opened, Closed, Passed, State, start, enabled, on_item, step}
 use Rattle.taskgraph.specs.declared.Stage.{Stage}
 use Rattle.taskgraph.specs.declared.Stage.TheVariants as stage
 use Rattle.taskgraph.specs.declared.Task.{Task}
@@ -75,6 +75,22 @@ allows b e = enabled (plan_in b) (state_in b) e
 -- an item may neither be opened next nor closed
 abbrev pub IsSettled : Board → ℕ → Type 0
 IsSettled b i = (allows b (Open i) ≡ false) × (allows b (Close i) ≡ false)
+
+-- ---- which task may be opened next
+
+-- a deferred item that may be opened next
+abbrev pub IsTask : Plan → State → ℕ → Type 0
+IsTask p s i = (on_item p i false (λ w. w.deferred) ≡ true) × (enabled p s (Open i) ≡ true)
+
+-- item i is the lowest such one, from item n on
+pub record IsNextTask (p : Plan) (s : State) (n i : ℕ) : Type 0 where
+  pub from : n ≤ i
+  pub task : IsTask p s i
+  pub lowest : (j : ℕ) → n ≤ j → j < i → IsTask p s j → ⊥
+
+-- from item n on there is none
+abbrev pub HasNoTask : Plan → State → ℕ → Type 0
+HasNoTask p s n = (j : ℕ) → n ≤ j → IsTask p s j → ⊥
 
 -- the tasks before any event
 abbrev pub untouched : List Facts → Board

@@ -1,5 +1,5 @@
 -- How many predecessors of an item are not closed, and which of them are counted.
-use Rattle.std.specs.Prelude.{◌≡◌, ◌⊎◌, ℕ, zero, suc, ◌+◌, ◌<◌, ◌≤◌, nat_le, Bool, true, false, not, ◌&&◌, ◌||◌, if◌then◌else◌, List, Option, Some, None, length, map, slice_index, slice_get}
+use Rattle.std.specs.Prelude.{◌≡◌, ◌⊎◌, ℕ, zero, suc, ◌+◌, ◌<◌, ◌≤◌, nat_le, Bool, true, false, not, ◌&&◌, ◌||◌, ◌==◌, if◌then◌else◌, List, Option, Some, None, length, map, slice_index, slice_get}
 use Rattle.std.specs.List.{slice_index_or}
 use Rattle.base.specs.Items.{Work, Plan}
 use Rattle.base.specs.Machine.{is_closed, is_empty, is_open, is_wait, is_waiting, on_item, precedes}
@@ -130,6 +130,26 @@ pub record IsGraph (b : Board) (ss es counts : List ℕ) (n : ℕ) : Type 0 wher
 -- an item at that stage may begin, where the host stands at it or not
 abbrev pub begins : Facts → Stage → Bool → Bool
 begins f st here = if is_wait f.kind then here else ((f.deferred || here) && is_waiting f.deferred (condition_of st))
+
+-- ---- how many are ready
+
+-- a deferred item at that stage, of which so many counted predecessors are left, is ready
+abbrev pub is_free : Stage → ℕ → Bool
+is_free st missing = is_waiting true (condition_of st) && (missing == 0)
+
+-- item j is ready
+abbrev pub is_free_at : List Stage → List ℕ → ℕ → Bool
+is_free_at stages counts j = is_free (slice_index_or stages j stage.Untouched) (slice_index counts j)
+
+-- how many of the first n items are ready
+unfoldable pub count_free : List Stage → List ℕ → ℕ → ℕ
+count_free stages counts zero = 0
+count_free stages counts (suc n) = count_free stages counts n + one_if (is_free_at stages counts n)
+
+-- a graph so many of whose items are ready
+pub record IsGraphWith (b : Board) (ss es counts : List ℕ) (n ready : ℕ) : Type 0 where
+  pub graph : IsGraph b ss es counts n
+  pub free : ready ≡ count_free b.stages counts (length b.tasks)
 
 -- ---- of tasks
 

@@ -2,10 +2,10 @@
 #![tactic(auto)]
 
 ghost use Rattle.std.specs.Prelude.{◌≡◌, ◌+◌, ◌<◌, ◌≤◌, ◌&&◌, not, true, ℕ, IfOk, length, map, slice_index};
-ghost use Rattle.base.specs.Machine.{is_closed, is_empty, is_predecessor};
+ghost use Rattle.base.specs.Machine.{is_closed, is_empty, is_predecessor, is_waiting};
 ghost use Rattle.taskgraph.specs.Board.{condition_of, item_facts, task_facts, untouched, work_of};
 ghost use Rattle.taskgraph.specs.Laws.{AllowedIsEnabled};
-ghost use Rattle.taskgraph.specs.Waiting.{AreCounts, AreEnds, AreStarts, AreUntouched, AreClosed, IsExtended, IsFirst, IsStart, begins, board_of, counted_in, held_by, is_bare, one_if, plan_for};
+ghost use Rattle.taskgraph.specs.Waiting.{AreCounts, AreEnds, AreStarts, AreUntouched, AreClosed, IsExtended, IsFirst, IsStart, begins, board_of, count_free, counted_in, held_by, is_bare, is_free, one_if, plan_for};
 
 use crate::cover::covers;
 use base::depend::match_some;
@@ -57,7 +57,7 @@ pub struct Graph {
     missing: Vec<usize>,
     /// The lowest item that is deferred and not closed, or `place` where none is before it.
     first: usize,
-    /// How many deferred items are ready. No contract speaks of it: it saves looking for one where there is none.
+    /// How many deferred items are ready: it saves looking for one where there is none.
     free: usize,
     place: usize,
 }
@@ -65,13 +65,13 @@ pub struct Graph {
 impl Model for Graph {
     ghost use Rattle.std.specs.Prelude.{map};
     ghost use Rattle.taskgraph.specs.Board.{Board, task_facts};
-    ghost use Rattle.taskgraph.specs.Waiting.{IsGraph};
+    ghost use Rattle.taskgraph.specs.Waiting.{IsGraphWith};
 
     ghost Value = { Board };
 
     ghost view = { λ g. record { tasks = map task_facts g.tasks.items; stages = g.stages.items; place = g.place } };
 
-    ghost invariant = { λ g. IsGraph (record { tasks = map task_facts g.tasks.items; stages = g.stages.items; place = g.place }) g.starts.items g.ends.items g.missing.items g.first };
+    ghost invariant = { λ g. IsGraphWith (record { tasks = map task_facts g.tasks.items; stages = g.stages.items; place = g.place }) g.starts.items g.ends.items g.missing.items g.first g.free };
 }
 
 fn is_wait(task: &Task) -> bool
@@ -245,13 +245,28 @@ fn is_counted(tasks: &[Task], starts: &[usize], item: usize, later: usize) -> bo
     starts[later] <= item && is_predecessor(&tasks[item], &tasks[later])
 }
 
-/// Whether an item at that stage with so many predecessors left is ready. No contract speaks of it.
-fn is_freed(stage: Stage, missing: usize) -> bool {
-    missing == 0 && stage == Stage::Generated
+/// One where it holds, and else none.
+fn one_if(holds: bool) -> usize
+    ensures { result ≡ one_if holds }
+{
+    if holds { 1 } else { 0 }
 }
 
-/// Takes the item from the counts of later ones, which lie before `end`. The answer is how many of them are ready now, of
-/// which no contract speaks.
+/// Whether an item at that stage was generated, and not opened yet.
+fn is_generated(stage: Stage) -> bool
+    ensures { result ≡ is_waiting true (condition_of stage) }
+{
+    stage == Stage::Generated
+}
+
+/// Whether a deferred item at that stage with so many predecessors left is ready.
+fn is_freed(stage: Stage, missing: usize) -> bool
+    ensures { result ≡ is_free stage missing }
+{
+    missing == 0 && is_generated(stage)
+}
+
+/// Takes the item from the counts of later ones, which lie before `end`. The answer is how many more items are ready now.
 fn release(
     tasks: &[Task],
     starts: &[usize],
@@ -269,13 +284,13 @@ fn release(
     requires counted { (j : ℕ) → j < length tasks.now → one_if (counted_in tasks.now starts.now item j) ≤ slice_index missing.old j }
     ensures same { length missing.new ≡ length tasks.now }
     ensures taken { (j : ℕ) → j < length tasks.now → slice_index missing.new j + one_if (counted_in tasks.now starts.now item j) ≡ slice_index missing.old j }
+    ensures free { count_free stages.now missing.old (length tasks.now) + result ≡ count_free stages.now missing.new (length tasks.now) }
 {
-    let mut free = 0usize;
+    let mut free = 0;
     'later: for later in item + 1..end {
         if is_counted(tasks, starts, item, later) {
             missing[later] -= 1;
-            let is_free = is_freed(stages[later], missing[later]);
-            free = free.wrapping_add(usize::from(is_free));
+            free += one_if(is_freed(stages[later], missing[later]));
         }
     }
     free
@@ -319,10 +334,10 @@ fn may_begin(task: &Task, stage: Stage, here: bool) -> bool
 }
 
 impl Graph {
-    ghost use Rattle.std.specs.Prelude.{◌≡◌, ◌<◌, ◌≤◌, ℕ, ◌||◌, IfOk, IfSome, IsTrue, length, true, false};
+    ghost use Rattle.std.specs.Prelude.{◌≡◌, ◌<◌, ◌≤◌, ℕ, ◌||◌, IfOk, IfNone, IfSome, length, true, false};
     ghost use Rattle.base.specs.declared.item.Event.TheVariants.{Gen, Open, Close, Wait, End};
     ghost use Rattle.base.specs.Machine.{is_open, is_closed, is_wait, on_item};
-    ghost use Rattle.taskgraph.specs.Board.{IsNew, IsSettled, Follows, allows, plan_in, stage_at, state_in};
+    ghost use Rattle.taskgraph.specs.Board.{HasNoTask, IsNew, IsNextTask, IsSettled, Follows, allows, plan_in, stage_at, state_in};
 
     /// The graph of these items, none of which has begun.
     pub fn new(alloc: Global, items: &[Item]) -> Result<Graph, AllocError>
@@ -451,8 +466,7 @@ impl Graph {
     {
         self.stages[item] = Stage::Generated;
         self.place += 1;
-        let free = usize::from(self.missing[item] == 0);
-        self.free = self.free.wrapping_add(free);
+        self.free += one_if(self.missing[item] == 0);
     }
 
     /// The item is opened.
@@ -461,8 +475,7 @@ impl Graph {
         ensures { Follows self.old (Open item) self.new }
     {
         self.stages[item] = Stage::Open;
-        let taken = usize::from(self.tasks[item].deferred);
-        self.free = self.free.wrapping_sub(taken);
+        self.free -= one_if(self.tasks[item].deferred);
     }
 
     /// The open item is closed; the host moves on where the item is not deferred.
@@ -482,7 +495,7 @@ impl Graph {
                 end,
             );
             self.first = first_left(&self.tasks, &self.stages, self.first, self.place);
-            self.free = self.free.wrapping_add(free);
+            self.free += free;
             return;
         }
         self.place += 1;
@@ -519,14 +532,15 @@ impl Graph {
     /// The lowest deferred item, from one on, that may be opened next. Where one is ready it looks at those from `first` to
     /// the host's place, and else at none.
     pub fn next_task(&self, from: usize) -> Option<usize>
-        ensures { IfSome result (λ item. IsTrue (allows self.now (Open item))) }
+        ensures next { IfSome result (IsNextTask (plan_in self.now) (state_in self.now) from) }
+        ensures none { IfNone result (HasNoTask (plan_in self.now) (state_in self.now) from) }
     {
         if self.free == 0 {
             return None;
         }
         let start = if from < self.first { self.first } else { from };
         for item in start..self.place {
-            if self.stages[item] == Stage::Generated && self.may_open(item) {
+            if is_generated(self.stages[item]) && self.may_open(item) {
                 return Some(item);
             }
         }

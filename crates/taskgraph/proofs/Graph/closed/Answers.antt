@@ -9,9 +9,11 @@ use Rattle.taskgraph.specs.declared.Task.{Task}
 use Rattle.taskgraph.specs.declared.Stage.{Stage}
 use Rattle.taskgraph.specs.declared.Stage.TheVariants as stage
 use Rattle.taskgraph.specs.Board.{Board, Stands, allows, task_facts, work_of}
-use Rattle.taskgraph.specs.Waiting.{AreClosed, IsFirst, IsGraph, board_of, counted_in, one_if}
+use Rattle.taskgraph.specs.Waiting.{AreClosed, IsFirst, IsGraphWith, board_of, count_free, counted_in, one_if}
 use Rattle.taskgraph.proofs.Events.{closed_below}
-use Rattle.taskgraph.proofs.ClosedGraph.{as_many, in_counts, host_left, task_left, host_follows, task_follows, host_here, written_back}
+use Rattle.taskgraph.proofs.ClosedGraph.{as_many, in_counts, host_with, task_with, host_follows, task_follows, host_here, written_back}
+use Rattle.taskgraph.proofs.FreeGraph.{closed_keeps}
+use Rattle.taskgraph.proofs.FreeTasks.{count_small}
 use Rattle.taskgraph.proofs.Kept.{may_close}
 use Rattle.taskgraph.proofs.Graph.closed.Goals as goal
 
@@ -24,7 +26,7 @@ index_mut-requires c =
     let asked : allows (board_of ts ss p) (Close i) ≡ true =
     subst (λ (x : Board). allows x (Close i) ≡ true) (sym c.self.view_is) c.requires in
     let m = may_close (board_of ts ss p) i asked in
-    let many = as_many ts ss p c.self.inside.starts.items c.self.inside.ends.items c.self.inside.missing.items c.self.inside.first c.self.invariant in
+    let many = as_many ts ss p c.self.inside.starts.items c.self.inside.ends.items c.self.inside.missing.items c.self.inside.first c.self.invariant.graph in
     omega (arith, m.inside, length-map ts task_facts, many.stages)
 
 pub index-requires : goal.index-requires
@@ -47,7 +49,7 @@ index-end-requires c =
     let asked : allows (board_of ts ss p) (Close i) ≡ true =
     subst (λ (x : Board). allows x (Close i) ≡ true) (sym c.self.view_is) c.requires in
     let m = may_close (board_of ts ss p) i asked in
-    let many = as_many ts ss p c.self.inside.starts.items c.self.inside.ends.items c.self.inside.missing.items c.self.inside.first c.self.invariant in
+    let many = as_many ts ss p c.self.inside.starts.items c.self.inside.ends.items c.self.inside.missing.items c.self.inside.first c.self.invariant.graph in
     omega (arith, m.inside, length-map ts task_facts, many.ends)
 
 pub release-free-requires-clause-inside : goal.release-free-requires-clause-inside
@@ -65,7 +67,7 @@ pub release-free-requires-clause-starts : goal.release-free-requires-clause-star
 release-free-requires-clause-starts c =
     let ts = c.self.inside.tasks.items in
     let ss = c.self.inside.stages.items in
-    let many = as_many ts ss c.self.inside.place c.self.inside.starts.items c.self.inside.ends.items c.self.inside.missing.items c.self.inside.first c.self.invariant in
+    let many = as_many ts ss c.self.inside.place c.self.inside.starts.items c.self.inside.ends.items c.self.inside.missing.items c.self.inside.first c.self.invariant.graph in
     ap (λ (xs : List ℕ). length xs) c.deref-then-index.ensures.value ∙ many.starts
     ∙ sym (ap (λ (xs : List Task). length xs) c.deref.ensures.value)
 
@@ -73,7 +75,7 @@ pub release-free-requires-clause-stages : goal.release-free-requires-clause-stag
 release-free-requires-clause-stages c =
     let ts = c.self.inside.tasks.items in
     let ss = c.self.inside.stages.items in
-    let many = as_many ts ss c.self.inside.place c.self.inside.starts.items c.self.inside.ends.items c.self.inside.missing.items c.self.inside.first c.self.invariant in
+    let many = as_many ts ss c.self.inside.place c.self.inside.starts.items c.self.inside.ends.items c.self.inside.missing.items c.self.inside.first c.self.invariant.graph in
     ap (λ (xs : List Stage). length xs) c.deref-then-index-2.ensures.value ∙ length-set ss c.args.item stage.Closed ∙ many.stages
     ∙ sym (ap (λ (xs : List Task). length xs) c.deref.ensures.value)
 
@@ -81,7 +83,7 @@ pub release-free-requires-clause-same : goal.release-free-requires-clause-same
 release-free-requires-clause-same c =
     let ts = c.self.inside.tasks.items in
     let ss = c.self.inside.stages.items in
-    let many = as_many ts ss c.self.inside.place c.self.inside.starts.items c.self.inside.ends.items c.self.inside.missing.items c.self.inside.first c.self.invariant in
+    let many = as_many ts ss c.self.inside.place c.self.inside.starts.items c.self.inside.ends.items c.self.inside.missing.items c.self.inside.first c.self.invariant.graph in
     ap (λ (xs : List ℕ). length xs) c.deref_mut.ensures.value ∙ many.counts
     ∙ sym (ap (λ (xs : List Task). length xs) c.deref.ensures.value)
 
@@ -89,7 +91,7 @@ pub first_left-self-inside-requires-clause-same : goal.first_left-self-inside-re
 first_left-self-inside-requires-clause-same c =
     let ts = c.self.inside.tasks.items in
     let ss = c.self.inside.stages.items in
-    let many = as_many ts ss c.self.inside.place c.self.inside.starts.items c.self.inside.ends.items c.self.inside.missing.items c.self.inside.first c.self.invariant in
+    let many = as_many ts ss c.self.inside.place c.self.inside.starts.items c.self.inside.ends.items c.self.inside.missing.items c.self.inside.first c.self.invariant.graph in
     ap (λ (xs : List Stage). length xs) c.deref-then-index-4.ensures.value ∙ length-set ss c.args.item stage.Closed ∙ many.stages
     ∙ sym (ap (λ (xs : List Task). length xs) c.deref-then-index-3.ensures.value)
 
@@ -97,7 +99,7 @@ pub first_left-self-inside-requires-2-clause-same : goal.first_left-self-inside-
 first_left-self-inside-requires-2-clause-same c =
     let ts = c.self.inside.tasks.items in
     let ss = c.self.inside.stages.items in
-    let many = as_many ts ss c.self.inside.place c.self.inside.starts.items c.self.inside.ends.items c.self.inside.missing.items c.self.inside.first c.self.invariant in
+    let many = as_many ts ss c.self.inside.place c.self.inside.starts.items c.self.inside.ends.items c.self.inside.missing.items c.self.inside.first c.self.invariant.graph in
     ap (λ (xs : List Stage). length xs) c.deref-3.ensures.value ∙ length-set ss c.args.item stage.Closed ∙ many.stages
     ∙ sym (ap (λ (xs : List Task). length xs) c.deref-2.ensures.value)
 
@@ -110,7 +112,7 @@ release-free-requires-clause-counted c =
     let starts = c.self.inside.starts.items in
     let asked : allows (board_of ts ss p) (Close i) ≡ true =
     subst (λ (x : Board). allows x (Close i) ≡ true) (sym c.self.view_is) c.requires in
-    let all = in_counts ts ss p starts c.self.inside.missing.items i c.self.invariant.counted asked in
+    let all = in_counts ts ss p starts c.self.inside.missing.items i c.self.invariant.graph.counted asked in
     subst (λ (xs : List Task). (j : ℕ) → j < length xs →
     one_if (counted_in xs c.deref-then-index.result.now i j) ≤ slice_index c.deref_mut.result.now j) (sym c.deref.ensures.value)
     (subst (λ (ns : List ℕ). (j : ℕ) → j < length ts → one_if (counted_in ts ns i j) ≤ slice_index c.deref_mut.result.now j)
@@ -129,14 +131,14 @@ release-free-requires-clause-past c =
     let m = may_close (board_of ts ss p) i asked in
     let lt : i < length ts = omega (arith, m.inside, length-map ts task_facts) in
     let es = c.self.inside.ends.items in
-    let within : i < length es = omega (arith, lt, c.self.invariant.ends.same, length-map ts task_facts, length-map (map task_facts ts) work_of) in
+    let within : i < length es = omega (arith, lt, c.self.invariant.graph.ends.same, length-map ts task_facts, length-map (map task_facts ts) work_of) in
     let end : slice_index es i ≡ c.index-end.result.now =
     sym (get_or_default_zero es i c.index-end.result.now within) ∙ sym c.index-end.ensures in
     subst (λ (xs : List Task). (j : ℕ) → j < length xs → counted_in xs c.deref-then-index.result.now i j ≡ true →
     j < c.index-end.result.now) (sym c.deref.ensures.value)
     (subst (λ (ns : List ℕ). (j : ℕ) → j < length ts → counted_in ts ns i j ≡ true → j < c.index-end.result.now)
     (sym c.deref-then-index.ensures.value)
-    (λ j inside e. subst (λ n. j < n) end (c.self.invariant.ends.past i j
+    (λ j inside e. subst (λ n. j < n) end (c.self.invariant.graph.ends.past i j
     (omega (arith, inside, length-map ts task_facts, length-map (map task_facts ts) work_of)) e)))
 
 pub release-free-requires-clause-end : goal.release-free-requires-clause-end
@@ -150,10 +152,10 @@ release-free-requires-clause-end c =
     let m = may_close (board_of ts ss p) i asked in
     let lt : i < length ts = omega (arith, m.inside, length-map ts task_facts) in
     let es = c.self.inside.ends.items in
-    let within : i < length es = omega (arith, lt, c.self.invariant.ends.same, length-map ts task_facts, length-map (map task_facts ts) work_of) in
+    let within : i < length es = omega (arith, lt, c.self.invariant.graph.ends.same, length-map ts task_facts, length-map (map task_facts ts) work_of) in
     let end : slice_index es i ≡ c.index-end.result.now =
     sym (get_or_default_zero es i c.index-end.result.now within) ∙ sym c.index-end.ensures in
-    let small = c.self.invariant.ends.small i in
+    let small = c.self.invariant.graph.ends.small i in
     subst (λ (xs : List Task). c.index-end.result.now ≤ length xs) (sym c.deref.ensures.value)
     (omega (arith, end, small, length-map ts task_facts, length-map (map task_facts ts) work_of))
 
@@ -161,10 +163,10 @@ pub first_left-self-inside-requires-clause-inside : goal.first_left-self-inside-
 first_left-self-inside-requires-clause-inside c =
     let ts = c.self.inside.tasks.items in
     subst (λ (xs : List Task). c.self.inside.place ≤ length xs) (sym c.deref-then-index-3.ensures.value)
-    (omega (arith, c.self.invariant.ordered.inside, length-map ts task_facts))
+    (omega (arith, c.self.invariant.graph.ordered.inside, length-map ts task_facts))
 
 pub first_left-self-inside-requires-clause-from : goal.first_left-self-inside-requires-clause-from
-first_left-self-inside-requires-clause-from c = let h = c.self.invariant.first.inside in omega (arith, h)
+first_left-self-inside-requires-clause-from c = let h = c.self.invariant.graph.first.inside in omega (arith, h)
 
 pub first_left-self-inside-requires-clause-below : goal.first_left-self-inside-requires-clause-below
 first_left-self-inside-requires-clause-below c =
@@ -176,7 +178,7 @@ first_left-self-inside-requires-clause-below c =
     subst (λ (x : Board). allows x (Close i) ≡ true) (sym c.self.view_is) c.requires in
     subst (λ (xs : List Task). AreClosed (board_of xs c.deref-then-index-4.result.now p) c.self.inside.first) (sym c.deref-then-index-3.ensures.value)
     (subst (λ (xs : List Stage). AreClosed (board_of ts xs p) c.self.inside.first) (sym c.deref-then-index-4.ensures.value)
-    (closed_below (board_of ts ss p) c.self.inside.starts.items c.self.inside.ends.items c.self.inside.missing.items c.self.inside.first i p c.self.invariant asked))
+    (closed_below (board_of ts ss p) c.self.inside.starts.items c.self.inside.ends.items c.self.inside.missing.items c.self.inside.first i p c.self.invariant.graph asked))
 
 pub first_left-self-inside-requires-2-clause-inside : goal.first_left-self-inside-requires-2-clause-inside
 first_left-self-inside-requires-2-clause-inside c =
@@ -190,11 +192,11 @@ first_left-self-inside-requires-2-clause-inside c =
     let lt : i < length ts = omega (arith, m.inside, length-map ts task_facts) in
     let t : slice_get ts i ≡ Some c.index.result.now =
     slice_get-get_or ts i c.index.result.now lt ∙ ap (λ (x : Task). Some x) (sym c.index.ensures) in
-    let here = host_here ts ss p c.self.inside.starts.items c.self.inside.missing.items i c.index.result.now c.self.invariant.counted asked t c.if-index.false in
+    let here = host_here ts ss p c.self.inside.starts.items c.self.inside.missing.items i c.index.result.now c.self.invariant.graph.counted asked t c.if-index.false in
     subst (λ (xs : List Task). p + 1 ≤ length xs) (sym c.deref-2.ensures.value) (omega (arith, here, lt))
 
 pub first_left-self-inside-requires-2-clause-from : goal.first_left-self-inside-requires-2-clause-from
-first_left-self-inside-requires-2-clause-from c = let h = c.self.invariant.first.inside in omega (arith, h)
+first_left-self-inside-requires-2-clause-from c = let h = c.self.invariant.graph.first.inside in omega (arith, h)
 
 pub first_left-self-inside-requires-2-clause-below : goal.first_left-self-inside-requires-2-clause-below
 first_left-self-inside-requires-2-clause-below c =
@@ -206,7 +208,16 @@ first_left-self-inside-requires-2-clause-below c =
     subst (λ (x : Board). allows x (Close i) ≡ true) (sym c.self.view_is) c.requires in
     subst (λ (xs : List Task). AreClosed (board_of xs c.deref-3.result.now (p + 1)) c.self.inside.first) (sym c.deref-2.ensures.value)
     (subst (λ (xs : List Stage). AreClosed (board_of ts xs (p + 1)) c.self.inside.first) (sym c.deref-3.ensures.value)
-    (closed_below (board_of ts ss p) c.self.inside.starts.items c.self.inside.ends.items c.self.inside.missing.items c.self.inside.first i (p + 1) c.self.invariant asked))
+    (closed_below (board_of ts ss p) c.self.inside.starts.items c.self.inside.ends.items c.self.inside.missing.items c.self.inside.first i (p + 1) c.self.invariant.graph asked))
+
+-- what is said of copies
+same_more : (xs ts : List Task) (ys ss : List Stage) (was old now : List ℕ) (more : ℕ) → xs ≡ ts → ys ≡ ss → was ≡ old →
+    count_free ys was (length xs) + more ≡ count_free ys now (length xs) →
+    count_free ss old (length ts) + more ≡ count_free ss now (length ts)
+same_more xs ts ys ss was old now more a b c h =
+    subst (λ (z : List Task). count_free ss old (length z) + more ≡ count_free ss now (length z)) a
+    (subst (λ (z : List Stage). count_free z old (length xs) + more ≡ count_free z now (length xs)) b
+    (subst (λ (z : List ℕ). count_free ys z (length xs) + more ≡ count_free ys now (length xs)) c h))
 
 pub invariant_of-self : goal.invariant_of-self
 invariant_of-self c =
@@ -233,15 +244,18 @@ invariant_of-self c =
     let long : length now ≡ length ts =
     c.release-free.ensures.same ∙ ap (λ (xs : List Task). length xs) c.deref.ensures.value in
     let back = written_back now old c.self.inside.missing.len c.self.inside.missing.ok.0
-    (omega (arith, long, c.self.invariant.counted.same, length-map ts task_facts)) in
+    (omega (arith, long, c.self.invariant.graph.counted.same, length-map ts task_facts)) in
     let next = c.first_left-self-inside.result in
     let lowest : IsFirst (board_of ts (slice_set ss i stage.Closed) p) next =
     subst (λ (xs : List Task). IsFirst (board_of xs (slice_set ss i stage.Closed) p) next) c.deref-then-index-3.ensures.value
     (subst (λ (xs : List Stage). IsFirst (board_of c.deref-then-index-3.result.now xs p) next)
     c.deref-then-index-4.ensures.value c.first_left-self-inside.ensures) in
-    subst (λ (ns : List ℕ). IsGraph (board_of ts (slice_set ss i stage.Closed) p) starts c.self.inside.ends.items ns next) (sym back)
-    (task_left ts ss p starts c.self.inside.ends.items old now c.self.inside.first next i c.index.result.now c.self.invariant
-    asked t c.if-index.true long taken lowest)
+    let closed = slice_set ss i stage.Closed in
+    let added = same_more c.deref.result.now ts c.deref-then-index-2.result.now closed c.deref_mut.result.now old now
+    c.release-free.result c.deref.ensures.value c.deref-then-index-2.ensures.value c.deref_mut.ensures.value c.release-free.ensures.free in
+    subst (λ (ns : List ℕ). IsGraphWith (board_of ts closed p) starts c.self.inside.ends.items ns next (c.self.inside.free + c.release-free.result)) (sym back)
+    (task_with ts ss p starts c.self.inside.ends.items old now c.self.inside.first next c.self.inside.free c.release-free.result i
+    c.index.result.now c.self.invariant asked t c.if-index.true long taken added lowest)
 
 pub returns-then-index : goal.returns-then-index
 returns-then-index c =
@@ -256,11 +270,31 @@ returns-then-index c =
     let t : slice_get ts i ≡ Some c.index.result.now =
     slice_get-get_or ts i c.index.result.now lt ∙ ap (λ (x : Task). Some x) (sym c.index.ensures) in
     λ plan fill s u stands e.
-    task_follows ts ss p c.self.inside.starts.items c.self.inside.missing.items i c.index.result.now c.self.invariant.counted asked t c.if-index.true plan fill s u
+    task_follows ts ss p c.self.inside.starts.items c.self.inside.missing.items i c.index.result.now c.self.invariant.graph.counted asked t c.if-index.true plan fill s u
     (subst (λ (x : Board). Stands plan s x) (sym c.self.view_is) stands) e
 
 pub overflow_add-self : goal.overflow_add-self
 overflow_add-self c =
+    let i = c.args.item in
+    let ts = c.self.inside.tasks.items in
+    let ss = c.self.inside.stages.items in
+    let p = c.self.inside.place in
+    let old = c.self.inside.missing.items in
+    let now = c.release-free.new.missing in
+    let closed = slice_set ss i stage.Closed in
+    let asked : allows (board_of ts ss p) (Close i) ≡ true =
+    subst (λ (x : Board). allows x (Close i) ≡ true) (sym c.self.view_is) c.requires in
+    let m = may_close (board_of ts ss p) i asked in
+    let added = same_more c.deref.result.now ts c.deref-then-index-2.result.now closed c.deref_mut.result.now old now
+    c.release-free.result c.deref.ensures.value c.deref-then-index-2.ensures.value c.deref_mut.ensures.value c.release-free.ensures.free in
+    let kept = closed_keeps (board_of ts ss p) c.self.inside.starts.items c.self.inside.ends.items old c.self.inside.first
+    c.self.inside.free i c.self.invariant asked in
+    let here : c.self.inside.free ≡ count_free closed old (length ts) =
+    subst (λ n. c.self.inside.free ≡ count_free closed old n) (length-map ts task_facts) kept in
+    omega (arith, added, here, count_small closed now (length ts))
+
+pub overflow_add-self-2 : goal.overflow_add-self-2
+overflow_add-self-2 c =
     let i = c.args.item in
     let ts = c.self.inside.tasks.items in
     let ss = c.self.inside.stages.items in
@@ -271,7 +305,7 @@ overflow_add-self c =
     let lt : i < length ts = omega (arith, m.inside, length-map ts task_facts) in
     let t : slice_get ts i ≡ Some c.index.result.now =
     slice_get-get_or ts i c.index.result.now lt ∙ ap (λ (x : Task). Some x) (sym c.index.ensures) in
-    let here = host_here ts ss p c.self.inside.starts.items c.self.inside.missing.items i c.index.result.now c.self.invariant.counted asked t c.if-index.false in
+    let here = host_here ts ss p c.self.inside.starts.items c.self.inside.missing.items i c.index.result.now c.self.invariant.graph.counted asked t c.if-index.false in
     omega (arith, here, lt, c.ranges.item.fits)
 
 pub invariant_of-self-2 : goal.invariant_of-self-2
@@ -291,8 +325,8 @@ invariant_of-self-2 c =
     subst (λ (xs : List Task). IsFirst (board_of xs (slice_set ss i stage.Closed) (p + 1)) next) c.deref-2.ensures.value
     (subst (λ (xs : List Stage). IsFirst (board_of c.deref-2.result.now xs (p + 1)) next)
     c.deref-3.ensures.value c.first_left-self-inside-2.ensures) in
-    host_left ts ss p c.self.inside.starts.items c.self.inside.ends.items c.self.inside.missing.items c.self.inside.first next i
-    c.index.result.now c.self.invariant asked t c.if-index.false lowest
+    host_with ts ss p c.self.inside.starts.items c.self.inside.ends.items c.self.inside.missing.items c.self.inside.first next
+    c.self.inside.free i c.index.result.now c.self.invariant asked t c.if-index.false lowest
 
 pub returns : goal.returns
 returns c =
@@ -307,5 +341,5 @@ returns c =
     let t : slice_get ts i ≡ Some c.index.result.now =
     slice_get-get_or ts i c.index.result.now lt ∙ ap (λ (x : Task). Some x) (sym c.index.ensures) in
     λ plan fill s u stands e.
-    host_follows ts ss p c.self.inside.starts.items c.self.inside.missing.items i c.index.result.now c.self.invariant.counted asked t c.if-index.false plan fill s u
+    host_follows ts ss p c.self.inside.starts.items c.self.inside.missing.items i c.index.result.now c.self.invariant.graph.counted asked t c.if-index.false plan fill s u
     (subst (λ (x : Board). Stands plan s x) (sym c.self.view_is) stands) e

@@ -11,6 +11,6 @@ pub returns : goal.returns
 returns c =
     let b = board_of c.self.inside.tasks.items c.self.inside.stages.items c.self.inside.place in
     let h = may_end b c.self.inside.starts.items c.self.inside.ends.items c.self.inside.missing.items
-    c.self.inside.first c.self.invariant in
+    c.self.inside.first c.self.invariant.graph in
     ap (λ n. c.self.inside.first == n) (c.len.ensures ∙ c.self.inside.tasks.ok.0 ∙ sym (length-map c.self.inside.tasks.items task_facts))
     ∙ subst (λ (x : Board). (c.self.inside.first == length b.tasks) ≡ allows x End) c.self.view_is h

@@ -28,8 +28,8 @@ returns-then-index-gt0 c =
     let b : Board = record { tasks = map task_facts ts; stages = c.self.inside.stages.items; place = c.self.inside.place } in
     let lt : i < length (map task_facts ts) = omega (arith, c.if-item-len.false, length-map ts task_facts) in
     let same = get_or_default_zero c.self.inside.missing.items i c.index.result.now
-    (omega (arith, lt, c.self.invariant.counted.same)) in
-    let count : slice_index c.self.inside.missing.items i ≡ waits_for b starts i = c.self.invariant.counted.missing i lt in
+    (omega (arith, lt, c.self.invariant.graph.counted.same)) in
+    let count : slice_index c.self.inside.missing.items i ≡ waits_for b starts i = c.self.invariant.graph.counted.missing i lt in
     let some : 0 < waits_for b starts i = omega (arith, count, c.if-index-gt0.true, c.index.ensures, same) in
     subst (λ (x : Board). false ≡ (allows x (Open i) || allows x (Wait i))) c.self.view_is (held b starts i some)
 
@@ -41,21 +41,21 @@ returns c =
     let b : Board = record { tasks = map task_facts ts; stages = c.self.inside.stages.items; place = c.self.inside.place } in
     let lt : i < length (map task_facts ts) = omega (arith, c.if-item-len.false, length-map ts task_facts) in
     let same = get_or_default_zero c.self.inside.missing.items i c.index.result.now
-    (omega (arith, lt, c.self.invariant.counted.same)) in
-    let count : slice_index c.self.inside.missing.items i ≡ waits_for b starts i = c.self.invariant.counted.missing i lt in
+    (omega (arith, lt, c.self.invariant.graph.counted.same)) in
+    let count : slice_index c.self.inside.missing.items i ≡ waits_for b starts i = c.self.invariant.graph.counted.missing i lt in
     let zero : waits_for b starts i ≡ 0 = omega (arith, count, c.if-index-gt0.false, c.index.ensures, same) in
     let short : i < length ts = omega (arith, lt, length-map ts task_facts) in
     let task : slice_get ts i ≡ Some c.index-task.result.now =
     slice_get-get_or ts i c.index-task.result.now short ∙ ap (λ (t : Task). Some t) (sym c.index-task.ensures) in
     let facts : slice_get (map task_facts ts) i ≡ Some (task_facts c.index-task.result.now) =
     slice_get-map task_facts ts i ∙ ap (option_map task_facts) task in
-    let within : i < length c.self.inside.stages.items = omega (arith, lt, c.self.invariant.counted.stages) in
+    let within : i < length c.self.inside.stages.items = omega (arith, lt, c.self.invariant.graph.counted.stages) in
     let stage : stage_at b i ≡ c.index-2.result.now =
     get_or_default c.self.inside.stages.items i stage.Untouched c.index-2.result.now within ∙ sym c.index-2.ensures in
     let answer : begins (task_facts c.index-task.result.now) c.index-2.result.now (b.place == i)
     ≡ (allows b (Open i) || allows b (Wait i)) =
     ap (λ (st : Stage). begins (task_facts c.index-task.result.now) st (b.place == i)) (sym stage)
-    ∙ free_is b starts c.self.inside.ends.items c.self.inside.missing.items c.self.inside.first i (task_facts c.index-task.result.now) c.self.invariant facts (sym c.is_bare.ensures ∙ c.if-is_bare.false) zero in
+    ∙ free_is b starts c.self.inside.ends.items c.self.inside.missing.items c.self.inside.first i (task_facts c.index-task.result.now) c.self.invariant.graph facts (sym c.is_bare.ensures ∙ c.if-is_bare.false) zero in
     c.may_begin.ensures
     ∙ subst (λ (x : Board). begins (task_facts c.index-task.result.now) c.index-2.result.now (b.place == i)
     ≡ (allows x (Open i) || allows x (Wait i))) c.self.view_is answer
@@ -67,7 +67,7 @@ returns-then-self-item c =
     let b : Board = record { tasks = map task_facts ts; stages = c.self.inside.stages.items; place = c.self.inside.place } in
     let lt : i < length ts = omega (arith, c.if-item-len.false) in
     let facts = facts_at ts i c.index-task.result.now lt c.index-task.ensures in
-    let answer = bare_is b c.self.inside.first i (task_facts c.index-task.result.now) c.self.invariant.first facts
+    let answer = bare_is b c.self.inside.first i (task_facts c.index-task.result.now) c.self.invariant.graph.first facts
     (sym c.is_bare.ensures ∙ c.if-is_bare.true) in
     ap (λ x. x && (c.self.inside.first == i)) (sym (eq-eqb b.place i c.if-self-item.true))
     ∙ subst (λ (x : Board). ((b.place == i) && (c.self.inside.first == i)) ≡ (allows x (Open i) || allows x (Wait i)))
@@ -80,7 +80,7 @@ returns-else-self-item c =
     let b : Board = record { tasks = map task_facts ts; stages = c.self.inside.stages.items; place = c.self.inside.place } in
     let lt : i < length ts = omega (arith, c.if-item-len.false) in
     let facts = facts_at ts i c.index-task.result.now lt c.index-task.ensures in
-    let answer = bare_is b c.self.inside.first i (task_facts c.index-task.result.now) c.self.invariant.first facts
+    let answer = bare_is b c.self.inside.first i (task_facts c.index-task.result.now) c.self.invariant.graph.first facts
     (sym c.is_bare.ensures ∙ c.if-is_bare.true) in
     let away = ne_eqb b.place i c.if-self-item.false in
     away ∙ ap (λ x. x && (c.self.inside.first == i)) (sym away)
