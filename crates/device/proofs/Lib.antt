@@ -23,3 +23,4 @@ pub mod SameRuns
 pub mod FrameParts
 pub mod IssuedFrames
 pub mod OpenedItems
+pub mod NextTasks

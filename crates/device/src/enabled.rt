@@ -88,11 +88,11 @@ fn all_allowed(alloc: Global, graph: &Graph, items: &[Item]) -> Result<Vec<Event
 }
 
 impl<'a> RunState<'a> {
-    ghost use Rattle.std.specs.Prelude.{◌≡◌, IfOk, IfSome, IsTrue};
-    ghost use Rattle.base.specs.declared.item.Event.TheVariants as event;
+    ghost use Rattle.std.specs.Prelude.{◌≡◌, IfOk, IfNone, IfSome};
     ghost use Rattle.base.specs.Items.{plan};
     ghost use Rattle.base.specs.Machine.{all_enabled, enabled};
     ghost use Rattle.device.specs.Run.{state_of};
+    ghost use Rattle.taskgraph.specs.Board.{HasNoTask, IsNextTask};
 
     /// Whether an event may happen next. It takes a few steps.
     pub fn is_enabled(&self, event: Event) -> bool
@@ -103,13 +103,16 @@ impl<'a> RunState<'a> {
 
     /// The lowest deferred item, from one on, that may be opened next.
     pub fn next_task(&self, from: u32) -> Option<u32>
-        ensures { IfSome result (λ item. IsTrue (enabled (plan self.now.program) (state_of self.now) (event.Open item))) }
+        ensures next { IfSome result (IsNextTask (plan self.now.program) (state_of self.now) from) }
+        ensures none { IfNone result (HasNoTask (plan self.now.program) (state_of self.now) from) }
     {
         if self.standing.ended {
             return None;
         }
         let item = self.standing.graph.next_task(from as usize)?;
-        u32::try_from(item).ok()
+        // There are at most 4,096 items: the number fits.
+        let _items = self.image.items();
+        Some(item as u32)
     }
 
     /// The events that may happen next. It looks at the items from the first that is deferred and not closed to the

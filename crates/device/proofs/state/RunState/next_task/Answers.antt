@@ -1,28 +1,43 @@
-use Rattle.std.proofs.Common.{◌≡◌, ℕ, Result, Ok, Err, Option, IfSome, sym, ap, subst, ◌∙◌}
-use Rattle.std.specs.Bool.{IsTrue}
-use Rattle.std.specs.Result.{OkIff, result_ok}
-use Rattle.base.specs.declared.item.Event.TheVariants as event
+use Rattle.std.proofs.Common.{ℕ, Option, IfNone, sym, subst, arith}
 use Rattle.base.specs.Items.{plan}
-use Rattle.base.specs.Machine.{enabled}
-use Rattle.taskgraph.specs.Board.{allows}
+use Rattle.taskgraph.specs.Board.{HasNoTask, IsNextTask, plan_in, state_in}
+use Rattle.taskgraph.proofs.NextTask.{next_there, none_there, task_inside}
 use Rattle.device.specs.Run.{Run, state_of}
 use Rattle.device.specs.Running.{run_of}
-use Rattle.device.proofs.Reaching.{same_events}
+use Rattle.device.proofs.NextTasks.{graph_tasks, none_ended}
+use Rattle.device.proofs.Starts.{as_many}
 use Rattle.device.proofs.state.RunState.next_task.Goals as goal
 
--- a number that fits, where it was turned into one
-fitted : {E : Type 0} (r : Result ℕ E) (o : Option ℕ) (c : Type 0) (n : ℕ) (P : ℕ → Type 0) → o ≡ result_ok r →
-    OkIff r c n → P n → IfSome o P
-fitted (Ok m) o c n P e h p = subst (λ x. IfSome x P) (sym e) (subst P (sym h.1) p)
-fitted (Err f) o c n P e h p = subst (λ x. IfSome x P) (sym e) tt
+pub returns-then-self-clause-none : goal.returns-then-self-clause-none
+returns-then-self-clause-none c =
+    subst (λ (r : Run). HasNoTask (plan r.program) (state_of r) c.args.from) c.self.view_is
+    (none_ended (run_of c.self.inside) c.self.inside.standing c.args.from c.self.invariant c.if-self.true)
 
-pub returns : goal.returns
-returns c =
-    let e = event.Open c.in_ok-item.item in
-    let may : IsTrue (allows c.self.inside.standing.graph e) = c.in_ok-item.ensures in
-    let done : IsTrue (enabled (plan c.args.self.now.program) (state_of c.args.self.now) e) =
-    sym (same_events (run_of c.self.inside) c.self.inside.standing c.self.invariant c.if-self.false e
-    ∙ ap (λ (r : Run). enabled (plan r.program) (state_of r) e) c.self.view_is) ∙ may in
-    fitted c.try_from.result c.ok.result _ c.in_ok-item.item
-    (λ item. IsTrue (enabled (plan c.args.self.now.program) (state_of c.args.self.now) (event.Open item)))
-    c.ok.ensures.value c.try_from.ensures done
+pub returns-clause-next : goal.returns-clause-next
+returns-clause-next c =
+    let r = run_of c.self.inside in
+    let g = c.self.inside.standing.graph in
+    subst (λ (r : Run). IsNextTask (plan r.program) (state_of r) c.args.from c.in_ok-item.item) c.self.view_is
+    (next_there (plan_in g) (state_in g) (plan r.program) (state_of r) c.args.from c.in_ok-item.item
+    (graph_tasks r c.self.inside.standing c.self.invariant c.if-self.false) c.in_ok-item.ensures.next)
+
+pub returns-in_err-item-clause-none : goal.returns-in_err-item-clause-none
+returns-in_err-item-clause-none c =
+    let r = run_of c.self.inside in
+    let g = c.self.inside.standing.graph in
+    let none = none_there (plan_in g) (state_in g) (plan r.program) (state_of r) c.args.from
+    (graph_tasks r c.self.inside.standing c.self.invariant c.if-self.false) c.in_err-item.ensures.none in
+    subst (λ (o : Option ℕ). IfNone o (HasNoTask (plan c.args.self.now.program) (state_of c.args.self.now) c.args.from))
+    (sym c.from_residual.ensures)
+    (subst (λ (r : Run). HasNoTask (plan r.program) (state_of r) c.args.from) c.self.view_is none)
+
+pub overflow_cast-result : goal.overflow_cast-result
+overflow_cast-result c =
+    let r = run_of c.self.inside in
+    let g = c.self.inside.standing.graph in
+    let next = next_there (plan_in g) (state_in g) (plan r.program) (state_of r) c.args.from c.in_ok-item.item
+    (graph_tasks r c.self.inside.standing c.self.invariant c.if-self.false) c.in_ok-item.ensures.next in
+    let inside = task_inside (plan r.program) (state_of r) c.in_ok-item.item next.task in
+    let many = as_many _ c.items-items.result.now _ c.items-items.ensures.shown in
+    let few = c.items-items.ensures.few in
+    omega arith
