@@ -1,12 +1,14 @@
 -- What is found on the board, and done to it.
-use Rattle.std.specs.Prelude.{◌≡◌, Option, Some, None}
+use Rattle.std.specs.Prelude.{◌≡◌, ◌⊎◌, ℕ, Option, Some, None}
 use Rattle.base.specs.declared.item.Event.{Event}
 use Rattle.base.specs.declared.item.Event.TheVariants.{Close}
 use Rattle.base.specs.declared.tree.Region.{Region}
+use Rattle.base.specs.Items.{plan}
 use Rattle.kernel.specs.declared.frames.Frame.{Frame}
 use Rattle.device.specs.Jobs.{IsIssuedDone, IsJob}
-use Rattle.device.specs.Run.{HasOpened, Run, after}
+use Rattle.device.specs.Run.{HasOpened, Run, after, state_of}
 use Rattle.device.specs.Taking.{Takes}
+use Rattle.taskgraph.specs.Board.{HasNoTask, IsNextTask}
 use Rattle.host.specs.Stops.{IsOver}
 use Rattle.host.specs.declared.board.Look.{Look}
 use Rattle.host.specs.declared.board.Look.TheVariants as look
@@ -20,6 +22,26 @@ IsLook before old look.Wait after new = (before ≡ None) × (after ≡ None) ×
 IsLook before old look.Again after new = (before ≡ None) × (after ≡ None) × ((e : Event) × Takes old e new)
 IsLook before old (look.Do job) after new =
     (before ≡ None) × (after ≡ None) × HasOpened job.frame.item old new × IsJob new job.frame.item job
+
+-- what may be opened here is opened, unless the run stops
+abbrev pub IsOpeningOf : ℕ → Look → Type 0
+IsOpeningOf i look.Stop = Unit {0}
+IsOpeningOf i look.Wait = ⊥
+IsOpeningOf i look.Again = ⊥
+IsOpeningOf i (look.Do job) = job.frame.item ≡ i
+
+-- the lowest deferred item that may be opened; where there is none, the item at which the host stands
+abbrev pub IsForWorker : Run → ℕ → Type 0
+IsForWorker r i =
+    IsNextTask (plan r.program) (state_of r) 0 i
+    ⊎ (HasNoTask (plan r.program) (state_of r) 0 × ((state_of r).place ≡ i))
+
+-- a worker opens that item, and waits only where no deferred item may be opened
+abbrev pub IsWorkerLook : Run → Look → Type 0
+IsWorkerLook r look.Stop = Unit {0}
+IsWorkerLook r look.Wait = HasNoTask (plan r.program) (state_of r) 0
+IsWorkerLook r look.Again = ⊥
+IsWorkerLook r (look.Do job) = IsForWorker r job.frame.item
 
 -- why what was computed does not close its item
 abbrev pub IsCloseCause : Run → Region → Frame → Stop → Type 0

@@ -1,15 +1,16 @@
 // What stands behind the lock.
 
-ghost use Rattle.std.specs.Prelude.{◌≡◌, true, false, IsTrue, IfErr, IfOk, IfSome, None, OnOk};
+ghost use Rattle.std.specs.Prelude.{◌≡◌, true, false, IsTrue, IfErr, IfNone, IfOk, IfSome, None, OnOk};
 ghost use Rattle.base.specs.declared.item.Event.TheVariants as event;
 ghost use Rattle.base.specs.Items.{plan};
 ghost use Rattle.base.specs.Machine.{enabled};
 ghost use Rattle.device.specs.Room.{IsAnswerWithin};
 ghost use Rattle.device.specs.Run.{state_of};
-ghost use Rattle.host.specs.Looks.{IsClosing, IsLook};
+ghost use Rattle.host.specs.Looks.{IsClosing, IsForWorker, IsLook, IsOpeningOf, IsWorkerLook};
 ghost use Rattle.host.specs.Origins.{IsFrom, one_origin};
 ghost use Rattle.host.specs.Stops.{HasCause, IsEndFault, IsOver, IsPlain, StaysStopped, fault_of, first_stop, one_cause};
 ghost use Rattle.host.specs.Threads.{IsThreadAnswer, IsThreadFault};
+ghost use Rattle.taskgraph.specs.Board.{HasNoTask};
 
 use crate::origin::Origin;
 use base::fault::RunFault;
@@ -140,7 +141,8 @@ impl<'a, B: Origin> Board<'a, B> {
 
     // The target at which the host stands, if a worker may open it.
     fn target_here(&self) -> Option<u32>
-        ensures { IfSome result (λ item. IsTrue (enabled (plan self.now.state.program) (state_of self.now.state) (event.Open item))) }
+        ensures may { IfSome result (λ item. IsTrue (enabled (plan self.now.state.program) (state_of self.now.state) (event.Open item))) }
+        ensures here { IfSome result (λ item. (state_of self.now.state).place ≡ item) }
     {
         let place = self.state.place();
         let item = u32::try_from(place).ok()?;
@@ -155,7 +157,9 @@ impl<'a, B: Origin> Board<'a, B> {
 
     // The lowest item that a worker may open; a deferred one lies before the host's place.
     fn next_for_worker(&self) -> Option<u32>
-        ensures { IfSome result (λ item. IsTrue (enabled (plan self.now.state.program) (state_of self.now.state) (event.Open item))) }
+        ensures may { IfSome result (λ item. IsTrue (enabled (plan self.now.state.program) (state_of self.now.state) (event.Open item))) }
+        ensures next { IfSome result (IsForWorker self.now.state) }
+        ensures none { IfNone result (HasNoTask (plan self.now.state.program) (state_of self.now.state) 0) }
     {
         match self.state.next_task(0) {
             Some(item) => Some(item),
@@ -189,7 +193,8 @@ impl<'a, B: Origin> Board<'a, B> {
     fn open(&mut self, item: u32) -> Look<'a>
         requires goes { self.old.stop ≡ None }
         requires may { IsTrue (enabled (plan self.old.state.program) (state_of self.old.state) (event.Open item)) }
-        ensures { IsLook self.old.stop self.old.state result self.new.stop self.new.state }
+        ensures found { IsLook self.old.stop self.old.state result self.new.stop self.new.state }
+        ensures item { IsOpeningOf item result }
     {
         match self.state.open(item) {
             Ok(job) => Look::Do(job),
@@ -225,6 +230,7 @@ impl<'a, B: Origin> Board<'a, B> {
     /// A worker opens the lowest item that it may.
     pub fn look_as_worker(&mut self) -> Look<'a>
         ensures found { IsLook self.old.stop self.old.state result self.new.stop self.new.state }
+        ensures lowest { IsWorkerLook self.old.state result }
         ensures stopped { StaysStopped self.old.stop self.old.state self.new.stop self.new.state }
     {
         if self.is_over() {
