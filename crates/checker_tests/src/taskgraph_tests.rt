@@ -85,10 +85,10 @@ fn readers_wait_for_the_writer(rt: HostRuntime) -> Result<(), Fail> {
     assert_eq!(rt; graph.place(), 3);
     assert!(rt; graph.ready(0) && !graph.ready(1) && !graph.ready(2) && !graph.ready(3));
     open(&rt, &mut graph, 0);
-    assert!(rt; graph.is_open(0) && !graph.is_closed(0));
+    assert!(rt; graph.is_open(0));
     assert!(rt; !graph.ready(0) && !graph.ready(1) && !graph.ready(2));
     close(&rt, &mut graph, 0);
-    assert!(rt; graph.is_closed(0) && !graph.is_open(0));
+    assert!(rt; !graph.is_open(0));
     assert!(rt; graph.ready(1) && graph.ready(2) && !graph.ready(3));
     open(&rt, &mut graph, 2);
     open(&rt, &mut graph, 1);
@@ -98,7 +98,7 @@ fn readers_wait_for_the_writer(rt: HostRuntime) -> Result<(), Fail> {
     assert!(rt; graph.ready(3) && !graph.may_open(3));
     pass(&rt, &mut graph, 3);
     assert_eq!(rt; graph.place(), 4);
-    assert!(rt; !graph.is_open(3) && !graph.is_closed(3) && !graph.ready(4));
+    assert!(rt; !graph.is_open(3) && !graph.ready(4));
     Ok(())
 }
 

@@ -4,12 +4,12 @@ use Rattle.std.specs.Prelude.{◌&&◌, slice_index}
 use Rattle.std.specs.List.{slice_index_or, slice_set}
 use Rattle.std.proofs.lemmas.Bool.{cases_eq, ne_eqb}
 use Rattle.std.proofs.lemmas.List.{get_or-set_same, get_or-set_other}
+use Rattle.std.proofs.Math.Bool.{and-false}
 use Rattle.base.specs.Machine.{is_waiting}
 use Rattle.taskgraph.specs.declared.Stage.{Stage}
 use Rattle.taskgraph.specs.declared.Stage.TheVariants as stage
 use Rattle.taskgraph.specs.Board.{condition_of}
 use Rattle.taskgraph.specs.Waiting.{count_free, is_free, is_free_at, one_if}
-use Rattle.taskgraph.proofs.Laws.{and_false}
 
 one_small : (x : Bool) → one_if x ≤ 1
 one_small true = omega arith
@@ -80,7 +80,7 @@ count_set ss ns i n st inside lt =
     omega (arith, changed, here)
 
 some_left : (st : Stage) (n : ℕ) → 1 ≤ n → is_free st n ≡ false
-some_left st n pos = ap (λ x. is_waiting true (condition_of st) && x) (ne_eqb n 0 (λ e. omega (arith, pos, e))) ∙ and_false (is_waiting true (condition_of st))
+some_left st n pos = ap (λ x. is_waiting true (condition_of st) && x) (ne_eqb n 0 (λ e. omega (arith, pos, e))) ∙ and-false (is_waiting true (condition_of st))
 
 -- the count of one that was not ready is set
 pub count_left : (ss : List Stage) (ns : List ℕ) (i n v : ℕ) → i < length ns → i < n → 1 ≤ slice_index ns i →

@@ -336,8 +336,8 @@ fn may_begin(task: &Task, stage: Stage, here: bool) -> bool
 impl Graph {
     ghost use Rattle.std.specs.Prelude.{◌≡◌, ◌<◌, ◌≤◌, ℕ, ◌||◌, IfOk, IfNone, IfSome, length, true, false};
     ghost use Rattle.base.specs.declared.item.Event.TheVariants.{Gen, Open, Close, Wait, End};
-    ghost use Rattle.base.specs.Machine.{is_open, is_closed, is_wait, on_item};
-    ghost use Rattle.taskgraph.specs.Board.{HasNoTask, IsNew, IsNextTask, IsSettled, Follows, allows, plan_in, stage_at, state_in};
+    ghost use Rattle.base.specs.Machine.{is_open, is_wait, on_item};
+    ghost use Rattle.taskgraph.specs.Board.{HasNoTask, IsNew, IsNextTask, IsSettled, Follows, allows, plan_in, state_in};
 
     /// The graph of these items, none of which has begun.
     pub fn new(alloc: Global, items: &[Item]) -> Result<Graph, AllocError>
@@ -367,16 +367,6 @@ impl Graph {
         self.place
     }
 
-    /// How far the item is.
-    fn stage(&self, item: usize) -> Stage
-        ensures { result ≡ stage_at self.now item }
-    {
-        match self.stages.get(item) {
-            None => Stage::Untouched,
-            Some(stage) => *stage,
-        }
-    }
-
     /// Whether the item is open, and so may be closed; a number past the last gives `false`.
     #[tactic(auto, using(crate::proofs::Parts::open_past, crate::proofs::Parts::close_past))]
     pub fn is_open(&self, item: usize) -> bool
@@ -387,13 +377,6 @@ impl Graph {
             return false;
         }
         matches!(self.stages[item], Stage::Open)
-    }
-
-    /// Whether the item is closed; a wait never is, nor is a number past the last.
-    pub fn is_closed(&self, item: usize) -> bool
-        ensures { result ≡ is_closed ((state_in self.now).condition item) }
-    {
-        matches!(self.stage(item), Stage::Closed)
     }
 
     /// Whether the item may be opened next, or passed by the host where it is a wait: it was not before, all its
