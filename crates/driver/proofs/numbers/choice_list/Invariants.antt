@@ -1,0 +1,8 @@
+use Rattle.std.proofs.Common.{◌≡◌, ◌^◌}
+use Rattle.driver.specs.Numbers.{choices_of}
+use Rattle.driver.proofs.Words.{Left, after}
+use Rattle.driver.proofs.numbers.choice_list.Given as goal
+
+-- the choices so far and those of the parts that are left are those of the text
+abbrev pub invariant-loop-word : goal.invariant-loop-word
+invariant-loop-word l = Left goal.iterator-loop-word.next_gives l.word-iterator (λ parts. after (2 ^ 32) l.choices.items parts ≡ choices_of l.text)
