@@ -1,7 +1,10 @@
 //! One command, over any sources, reader and writers.
 
-ghost use Rattle.std.specs.Prelude.{◌≡◌, ◌≤◌, ◌⊎◌, IfOk, OnErr};
+ghost use Rattle.std.specs.Prelude.{◌≡◌, ◌≤◌, ◌⊎◌, IfOk, OnErr, OnOk};
+ghost use Rattle.std.specs.Io.KnownBytes.{Appends};
 ghost use Rattle.base.specs.Limits.{AreShort};
+ghost use Rattle.driver.specs.Statuses.{source_status, ending_of};
+ghost use Rattle.driver.specs.Printed.{IsInput, IsReadAnswer, IsCommandDone, IsDone, answer_bytes, answers_of};
 
 use crate::command::{Request, Run, Step, Workers, parse};
 use crate::numbers::{NumbersFault, choice_list, input_numbers};
@@ -65,10 +68,12 @@ impl From<SourceFault> for Ending<'_> {
 }
 
 impl Ending<'_> {
-    ghost use Rattle.std.specs.Prelude.{◌≤◌};
+    ghost use Rattle.std.specs.Prelude.{◌≡◌, ◌≤◌};
+    ghost use Rattle.driver.specs.Statuses.{status_of};
 
     fn status(&self) -> u8
-        ensures { (1 ≤ result) × (result ≤ 3) }
+        ensures within { (1 ≤ result) × (result ≤ 3) }
+        ensures status { result ≡ status_of self.now }
     {
         match self {
             Ending::Usage(error) => match error.kind() {
@@ -99,7 +104,8 @@ impl Ending<'_> {
 }
 
 fn status_of(fault: SourceFault) -> u8
-    ensures { (1 ≤ result) × (result ≤ 3) }
+    ensures within { (1 ≤ result) × (result ≤ 3) }
+    ensures status { result ≡ source_status fault }
 {
     match fault {
         SourceFault::Read(ReadFault::OutOfMemory)
@@ -111,7 +117,9 @@ fn status_of(fault: SourceFault) -> u8
 }
 
 /// What a fault of a source that is checked ends with: of the checker only want of memory is still to be said.
-fn ending_of<'a>(fault: SourceFault) -> Ending<'a> {
+fn ending_of<'a>(fault: SourceFault) -> Ending<'a>
+    ensures { result ≡ ending_of fault }
+{
     match fault {
         SourceFault::Check(CheckFault::OutOfMemory) => Ending::OutOfMemory,
         SourceFault::Check(_) => Ending::Refused,
@@ -129,7 +137,9 @@ fn no_source(error: SourceError, name: &str) -> Ending<'_> {
 }
 
 /// Reads the input of a program to its end.
-fn read_input<'a, R: Read>(alloc: Global, input: &mut R) -> Result<Vec<u64>, Ending<'a>> {
+fn read_input<'a, R: Read>(alloc: Global, input: &mut R) -> Result<Vec<u64>, Ending<'a>>
+    ensures { IfOk result (λ ns. IsInput (R.remaining input.old) ns.items) }
+{
     let mut bytes = Vec::new(alloc);
     match input.read_to_end(&mut bytes) {
         Ok(_) => {}
@@ -181,6 +191,7 @@ fn run_by<T: Threads + Wait + Sync>(
     capacity: u64,
 ) -> Result<Answer, RunFault>
     requires { AreShort accepted.now }
+    ensures { IfOk result (answers_of way.entry capacity numbers.now accepted.now) }
 {
     match way {
         Way::Choices(choices) => run_accepted(alloc, accepted, numbers, choices, capacity),
@@ -201,11 +212,13 @@ fn answer_outlined<'a, T: Threads + Wait + Sync, R: Read, E: Write>(
     err: &mut E,
 ) -> Result<Answer, Ending<'a>>
     requires { AreShort outlined.now }
+    ensures { IfOk result (IsReadAnswer (answers_of asked.entry.way asked.entry.capacity) (R.remaining input.old) outlined.now) }
 {
     let accepted = match check(alloc, outlined) {
         Ok(accepted) => accepted,
         Err(fault) => return Err(ending_of(tell(alloc, outlined.program(), fault, err))),
     };
+    accepted.is_accepted();
     let numbers = read_input(alloc, input)?;
     match run_by(rt, alloc, &accepted, &numbers, asked.way, asked.capacity) {
         Ok(answer) => Ok(answer),
@@ -224,6 +237,7 @@ fn answer<'a, T: Threads + Wait + Sync, R: Read, E: Write>(
     err: &mut E,
 ) -> Result<Answer, Ending<'a>>
     requires { AreShort program.now }
+    ensures { IfOk result (IsReadAnswer (answers_of asked.entry.way asked.entry.capacity) (R.remaining input.old) program.now) }
 {
     let outlined = match outline(alloc, program) {
         Ok(outlined) => outlined,
@@ -238,7 +252,9 @@ fn write_answer<W: Write>(
     answer: &Answer,
     asked: Asked<'_, '_>,
     out: &mut W,
-) -> io::Result<()> {
+) -> io::Result<()>
+    ensures { OnOk result (Appends (W.contents out.old) (W.contents out.new) (answer_bytes asked.entry.log asked.entry.finals program.now answer.now)) }
+{
     out.write_all(&answer.out)?;
     if asked.log {
         log_text(&answer.history, out)?;

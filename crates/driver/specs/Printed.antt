@@ -1,0 +1,70 @@
+-- What a command that is done has printed on standard output.
+use Rattle.std.specs.Prelude.{ℕ, ◌≡◌, Bool, true, false, if◌then◌else◌, List, [], ◌++◌, Option, Some, IfSome}
+use Rattle.std.specs.Io.KnownBytes.{Appends}
+use Rattle.base.specs.declared.tree.Program.{Program}
+use Rattle.base.specs.declared.item.Answer.{Answer}
+use Rattle.c_read.specs.Spells.{Spells}
+use Rattle.pipeline.specs.Source.{Answers, IsAcceptedAnswer, by_choices, on_threads}
+use Rattle.pipeline.specs.Checking.{IsChecked}
+use Rattle.pipeline.specs.Listing.{IsListed}
+use Rattle.report.specs.Runs.{log_bytes, finals_bytes}
+use Rattle.driver.specs.Numbers.{input_of, choices_of}
+use Rattle.driver.specs.declared.command.Request.{Request}
+use Rattle.driver.specs.declared.command.Request.TheVariants.{Run, Step, Check, List as Items}
+use Rattle.driver.specs.declared.perform.Way.{Way}
+use Rattle.driver.specs.declared.perform.Way.TheVariants.{Choices, Workers}
+
+-- the numbers that a reader has left, where its bytes are known
+pub record IsInput (known : Option (List ℕ)) (input : List ℕ) : Type 0 where
+  pub bytes : List ℕ
+  pub left : IfSome known (λ xs. bytes ≡ xs)
+  pub numbers : input_of bytes ≡ Some input
+
+-- what is answered on an input, on a device with room for so many cells
+abbrev pub by_list : List ℕ → ℕ → List ℕ → Answers
+by_list choices capacity input = by_choices input choices capacity
+
+abbrev pub by_workers : ℕ → List ℕ → Answers
+by_workers capacity input = on_threads input capacity
+
+abbrev pub answers_of : Way → ℕ → List ℕ → Answers
+answers_of (Choices choices) capacity = by_list choices.now capacity
+answers_of (Workers workers) capacity = by_workers capacity
+
+-- what an accepted program answers on the numbers that a reader has left
+pub record IsReadAnswer (is : List ℕ → Answers) (known : Option (List ℕ)) (p : Program) (a : Answer) : Type 0 where
+  pub input : List ℕ
+  pub is_input : IsInput known input
+  pub answer : IsAcceptedAnswer (is input) p a
+
+-- the output, then the log and the values of arrays where they are asked for
+abbrev pub answer_bytes : Bool → Bool → Program → Answer → List ℕ
+answer_bytes log finals p a =
+    a.out.items ++ ((if log then log_bytes a.history.items else []) ++ (if finals then finals_bytes p a.finals.items else []))
+
+-- that is appended, of the program that the bytes spell
+pub record IsPrinted (is : List ℕ → Answers) (log finals : Bool) (bytes : List ℕ) (known old new : Option (List ℕ)) : Type 0 where
+  pub program : Program
+  pub spelled : Spells bytes program
+  pub answer : Answer
+  pub answered : IsReadAnswer is known program answer
+  pub written : Appends old new (answer_bytes log finals program answer)
+
+-- a run by the choices of a text, with its log
+pub record IsStepped (text : List ℕ) (capacity : ℕ) (bytes : List ℕ) (known old new : Option (List ℕ)) : Type 0 where
+  pub choices : List ℕ
+  pub are_choices : choices_of text ≡ Some choices
+  pub printed : IsPrinted (by_list choices capacity) true false bytes known old new
+
+-- what a request prints of the bytes of a source
+abbrev pub IsDone : Request → List ℕ → Option (List ℕ) → Option (List ℕ) → Option (List ℕ) → Type 0
+IsDone (Run run) bytes known old new = IsPrinted (by_workers run.capacity) run.log run.finals bytes known old new
+IsDone (Step step) bytes known old new = IsStepped step.choices.now step.capacity bytes known old new
+IsDone (Check name) bytes known old new = IsChecked bytes old new
+IsDone (Items name) bytes known old new = IsListed bytes old new
+
+-- one of the four requests is done, of some bytes
+pub record IsCommandDone (known old new : Option (List ℕ)) : Type 0 where
+  pub request : Request
+  pub bytes : List ℕ
+  pub done : IsDone request bytes known old new

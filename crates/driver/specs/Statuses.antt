@@ -1,0 +1,45 @@
+-- The status of a command that prints nothing.
+use Rattle.std.specs.Prelude.{ℕ}
+use Rattle.base.specs.declared.fault.ReadFault.TheVariants as read
+use Rattle.base.specs.declared.fault.OutlineFault.TheVariants as outline
+use Rattle.base.specs.declared.fault.CheckFault.TheVariants as check
+use Rattle.base.specs.declared.fault.SourceFault.{SourceFault}
+use Rattle.base.specs.declared.fault.SourceFault.TheVariants.{Read, Outline, Check, Run}
+use Rattle.clap.specs.Values.{kind_of}
+use Rattle.clap.specs.declared.error.kind.ErrorKind.{ErrorKind}
+use Rattle.clap.specs.declared.error.kind.ErrorKind.TheVariants as kind
+use Rattle.driver.specs.declared.perform.Ending.{Ending}
+use Rattle.driver.specs.declared.perform.Ending.TheVariants as ending
+
+-- a refused program has 1, want of memory and a run that stopped have 3
+abbrev pub source_status : SourceFault → ℕ
+source_status (Read (read.Text f)) = 1
+source_status (Read read.OutOfMemory) = 3
+source_status (Outline outline.TooManyItems) = 1
+source_status (Outline outline.OutOfMemory) = 3
+source_status (Check check.OutOfMemory) = 3
+source_status (Check _) = 1
+source_status (Run f) = 3
+
+-- words that are no command have 2
+abbrev pub usage_status : ErrorKind → ℕ
+usage_status kind.OutOfMemory = 3
+usage_status _ = 2
+
+-- so have choices, a source and an input that cannot be read
+abbrev pub status_of : Ending → ℕ
+status_of (ending.Usage e) = usage_status (kind_of e)
+status_of ending.BadChoices = 2
+status_of (ending.Unreadable name) = 2
+status_of (ending.Source f) = source_status f
+status_of ending.Refused = 1
+status_of ending.BadInput = 2
+status_of ending.OutOfMemory = 3
+
+-- what a fault ends a check or a list with: why a program is refused is written already
+abbrev pub ending_of : SourceFault → Ending
+ending_of (Read f) = ending.Source (Read f)
+ending_of (Outline f) = ending.Source (Outline f)
+ending_of (Check check.OutOfMemory) = ending.OutOfMemory
+ending_of (Check _) = ending.Refused
+ending_of (Run f) = ending.Source (Run f)
