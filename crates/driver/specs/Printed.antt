@@ -63,8 +63,12 @@ IsDone (Step step) bytes known old new = IsStepped step.choices.now step.capacit
 IsDone (Check name) bytes known old new = IsChecked bytes old new
 IsDone (Items name) bytes known old new = IsListed bytes old new
 
--- one of the four requests is done, of some bytes
+-- that is so of the bytes of some source
+pub record OfSource (P : List ℕ → Type 0) : Type 0 where
+  pub bytes : List ℕ
+  pub holds : P bytes
+
+-- that is so of one of the four requests
 pub record IsCommandDone (known old new : Option (List ℕ)) : Type 0 where
   pub request : Request
-  pub bytes : List ℕ
-  pub done : IsDone request bytes known old new
+  pub done : OfSource (λ bytes. IsDone request bytes known old new)

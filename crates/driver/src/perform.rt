@@ -3,8 +3,10 @@
 ghost use Rattle.std.specs.Prelude.{◌≡◌, ◌≤◌, ◌⊎◌, IfOk, OnErr, OnOk};
 ghost use Rattle.std.specs.Io.KnownBytes.{Appends};
 ghost use Rattle.base.specs.Limits.{AreShort};
+ghost use Rattle.pipeline.specs.Checking.{IsChecked};
+ghost use Rattle.pipeline.specs.Listing.{IsListed};
 ghost use Rattle.driver.specs.Statuses.{source_status, ending_of};
-ghost use Rattle.driver.specs.Printed.{IsInput, IsReadAnswer, IsCommandDone, IsDone, answer_bytes, answers_of};
+ghost use Rattle.driver.specs.Printed.{IsInput, IsReadAnswer, IsPrinted, IsDone, IsCommandDone, OfSource, answer_bytes, answers_of};
 
 use crate::command::{Request, Run, Step, Workers, parse};
 use crate::numbers::{NumbersFault, choice_list, input_numbers};
@@ -278,6 +280,7 @@ fn run_file<'a, T: Threads + Wait + Sync, S: Sources, R: Read, W: Write, E: Writ
 ) -> Result<u8, Ending<'a>>
     ensures status { IfOk result (λ s. (s ≡ 0) ⊎ (s ≡ 3)) }
     ensures quiet { OnErr result (W.contents out.new ≡ W.contents out.old) }
+    ensures printed { IfOk result (λ s. s ≡ 0 → OfSource (λ bytes. IsPrinted (answers_of asked.entry.way asked.entry.capacity) asked.entry.log asked.entry.finals bytes (R.remaining input.old) (W.contents out.old) (W.contents out.new))) }
 {
     let bytes = bytes_of(sources, asked.file)?;
     let program = match read_program(alloc, &bytes) {
@@ -303,6 +306,7 @@ fn do_run<'a, T: Threads + Wait + Sync, S: Sources, R: Read, W: Write, E: Write>
 ) -> Result<u8, Ending<'a>>
     ensures status { IfOk result (λ s. (s ≡ 0) ⊎ (s ≡ 3)) }
     ensures quiet { OnErr result (W.contents out.new ≡ W.contents out.old) }
+    ensures done { IfOk result (λ s. s ≡ 0 → OfSource (λ bytes. IsDone (Request.Run run.entry) bytes (R.remaining input.old) (W.contents out.old) (W.contents out.new))) }
 {
     let asked = Asked {
         file: run.file,
@@ -326,6 +330,7 @@ fn do_step<'a, T: Threads + Wait + Sync, S: Sources, R: Read, W: Write, E: Write
 ) -> Result<u8, Ending<'a>>
     ensures status { IfOk result (λ s. (s ≡ 0) ⊎ (s ≡ 3)) }
     ensures quiet { OnErr result (W.contents out.new ≡ W.contents out.old) }
+    ensures done { IfOk result (λ s. s ≡ 0 → OfSource (λ bytes. IsDone (Request.Step step.entry) bytes (R.remaining input.old) (W.contents out.old) (W.contents out.new))) }
 {
     let choices = match choice_list(alloc, step.choices) {
         Ok(choices) => choices,
@@ -352,6 +357,7 @@ fn do_check<'a, S: Sources, W: Write, E: Write>(
 ) -> Result<u8, Ending<'a>>
     ensures status { IfOk result (λ s. (s ≡ 0) ⊎ (s ≡ 3)) }
     ensures quiet { OnErr result (W.contents out.new ≡ W.contents out.old) }
+    ensures done { IfOk result (λ s. s ≡ 0 → OfSource (λ bytes. IsChecked bytes (W.contents out.old) (W.contents out.new))) }
 {
     let bytes = bytes_of(sources, name)?;
     match check_source(alloc, &bytes, out, err) {
@@ -371,6 +377,7 @@ fn do_list<'a, S: Sources, W: Write, E: Write>(
 ) -> Result<u8, Ending<'a>>
     ensures status { IfOk result (λ s. (s ≡ 0) ⊎ (s ≡ 3)) }
     ensures quiet { OnErr result (W.contents out.new ≡ W.contents out.old) }
+    ensures done { IfOk result (λ s. s ≡ 0 → OfSource (λ bytes. IsListed bytes (W.contents out.old) (W.contents out.new))) }
 {
     let bytes = bytes_of(sources, name)?;
     match list_source(alloc, &bytes, out, err) {
@@ -391,6 +398,7 @@ fn perform<'a, T: Threads + Wait + Sync, S: Sources, R: Read, W: Write, E: Write
 ) -> Result<u8, Ending<'a>>
     ensures status { IfOk result (λ s. (s ≡ 0) ⊎ (s ≡ 3)) }
     ensures quiet { OnErr result (W.contents out.new ≡ W.contents out.old) }
+    ensures done { IfOk result (λ s. s ≡ 0 → IsCommandDone (R.remaining input.old) (W.contents out.old) (W.contents out.new)) }
 {
     match parse(alloc, words) {
         Ok(Request::Run(run)) => do_run(rt, alloc, run, sources, input, out, err),
@@ -418,6 +426,7 @@ pub fn drive<T: Threads + Wait + Sync, S: Sources, R: Read, W: Write, E: Write>(
 ) -> u8
     ensures status { result ≤ 3 }
     ensures quiet { (result ≡ 1) ⊎ (result ≡ 2) → W.contents out.new ≡ W.contents out.old }
+    ensures done { result ≡ 0 → IsCommandDone (R.remaining input.old) (W.contents out.old) (W.contents out.new) }
 {
     match perform(rt, alloc, words, sources, input, out, err) {
         Ok(status) => status,
