@@ -5,10 +5,10 @@ returns-in-Ok-write_answer-clause-printed g c =
     λ _. record {
       bytes = c.deref.result.now;
       holds = record {
-          program = c.in-Ok.program;
-          spelled = c.in-Ok.ensures.found;
-          answer = c.in_ok-answer.answer;
-          answered = c.in_ok-answer.ensures;
-          written = c.in-Ok-write_answer.ensures;
-        };
+        program = c.in-Ok.program;
+        spelled = c.in-Ok.ensures.found;
+        answer = c.in_ok-answer.answer;
+        answered = c.in_ok-answer.ensures;
+        written = c.in-Ok-write_answer.ensures;
+      };
     }
