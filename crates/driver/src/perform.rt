@@ -387,6 +387,28 @@ fn do_list<'a, S: Sources, W: Write, E: Write>(
     }
 }
 
+/// Does what the words ask for.
+fn do_request<'a, T: Threads + Wait + Sync, S: Sources, R: Read, W: Write, E: Write>(
+    rt: &T,
+    alloc: Global,
+    request: Request<'a>,
+    sources: &mut S,
+    input: &mut R,
+    out: &mut W,
+    err: &mut E,
+) -> Result<u8, Ending<'a>>
+    ensures status { IfOk result (λ s. (s ≡ 0) ⊎ (s ≡ 3)) }
+    ensures quiet { OnErr result (W.contents out.new ≡ W.contents out.old) }
+    ensures done { IfOk result (λ s. s ≡ 0 → OfSource (λ bytes. IsDone request.entry bytes (R.remaining input.old) (W.contents out.old) (W.contents out.new))) }
+{
+    match request {
+        Request::Run(run) => do_run(rt, alloc, run, sources, input, out, err),
+        Request::Step(step) => do_step(rt, alloc, step, sources, input, out, err),
+        Request::Check(name) => do_check(alloc, name, sources, out, err),
+        Request::List(name) => do_list(alloc, name, sources, out, err),
+    }
+}
+
 fn perform<'a, T: Threads + Wait + Sync, S: Sources, R: Read, W: Write, E: Write>(
     rt: &T,
     alloc: Global,
@@ -401,10 +423,7 @@ fn perform<'a, T: Threads + Wait + Sync, S: Sources, R: Read, W: Write, E: Write
     ensures done { IfOk result (λ s. s ≡ 0 → IsCommandDone (R.remaining input.old) (W.contents out.old) (W.contents out.new)) }
 {
     match parse(alloc, words) {
-        Ok(Request::Run(run)) => do_run(rt, alloc, run, sources, input, out, err),
-        Ok(Request::Step(step)) => do_step(rt, alloc, step, sources, input, out, err),
-        Ok(Request::Check(name)) => do_check(alloc, name, sources, out, err),
-        Ok(Request::List(name)) => do_list(alloc, name, sources, out, err),
+        Ok(request) => do_request(rt, alloc, request, sources, input, out, err),
         Err(error) => Err(Ending::Usage(error)),
     }
 }
