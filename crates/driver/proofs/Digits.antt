@@ -11,20 +11,25 @@ use Rattle.driver.specs.Numbers.{is_digit, in_base_ten, below, number_below}
 abbrev pub number_after : ℕ → ℕ → List ℕ → Option ℕ
 number_after m v ds = cond (list_all is_digit ds) (below m (v * 10 ^ length ds + in_base_ten ds)) None
 
+-- the low four bits of a digit are its value
 digit_value : (d : ℕ) → is_digit d ≡ true → d % 16 ≡ d - 48
 digit_value d h = grind (arith, nat_tests)
 
+-- a digit behind v is ten times v and the digit
 shifted : (v d p r : ℕ) → v * (p * 10) + (d * p + r) ≡ (v * 10 + d) * p + r
 shifted v d p r =
     sym (ap (λ (x : ℕ). x + r) (add-mul (v * 10) d p ∙ ap (λ (x : ℕ). x + d * p) (mul_assoc v 10 p ∙ ap (λ (y : ℕ). v * y) (mul_comm 10 p)))
     ∙ add_assoc (v * (p * 10)) (d * p) r)
 
+-- a first test that holds goes away
 head_holds : (b c : Bool) (x : Option ℕ) → b ≡ true → cond (b && c) x None ≡ cond c x None
 head_holds b c x h = rw h refl
 
+-- a first test that fails decides
 head_fails : (b c : Bool) (x : Option ℕ) → b ≡ false → cond (b && c) x None ≡ None
 head_fails b c x h = rw h refl
 
+-- one digit more, at the front of a list
 step : (m v d : ℕ) (ds : List ℕ) → is_digit d ≡ true → number_after m v (d ∷ ds) ≡ number_after m (v * 10 + d % 16) ds
 step m v d ds h =
     head_holds (is_digit d) (list_all is_digit ds) _ h
@@ -33,19 +38,23 @@ step m v d ds h =
     ∙ shifted v (d - 48) (10 ^ length ds) (in_base_ten ds)
     ∙ ap (λ (x : ℕ). (v * 10 + x) * 10 ^ length ds + in_base_ten ds) (sym (digit_value d h)))
 
+-- nothing at the bound or above
 none_large : (b : Bool) (m n : ℕ) → m ≤ n → cond b (below m n) None ≡ None
 none_large false m n h = refl
 none_large true m n h = rw (le-ltb n m h) refl
 
+-- digits behind a number that is too large
 large : (m v : ℕ) (ds : List ℕ) → m ≤ v → number_after m v ds ≡ None
 large m v ds h =
     let more : v * 1 ≤ v * 10 ^ length ds = mul-le v 1 v (10 ^ length ds) (omega arith) (one-le-pow (length ds) 10 (omega arith)) in
     none_large (list_all is_digit ds) m (v * 10 ^ length ds + in_base_ten ds) (omega (arith, more, mul-one v))
 
+-- the bound asked for after the test or within it
 started : (b : Bool) (m x n : ℕ) → x ≡ n → cond b (below m x) None ≡ option_and_then (below m) (cond b (Some n) None)
 started true m x n e = ap (λ (y : ℕ). below m y) e
 started false m x n e = refl
 
+-- a number below the bound is kept
 less : (m x v : ℕ) → x ≡ v → v < m → below m x ≡ Some v
 less m x v e lt = rw (e, lt-ltb v m lt) refl
 

@@ -4,6 +4,7 @@ use Rattle.std.specs.Prelude.{Result, IfOk}
 use Rattle.driver.specs.declared.command.Request.{Request}
 use Rattle.driver.specs.Printed.{IsDone, OfSource}
 
+-- what is done of a request is done of the same one
 pub same_request : {E : Type 0} (r : Result ℕ E) (known old new : Option (List ℕ)) (p q : Request) → p ≡ q →
     IfOk r (λ s. s ≡ 0 → OfSource (λ bytes. IsDone q bytes known old new)) →
     IfOk r (λ s. s ≡ 0 → OfSource (λ bytes. IsDone p bytes known old new))

@@ -2,7 +2,7 @@
 use Rattle.std.specs.Prelude.{ℕ, ◌+◌, ◌-◌, ◌*◌, ◌^◌, Bool, true, false, ◌||◌, ◌&&◌, if◌then◌else◌, ◌==◌, nat_lt, nat_le, List, [], ◌∷◌, length, filter, Option, Some, None, option_map, option_and_then}
 use Rattle.std.specs.List.{list_all, slice_split}
 
--- 0 to 9
+-- the digits 0 to 9
 abbrev pub is_digit : ℕ → Bool
 is_digit b = nat_le 48 b && nat_le b 57
 
@@ -10,9 +10,11 @@ is_digit b = nat_le 48 b && nat_le b 57
 abbrev pub is_blank : ℕ → Bool
 is_blank b = (b == 32) || (b == 9) || (b == 13) || (b == 10)
 
+-- what stands between choices
 abbrev pub is_comma : ℕ → Bool
 is_comma b = b == 44
 
+-- a text that is not empty
 abbrev pub is_word : List ℕ → Bool
 is_word [] = false
 is_word (b ∷ bs) = true

@@ -20,13 +20,15 @@ pub record IsInput (known : Option (List ℕ)) (input : List ℕ) : Type 0 where
   pub left : IfSome known (λ xs. bytes ≡ xs)
   pub numbers : input_of bytes ≡ Some input
 
--- what is answered on an input, on a device with room for so many cells
+-- what is answered on an input by choices, on a device with room for so many cells
 abbrev pub by_list : List ℕ → ℕ → List ℕ → Answers
 by_list choices capacity input = by_choices input choices capacity
 
+-- the same by worker threads
 abbrev pub by_workers : ℕ → List ℕ → Answers
 by_workers capacity input = on_threads input capacity
 
+-- the same by either way
 abbrev pub answers_of : Way → ℕ → List ℕ → Answers
 answers_of (Choices choices) capacity = by_list choices.now capacity
 answers_of (Workers workers) capacity = by_workers capacity
