@@ -72,17 +72,23 @@ number_empty m [] h = refl
 number_empty m (d ∷ ds) h = absurd (omega arith)
 
 -- one digit more
-pub number_step : (m v : ℕ) (ds : List ℕ) (i : ℕ) → i < length ds → is_digit (get_or ds i 0) ≡ true → number_after m v (drop i ds) ≡ number_after m (v * 10 + get_or ds i 0 % 16) (drop (i + 1) ds)
-number_step m v ds i lt h = at_drop_more (λ (l : List ℕ). number_after m v l) ds i 0 lt ∙ step m v (get_or ds i 0) (drop (i + 1) ds) h
+pub number_step : (m v : ℕ) (ds : List ℕ) (i : ℕ) → i < length ds → is_digit (get_or ds i 0) ≡ true →
+    number_after m v (drop i ds) ≡ number_after m (v * 10 + get_or ds i 0 % 16) (drop (i + 1) ds)
+number_step m v ds i lt h =
+    at_drop_more (λ (l : List ℕ). number_after m v l) ds i 0 lt ∙ step m v (get_or ds i 0) (drop (i + 1) ds) h
 
 -- a byte that is no digit
-pub number_no_digit : (m v : ℕ) (ds : List ℕ) (i : ℕ) → i < length ds → is_digit (get_or ds i 0) ≡ false → number_after m v (drop i ds) ≡ None
-number_no_digit m v ds i lt h = at_drop_more (λ (l : List ℕ). number_after m v l) ds i 0 lt ∙ head_fails (is_digit (get_or ds i 0)) (list_all is_digit (drop (i + 1) ds)) _ h
+pub number_no_digit : (m v : ℕ) (ds : List ℕ) (i : ℕ) → i < length ds → is_digit (get_or ds i 0) ≡ false →
+    number_after m v (drop i ds) ≡ None
+number_no_digit m v ds i lt h =
+    at_drop_more (λ (l : List ℕ). number_after m v l) ds i 0 lt ∙ head_fails (is_digit (get_or ds i 0)) (list_all is_digit (drop (i + 1) ds)) _ h
 
 -- a number that is too large with one digit more
-pub number_large : (m v : ℕ) (ds : List ℕ) (i : ℕ) → i < length ds → is_digit (get_or ds i 0) ≡ true → m ≤ v * 10 + get_or ds i 0 % 16 → number_after m v (drop i ds) ≡ None
+pub number_large : (m v : ℕ) (ds : List ℕ) (i : ℕ) → i < length ds → is_digit (get_or ds i 0) ≡ true →
+    m ≤ v * 10 + get_or ds i 0 % 16 → number_after m v (drop i ds) ≡ None
 number_large m v ds i lt h over = number_step m v ds i lt h ∙ large m (v * 10 + get_or ds i 0 % 16) (drop (i + 1) ds) over
 
 -- behind the last digit
 pub number_end : (m v : ℕ) (ds : List ℕ) (i : ℕ) → length ds ≤ i → v < m → number_after m v (drop i ds) ≡ Some v
-number_end m v ds i over lt = at_drop_all (λ (l : List ℕ). number_after m v l) ds i over ∙ less m (v * 10 ^ 0 + in_base_ten []) v (omega arith) lt
+number_end m v ds i over lt =
+    at_drop_all (λ (l : List ℕ). number_after m v l) ds i over ∙ less m (v * 10 ^ 0 + in_base_ten []) v (omega arith) lt

@@ -18,23 +18,27 @@ pub record LeftBehind {S : Type 0} (steps : S → Option (Bor (List ℕ)) → S 
   pub have : P (w ∷ parts)
 
 -- an item is the first part
-from_parts : {S : Type 0} (steps : S → Option (Bor (List ℕ)) → S → Type 0) (P : List (List ℕ) → Type 0) (s t : S) (x : Bor (List ℕ)) (ws : List (List ℕ)) → YieldsList steps (λ (w : Bor (List ℕ)). w.now) s ws → P ws → steps s (Some x) t → LeftBehind steps t x.now P
+from_parts : {S : Type 0} (steps : S → Option (Bor (List ℕ)) → S → Type 0) (P : List (List ℕ) → Type 0) (s t : S) (x : Bor (List ℕ)) (ws : List (List ℕ)) →
+    YieldsList steps (λ (w : Bor (List ℕ)). w.now) s ws → P ws → steps s (Some x) t → LeftBehind steps t x.now P
 from_parts steps P s t x [] y h e = absurd (y.runs x t e)
 from_parts steps P s t x (w ∷ ws) y h e =
     let next = y.runs.1 x t e in
     record { parts = ws; yields = record { runs = next.1 }; have = subst (λ (v : List ℕ). P (v ∷ ws)) (sym next.0) h }
 
 -- no item means no part
-none_left : {S : Type 0} (steps : S → Option (Bor (List ℕ)) → S → Type 0) (P : List (List ℕ) → Type 0) (s t : S) (ws : List (List ℕ)) → YieldsList steps (λ (w : Bor (List ℕ)). w.now) s ws → P ws → steps s None t → P []
+none_left : {S : Type 0} (steps : S → Option (Bor (List ℕ)) → S → Type 0) (P : List (List ℕ) → Type 0) (s t : S) (ws : List (List ℕ)) →
+    YieldsList steps (λ (w : Bor (List ℕ)). w.now) s ws → P ws → steps s None t → P []
 none_left steps P s t [] y h e = h
 none_left steps P s t (w ∷ ws) y h e = absurd (y.runs.0 t e)
 
 -- one part comes
-pub part_comes : {S : Type 0} {steps : S → Option (Bor (List ℕ)) → S → Type 0} {P : List (List ℕ) → Type 0} {s : S} (t : S) (x : Bor (List ℕ)) → Left steps s P → steps s (Some x) t → LeftBehind steps t x.now P
+pub part_comes : {S : Type 0} {steps : S → Option (Bor (List ℕ)) → S → Type 0} {P : List (List ℕ) → Type 0} {s : S} (t : S) (x : Bor (List ℕ)) →
+    Left steps s P → steps s (Some x) t → LeftBehind steps t x.now P
 part_comes {S} {steps} {P} {s} t x l e = from_parts steps P s t x l.parts l.yields l.have e
 
 -- no part comes
-pub no_part_comes : {S : Type 0} {steps : S → Option (Bor (List ℕ)) → S → Type 0} {P : List (List ℕ) → Type 0} {s : S} (t : S) → Left steps s P → steps s None t → P []
+pub no_part_comes : {S : Type 0} {steps : S → Option (Bor (List ℕ)) → S → Type 0} {P : List (List ℕ) → Type 0} {s : S} (t : S) →
+    Left steps s P → steps s None t → P []
 no_part_comes {S} {steps} {P} {s} t l e = none_left steps P s t l.parts l.yields l.have e
 
 -- the numbers that were read, and those of the parts that are left
@@ -42,21 +46,25 @@ abbrev pub after : ℕ → List ℕ → List (List ℕ) → Option (List ℕ)
 after bound ns parts = option_map (λ (ms : List ℕ). ns ++ ms) (numbers_below bound parts)
 
 -- a number before others, behind those that were read
-onto : (ns : List ℕ) (n : ℕ) (o : Option (List ℕ)) → option_map (λ (ms : List ℕ). ns ++ ms) (option_map (λ (ms : List ℕ). n ∷ ms) o) ≡ option_map (λ (ms : List ℕ). (ns ++ n ∷ []) ++ ms) o
+onto : (ns : List ℕ) (n : ℕ) (o : Option (List ℕ)) →
+    option_map (λ (ms : List ℕ). ns ++ ms) (option_map (λ (ms : List ℕ). n ∷ ms) o) ≡ option_map (λ (ms : List ℕ). (ns ++ n ∷ []) ++ ms) o
 onto ns n None = refl
 onto ns n (Some ms) = ap (λ (l : List ℕ). Some l) (sym (append_assoc ns (n ∷ []) ms))
 
 -- one number more
-pub after_number : (bound : ℕ) (ns : List ℕ) (w : List ℕ) (n : ℕ) (ws : List (List ℕ)) → number_below bound w ≡ Some n → after bound ns (w ∷ ws) ≡ after bound (ns ++ n ∷ []) ws
+pub after_number : (bound : ℕ) (ns : List ℕ) (w : List ℕ) (n : ℕ) (ws : List (List ℕ)) → number_below bound w ≡ Some n →
+    after bound ns (w ∷ ws) ≡ after bound (ns ++ n ∷ []) ws
 after_number bound ns w n ws e = rw e (onto ns n (numbers_below bound ws))
 
 -- a part that spells no number
-pub after_no_number : (bound : ℕ) (ns : List ℕ) (w : List ℕ) (ws : List (List ℕ)) → number_below bound w ≡ None → after bound ns (w ∷ ws) ≡ None
+pub after_no_number : (bound : ℕ) (ns : List ℕ) (w : List ℕ) (ws : List (List ℕ)) → number_below bound w ≡ None →
+    after bound ns (w ∷ ws) ≡ None
 after_no_number bound ns w ws e = rw e refl
 
 -- the same at most so many, of the parts that are words
 abbrev pub input_after : List ℕ → List (List ℕ) → Option (List ℕ)
-input_after ns parts = cond (nat_le (length ns + length (filter is_word parts)) 1048576) (after (2 ^ 64) ns (filter is_word parts)) None
+input_after ns parts =
+    cond (nat_le (length ns + length (filter is_word parts)) 1048576) (after (2 ^ 64) ns (filter is_word parts)) None
 
 -- none by either case
 none_either : (b : Bool) → cond {A = Option (List ℕ)} b None None ≡ None
@@ -69,14 +77,16 @@ input_skip ns [] ws h = refl
 input_skip ns (b ∷ bs) ws h = absurd (omega arith)
 
 -- one number of an input more
-pub input_number : (ns w : List ℕ) (n : ℕ) (ws : List (List ℕ)) → 0 < length w → number_below (2 ^ 64) w ≡ Some n → input_after ns (w ∷ ws) ≡ input_after (ns ++ n ∷ []) ws
+pub input_number : (ns w : List ℕ) (n : ℕ) (ws : List (List ℕ)) → 0 < length w → number_below (2 ^ 64) w ≡ Some n →
+    input_after ns (w ∷ ws) ≡ input_after (ns ++ n ∷ []) ws
 input_number ns [] n ws h e = absurd (omega arith)
 input_number ns (b ∷ bs) n ws h e =
     ap (λ (o : Option (List ℕ)). cond (nat_le (length ns + length (filter is_word ((b ∷ bs) ∷ ws))) 1048576) o None) (after_number (2 ^ 64) ns (b ∷ bs) n (filter is_word ws) e)
     ∙ ap (λ (k : ℕ). cond (nat_le k 1048576) (after (2 ^ 64) (ns ++ n ∷ []) (filter is_word ws)) None) (omega (arith, length-append ns (n ∷ [])))
 
 -- a word that spells no number
-pub input_no_number : (ns w : List ℕ) (ws : List (List ℕ)) → 0 < length w → number_below (2 ^ 64) w ≡ None → input_after ns (w ∷ ws) ≡ None
+pub input_no_number : (ns w : List ℕ) (ws : List (List ℕ)) → 0 < length w → number_below (2 ^ 64) w ≡ None →
+    input_after ns (w ∷ ws) ≡ None
 input_no_number ns [] ws h e = absurd (omega arith)
 input_no_number ns (b ∷ bs) ws h e =
     ap (λ (o : Option (List ℕ)). cond (nat_le (length ns + length (filter is_word ((b ∷ bs) ∷ ws))) 1048576) o None) (after_no_number (2 ^ 64) ns (b ∷ bs) (filter is_word ws) e) ∙ none_either _
@@ -127,7 +137,8 @@ pub after_end : (bound : ℕ) (ns : List ℕ) → after bound ns [] ≡ Some ns
 after_end bound ns = ap (λ (l : List ℕ). Some l) (append-nil ns)
 
 -- a value below the smaller bound is kept
-small_value : (o : Option ℕ) (n : ℕ) → option_and_then (below (2 ^ 64)) o ≡ Some n → n < 2 ^ 32 → option_and_then (below (2 ^ 32)) o ≡ Some n
+small_value : (o : Option ℕ) (n : ℕ) → option_and_then (below (2 ^ 64)) o ≡ Some n → n < 2 ^ 32 →
+    option_and_then (below (2 ^ 32)) o ≡ Some n
 small_value None n e h = cc
 small_value (Some k) n e h = small_known (nat_lt k (2 ^ 64)) k n e h
   where
@@ -138,7 +149,8 @@ small_value (Some k) n e h = small_known (nat_lt k (2 ^ 64)) k n e h
     small_known false k n e h = cc
 
 -- a value at the smaller bound or above is not
-large_value : (o : Option ℕ) (n : ℕ) → option_and_then (below (2 ^ 64)) o ≡ Some n → 2 ^ 32 ≤ n → option_and_then (below (2 ^ 32)) o ≡ None
+large_value : (o : Option ℕ) (n : ℕ) → option_and_then (below (2 ^ 64)) o ≡ Some n → 2 ^ 32 ≤ n →
+    option_and_then (below (2 ^ 32)) o ≡ None
 large_value None n e h = cc
 large_value (Some k) n e h = large_known (nat_lt k (2 ^ 64)) k n e h
   where
@@ -158,12 +170,14 @@ no_value (Some k) e = large_known (nat_lt k (2 ^ 64)) k refl e
     large_known false k h e = rw (le-ltb k (2 ^ 32) (omega (arith, ltb-false k (2 ^ 64) h))) refl
 
 -- a number below a bound, and below a smaller one
-pub smaller : (text : List ℕ) (n : ℕ) → number_below (2 ^ 64) text ≡ Some n → n < 2 ^ 32 → number_below (2 ^ 32) text ≡ Some n
+pub smaller : (text : List ℕ) (n : ℕ) → number_below (2 ^ 64) text ≡ Some n → n < 2 ^ 32 →
+    number_below (2 ^ 32) text ≡ Some n
 unfolding number_below
 smaller text n e h = small_value (value_of text) n e h
 
 -- a number at the smaller bound or above
-pub not_smaller : (text : List ℕ) (n : ℕ) → number_below (2 ^ 64) text ≡ Some n → 2 ^ 32 ≤ n → number_below (2 ^ 32) text ≡ None
+pub not_smaller : (text : List ℕ) (n : ℕ) → number_below (2 ^ 64) text ≡ Some n → 2 ^ 32 ≤ n →
+    number_below (2 ^ 32) text ≡ None
 unfolding number_below
 not_smaller text n e h = large_value (value_of text) n e h
 

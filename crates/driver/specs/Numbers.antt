@@ -39,7 +39,8 @@ number_below bound text = option_and_then (below bound) (value_of text)
 -- the numbers below the bound that texts spell, each of them
 abbrev pub numbers_below : ℕ → List (List ℕ) → Option (List ℕ)
 numbers_below bound [] = Some []
-numbers_below bound (text ∷ texts) = option_and_then (λ n. option_map (λ ns. n ∷ ns) (numbers_below bound texts)) (number_below bound text)
+numbers_below bound (text ∷ texts) =
+    option_and_then (λ n. option_map (λ ns. n ∷ ns) (numbers_below bound texts)) (number_below bound text)
 
 -- the texts between blanks
 abbrev pub words : List ℕ → List (List ℕ)

@@ -68,7 +68,7 @@ task_left ts ss place starts ends counts less first next i t g a e d long taken 
     (λ j lt. taken j (omega (arith, lt, length-map ts task_facts)))
     (λ v q. ap (λ (w : Facts). w.deferred) (same_Some v (task_facts t) (sym q ∙ facts_at ts i t e)) ∙ d) f
 
--- and how many of its items are ready
+-- and how many of its items are ready: as many where the item is not deferred
 pub host_with : (ts : List Task) (ss : List Stage) (place : ℕ) (starts ends counts : List ℕ) (first next ready i : ℕ) (t : Task) →
     IsGraphWith (board_of ts ss place) starts ends counts first ready → allows (board_of ts ss place) (Close i) ≡ true →
     slice_get ts i ≡ Some t → t.deferred ≡ false → IsFirst (board_of ts (slice_set ss i stage.Closed) (place + 1)) next →
@@ -79,6 +79,7 @@ host_with ts ss place starts ends counts first next ready i t g a e d f =
       free = closed_keeps (board_of ts ss place) starts ends counts first ready i g a;
     }
 
+-- and where it is, as many more as the counts that went down to none
 pub task_with : (ts : List Task) (ss : List Stage) (place : ℕ) (starts ends counts less : List ℕ)
     (first next ready added i : ℕ) (t : Task) →
     IsGraphWith (board_of ts ss place) starts ends counts first ready → allows (board_of ts ss place) (Close i) ≡ true →

@@ -18,7 +18,8 @@ use Rattle.taskgraph.proofs.Ready.{at}
 use Rattle.taskgraph.proofs.Readiness.{free_ready}
 
 -- an item that is not generated is not ready
-pub not_free : (b : Board) (counts : List ℕ) (i : ℕ) → (stage_at b i ≡ stage.Generated → ⊥) → is_free_at b.stages counts i ≡ false
+pub not_free : (b : Board) (counts : List ℕ) (i : ℕ) → (stage_at b i ≡ stage.Generated → ⊥) →
+    is_free_at b.stages counts i ≡ false
 not_free b counts i h = go (stage_at b i) refl
   where
     go : (st : Stage) → stage_at b i ≡ st → is_free_at b.stages counts i ≡ false
@@ -49,6 +50,7 @@ kept_with b counts i ready st lt inside was now e =
     let after : one_if (is_free st (slice_index counts i)) ≡ 0 = ap (λ x. one_if (x && (slice_index counts i == 0))) now in
     omega (arith, set, before, after, e)
 
+-- one that is generated is ready where no predecessor is left
 pub generated_with : (b : Board) (starts ends counts : List ℕ) (first ready i : ℕ) →
     IsGraphWith b starts ends counts first ready → allows b (Gen i) ≡ true →
     IsGraphWith (set_at b i stage.Generated (b.place + 1)) starts ends counts first (ready + one_if (slice_index counts i == 0))
@@ -83,6 +85,7 @@ opened_takes b starts ends counts first ready i g a = go (may_open b i a).facts.
         was false e =
             ap one_if (not_free b counts i (λ q. let bad : stage.Untouched ≡ stage.Generated = sym ((may_open b i a).here e).1 ∙ q in cc) ∙ sym e)
 
+-- one less is ready after an opening, where the item is deferred
 pub opened_with : (b : Board) (starts ends counts : List ℕ) (first ready i : ℕ) (f : Facts) →
     IsGraphWith b starts ends counts first ready → allows b (Open i) ≡ true → slice_get b.tasks i ≡ Some f →
     (one_if f.deferred ≤ ready)
@@ -96,6 +99,7 @@ opened_with b starts ends counts first ready i f g a e =
       record { graph = opened b starts ends counts first i g.graph a; free = omega (arith, taken, same) },
     )
 
+-- as many are ready after the host has passed a wait
 pub passed_with : (b : Board) (starts ends counts : List ℕ) (first next ready i : ℕ) →
     IsGraphWith b starts ends counts first ready → allows b (Wait i) ≡ true →
     IsFirst (set_at b i stage.Passed (b.place + 1)) next →
@@ -109,7 +113,8 @@ passed_with b starts ends counts first next ready i g a f =
     }
 
 -- closing an open item keeps how many are ready, before any count is taken down
-pub closed_keeps : (b : Board) (starts ends counts : List ℕ) (first ready i : ℕ) → IsGraphWith b starts ends counts first ready →
+pub closed_keeps : (b : Board) (starts ends counts : List ℕ) (first ready i : ℕ) →
+    IsGraphWith b starts ends counts first ready →
     allows b (Close i) ≡ true → ready ≡ count_free (slice_set b.stages i stage.Closed) counts (length b.tasks)
 closed_keeps b starts ends counts first ready i g a =
     let m = may_close b i a in

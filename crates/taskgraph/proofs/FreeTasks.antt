@@ -11,6 +11,7 @@ use Rattle.taskgraph.specs.declared.Stage.TheVariants as stage
 use Rattle.taskgraph.specs.Board.{condition_of}
 use Rattle.taskgraph.specs.Waiting.{count_free, is_free, is_free_at, one_if}
 
+-- one item counts for one at most
 one_small : (x : Bool) → one_if x ≤ 1
 one_small true = omega arith
 one_small false = omega arith
@@ -22,7 +23,8 @@ count_small ss ns zero = omega arith
 count_small ss ns (suc n) = omega (arith, count_small ss ns n, one_small (is_free_at ss ns n))
 
 -- where the same ones are ready, the count is the same
-pub count_same : (ss ts : List Stage) (ns ms : List ℕ) (n : ℕ) → ((k : ℕ) → k < n → is_free_at ss ns k ≡ is_free_at ts ms k) →
+pub count_same : (ss ts : List Stage) (ns ms : List ℕ) (n : ℕ) →
+    ((k : ℕ) → k < n → is_free_at ss ns k ≡ is_free_at ts ms k) →
     count_free ss ns n ≡ count_free ts ms n
 unfolding count_free
 count_same ss ts ns ms zero h = refl
@@ -53,6 +55,7 @@ count_changed ss ts ns ms i (suc n) lt h =
         let last : one_if (is_free_at ss ns n) ≡ one_if (is_free_at ts ms n) = ap one_if (h n (omega arith) ne) in
         omega (arith, rest (omega (arith, lt, ne)), last)
 
+-- where none of the first n items and of the one after is counted, each of them is not ready
 none_at : (ss : List Stage) (ns : List ℕ) (n k : ℕ) (x : Bool) → is_free_at ss ns n ≡ x → (k ≡ n) ⊎ (k ≡ n → ⊥) →
     count_free ss ns n + one_if (is_free_at ss ns n) ≡ 0 → k < suc n →
     (count_free ss ns n ≡ 0 → k < n → is_free_at ss ns k ≡ false) → is_free_at ss ns k ≡ false
@@ -62,7 +65,8 @@ none_at ss ns n k false f (inr ne) e lt rest =
     let one : one_if (is_free_at ss ns n) ≡ 0 = ap one_if f in rest (omega (arith, e, one)) (omega (arith, lt, ne))
 
 -- where none is counted, none is ready
-pub count_none : (ss : List Stage) (ns : List ℕ) (n : ℕ) → count_free ss ns n ≡ 0 → (k : ℕ) → k < n → is_free_at ss ns k ≡ false
+pub count_none : (ss : List Stage) (ns : List ℕ) (n : ℕ) → count_free ss ns n ≡ 0 → (k : ℕ) → k < n →
+    is_free_at ss ns k ≡ false
 unfolding count_free
 count_none ss ns zero e k lt = absurd (omega (arith, lt))
 count_none ss ns (suc n) e k lt =
@@ -79,8 +83,10 @@ count_set ss ns i n st inside lt =
     ap (λ x. one_if (is_free x (slice_index ns i))) (get_or-set_same ss i st stage.Untouched inside) in
     omega (arith, changed, here)
 
+-- an item with a predecessor left is not ready
 some_left : (st : Stage) (n : ℕ) → 1 ≤ n → is_free st n ≡ false
-some_left st n pos = ap (λ x. is_waiting true (condition_of st) && x) (ne_eqb n 0 (λ e. omega (arith, pos, e))) ∙ and-false (is_waiting true (condition_of st))
+some_left st n pos =
+    ap (λ x. is_waiting true (condition_of st) && x) (ne_eqb n 0 (λ e. omega (arith, pos, e))) ∙ and-false (is_waiting true (condition_of st))
 
 -- the count of one that was not ready is set
 pub count_left : (ss : List Stage) (ns : List ℕ) (i n v : ℕ) → i < length ns → i < n → 1 ≤ slice_index ns i →
@@ -94,7 +100,8 @@ count_left ss ns i n v inside lt pos =
     omega (arith, changed, here, was)
 
 -- none is ready before any event
-pub count_untouched : (ss : List Stage) (ns : List ℕ) (n : ℕ) → ((k : ℕ) → slice_index_or ss k stage.Untouched ≡ stage.Untouched) →
+pub count_untouched : (ss : List Stage) (ns : List ℕ) (n : ℕ) →
+    ((k : ℕ) → slice_index_or ss k stage.Untouched ≡ stage.Untouched) →
     0 ≡ count_free ss ns n
 unfolding count_free
 count_untouched ss ns zero h = refl

@@ -17,7 +17,8 @@ use Rattle.taskgraph.proofs.Parts.{asked_at}
 use Rattle.taskgraph.proofs.Settled.{settled_below}
 
 -- where none is ready, none may be opened
-pub none_free : (b : Board) (starts ends counts : List ℕ) (first ready n : ℕ) → IsGraphWith b starts ends counts first ready →
+pub none_free : (b : Board) (starts ends counts : List ℕ) (first ready n : ℕ) →
+    IsGraphWith b starts ends counts first ready →
     ready ≡ 0 → HasNoTask (plan_in b) (state_in b) n
 none_free b starts ends counts first ready n g zero j le t = go (may_open b j t.1).facts.deferred refl
   where
@@ -30,7 +31,8 @@ none_free b starts ends counts first ready n g zero j le t = go (may_open b j t.
         let bad : false ≡ true = sym d ∙ asked_at b j (λ w. w.deferred) m.facts m.is ∙ t.0 in cc
 
 -- a deferred item that may be opened is generated, and lies before the host's place
-pub task_before : (b : Board) (starts counts : List ℕ) (j : ℕ) → IsCounted b starts counts → IsTask (plan_in b) (state_in b) j →
+pub task_before : (b : Board) (starts counts : List ℕ) (j : ℕ) → IsCounted b starts counts →
+    IsTask (plan_in b) (state_in b) j →
     (stage_at b j ≡ stage.Generated) × (j < b.place)
 task_before b starts counts j h t = go (may_open b j t.1).facts.deferred refl
   where
@@ -41,7 +43,8 @@ task_before b starts counts j h t = go (may_open b j t.1).facts.deferred refl
         let bad : false ≡ true = sym d ∙ asked_at b j (λ w. w.deferred) m.facts m.is ∙ t.0 in absurd cc
 
 -- a generated item that may be opened is deferred
-pub generated_task : (b : Board) (j : ℕ) → stage_at b j ≡ stage.Generated → allows b (Open j) ≡ true → IsTask (plan_in b) (state_in b) j
+pub generated_task : (b : Board) (j : ℕ) → stage_at b j ≡ stage.Generated → allows b (Open j) ≡ true →
+    IsTask (plan_in b) (state_in b) j
 generated_task b j e a = go (may_open b j a).facts.deferred refl
   where
     go : (d : Bool) → (may_open b j a).facts.deferred ≡ d → IsTask (plan_in b) (state_in b) j
@@ -56,7 +59,8 @@ none_below b starts ends counts first j g lt t =
     let bad : true ≡ false = sym t.1 ∙ (settled_below b starts ends counts first j g lt).0 in cc
 
 -- there is none up to an item that may not be opened
-pub one_more : (b : Board) (from item : ℕ) → ((j : ℕ) → from ≤ j → j < item → IsTask (plan_in b) (state_in b) j → ⊥) → (IsTask (plan_in b) (state_in b) item → ⊥) →
+pub one_more : (b : Board) (from item : ℕ) → ((j : ℕ) → from ≤ j → j < item → IsTask (plan_in b) (state_in b) j → ⊥) →
+    (IsTask (plan_in b) (state_in b) item → ⊥) →
     (j : ℕ) → from ≤ j → j < item + 1 → IsTask (plan_in b) (state_in b) j → ⊥
 one_more b from item below here j le lt t = go (cases_eq j item)
   where
@@ -77,11 +81,13 @@ pub record AreTasks (p : Plan) (s : State) (q : Plan) (t : State) : Type 0 where
   pub deferred : (i : ℕ) → on_item p i false (λ w. w.deferred) ≡ on_item q i false (λ w. w.deferred)
   pub opens : (i : ℕ) → enabled p s (Open i) ≡ enabled q t (Open i)
 
+-- what may be opened of the other may be of the one
 task_back : (p : Plan) (s : State) (q : Plan) (t : State) (i : ℕ) → AreTasks p s q t → IsTask q t i → IsTask p s i
 task_back p s q t i h k = (h.deferred i ∙ k.0, h.opens i ∙ k.1)
 
 -- the next one is the same
-pub next_there : (p : Plan) (s : State) (q : Plan) (t : State) (n i : ℕ) → AreTasks p s q t → IsNextTask p s n i → IsNextTask q t n i
+pub next_there : (p : Plan) (s : State) (q : Plan) (t : State) (n i : ℕ) → AreTasks p s q t → IsNextTask p s n i →
+    IsNextTask q t n i
 next_there p s q t n i h k =
     record {
       from = k.from;
