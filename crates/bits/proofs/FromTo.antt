@@ -1,11 +1,10 @@
 -- Members from one number up to another, set one by one or by whole words.
-use Rattle.std.proofs.Common.{◌≡◌, ℕ, ◌+◌, ◌-◌, ◌*◌, ◌/◌, ◌%◌, ◌^◌, ◌<◌, ◌≤◌, max, Bool, true, false, List, length, refl, sym, ap, ◌∙◌, arith, w64, ◌⊎◌, inl, inr, ⊎_elim}
-use Rattle.std.specs.Prelude.{slice_set, not, ◌||◌, ◌&&◌, ◌==◌, ◌↔◌, nat_le, if◌then◌else◌}
+use Rattle.std.proofs.Common.{◌≡◌, ℕ, ◌+◌, ◌-◌, ◌*◌, ◌/◌, ◌%◌, ◌^◌, ◌<◌, ◌≤◌, max, Bool, true, false, List, length, sym, ap, ◌∙◌, arith, w64, ◌⊎◌, inl, inr, ⊎_elim}
+use Rattle.std.specs.Prelude.{slice_set, ◌==◌, ◌↔◌, nat_le, if◌then◌else◌}
 use Rattle.std.specs.Int.{bit_at, trailing_ones}
 use Rattle.std.proofs.lemmas.Bool.{cases_eq, cases_lt, eq-eqb, ne_eqb, leb-true, le-leb, true≢false}
 use Rattle.std.proofs.lemmas.Bool.Decides.{nat_tests}
 use Rattle.std.proofs.lemmas.Nat.Bits.{bit_at-zero, bit_at_ones, bit_at-trailing_ones}
-use Rattle.std.proofs.Math.Bool.{or-false, or-true}
 use Rattle.bits.specs.Sets.{has_bit, is_from}
 use Rattle.bits.proofs.Words.{changed_here, changed_there, past, low}
 
@@ -79,35 +78,6 @@ whole_span first i end k done up = grind (arith, nat_tests)
 pub span_ends : (f before now : ℕ → Bool) (first i end : ℕ) → end ≤ i → i ≤ max first end →
     ((k : ℕ) → now k ≡ spanned f before first i k) → (k : ℕ) → now k ≡ spanned f before first end k
 span_ends f before now first i end done up h k = h k ∙ ap (λ b. if b then f k else before k) (whole_span first i end k done up)
-
--- ---- what is put
-
-pub added_or_not : (b : Bool) (i k : ℕ) → (b || (i == k)) ≡ (if i == k then true else b)
-added_or_not true i k = go (i == k)
-  where
-    go : (t : Bool) → true ≡ (if t then true else true)
-    go true = refl
-    go false = refl
-added_or_not false i k = go (i == k)
-  where
-    go : (t : Bool) → t ≡ (if t then true else false)
-    go true = refl
-    go false = refl
-
-pub removed_or_not : (b : Bool) (i k : ℕ) → (not (i == k) && b) ≡ (if i == k then false else b)
-removed_or_not b i k = go (i == k)
-  where
-    go : (t : Bool) → (not t && b) ≡ (if t then false else b)
-    go true = refl
-    go false = refl
-
-pub all_added : (t b : Bool) → (if t then true else b) ≡ (b || t)
-all_added true b = sym (or-true b)
-all_added false b = sym (or-false b)
-
-pub all_removed : (t b : Bool) → (if t then false else b) ≡ (not t && b)
-all_removed true b = refl
-all_removed false b = refl
 
 -- the bits of a word of ones, and of one of zeros
 pub bits_of_word : (on : Bool) (word k : ℕ) → word ≡ (if on then 2 ^ 64 - 1 else 0) → (bit_at word (k % 64) == 1) ≡ on
