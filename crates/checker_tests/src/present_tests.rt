@@ -141,6 +141,22 @@ fn holds(rt: &impl Abort, host: &Memory, section: &Section, numbers: &[u64]) -> 
     host.section(section) == numbers
 }
 
+// Entered a second time, the block counts two and has the cells of the first time.
+fn assert_entered_again(rt: &impl Abort, table: &mut Table, host: &Memory, all: Section) {
+    assert!(rt; enter(rt, table, &item(MapKind::To, section(0, 1, 2)), host).is_ok());
+    assert_eq!(rt; table.lookup(cell(0, 0)), Some((all, 2)));
+    assert_eq!(rt; table.load(cell(0, 1)), Some(11));
+}
+
+// With `always`, the cells that are named are copied, and no other.
+fn assert_copied_always(rt: &impl Abort, table: &mut Table, host: &Memory, all: Section) {
+    let first = always(MapKind::To, section(0, 0, 1));
+    assert!(rt; enter(rt, table, &first, host).is_ok());
+    assert_eq!(rt; table.lookup(cell(0, 0)), Some((all, 3)));
+    assert_eq!(rt; table.load(cell(0, 0)), Some(20));
+    assert_eq!(rt; table.load(cell(0, 1)), Some(11));
+}
+
 #[test]
 fn one_table(rt: HostRuntime) -> Result<(), Fail> {
     let mut host = Memory::new(rt.alloc(), &[8, 8])?;
@@ -152,22 +168,37 @@ fn one_table(rt: HostRuntime) -> Result<(), Fail> {
     assert_eq!(rt; table.lookup(cell(0, 4)), None);
     assert_eq!(rt; table.load(cell(0, 3)), Some(13));
     set(&rt, &mut host, &all, &[20, 21, 22, 23]);
-    assert!(rt; enter(&rt, &mut table, &item(MapKind::To, section(0, 1, 2)), &host).is_ok());
-    assert_eq!(rt; table.lookup(cell(0, 0)), Some((all, 2)));
-    assert_eq!(rt; table.load(cell(0, 1)), Some(11));
-    assert!(rt;
-        enter(
-            &rt,
-            &mut table,
-            &always(MapKind::To, section(0, 0, 1)),
-            &host
-        )
-        .is_ok()
-    );
-    assert_eq!(rt; table.lookup(cell(0, 0)), Some((all, 3)));
-    assert_eq!(rt; table.load(cell(0, 0)), Some(20));
-    assert_eq!(rt; table.load(cell(0, 1)), Some(11));
+    assert_entered_again(&rt, &mut table, &host, all);
+    assert_copied_always(&rt, &mut table, &host, all);
     Ok(())
+}
+
+// Entered three times, with a number stored on the device.
+fn enter_three_times(rt: &impl Abort, table: &mut Table, host: &Memory, all: Section) {
+    let to_all = item(MapKind::To, all);
+    for _ in 0..3 {
+        assert!(rt; enter(rt, table, &to_all, host).is_ok());
+    }
+    assert!(rt; table.store(cell(0, 0), 7));
+    assert!(rt; !table.store(cell(1, 0), 7));
+}
+
+// With `always`, the cells that are named are copied back, though the block stays.
+fn assert_left_always(rt: &impl Abort, table: &mut Table, host: &mut Memory, all: Section) {
+    let first = always(MapKind::From, section(0, 0, 1));
+    assert!(rt; exit(rt, table, &first, host).is_ok());
+    assert_eq!(rt; table.lookup(cell(0, 0)), Some((all, 2)));
+    assert!(rt; holds(rt, host, &all, &[7, 11, 12, 13]));
+}
+
+// What is released copies nothing; the last that leaves copies the cells that it names, and the block is gone.
+fn assert_left(rt: &impl Abort, table: &mut Table, host: &mut Memory, all: Section) {
+    assert!(rt; exit(rt, table, &item(MapKind::Release, all), host).is_ok());
+    assert_eq!(rt; table.lookup(cell(0, 0)), Some((all, 1)));
+    assert!(rt; holds(rt, host, &all, &[20, 21, 22, 23]));
+    assert!(rt; exit(rt, table, &item(MapKind::From, section(0, 1, 2)), host).is_ok());
+    assert!(rt; holds(rt, host, &all, &[20, 11, 12, 23]));
+    assert_eq!(rt; table.lookup(cell(0, 0)), None);
 }
 
 #[test]
@@ -176,39 +207,20 @@ fn exits(rt: HostRuntime) -> Result<(), Fail> {
     let mut table = Table::new(rt.alloc(), 8);
     let all = section(0, 0, 4);
     set(&rt, &mut host, &all, &[10, 11, 12, 13]);
-    let to_all = item(MapKind::To, all);
-    assert!(rt; enter(&rt, &mut table, &to_all, &host).is_ok());
-    assert!(rt; enter(&rt, &mut table, &to_all, &host).is_ok());
-    assert!(rt; enter(&rt, &mut table, &to_all, &host).is_ok());
-    assert!(rt; table.store(cell(0, 0), 7));
-    assert!(rt; !table.store(cell(1, 0), 7));
-    assert!(rt;
-        exit(
-            &rt,
-            &mut table,
-            &always(MapKind::From, section(0, 0, 1)),
-            &mut host
-        )
-        .is_ok()
-    );
-    assert_eq!(rt; table.lookup(cell(0, 0)), Some((all, 2)));
-    assert!(rt; holds(&rt, &host, &all, &[7, 11, 12, 13]));
+    enter_three_times(&rt, &mut table, &host, all);
+    assert_left_always(&rt, &mut table, &mut host, all);
     set(&rt, &mut host, &all, &[20, 21, 22, 23]);
-    assert!(rt; exit(&rt, &mut table, &item(MapKind::Release, all), &mut host).is_ok());
-    assert_eq!(rt; table.lookup(cell(0, 0)), Some((all, 1)));
-    assert!(rt; holds(&rt, &host, &all, &[20, 21, 22, 23]));
-    assert!(rt;
-        exit(
-            &rt,
-            &mut table,
-            &item(MapKind::From, section(0, 1, 2)),
-            &mut host
-        )
-        .is_ok()
-    );
-    assert!(rt; holds(&rt, &host, &all, &[20, 11, 12, 23]));
-    assert_eq!(rt; table.lookup(cell(0, 0)), None);
+    assert_left(&rt, &mut table, &mut host, all);
     Ok(())
+}
+
+// Cells of which some are there, and cells for which there is no room.
+fn assert_refused(rt: &impl Abort, table: &mut Table, host: &mut Memory) {
+    let over = item(MapKind::To, section(0, 3, 2));
+    assert_eq!(rt; enter(rt, table, &over, host), Err(RunFault::Absent));
+    assert_eq!(rt; exit(rt, table, &over, host), Err(RunFault::Absent));
+    let five = item(MapKind::Alloc, section(1, 0, 5));
+    assert_eq!(rt; enter(rt, table, &five, host), Err(RunFault::DeviceFull));
 }
 
 #[test]
@@ -217,17 +229,7 @@ fn refusals(rt: HostRuntime) -> Result<(), Fail> {
     let mut table = Table::new(rt.alloc(), 8);
     let all = section(0, 0, 4);
     assert!(rt; enter(&rt, &mut table, &item(MapKind::To, all), &host).is_ok());
-    let over = item(MapKind::To, section(0, 3, 2));
-    assert_eq!(rt; enter(&rt, &mut table, &over, &host), Err(RunFault::Absent));
-    assert_eq!(rt;
-        exit(&rt, &mut table, &over, &mut host),
-        Err(RunFault::Absent)
-    );
-    let five = item(MapKind::Alloc, section(1, 0, 5));
-    assert_eq!(rt;
-        enter(&rt, &mut table, &five, &host),
-        Err(RunFault::DeviceFull)
-    );
+    assert_refused(&rt, &mut table, &mut host);
     assert_eq!(rt; table.lookup(cell(0, 0)), Some((all, 1)));
     assert_eq!(rt; table.lookup(cell(1, 0)), None);
     let four = item(MapKind::Alloc, section(1, 0, 4));
@@ -242,13 +244,43 @@ fn deletion(rt: HostRuntime) -> Result<(), Fail> {
     let mut table = Table::new(rt.alloc(), 2);
     let all = section(0, 0, 2);
     let both = item(MapKind::ToFrom, all);
-    assert!(rt; enter(&rt, &mut table, &both, &host).is_ok());
-    assert!(rt; enter(&rt, &mut table, &both, &host).is_ok());
-    assert!(rt; enter(&rt, &mut table, &both, &host).is_ok());
+    for _ in 0..3 {
+        assert!(rt; enter(&rt, &mut table, &both, &host).is_ok());
+    }
     assert!(rt; exit(&rt, &mut table, &item(MapKind::Delete, all), &mut host).is_ok());
     assert_eq!(rt; table.lookup(cell(0, 1)), None);
     assert!(rt; exit(&rt, &mut table, &both, &mut host).is_ok());
     Ok(())
+}
+
+// What need not fit, or is there in part, is refused whole.
+fn assert_refused_whole(rt: &impl Abort, table: &mut Table, host: &Memory, all: Section) {
+    let over = [
+        item(MapKind::To, all),
+        item(MapKind::Alloc, section(1, 0, 5)),
+    ];
+    assert!(rt; may_enter_all(table, host, &over));
+    assert_eq!(rt; table.enter_all(&over, host), Err(RunFault::DeviceFull));
+    let part = [
+        item(MapKind::To, all),
+        item(MapKind::Alloc, section(0, 3, 2)),
+    ];
+    assert!(rt; may_enter_all(table, host, &part));
+    assert_eq!(rt; table.need(&part), 4);
+    assert_eq!(rt; table.enter_all(&part, host), Err(RunFault::Absent));
+    assert_eq!(rt; table.lookup(cell(0, 0)), None);
+}
+
+// Two blocks for three items, the last of which is in the first block.
+fn enter_both(rt: &impl Abort, table: &mut Table, host: &Memory, all: Section) {
+    let both = [
+        item(MapKind::To, all),
+        item(MapKind::Alloc, section(1, 0, 4)),
+        item(MapKind::Alloc, section(0, 1, 1)),
+    ];
+    assert!(rt; may_enter_all(table, host, &both));
+    assert_eq!(rt; table.need(&both), 8);
+    assert!(rt; table.enter_all(&both, host).is_ok());
 }
 
 #[test]
@@ -257,29 +289,8 @@ fn several(rt: HostRuntime) -> Result<(), Fail> {
     let mut table = Table::new(rt.alloc(), 8);
     let all = section(0, 0, 4);
     set(&rt, &mut host, &all, &[10, 11, 12, 13]);
-    let both = [
-        item(MapKind::To, all),
-        item(MapKind::Alloc, section(1, 0, 4)),
-        item(MapKind::Alloc, section(0, 1, 1)),
-    ];
-    let over = [
-        item(MapKind::To, all),
-        item(MapKind::Alloc, section(1, 0, 5)),
-    ];
-    let part = [
-        item(MapKind::To, all),
-        item(MapKind::Alloc, section(0, 3, 2)),
-    ];
-    assert!(rt; may_enter_all(&table, &host, &both));
-    assert_eq!(rt; table.need(&both), 8);
-    assert!(rt; may_enter_all(&table, &host, &over));
-    assert_eq!(rt; table.enter_all(&over, &host), Err(RunFault::DeviceFull));
-    assert!(rt; may_enter_all(&table, &host, &part));
-    assert_eq!(rt; table.need(&part), 4);
-    assert_eq!(rt; table.enter_all(&part, &host), Err(RunFault::Absent));
-    assert_eq!(rt; table.lookup(cell(0, 0)), None);
-    assert!(rt; may_enter_all(&table, &host, &both));
-    assert!(rt; table.enter_all(&both, &host).is_ok());
+    assert_refused_whole(&rt, &mut table, &host, all);
+    enter_both(&rt, &mut table, &host, all);
     assert_eq!(rt; table.lookup(cell(0, 0)), Some((all, 2)));
     assert_eq!(rt; table.load(cell(0, 3)), Some(13));
     assert_eq!(rt; table.lookup(cell(1, 3)), Some((section(1, 0, 4), 1)));

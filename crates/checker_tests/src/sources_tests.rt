@@ -5,7 +5,10 @@ use crate::{mapcheck_cases, mapwalk_cases, order_cases, outline_cases, ranges_ca
 use c_read::read_program;
 use mapcheck::passes::{footprints_of, order_of};
 use mapwalk::repeats;
-use outline::outline;
+use order::Order;
+use outline::{Outlined, outline};
+use std::alloc::Global;
+use std::process::Abort;
 use std::test::Fail;
 
 /// A source, and what the layers say of it.
@@ -16,25 +19,30 @@ pub(crate) struct Case {
     pub said: &'static str,
 }
 
-#[test]
-fn the_layers_say_what_is_written(rt: HostRuntime) -> Result<(), Fail> {
-    for cases in [
-        outline_cases::CASES.as_slice(),
-        order_cases::CASES.as_slice(),
-        ranges_cases::CASES.as_slice(),
-        mapwalk_cases::CASES.as_slice(),
-        mapcheck_cases::CASES.as_slice(),
-    ] {
-        for case in cases {
-            let found = String::from_utf8(said(rt.alloc(), case.source)?)?;
-            assert!(rt;
-                found.as_str() == case.said,
-                "of {} they say\n{found}",
-                case.name
-            );
-        }
+fn assert_said(rt: &impl Abort, alloc: Global, case: &Case) -> Result<(), Fail> {
+    let found = String::from_utf8(said(alloc, case.source)?)?;
+    assert!(rt;
+        found.as_str() == case.said,
+        "of {} they say\n{found}",
+        case.name
+    );
+    Ok(())
+}
+
+fn assert_all_said(rt: &impl Abort, alloc: Global, cases: &[Case]) -> Result<(), Fail> {
+    for case in cases {
+        assert_said(rt, alloc, case)?;
     }
     Ok(())
+}
+
+#[test]
+fn the_layers_say_what_is_written(rt: HostRuntime) -> Result<(), Fail> {
+    assert_all_said(&rt, rt.alloc(), outline_cases::CASES.as_slice())?;
+    assert_all_said(&rt, rt.alloc(), order_cases::CASES.as_slice())?;
+    assert_all_said(&rt, rt.alloc(), ranges_cases::CASES.as_slice())?;
+    assert_all_said(&rt, rt.alloc(), mapwalk_cases::CASES.as_slice())?;
+    assert_all_said(&rt, rt.alloc(), mapcheck_cases::CASES.as_slice())
 }
 
 const LONG_CHAIN: &str = "\
@@ -47,20 +55,27 @@ for (uint64_t i = 0; i < 4096; i += 1) {
 }
 ";
 
-// As many tasks as there may be items, each of which waits for the one before it.
-#[test]
-fn a_long_chain_is_ordered(rt: HostRuntime) -> Result<(), Fail> {
-    let alloc = rt.alloc();
-    let program = read_program(alloc, LONG_CHAIN.as_bytes())?;
-    let outlined = outline(alloc, &program)?;
-    assert_eq!(rt; outlined.items().len(), 4096);
-    footprints_of(alloc, &outlined, &repeats(alloc, &outlined)?)?;
-    let order = order_of(alloc, &outlined)?;
+// Each item comes behind those before it, and none behind itself.
+fn assert_chain(rt: &impl Abort, order: &Order<'_>) {
     for item in 0..4096 {
         assert!(rt; item == 0 || order.before(0, item));
         assert!(rt; item == 4095 || order.before(item, 4095));
         assert!(rt; !order.before(item, item) && !order.before(4095, item));
         assert!(rt; !order.before(item, 4096) && !order.before(4096, item));
     }
+}
+
+fn assert_ordered(rt: &impl Abort, alloc: Global, outlined: &Outlined<'_>) -> Result<(), Fail> {
+    assert_eq!(rt; outlined.items().len(), 4096);
+    footprints_of(alloc, outlined, &repeats(alloc, outlined)?)?;
+    assert_chain(rt, &order_of(alloc, outlined)?);
     Ok(())
+}
+
+// As many tasks as there may be items, each of which waits for the one before it.
+#[test]
+fn a_long_chain_is_ordered(rt: HostRuntime) -> Result<(), Fail> {
+    let program = read_program(rt.alloc(), LONG_CHAIN.as_bytes())?;
+    let outlined = outline(rt.alloc(), &program)?;
+    assert_ordered(&rt, rt.alloc(), &outlined)
 }

@@ -22,12 +22,19 @@ fn depend(kind: DependKind, first: u64, length: u64) -> Depend {
     }
 }
 
-fn item(
-    alloc: Global,
-    kind: ItemKind,
-    deferred: bool,
-    depends: &[Depend],
-) -> Result<Item, AllocError> {
+/// What an item is, whether it is deferred, and its depend items.
+type Row<'a> = (ItemKind, bool, &'a [Depend]);
+
+fn task(depends: &[Depend]) -> Row<'_> {
+    (ItemKind::Target, true, depends)
+}
+
+/// An item that the host does itself.
+fn at_once(kind: ItemKind, depends: &[Depend]) -> Row<'_> {
+    (kind, false, depends)
+}
+
+fn item(alloc: Global, (kind, deferred, depends): Row<'_>) -> Result<Item, AllocError> {
     Ok(Item {
         kind,
         deferred,
@@ -40,8 +47,12 @@ fn item(
     })
 }
 
-fn task(alloc: Global, depends: &[Depend]) -> Result<Item, AllocError> {
-    item(alloc, ItemKind::Target, true, depends)
+fn graph_of(alloc: Global, rows: &[Row<'_>]) -> Result<Graph, AllocError> {
+    let mut items = Vec::new(alloc);
+    for row in rows {
+        items.push(item(alloc, *row)?)?;
+    }
+    Graph::new(alloc, &items)
 }
 
 fn generate(rt: &impl Abort, graph: &mut Graph, item: usize) {
@@ -64,56 +75,63 @@ fn pass(rt: &impl Abort, graph: &mut Graph, item: usize) {
     graph.waited(item);
 }
 
-/// A task that writes, two that read what it wrote, and a bare wait.
-fn writer_and_readers(alloc: Global) -> Result<Vec<Item>, AllocError> {
-    let mut items = Vec::new(alloc);
-    items.push(task(alloc, &[depend(DependKind::Out, 0, 4)])?)?;
-    items.push(task(alloc, &[depend(DependKind::In, 0, 4)])?)?;
-    items.push(task(alloc, &[depend(DependKind::In, 0, 4)])?)?;
-    items.push(item(alloc, ItemKind::Wait, false, &[])?)?;
-    Ok(items)
+fn generate_all(rt: &impl Abort, graph: &mut Graph, items: usize) {
+    for item in 0..items {
+        generate(rt, graph, item);
+    }
+}
+
+// The writer runs, and no reader before it.
+fn assert_written(rt: &impl Abort, graph: &mut Graph) {
+    assert!(rt; graph.ready(0) && !graph.ready(1) && !graph.ready(2) && !graph.ready(3));
+    open(rt, graph, 0);
+    assert!(rt; graph.is_open(0));
+    assert!(rt; !graph.ready(0) && !graph.ready(1) && !graph.ready(2));
+    close(rt, graph, 0);
+    assert!(rt; !graph.is_open(0));
+    assert!(rt; graph.ready(1) && graph.ready(2) && !graph.ready(3));
+}
+
+// Both readers run, the later one first, and the wait is over behind them.
+fn assert_read(rt: &impl Abort, graph: &mut Graph) {
+    open(rt, graph, 2);
+    open(rt, graph, 1);
+    close(rt, graph, 1);
+    assert!(rt; !graph.ready(3));
+    close(rt, graph, 2);
+    assert!(rt; graph.ready(3) && !graph.may_open(3));
+    pass(rt, graph, 3);
+    assert_eq!(rt; graph.place(), 4);
+    assert!(rt; !graph.is_open(3) && !graph.ready(4));
 }
 
 #[test]
 fn readers_wait_for_the_writer(rt: HostRuntime) -> Result<(), Fail> {
-    let alloc = rt.alloc();
-    let mut graph = Graph::new(alloc, &writer_and_readers(alloc)?)?;
+    let written = [depend(DependKind::Out, 0, 4)];
+    let read = [depend(DependKind::In, 0, 4)];
+    let rows = [
+        task(&written),
+        task(&read),
+        task(&read),
+        at_once(ItemKind::Wait, &[]),
+    ];
+    let mut graph = graph_of(rt.alloc(), &rows)?;
     assert!(rt; !graph.ready(0));
-    for task in 0..3 {
-        generate(&rt, &mut graph, task);
-    }
+    generate_all(&rt, &mut graph, 3);
     assert_eq!(rt; graph.place(), 3);
-    assert!(rt; graph.ready(0) && !graph.ready(1) && !graph.ready(2) && !graph.ready(3));
-    open(&rt, &mut graph, 0);
-    assert!(rt; graph.is_open(0));
-    assert!(rt; !graph.ready(0) && !graph.ready(1) && !graph.ready(2));
-    close(&rt, &mut graph, 0);
-    assert!(rt; !graph.is_open(0));
-    assert!(rt; graph.ready(1) && graph.ready(2) && !graph.ready(3));
-    open(&rt, &mut graph, 2);
-    open(&rt, &mut graph, 1);
-    close(&rt, &mut graph, 1);
-    assert!(rt; !graph.ready(3));
-    close(&rt, &mut graph, 2);
-    assert!(rt; graph.ready(3) && !graph.may_open(3));
-    pass(&rt, &mut graph, 3);
-    assert_eq!(rt; graph.place(), 4);
-    assert!(rt; !graph.is_open(3) && !graph.ready(4));
+    assert_written(&rt, &mut graph);
+    assert_read(&rt, &mut graph);
     Ok(())
 }
 
 #[test]
 fn the_host_waits_for_itself(rt: HostRuntime) -> Result<(), Fail> {
-    let alloc = rt.alloc();
-    let mut items = Vec::new(alloc);
-    items.push(item(alloc, ItemKind::Host, false, &[])?)?;
-    items.push(item(
-        alloc,
-        ItemKind::Target,
-        false,
-        &[depend(DependKind::In, 0, 1)],
-    )?)?;
-    let mut graph = Graph::new(alloc, &items)?;
+    let read = [depend(DependKind::In, 0, 1)];
+    let rows = [
+        at_once(ItemKind::Host, &[]),
+        at_once(ItemKind::Target, &read),
+    ];
+    let mut graph = graph_of(rt.alloc(), &rows)?;
     assert!(rt; graph.ready(0) && !graph.ready(1) && !graph.may_generate(0));
     open(&rt, &mut graph, 0);
     assert_eq!(rt; graph.place(), 0);
@@ -125,19 +143,12 @@ fn the_host_waits_for_itself(rt: HostRuntime) -> Result<(), Fail> {
 
 #[test]
 fn a_wait_with_a_clause_waits_for_what_it_names(rt: HostRuntime) -> Result<(), Fail> {
-    let alloc = rt.alloc();
-    let mut items = Vec::new(alloc);
-    items.push(task(alloc, &[depend(DependKind::Out, 0, 2)])?)?;
-    items.push(task(alloc, &[depend(DependKind::InOut, 2, 2)])?)?;
-    items.push(item(
-        alloc,
-        ItemKind::Wait,
-        false,
-        &[depend(DependKind::In, 1, 1)],
-    )?)?;
-    let mut graph = Graph::new(alloc, &items)?;
-    generate(&rt, &mut graph, 0);
-    generate(&rt, &mut graph, 1);
+    let named = [depend(DependKind::Out, 0, 2)];
+    let other = [depend(DependKind::InOut, 2, 2)];
+    let waited = [depend(DependKind::In, 1, 1)];
+    let rows = [task(&named), task(&other), at_once(ItemKind::Wait, &waited)];
+    let mut graph = graph_of(rt.alloc(), &rows)?;
+    generate_all(&rt, &mut graph, 2);
     assert!(rt; graph.ready(0) && graph.ready(1) && !graph.ready(2));
     open(&rt, &mut graph, 0);
     close(&rt, &mut graph, 0);
@@ -145,25 +156,26 @@ fn a_wait_with_a_clause_waits_for_what_it_names(rt: HostRuntime) -> Result<(), F
     Ok(())
 }
 
+// The task is the only one that may be opened, and runs.
+fn assert_next(rt: &impl Abort, graph: &mut Graph, task: usize) {
+    let later = task.wrapping_add(1);
+    assert!(rt; !graph.ready(later) && !graph.may_end());
+    assert_eq!(rt; graph.next_task(0), Some(task));
+    assert!(rt; graph.next_task(later).is_none());
+    assert_eq!(rt; graph.first(), task);
+    open(rt, graph, task);
+    assert!(rt; graph.next_task(0).is_none());
+    close(rt, graph, task);
+}
+
 /// 4,000 tasks, each of which waits for all before it.
 #[test]
 fn a_long_chain_runs_in_order(rt: HostRuntime) -> Result<(), Fail> {
-    let alloc = rt.alloc();
-    let mut items = Vec::new(alloc);
-    for _ in 0..4000 {
-        items.push(task(alloc, &[depend(DependKind::InOut, 0, 1)])?)?;
-    }
-    let mut graph = Graph::new(alloc, &items)?;
+    let cell = [depend(DependKind::InOut, 0, 1)];
+    let mut graph = graph_of(rt.alloc(), &[task(&cell); 4000])?;
+    generate_all(&rt, &mut graph, 4000);
     for task in 0..4000 {
-        generate(&rt, &mut graph, task);
-    }
-    for task in 0..4000 {
-        assert!(rt; !graph.ready(task + 1) && !graph.may_end());
-        assert_eq!(rt; graph.next_task(0), Some(task));
-        assert!(rt; graph.next_task(task + 1).is_none());
-        assert_eq!(rt; graph.first(), task);
-        open(&rt, &mut graph, task);
-        close(&rt, &mut graph, task);
+        assert_next(&rt, &mut graph, task);
     }
     assert!(rt; graph.may_end());
     Ok(())
@@ -172,23 +184,20 @@ fn a_long_chain_runs_in_order(rt: HostRuntime) -> Result<(), Fail> {
 /// A task on two cells, one on the first of them, a wait without a clause, and a task on both.
 #[test]
 fn a_task_waits_for_all_before_the_last(rt: HostRuntime) -> Result<(), Fail> {
-    let alloc = rt.alloc();
-    let mut items = Vec::new(alloc);
-    items.push(task(alloc, &[depend(DependKind::InOut, 0, 2)])?)?;
-    items.push(task(alloc, &[depend(DependKind::InOut, 0, 1)])?)?;
-    items.push(task(alloc, &[depend(DependKind::In, 0, 2)])?)?;
-    items.push(item(alloc, ItemKind::Wait, false, &[])?)?;
-    items.push(task(alloc, &[depend(DependKind::InOut, 0, 2)])?)?;
-    let mut graph = Graph::new(alloc, &items)?;
+    let both = [depend(DependKind::InOut, 0, 2)];
+    let first = [depend(DependKind::InOut, 0, 1)];
+    let read = [depend(DependKind::In, 0, 2)];
+    let rows = [
+        task(&both),
+        task(&first),
+        task(&read),
+        at_once(ItemKind::Wait, &[]),
+        task(&both),
+    ];
+    let mut graph = graph_of(rt.alloc(), &rows)?;
+    generate_all(&rt, &mut graph, 3);
     for task in 0..3 {
-        generate(&rt, &mut graph, task);
-    }
-    for task in 0..3 {
-        assert!(rt; !graph.ready(task + 1));
-        assert_eq!(rt; graph.next_task(0), Some(task));
-        open(&rt, &mut graph, task);
-        assert!(rt; graph.next_task(0).is_none());
-        close(&rt, &mut graph, task);
+        assert_next(&rt, &mut graph, task);
     }
     pass(&rt, &mut graph, 3);
     assert_eq!(rt; graph.first(), 4);

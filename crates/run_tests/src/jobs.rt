@@ -4,7 +4,7 @@ use crate::sources::{Look, look_at};
 use base::fault::RunFault;
 use base::item::Event;
 use device::{Job, RunState, Turn};
-use kernel::run;
+use kernel::{Done, run};
 use lower::Image;
 use machine::play;
 use std::alloc::{AllocError, Global};
@@ -29,7 +29,22 @@ fn is_stranger(outcome: Result<(), RunFault>) -> bool {
     matches!(outcome, Err(RunFault::Stranger))
 }
 
-// An item of both: what one run issued is a stranger to the other, and each takes its own once.
+// Two regions that were run: what one run issued is a stranger to the other, and each takes its own once.
+fn assert_taken_once<'a>(
+    rt: &impl Abort,
+    left: &mut RunState<'a>,
+    right: &mut RunState<'a>,
+    mine: &Done<'_, '_, 'a>,
+    theirs: &Done<'_, '_, 'a>,
+) {
+    assert!(rt; is_stranger(left.close(theirs)));
+    assert!(rt; is_taken(left.close(mine)));
+    assert!(rt; is_stranger(left.close(mine)));
+    assert!(rt; is_stranger(right.close(mine)));
+    assert!(rt; is_taken(right.close(theirs)));
+}
+
+// An item of both.
 fn assert_own<'a>(
     rt: &impl Abort,
     alloc: Global,
@@ -45,11 +60,7 @@ fn assert_own<'a>(
     };
     let done = run(alloc, mine.code, &mine.frame)?;
     let other = run(alloc, theirs.code, &theirs.frame)?;
-    assert!(rt; is_stranger(left.close(&other)));
-    assert!(rt; is_taken(left.close(&done)));
-    assert!(rt; is_stranger(left.close(&done)));
-    assert!(rt; is_stranger(right.close(&done)));
-    assert!(rt; is_taken(right.close(&other)));
+    assert_taken_once(rt, left, right, &done, &other);
     Ok(())
 }
 
@@ -73,22 +84,46 @@ fn assert_end(
     Ok(())
 }
 
+// All items of both.
+fn assert_apart<'a>(
+    rt: &impl Abort,
+    alloc: Global,
+    left: &mut RunState<'a>,
+    right: &mut RunState<'a>,
+) -> Result<(), Fail> {
+    assert_own(rt, alloc, left, right, 0)?;
+    assert_own(rt, alloc, left, right, 1)?;
+    assert_end(rt, alloc, left, 2, 6)?;
+    assert_end(rt, alloc, right, 2, 7)
+}
+
 struct TwoRuns;
 
 impl Look for TwoRuns {
     fn look<R: Abort>(&self, rt: &R, alloc: Global, image: &Image<'_>) -> Result<(), Fail> {
         let inputs = ([5], [6]);
-        let Ok(mut left) = RunState::new(alloc, image, &inputs.0, 4) else {
-            return Err(Fail::from(AllocError));
-        };
-        let Ok(mut right) = RunState::new(alloc, image, &inputs.1, 4) else {
-            return Err(Fail::from(AllocError));
-        };
-        assert_own(rt, alloc, &mut left, &mut right, 0)?;
-        assert_own(rt, alloc, &mut left, &mut right, 1)?;
-        assert_end(rt, alloc, &mut left, 2, 6)?;
-        assert_end(rt, alloc, &mut right, 2, 7)
+        let mut left = RunState::new(alloc, image, &inputs.0, 4).map_err(Fail::new)?;
+        let mut right = RunState::new(alloc, image, &inputs.1, 4).map_err(Fail::new)?;
+        assert_apart(rt, alloc, &mut left, &mut right)
     }
+}
+
+fn turns(alloc: Global) -> Result<Vec<Turn>, AllocError> {
+    let mut turns = Vec::new(alloc);
+    for item in 0..3 {
+        turns.push(Turn::Open(item))?;
+        turns.push(Turn::Close(item))?;
+    }
+    turns.push(Turn::Wait(3))?;
+    turns.push(Turn::Open(0))?;
+    Ok(turns)
+}
+
+// Seven turns are taken, and behind the last of the run none.
+fn assert_played(rt: &impl Abort, state: &mut RunState<'_>, turns: Vec<Turn>) {
+    assert!(rt; matches!(play::<RunState<'_>>(state, turns), Ok(7)));
+    assert_eq!(rt; state.output(), [6].as_slice());
+    assert_eq!(rt; state.history().last(), Some(&Event::End));
 }
 
 // The events in turn, through the bound.
@@ -97,19 +132,9 @@ struct Played;
 impl Look for Played {
     fn look<R: Abort>(&self, rt: &R, alloc: Global, image: &Image<'_>) -> Result<(), Fail> {
         let input = [5];
-        let Ok(mut state) = RunState::new(alloc, image, &input, 4) else {
-            return Err(Fail::from(AllocError));
-        };
-        let mut turns = Vec::new(alloc);
-        for item in 0..3 {
-            turns.push(Turn::Open(item))?;
-            turns.push(Turn::Close(item))?;
-        }
-        turns.push(Turn::Wait(3))?;
-        turns.push(Turn::Open(0))?;
-        assert!(rt; matches!(play::<RunState<'_>>(&mut state, turns), Ok(7)));
-        assert_eq!(rt; state.output(), [6].as_slice());
-        assert_eq!(rt; state.history().last(), Some(&Event::End));
+        let turns = turns(alloc)?;
+        let mut state = RunState::new(alloc, image, &input, 4).map_err(Fail::new)?;
+        assert_played(rt, &mut state, turns);
         Ok(())
     }
 }
