@@ -1,21 +1,23 @@
-//! Does the commands of the transcripts in its folder again, and prints how many transcripts say what the commands print.
+//! Does the commands of the transcripts in `commands` again, and prints how many transcripts say what the commands print.
 //! Of each other one it prints the first line that differs, as it is now.
 //!
 //! A transcript has lines that begin with `$ ompc`, each a command as a shell takes it: its words, and behind ` < ` the
 //! file of its standard input. Below it stands what the command prints, a line of standard error behind `! `, and the
 //! status in brackets where it is not 0. Empty lines and those that begin with `#` are remarks.
-#![tactic(auto)]
 
 use driver::{SourceError, Sources, drive};
 use std::alloc::{Alloc, AllocError, Global};
 use std::fs::Files;
 use std::io::Write;
-use std::process::ExitCode;
 use std::sync::Wait;
 use std::thread::Threads;
 use std::{fs, io};
 
-/// The files in the folder of the tests.
+fn path_of(alloc: Global, name: &str) -> Result<String, AllocError> {
+    format!(in alloc; "commands/{name}")
+}
+
+/// The files in the folder of the transcripts.
 #[derive(Drop)]
 struct Folder<'a, R: Files> {
     rt: &'a R,
@@ -23,7 +25,10 @@ struct Folder<'a, R: Files> {
 
 impl<R: Files + Alloc<A = Global>> Sources for Folder<'_, R> {
     fn source(&mut self, name: &str) -> Result<Vec<u8>, SourceError> {
-        fs::read(self.rt, name).map_err(|_| SourceError::Unreadable)
+        let Ok(path) = path_of(self.rt.alloc(), name) else {
+            return Err(SourceError::OutOfMemory);
+        };
+        fs::read(self.rt, &path).map_err(|_| SourceError::Unreadable)
     }
 }
 
@@ -80,7 +85,7 @@ fn tell_command<R: Threads + Wait + Sync + Files + Alloc<A = Global>>(
 ) -> io::Result<()> {
     let alloc = rt.alloc();
     let (command, input) = match line.split_once(" < ") {
-        Some((command, name)) => (command, fs::read(rt, name)?),
+        Some((command, name)) => (command, fs::read(rt, &path_of(alloc, name)?)?),
         None => (line, Vec::new(alloc)),
     };
     let words: Vec<&str> = command.split(' ').skip(2).collect(alloc)?;
@@ -124,7 +129,7 @@ fn is_told<R: Threads + Wait + Sync + Files + Alloc<A = Global>, W: Write>(
     name: &str,
     out: &mut W,
 ) -> io::Result<bool> {
-    let transcript = fs::read_to_string(rt, name)?;
+    let transcript = fs::read_to_string(rt, &path_of(rt.alloc(), name)?)?;
     let told = told_again(rt, &transcript)?;
     let told = str::from_utf8(&told).unwrap_or("");
     if told != transcript.as_str() {
@@ -134,14 +139,14 @@ fn is_told<R: Threads + Wait + Sync + Files + Alloc<A = Global>, W: Write>(
     Ok(true)
 }
 
-// Reads all transcripts of the folder.
-fn compare<R: Threads + Wait + Sync + Files + Alloc<A = Global> + Clone, W: Write>(
+/// Compares all transcripts of the folder, and answers whether all are as told.
+pub(crate) fn compare<R: Threads + Wait + Sync + Files + Alloc<A = Global> + Clone, W: Write>(
     rt: &R,
     out: &mut W,
-) -> io::Result<ExitCode> {
+) -> io::Result<bool> {
     let mut right = 0u64;
     let mut wrong = 0u64;
-    for entry in fs::read_dir(rt, ".")? {
+    for entry in fs::read_dir(rt, "commands")? {
         let entry = entry?;
         let name = entry.file_name();
         if name.ends_with(".t") {
@@ -153,19 +158,5 @@ fn compare<R: Threads + Wait + Sync + Files + Alloc<A = Global> + Clone, W: Writ
         }
     }
     writeln!(out, "{right} transcripts as told, {wrong} not")?;
-    Ok(if wrong == 0 {
-        ExitCode::SUCCESS
-    } else {
-        ExitCode::FAILURE
-    })
-}
-
-fn main(rt: HostRuntime) -> ExitCode {
-    match compare(&rt, &mut io::writer(&rt)) {
-        Ok(code) => code,
-        Err(error) => {
-            let _ = writeln!(rt.stderr(), "{error}");
-            ExitCode::FAILURE
-        }
-    }
+    Ok(wrong == 0)
 }

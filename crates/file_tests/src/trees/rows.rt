@@ -2,7 +2,7 @@
 //! front of the next such line. In a source a line `@9 TEXT` stands for TEXT nine times, with no line feed behind it;
 //! in TEXT `?` stands for the number of the time, from 0, and `$` for a line feed.
 
-use crate::report::Report;
+use super::report::Report;
 use base::fault::ReadFault;
 use base::tree::Program;
 use c_read::read_program;

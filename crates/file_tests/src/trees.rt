@@ -1,27 +1,25 @@
-//! Reads the sources of a folder, and prints how many are read as the files beside them say, and those that are not with
+//! Reads the sources in `sources`, and prints how many are read as the files beside them say, and those that are not with
 //! what came of them.
 //!
 //! What is wanted of NAME.c stands in NAME.txt: its tree, or why it is refused. Where there is a NAME.erased.c, it is the
 //! text of NAME.c without its directives. NAME.rows has small sources, each below what is wanted of it. Of each source
 //! that is read, a part that ends before its last brace must be refused. For a new NAME.c, run this program in its
 //! folder `data`: it prints what would stand in NAME.txt.
-#![tactic(auto)]
 
 mod printed;
 mod report;
 mod rows;
 
+use self::printed::program_text;
+use self::report::Report;
+use self::rows::compare_rows;
 use base::fault::ReadFault;
 use base::tree::Program;
 use c_read::read_program;
 use erased_meaning::read_erased;
 use erasure::erase;
-use printed::program_text;
-use report::Report;
-use rows::compare_rows;
 use std::alloc::{AllocError, Global};
 use std::io::Write;
-use std::process::ExitCode;
 use std::{fs, io};
 
 fn outcome_text(alloc: Global, outcome: &Result<Program, ReadFault>) -> Result<String, AllocError> {
@@ -33,7 +31,7 @@ fn outcome_text(alloc: Global, outcome: &Result<Program, ReadFault>) -> Result<S
 
 /// The file of that name with that ending.
 fn file_text(rt: &HostRuntime, name: &str, ending: &str) -> io::Result<String> {
-    let path = format!(in rt.alloc(); "{name}{ending}")?;
+    let path = format!(in rt.alloc(); "sources/{name}{ending}")?;
     fs::read_to_string(rt, &path)
 }
 
@@ -94,30 +92,16 @@ fn compare_file(rt: &HostRuntime, report: &mut Report, file: &str) -> io::Result
 
 fn compare_files(rt: &HostRuntime) -> io::Result<Report> {
     let mut report = Report::new(rt.alloc());
-    for entry in fs::read_dir(rt, ".")? {
+    for entry in fs::read_dir(rt, "sources")? {
         compare_file(rt, &mut report, entry?.file_name())?;
     }
     Ok(report)
 }
 
-fn print(rt: &HostRuntime) -> io::Result<ExitCode> {
+/// Compares all sources of the folder, and answers whether all are as wanted.
+pub(crate) fn compare<W: Write>(rt: &HostRuntime, out: &mut W) -> io::Result<bool> {
     let report = compare_files(rt)?;
-    let mut out = io::writer(rt);
     write!(out, "{}", report.text)?;
     writeln!(out, "{} as wanted, {} not", report.right, report.wrong)?;
-    if report.wrong == 0 {
-        Ok(ExitCode::SUCCESS)
-    } else {
-        Ok(ExitCode::FAILURE)
-    }
-}
-
-fn main(rt: HostRuntime) -> ExitCode {
-    match print(&rt) {
-        Ok(code) => code,
-        Err(error) => {
-            let _ = writeln!(rt.stderr(), "{error}");
-            ExitCode::FAILURE
-        }
-    }
+    Ok(report.wrong == 0)
 }
