@@ -253,7 +253,7 @@ fn deletion(rt: HostRuntime) -> Result<(), Fail> {
     Ok(())
 }
 
-// What need not fit, or is there in part, is refused whole.
+// What has no room, or is there in part, is refused whole.
 fn assert_refused_whole(rt: &impl Abort, table: &mut Table, host: &Memory, all: Section) {
     let over = [
         item(MapKind::To, all),

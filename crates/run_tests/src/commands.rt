@@ -4,6 +4,8 @@ use driver::{SourceError, Sources, drive};
 use std::alloc::Global;
 use std::io;
 use std::io::Write;
+use std::sync::Wait;
+use std::thread::Threads;
 
 const SOURCE: &str = "int main(void) { print(1); print(2); print(3); }";
 
@@ -40,38 +42,44 @@ impl Write for Narrow {
     }
 }
 
-// What `step` prints takes 25 bytes.
+// The status of a command whose output has room for so many bytes.
+fn status_of<R: Threads + Wait + Sync>(
+    rt: &R,
+    alloc: Global,
+    words: &[&str],
+    room: usize,
+    err: &mut Vec<u8>,
+) -> u8 {
+    let mut input: &[u8] = &[];
+    drive(
+        rt,
+        alloc,
+        words,
+        &mut One { alloc },
+        &mut input,
+        &mut Narrow { room },
+        err,
+    )
+}
+
+// What it prints takes 25 bytes.
 #[test]
 fn output_that_cannot_be_written_is_a_fault(rt: HostRuntime) {
-    let alloc = rt.alloc();
     for room in 0..26 {
-        let mut input: &[u8] = &[];
-        let mut err = Vec::new(alloc);
-        let status = drive(
-            &rt,
-            alloc,
-            &["step", "a.c"],
-            &mut One { alloc },
-            &mut input,
-            &mut Narrow { room },
-            &mut err,
-        );
+        let mut err = Vec::new(rt.alloc());
+        let status = status_of(&rt, rt.alloc(), &["step", "a.c"], room, &mut err);
         assert_eq!(rt; status, if room < 25 { 3 } else { 0 }, "{room}");
     }
 }
 
 #[test]
 fn a_choice_begins_with_no_blank(rt: HostRuntime) {
-    let alloc = rt.alloc();
-    let mut input: &[u8] = &[];
-    let mut err = Vec::new(alloc);
-    let status = drive(
+    let mut err = Vec::new(rt.alloc());
+    let status = status_of(
         &rt,
-        alloc,
+        rt.alloc(),
         &["step", "a.c", "--choices", " 1"],
-        &mut One { alloc },
-        &mut input,
-        &mut Narrow { room: 0 },
+        0,
         &mut err,
     );
     assert_eq!(rt; status, 2);
