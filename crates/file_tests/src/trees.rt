@@ -7,12 +7,12 @@
 //! folder `data`: it prints what would stand in NAME.txt.
 
 mod printed;
-mod report;
 mod rows;
+mod tally;
 
 use self::printed::program_text;
-use self::report::Report;
 use self::rows::compare_rows;
+use self::tally::Tally;
 use base::fault::ReadFault;
 use base::tree::Program;
 use c_read::read_program;
@@ -48,60 +48,55 @@ struct Case {
 }
 
 /// Compares what is left of a source without its directives with the text of the case, and what that means.
-fn compare_erased(
-    rt: &HostRuntime,
-    report: &mut Report,
-    name: &str,
-    case: &Case,
-) -> io::Result<()> {
+fn compare_erased(rt: &HostRuntime, tally: &mut Tally, name: &str, case: &Case) -> io::Result<()> {
     let source = file_text(rt, name, ".c")?;
     let erased = erase(rt.alloc(), source.as_bytes())?;
     let kept = str::from_utf8(&erased).unwrap_or("");
-    report.compare(name, ".erased.c", kept, &case.source)?;
+    tally.compare(name, ".erased.c", kept, &case.source)?;
     let outcome = read_erased(rt.alloc(), source.as_bytes());
     let text = outcome_text(rt.alloc(), &outcome)?;
-    report.compare(name, ".erased.txt", &text, &case.wanted)?;
+    tally.compare(name, ".erased.txt", &text, &case.wanted)?;
     Ok(())
 }
 
 /// Compares what is read of a source. Where nothing says what is wanted of it, that is an empty text.
-fn compare_source(rt: &HostRuntime, report: &mut Report, name: &str) -> io::Result<()> {
+fn compare_source(rt: &HostRuntime, tally: &mut Tally, name: &str) -> io::Result<()> {
     let alloc = rt.alloc();
     let source = file_text(rt, name, ".c")?;
     let wanted = file_text(rt, name, ".txt").unwrap_or(String::new(alloc));
     let outcome = read_program(alloc, source.as_bytes());
-    report.compare(name, ".txt", &outcome_text(alloc, &outcome)?, &wanted)?;
+    tally.compare(name, ".txt", &outcome_text(alloc, &outcome)?, &wanted)?;
     if outcome.is_ok() && !are_cuts_refused(alloc, source.trim_end().as_bytes()) {
-        report.compare(name, ".c", "a part of it is read", "")?;
+        tally.compare(name, ".c", "a part of it is read", "")?;
     }
     match name.strip_suffix(".erased") {
         None => Ok(()),
-        Some(whole) => compare_erased(rt, report, whole, &Case { source, wanted }),
+        Some(whole) => compare_erased(rt, tally, whole, &Case { source, wanted }),
     }
 }
 
-fn compare_file(rt: &HostRuntime, report: &mut Report, file: &str) -> io::Result<()> {
+fn compare_file(rt: &HostRuntime, tally: &mut Tally, file: &str) -> io::Result<()> {
     if let Some(name) = file.strip_suffix(".c") {
-        return compare_source(rt, report, name);
+        return compare_source(rt, tally, name);
     }
     if file.ends_with(".rows") {
-        compare_rows(rt.alloc(), report, &file_text(rt, file, "")?)?;
+        compare_rows(rt.alloc(), tally, &file_text(rt, file, "")?)?;
     }
     Ok(())
 }
 
-fn compare_files(rt: &HostRuntime) -> io::Result<Report> {
-    let mut report = Report::new(rt.alloc());
+fn compare_files(rt: &HostRuntime) -> io::Result<Tally> {
+    let mut tally = Tally::new(rt.alloc());
     for entry in fs::read_dir(rt, "sources")? {
-        compare_file(rt, &mut report, entry?.file_name())?;
+        compare_file(rt, &mut tally, entry?.file_name())?;
     }
-    Ok(report)
+    Ok(tally)
 }
 
 /// Compares all sources of the folder, and answers whether all are as wanted.
 pub(crate) fn compare<W: Write>(rt: &HostRuntime, out: &mut W) -> io::Result<bool> {
-    let report = compare_files(rt)?;
-    write!(out, "{}", report.text)?;
-    writeln!(out, "{} as wanted, {} not", report.right, report.wrong)?;
-    Ok(report.wrong == 0)
+    let tally = compare_files(rt)?;
+    write!(out, "{}", tally.text)?;
+    writeln!(out, "{} as wanted, {} not", tally.right, tally.wrong)?;
+    Ok(tally.wrong == 0)
 }

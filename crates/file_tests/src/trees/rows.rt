@@ -2,7 +2,7 @@
 //! front of the next such line. In a source a line `@9 TEXT` stands for TEXT nine times, with no line feed behind it;
 //! in TEXT `?` stands for the number of the time, from 0, and `$` for a line feed.
 
-use super::report::Report;
+use super::tally::Tally;
 use base::fault::ReadFault;
 use base::tree::Program;
 use c_read::read_program;
@@ -51,16 +51,12 @@ fn summary(alloc: Global, outcome: &Result<Program, ReadFault>) -> Result<String
 }
 
 /// Compares what the reader makes of each row. A row that differs is named by its source.
-pub(crate) fn compare_rows(
-    alloc: Global,
-    report: &mut Report,
-    rows: &str,
-) -> Result<(), AllocError> {
+pub(crate) fn compare_rows(alloc: Global, tally: &mut Tally, rows: &str) -> Result<(), AllocError> {
     for row in rows.trim_end_matches('\n').split("\n== ").skip(1) {
         let (wanted, text) = row.split_once('\n').unwrap_or((row, ""));
         let source = expanded(alloc, text)?;
         let outcome = read_program(alloc, source.as_bytes());
-        report.compare(text, "", &summary(alloc, &outcome)?, wanted)?;
+        tally.compare(text, "", &summary(alloc, &outcome)?, wanted)?;
     }
     Ok(())
 }

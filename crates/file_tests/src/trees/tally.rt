@@ -3,16 +3,16 @@
 use std::alloc::{AllocError, Global};
 
 #[derive(Drop)]
-pub(crate) struct Report {
+pub(crate) struct Tally {
     pub right: u64,
     pub wrong: u64,
     /// The texts that are not as wanted, each below the name of its file.
     pub text: String,
 }
 
-impl Report {
-    pub(crate) fn new(alloc: Global) -> Report {
-        Report {
+impl Tally {
+    pub(crate) fn new(alloc: Global) -> Tally {
+        Tally {
             right: 0,
             wrong: 0,
             text: String::new(alloc),
