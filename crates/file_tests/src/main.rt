@@ -1,6 +1,10 @@
-//! Compares what the commands print, and what is read of sources, with the files in its folder.
+//! Compares what the commands print, what is read of sources and what the check says of them with the files in its folder.
+//! Behind that it prints a run in which each call that met want of memory is made again; by the word `retries`, that alone.
 #![tactic(auto)]
 
+mod layers;
+mod retries;
+mod tally;
 mod transcripts;
 mod trees;
 
@@ -19,11 +23,22 @@ fn is_well<E: Write>(compared: io::Result<bool>, err: &mut E) -> bool {
     }
 }
 
+fn is_for_retries(rt: &HostRuntime) -> io::Result<bool> {
+    let words: Vec<String> = std::env::args(rt)?.skip(1).collect(rt.alloc())?;
+    Ok(words.iter().any(|word| word.as_str() == "retries"))
+}
+
 fn main(rt: HostRuntime) -> ExitCode {
     let mut out = io::writer(&rt);
-    let are_told = is_well(transcripts::compare(&rt, &mut out), &mut rt.stderr());
-    let are_read = is_well(trees::compare(&rt, &mut out), &mut rt.stderr());
-    if are_told && are_read {
+    let for_retries = match is_for_retries(&rt) {
+        Ok(it) => it,
+        Err(_) => is_well(is_for_retries(&rt), &mut rt.stderr()),
+    };
+    let are_told = for_retries || is_well(transcripts::compare(&rt, &mut out), &mut rt.stderr());
+    let are_read = for_retries || is_well(trees::compare(&rt, &mut out), &mut rt.stderr());
+    let are_said = for_retries || is_well(layers::compare(&rt, &mut out), &mut rt.stderr());
+    let are_run = retries::tell(rt.alloc(), &mut out).is_ok();
+    if are_told && are_read && are_said && are_run {
         ExitCode::SUCCESS
     } else {
         ExitCode::FAILURE

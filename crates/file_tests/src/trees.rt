@@ -8,11 +8,10 @@
 
 mod printed;
 mod rows;
-mod tally;
 
 use self::printed::program_text;
 use self::rows::compare_rows;
-use self::tally::Tally;
+use crate::tally::Tally;
 use base::fault::ReadFault;
 use base::tree::Program;
 use c_read::read_program;
@@ -29,15 +28,26 @@ fn outcome_text(alloc: Global, outcome: &Result<Program, ReadFault>) -> Result<S
     }
 }
 
+/// What is read of a source.
+fn reading(alloc: Global, source: &str) -> Result<String, AllocError> {
+    outcome_text(alloc, &read_program(alloc, source.as_bytes()))
+}
+
+/// What is read of the text of a source without its directives.
+fn erased_reading(alloc: Global, source: &str) -> Result<String, AllocError> {
+    outcome_text(alloc, &read_erased(alloc, source.as_bytes()))
+}
+
 /// The file of that name with that ending.
 fn file_text(rt: &HostRuntime, name: &str, ending: &str) -> io::Result<String> {
     let path = format!(in rt.alloc(); "sources/{name}{ending}")?;
     fs::read_to_string(rt, &path)
 }
 
-/// Whether a program that ends before its last brace is refused, wherever it ends.
+/// Whether a program that ends before its last brace is refused, wherever it ends. Of what is no program nothing is asked.
 fn are_cuts_refused(alloc: Global, text: &[u8]) -> bool {
-    (0..text.len()).all(|n| read_program(alloc, &text[..n]).is_err())
+    read_program(alloc, text).is_err()
+        || (0..text.len()).all(|n| read_program(alloc, &text[..n]).is_err())
 }
 
 /// A source with what is wanted of it.
@@ -53,8 +63,7 @@ fn compare_erased(rt: &HostRuntime, tally: &mut Tally, name: &str, case: &Case) 
     let erased = erase(rt.alloc(), source.as_bytes())?;
     let kept = str::from_utf8(&erased).unwrap_or("");
     tally.compare(name, ".erased.c", kept, &case.source)?;
-    let outcome = read_erased(rt.alloc(), source.as_bytes());
-    let text = outcome_text(rt.alloc(), &outcome)?;
+    let text = erased_reading(rt.alloc(), &source)?;
     tally.compare(name, ".erased.txt", &text, &case.wanted)?;
     Ok(())
 }
@@ -64,9 +73,8 @@ fn compare_source(rt: &HostRuntime, tally: &mut Tally, name: &str) -> io::Result
     let alloc = rt.alloc();
     let source = file_text(rt, name, ".c")?;
     let wanted = file_text(rt, name, ".txt").unwrap_or(String::new(alloc));
-    let outcome = read_program(alloc, source.as_bytes());
-    tally.compare(name, ".txt", &outcome_text(alloc, &outcome)?, &wanted)?;
-    if outcome.is_ok() && !are_cuts_refused(alloc, source.trim_end().as_bytes()) {
+    tally.compare(name, ".txt", &reading(alloc, &source)?, &wanted)?;
+    if !are_cuts_refused(alloc, source.trim_end().as_bytes()) {
         tally.compare(name, ".c", "a part of it is read", "")?;
     }
     match name.strip_suffix(".erased") {
@@ -95,8 +103,5 @@ fn compare_files(rt: &HostRuntime) -> io::Result<Tally> {
 
 /// Compares all sources of the folder, and answers whether all are as wanted.
 pub(crate) fn compare<W: Write>(rt: &HostRuntime, out: &mut W) -> io::Result<bool> {
-    let tally = compare_files(rt)?;
-    write!(out, "{}", tally.text)?;
-    writeln!(out, "{} as wanted, {} not", tally.right, tally.wrong)?;
-    Ok(tally.wrong == 0)
+    compare_files(rt)?.tell("readings", out)
 }

@@ -2,7 +2,7 @@
 //! front of the next such line. In a source a line `@9 TEXT` stands for TEXT nine times, with no line feed behind it;
 //! in TEXT `?` stands for the number of the time, from 0, and `$` for a line feed.
 
-use super::tally::Tally;
+use crate::tally::Tally;
 use base::fault::ReadFault;
 use base::tree::Program;
 use c_read::read_program;
@@ -37,6 +37,10 @@ fn expanded(alloc: Global, row: &str) -> Result<String, AllocError> {
 }
 
 /// The refusal, or how much was read.
+fn summary_of(alloc: Global, source: &str) -> Result<String, AllocError> {
+    summary(alloc, &read_program(alloc, source.as_bytes()))
+}
+
 fn summary(alloc: Global, outcome: &Result<Program, ReadFault>) -> Result<String, AllocError> {
     match outcome {
         Ok(program) => {
@@ -55,8 +59,7 @@ pub(crate) fn compare_rows(alloc: Global, tally: &mut Tally, rows: &str) -> Resu
     for row in rows.trim_end_matches('\n').split("\n== ").skip(1) {
         let (wanted, text) = row.split_once('\n').unwrap_or((row, ""));
         let source = expanded(alloc, text)?;
-        let outcome = read_program(alloc, source.as_bytes());
-        tally.compare(text, "", &summary(alloc, &outcome)?, wanted)?;
+        tally.compare(text, "", &summary_of(alloc, &source)?, wanted)?;
     }
     Ok(())
 }

@@ -1,0 +1,7 @@
+uint64_t A[4];
+uint64_t B[2];
+int main(void) {
+for (uint64_t i = 0; i < 3; i += 1) {
+#pragma omp target update to(A[18446744073709551615 * i:1])
+}
+}

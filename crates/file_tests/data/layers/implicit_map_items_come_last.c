@@ -1,0 +1,8 @@
+uint64_t A[4];
+uint64_t B[2];
+int main(void) {
+for (uint64_t i = 0; i < 2; i += 1) {
+#pragma omp target map(to: B)
+{ B[0] = A[i]; }
+}
+}

@@ -1,0 +1,25 @@
+//! Tests that call public functions of several crates: on values, event by event, and on threads.
+#![tactic(auto)]
+
+#[cfg(test)]
+mod commands;
+#[cfg(test)]
+mod device_tests;
+#[cfg(test)]
+mod jobs;
+#[cfg(test)]
+mod order_tests;
+#[cfg(test)]
+mod orders;
+#[cfg(test)]
+mod present_tests;
+#[cfg(test)]
+mod report_tests;
+#[cfg(test)]
+mod rows;
+#[cfg(test)]
+mod sources;
+#[cfg(test)]
+mod taskgraph_tests;
+#[cfg(test)]
+mod threads;

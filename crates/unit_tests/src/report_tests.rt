@@ -1,0 +1,114 @@
+// Lines of refusals that no source of the others has, and writers that fail.
+
+use base::fault::{CheckFault, OrderFault, Refusal, RefusalCode};
+use base::item::Cell;
+use base::tree::ArrayId;
+use c_read::read_program;
+use outline::outline;
+use report::{list_text, refusal_text};
+use std::io;
+use std::io::Write;
+use std::test::Fail;
+
+const SOURCE: &str = "\
+uint64_t A[8];
+int main(void) {
+#pragma omp target enter data map(always, to: A)
+#pragma omp target map(tofrom: A[0:4]) nowait depend(inout: A[0:2])
+{ }
+#pragma omp taskwait depend(in: A[0:2])
+}
+";
+
+const LIST: &str = "\
+0 enter always to A[0:8]
+1 target nowait tofrom A[0:4] dep-inout A[0:2]
+2 wait dep-in A[0:2]
+";
+
+/// A writer with room for some bytes, which keeps what it took.
+#[derive(Drop)]
+struct Narrow {
+    room: usize,
+    taken: Vec<u8>,
+}
+
+impl Write for Narrow {
+    fn write(&mut self, buf: &[u8]) -> io::Result<usize> {
+        if self.room == 0 {
+            return Err(io::Error::from(io::ErrorKind::StorageFull));
+        }
+        let n = buf.len().min(self.room);
+        self.taken.extend_from_slice(&buf[..n])?;
+        self.room -= n;
+        Ok(n)
+    }
+
+    fn flush(&mut self) -> io::Result<()> {
+        Ok(())
+    }
+}
+
+#[test]
+fn a_failing_writer_ends_the_listing(rt: HostRuntime) -> Result<(), Fail> {
+    let alloc = rt.alloc();
+    let program = read_program(alloc, SOURCE.as_bytes())?;
+    let outlined = outline(alloc, &program)?;
+    for room in [0, 1, 24, 25, 26, 90] {
+        let mut out = Narrow {
+            room,
+            taken: Vec::new(alloc),
+        };
+        match list_text(alloc, &outlined, &mut out) {
+            Ok(()) => assert!(rt; false),
+            Err(error) => assert!(rt; error.kind() == io::ErrorKind::StorageFull),
+        }
+        assert_eq!(rt; out.taken.len(), room);
+        assert!(rt; LIST.as_bytes().starts_with(&out.taken));
+    }
+    Ok(())
+}
+
+const FAR: CheckFault = CheckFault::Refused(Refusal {
+    code: RefusalCode::HostNotCurrent,
+    item: 3,
+    cell: Cell {
+        array: ArrayId(0),
+        index: 65_535,
+    },
+    other: None,
+});
+
+const OVERLAP: CheckFault = CheckFault::Order(OrderFault {
+    item: 12,
+    cell: Cell {
+        array: ArrayId(0),
+        index: 7,
+    },
+    other: 10,
+});
+
+#[test]
+fn lines_of_refusals(rt: HostRuntime) -> Result<(), Fail> {
+    let alloc = rt.alloc();
+    let program = read_program(alloc, SOURCE.as_bytes())?;
+    for (fault, line) in [
+        (FAR, "E506 item 3 A[65535]\n"),
+        (OVERLAP, "E505 item 12 A[7] with item 10\n"),
+        (CheckFault::OutOfMemory, "F1\n"),
+    ] {
+        let mut out = Vec::new(alloc);
+        refusal_text(alloc, &program, &fault, &mut out)?;
+        assert_eq!(rt; out.as_slice(), line.as_bytes());
+    }
+    let mut out = Narrow {
+        room: 9,
+        taken: Vec::new(alloc),
+    };
+    match refusal_text(alloc, &program, &OVERLAP, &mut out) {
+        Ok(()) => assert!(rt; false),
+        Err(error) => assert!(rt; error.kind() == io::ErrorKind::StorageFull),
+    }
+    assert!(rt; out.taken.as_slice() == b"E505 item".as_slice());
+    Ok(())
+}
