@@ -8,13 +8,12 @@ ghost use Rattle.pipeline.specs.Listing.{IsListed};
 ghost use Rattle.driver.specs.Statuses.{source_status, ending_of};
 ghost use Rattle.driver.specs.Printed.{IsInput, IsReadAnswer, IsPrinted, IsDone, IsCommandDone, OfSource, answer_bytes, answers_of};
 
-use crate::command::{Request, Run, Step, Workers, parse};
-use crate::numbers::{NumbersFault, choice_list, input_numbers};
 use base::fault::{CheckFault, OutlineFault, ReadFault, RunFault, SourceFault};
 use base::item::Answer;
 use base::tree::Program;
 use c_read::read_program;
 use clap::error::ErrorKind;
+use command::{NumbersFault, Request, Run, Step, Workers, choice_list, input_numbers, parse};
 use mapcheck::{Accepted, check};
 use outline::{Outlined, outline};
 use pipeline::{check_source, list_source, run_accepted, run_accepted_on_threads, tell};
