@@ -8,7 +8,7 @@ use Rattle.pipeline.specs.Source.{Answers, IsAcceptedAnswer, by_choices, on_thre
 use Rattle.pipeline.specs.Checking.{IsChecked}
 use Rattle.pipeline.specs.Listing.{IsListed}
 use Rattle.report.specs.Runs.{log_bytes, finals_bytes}
-use Rattle.command.specs.Numbers.{input_of, choices_of}
+use Rattle.numbers.specs.Numbers.{input_of, choices_of}
 use Rattle.command.specs.declared.request.Request.{Request}
 use Rattle.command.specs.declared.request.Request.TheVariants.{Run, Step, Check, List as Items}
 use Rattle.driver.specs.declared.perform.Way.{Way}
