@@ -1,7 +1,7 @@
 -- What is done of a request.
 use Rattle.std.proofs.Common.{◌≡◌, ℕ, List, Option, sym, subst}
 use Rattle.std.specs.Prelude.{Result, IfOk}
-use Rattle.driver.specs.declared.command.Request.{Request}
+use Rattle.command.specs.declared.request.Request.{Request}
 use Rattle.driver.specs.Printed.{IsDone, OfSource}
 
 -- what is done of a request is done of the same one

@@ -8,9 +8,9 @@ use Rattle.pipeline.specs.Source.{Answers, IsAcceptedAnswer, by_choices, on_thre
 use Rattle.pipeline.specs.Checking.{IsChecked}
 use Rattle.pipeline.specs.Listing.{IsListed}
 use Rattle.report.specs.Runs.{log_bytes, finals_bytes}
-use Rattle.driver.specs.Numbers.{input_of, choices_of}
-use Rattle.driver.specs.declared.command.Request.{Request}
-use Rattle.driver.specs.declared.command.Request.TheVariants.{Run, Step, Check, List as Items}
+use Rattle.numbers.specs.Numbers.{input_of, choices_of}
+use Rattle.command.specs.declared.request.Request.{Request}
+use Rattle.command.specs.declared.request.Request.TheVariants.{Run, Step, Check, List as Items}
 use Rattle.driver.specs.declared.perform.Way.{Way}
 use Rattle.driver.specs.declared.perform.Way.TheVariants.{Choices, Workers}
 

@@ -5,7 +5,6 @@ use Rattle.base.specs.declared.fault.OutlineFault.TheVariants as outline
 use Rattle.base.specs.declared.fault.CheckFault.TheVariants as check
 use Rattle.base.specs.declared.fault.SourceFault.{SourceFault}
 use Rattle.base.specs.declared.fault.SourceFault.TheVariants.{Read, Outline, Check, Run}
-use Rattle.clap.specs.Values.{kind_of}
 use Rattle.clap.specs.declared.error.kind.ErrorKind.{ErrorKind}
 use Rattle.clap.specs.declared.error.kind.ErrorKind.TheVariants as kind
 use Rattle.driver.specs.declared.perform.Ending.{Ending}
@@ -26,9 +25,8 @@ abbrev pub usage_status : ErrorKind → ℕ
 usage_status kind.OutOfMemory = 3
 usage_status _ = 2
 
--- so have choices, a source and an input that cannot be read
+-- choices, a source and an input that cannot be read have 2 too
 abbrev pub status_of : Ending → ℕ
-status_of (ending.Usage e) = usage_status (kind_of e)
 status_of ending.BadChoices = 2
 status_of (ending.Unreadable name) = 2
 status_of (ending.Source f) = source_status f

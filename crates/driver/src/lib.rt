@@ -1,8 +1,6 @@
 //! The commands of `ompc`: from the words of a command line to what it prints and its status.
 #![tactic(auto)]
 
-mod command;
-mod numbers;
 mod perform;
 
 pub use perform::{SourceError, Sources, drive};

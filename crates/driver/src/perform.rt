@@ -5,17 +5,18 @@ ghost use Rattle.std.specs.Io.KnownBytes.{Appends};
 ghost use Rattle.base.specs.Limits.{AreShort};
 ghost use Rattle.pipeline.specs.Checking.{IsChecked};
 ghost use Rattle.pipeline.specs.Listing.{IsListed};
-ghost use Rattle.driver.specs.Statuses.{source_status, ending_of};
+ghost use Rattle.clap.specs.Values.{kind_of};
+ghost use Rattle.driver.specs.Statuses.{source_status, usage_status, ending_of};
 ghost use Rattle.driver.specs.Printed.{IsInput, IsReadAnswer, IsPrinted, IsDone, IsCommandDone, OfSource, answer_bytes, answers_of};
 
-use crate::command::{Request, Run, Step, Workers, parse};
-use crate::numbers::{NumbersFault, choice_list, input_numbers};
 use base::fault::{CheckFault, OutlineFault, ReadFault, RunFault, SourceFault};
 use base::item::Answer;
 use base::tree::Program;
 use c_read::read_program;
 use clap::error::ErrorKind;
+use command::{Request, Run, Step, Workers, parse};
 use mapcheck::{Accepted, check};
+use numbers::{NumbersFault, choice_list, input_numbers};
 use outline::{Outlined, outline};
 use pipeline::{check_source, list_source, run_accepted, run_accepted_on_threads, tell};
 use report::{finals_text, log_text};
@@ -50,10 +51,9 @@ const MISUSED: u8 = 2;
 /// The run stopped before its end, or memory ran out.
 const FAILED: u8 = 3;
 
-/// Why a command prints nothing to standard output.
-#[derive(Drop)]
+/// Why a command of well-formed words prints nothing to standard output.
+#[derive(Clone, Copy)]
 enum Ending<'a> {
-    Usage(clap::Error),
     BadChoices,
     Unreadable(&'a str),
     Source(SourceFault),
@@ -78,10 +78,6 @@ impl Ending<'_> {
         ensures status { result ≡ status_of self.now }
     {
         match self {
-            Ending::Usage(error) => match error.kind() {
-                ErrorKind::OutOfMemory => FAILED,
-                _ => MISUSED,
-            },
             Ending::BadChoices | Ending::Unreadable(_) | Ending::BadInput => MISUSED,
             Ending::Source(fault) => status_of(*fault),
             Ending::Refused => REFUSED,
@@ -91,10 +87,6 @@ impl Ending<'_> {
 
     fn write<E: Write>(&self, err: &mut E) -> io::Result<()> {
         match self {
-            Ending::Usage(error) => match error.kind() {
-                ErrorKind::OutOfMemory => writeln!(err, "F1"),
-                _ => write!(err, "{error}"),
-            },
             Ending::BadChoices => writeln!(err, "bad choices"),
             Ending::Unreadable(name) => writeln!(err, "cannot read {name}"),
             Ending::Source(fault) => writeln!(err, "{fault}"),
@@ -409,22 +401,44 @@ fn do_request<'a, T: Threads + Wait + Sync, S: Sources, R: Read, W: Write, E: Wr
     }
 }
 
-fn perform<'a, T: Threads + Wait + Sync, S: Sources, R: Read, W: Write, E: Write>(
+/// Does a request, and tells why where it cannot be done.
+fn perform<T: Threads + Wait + Sync, S: Sources, R: Read, W: Write, E: Write>(
     rt: &T,
     alloc: Global,
-    words: &'a [&'a str],
+    request: Request<'_>,
     sources: &mut S,
     input: &mut R,
     out: &mut W,
     err: &mut E,
-) -> Result<u8, Ending<'a>>
-    ensures status { IfOk result (λ s. (s ≡ 0) ⊎ (s ≡ 3)) }
-    ensures quiet { OnErr result (W.contents out.new ≡ W.contents out.old) }
-    ensures done { IfOk result (λ s. s ≡ 0 → IsCommandDone (R.remaining input.old) (W.contents out.old) (W.contents out.new)) }
+) -> u8
+    ensures status { result ≤ 3 }
+    ensures quiet { (result ≡ 1) ⊎ (result ≡ 2) → W.contents out.new ≡ W.contents out.old }
+    ensures done { result ≡ 0 → IsCommandDone (R.remaining input.old) (W.contents out.old) (W.contents out.new) }
 {
-    match parse(alloc, words) {
-        Ok(request) => do_request(rt, alloc, request, sources, input, out, err),
-        Err(error) => Err(Ending::Usage(error)),
+    match do_request(rt, alloc, request, sources, input, out, err) {
+        Ok(status) => status,
+        Err(ending) => {
+            // A status is answered even where its text cannot be written.
+            let _ = ending.write(err);
+            ending.status()
+        }
+    }
+}
+
+/// Tells what is wrong with the words.
+fn misused<E: Write>(error: &clap::Error, err: &mut E) -> u8
+    ensures within { (1 ≤ result) × (result ≤ 3) }
+    ensures status { result ≡ usage_status (kind_of error.now) }
+{
+    match error.kind() {
+        ErrorKind::OutOfMemory => {
+            let _ = writeln!(err, "F1");
+            FAILED
+        }
+        _ => {
+            let _ = write!(err, "{error}");
+            MISUSED
+        }
     }
 }
 
@@ -447,12 +461,8 @@ pub fn drive<T: Threads + Wait + Sync, S: Sources, R: Read, W: Write, E: Write>(
     ensures quiet { (result ≡ 1) ⊎ (result ≡ 2) → W.contents out.new ≡ W.contents out.old }
     ensures done { result ≡ 0 → IsCommandDone (R.remaining input.old) (W.contents out.old) (W.contents out.new) }
 {
-    match perform(rt, alloc, words, sources, input, out, err) {
-        Ok(status) => status,
-        Err(ending) => {
-            // A status is answered even where its text cannot be written.
-            let _ = ending.write(err);
-            ending.status()
-        }
+    match parse(alloc, words) {
+        Ok(request) => perform(rt, alloc, request, sources, input, out, err),
+        Err(error) => misused(&error, err),
     }
 }

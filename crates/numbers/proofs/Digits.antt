@@ -5,7 +5,7 @@ use Rattle.std.proofs.lemmas.Nat.{mul-le}
 use Rattle.std.proofs.Math.Nat.{one-le-pow}
 use Rattle.std.proofs.lemmas.Bool.Decides.{nat_tests}
 use Rattle.std.specs.List.{list_all}
-use Rattle.driver.specs.Numbers.{is_digit, in_base_ten, below, number_below}
+use Rattle.numbers.specs.Numbers.{is_digit, in_base_ten, below, number_below}
 
 -- the number below m that the digits behind v spell
 abbrev pub number_after : ℕ → ℕ → List ℕ → Option ℕ

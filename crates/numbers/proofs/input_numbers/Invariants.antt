@@ -1,7 +1,7 @@
 use Rattle.std.proofs.Common.{◌≡◌, ◌≤◌, length}
-use Rattle.driver.specs.Numbers.{input_of}
-use Rattle.driver.proofs.Words.{Left, input_after}
-use Rattle.driver.proofs.numbers.input_numbers.Given as goal
+use Rattle.numbers.specs.Numbers.{input_of}
+use Rattle.numbers.proofs.Words.{Left, input_after}
+use Rattle.numbers.proofs.input_numbers.Given as goal
 
 -- the numbers so far and those of the words that are left are those of the input
 abbrev pub invariant-loop-word : goal.invariant-loop-word

@@ -1,8 +1,9 @@
 //! Numbers in text: the program's input and a list of choices. Leading zeros are allowed.
+#![tactic(auto)]
 
 ghost use Rattle.std.specs.Prelude.{◌≡◌, ◌^◌, Some, None, IfOk, IfErr};
-ghost use Rattle.driver.specs.declared.numbers.NumbersFault.TheVariants.{Malformed};
-ghost use Rattle.driver.specs.Numbers.{is_digit, is_blank, number_below, input_of, choices_of};
+ghost use Rattle.numbers.specs.declared.NumbersFault.TheVariants.{Malformed};
+ghost use Rattle.numbers.specs.Numbers.{is_digit, is_blank, number_below, input_of, choices_of};
 
 use std::alloc::{AllocError, Global};
 
@@ -48,7 +49,7 @@ pub enum NumbersFault {
 
 impl From<AllocError> for NumbersFault {
     ghost use Rattle.std.specs.Prelude.{◌≡◌};
-    ghost use Rattle.driver.specs.declared.numbers.NumbersFault.TheVariants.{OutOfMemory};
+    ghost use Rattle.numbers.specs.declared.NumbersFault.TheVariants.{OutOfMemory};
 
     ghost from_gives = { λ _ e. e ≡ OutOfMemory };
 

@@ -101,23 +101,25 @@ fn choices_arg<'a>(alloc: Global) -> Arg<'a> {
 }
 
 fn run_command<'a>(alloc: Global) -> Result<Command<'a>, AllocError> {
+    let args = vec![in alloc;
+        file_arg(alloc),
+        workers_arg(alloc),
+        capacity_arg(alloc),
+        log_arg(alloc),
+        finals_arg(alloc),
+    ]?;
     Command::new(alloc, "run")
         .about(
             "runs a program on what standard input holds, by worker threads, and prints its output",
         )
-        .arg(file_arg(alloc))?
-        .arg(workers_arg(alloc))?
-        .arg(capacity_arg(alloc))?
-        .arg(log_arg(alloc))?
-        .arg(finals_arg(alloc))
+        .args(args)
 }
 
 fn step_command<'a>(alloc: Global) -> Result<Command<'a>, AllocError> {
+    let args = vec![in alloc; file_arg(alloc), choices_arg(alloc), capacity_arg(alloc)]?;
     Command::new(alloc, "step")
         .about("runs a program likewise, but event by event, and prints its output and its log")
-        .arg(file_arg(alloc))?
-        .arg(choices_arg(alloc))?
-        .arg(capacity_arg(alloc))
+        .args(args)
 }
 
 fn check_command<'a>(alloc: Global) -> Result<Command<'a>, AllocError> {
@@ -133,23 +135,30 @@ fn list_command<'a>(alloc: Global) -> Result<Command<'a>, AllocError> {
 }
 
 fn add<'a>(
-    program: Command<'a>,
+    commands: &mut Vec<Command<'a>>,
     command: Result<Command<'a>, AllocError>,
-) -> Result<Command<'a>, AllocError> {
-    program.subcommand(command?)
+) -> Result<(), AllocError> {
+    commands.push(command?).map_err(AllocError::from)
 }
 
-fn commands<'a>(alloc: Global) -> Result<Command<'a>, AllocError> {
-    let program = Command::new(alloc, "ompc")
+fn subcommands<'a>(alloc: Global) -> Result<Vec<Command<'a>>, AllocError> {
+    let mut commands = Vec::new(alloc);
+    add(&mut commands, check_command(alloc))?;
+    add(&mut commands, list_command(alloc))?;
+    add(&mut commands, run_command(alloc))?;
+    add(&mut commands, step_command(alloc))?;
+    Ok(commands)
+}
+
+fn program<'a>(alloc: Global) -> Result<Command<'a>, AllocError> {
+    let subcommands = subcommands(alloc)?;
+    Command::new(alloc, "ompc")
         .about("checks and runs C programs with OpenMP target directives")
         .subcommand_required(true)
         .arg_required_else_help(true)
         .no_binary_name(true)
-        .bin_name("ompc")?;
-    let program = add(program, check_command(alloc))?;
-    let program = add(program, list_command(alloc))?;
-    let program = add(program, run_command(alloc))?;
-    add(program, step_command(alloc))
+        .subcommands(subcommands)?
+        .bin_name("ompc")
 }
 
 /// The text of an argument, or none of its bytes where it is not given.
@@ -196,15 +205,19 @@ fn step_of<'a>(given: &ArgMatches<'a>) -> Step<'a> {
     }
 }
 
+fn request_of<'a>(given: &ArgMatches<'a>) -> Request<'a> {
+    match given.subcommand() {
+        Some(("check", given)) => Request::Check(text_of(given, "FILE")),
+        Some(("list", given)) => Request::List(text_of(given, "FILE")),
+        Some(("run", given)) => Request::Run(run_of(given)),
+        Some((_, given)) => Request::Step(step_of(given)),
+        None => Request::List(""),
+    }
+}
+
 /// Reads the words, without the program's name.
 pub fn parse<'a>(alloc: Global, words: &'a [&'a str]) -> Result<Request<'a>, Error> {
-    let command = commands(alloc)?;
-    let matches = command.try_get_matches_from(words)?;
-    match matches.subcommand() {
-        Some(("check", given)) => Ok(Request::Check(text_of(given, "FILE"))),
-        Some(("list", given)) => Ok(Request::List(text_of(given, "FILE"))),
-        Some(("run", given)) => Ok(Request::Run(run_of(given))),
-        Some((_, given)) => Ok(Request::Step(step_of(given))),
-        None => Ok(Request::List("")),
-    }
+    let program = program(alloc)?;
+    let given = program.try_get_matches_from(words)?;
+    Ok(request_of(&given))
 }

@@ -1,7 +1,7 @@
 use Rattle.std.proofs.Common.{◌≡◌, ◌^◌}
-use Rattle.driver.specs.Numbers.{choices_of}
-use Rattle.driver.proofs.Words.{Left, after}
-use Rattle.driver.proofs.numbers.choice_list.Given as goal
+use Rattle.numbers.specs.Numbers.{choices_of}
+use Rattle.numbers.proofs.Words.{Left, after}
+use Rattle.numbers.proofs.choice_list.Given as goal
 
 -- the choices so far and those of the parts that are left are those of the text
 abbrev pub invariant-loop-word : goal.invariant-loop-word

@@ -3,9 +3,9 @@ use Rattle.std.proofs.lemmas.Iterator.Consumers.{YieldsList-at}
 use Rattle.std.proofs.lemmas.Iterator.Splits.{YieldsList-from_slice_split}
 use Rattle.std.proofs.lemmas.Bool.Decides.{nat_tests}
 use Rattle.std.specs.List.{slice_split}
-use Rattle.driver.specs.Numbers.{is_comma, number_below}
-use Rattle.driver.proofs.Words.{part_comes, no_part_comes, choices_empty, choices_start, after_number, after_no_number, after_end, smaller, not_smaller, none_smaller}
-use Rattle.driver.proofs.numbers.choice_list.Goals as goal
+use Rattle.numbers.specs.Numbers.{is_comma, number_below}
+use Rattle.numbers.proofs.Words.{part_comes, no_part_comes, choices_empty, choices_start, after_number, after_no_number, after_end, smaller, not_smaller, none_smaller}
+use Rattle.numbers.proofs.choice_list.Goals as goal
 
 pub returns-then-is_empty-clause-choices : goal.returns-then-is_empty-clause-choices
 returns-then-is_empty-clause-choices c = rw c.new-choices.ensures.items (choices_empty c.args.text.now (search (rules, tests)))

@@ -1,7 +1,7 @@
 use Rattle.std.proofs.Common.{◌≡◌, ◌^◌, ◌<◌, drop}
-use Rattle.driver.specs.Numbers.{number_below}
-use Rattle.driver.proofs.Digits.{number_after}
-use Rattle.driver.proofs.numbers.number_of.Given as goal
+use Rattle.numbers.specs.Numbers.{number_below}
+use Rattle.numbers.proofs.Digits.{number_after}
+use Rattle.numbers.proofs.number_of.Given as goal
 
 -- the digits that are left spell, behind the value, the number of all
 abbrev pub invariant-loop-d : goal.invariant-loop-d

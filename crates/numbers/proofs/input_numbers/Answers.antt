@@ -4,9 +4,9 @@ use Rattle.std.proofs.lemmas.Iterator.Splits.{YieldsList-from_slice_split}
 use Rattle.std.proofs.lemmas.List.{length_push}
 use Rattle.std.proofs.lemmas.Bool.Decides.{nat_tests}
 use Rattle.std.specs.List.{slice_split}
-use Rattle.driver.specs.Numbers.{is_blank, number_below}
-use Rattle.driver.proofs.Words.{part_comes, no_part_comes, input_start, input_skip, input_number, input_no_number, input_full, input_end}
-use Rattle.driver.proofs.numbers.input_numbers.Goals as goal
+use Rattle.numbers.specs.Numbers.{is_blank, number_below}
+use Rattle.numbers.proofs.Words.{part_comes, no_part_comes, input_start, input_skip, input_number, input_no_number, input_full, input_end}
+use Rattle.numbers.proofs.input_numbers.Goals as goal
 
 pub loop-word-init : goal.loop-word-init
 loop-word-init c = record {

@@ -3,7 +3,7 @@ use Rattle.std.proofs.Common.{◌≡◌, ℕ, ◌+◌, ◌^◌, ◌<◌, ◌≤�
 use Rattle.std.proofs.lemmas.Bool.{lt-leb}
 use Rattle.std.specs.List.{slice_split}
 use Rattle.std.proofs.lemmas.Iterator.{YieldsList}
-use Rattle.driver.specs.Numbers.{is_word, value_of, below, number_below, numbers_below, is_blank, is_comma, input_of, choices_of}
+use Rattle.numbers.specs.Numbers.{is_word, value_of, below, number_below, numbers_below, is_blank, is_comma, input_of, choices_of}
 
 -- the parts that an iterator has left, which have P
 pub record Left {S : Type 0} (steps : S → Option (Bor (List ℕ)) → S → Type 0) (s : S) (P : List (List ℕ) → Type 0) : Type 0 where

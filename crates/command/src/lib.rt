@@ -1,0 +1,6 @@
+//! What the words of a command line ask for.
+#![tactic(auto)]
+
+mod request;
+
+pub use request::{Request, Run, Step, Workers, parse};
