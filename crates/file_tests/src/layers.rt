@@ -15,8 +15,7 @@ fn compare_source(rt: &HostRuntime, tally: &mut Tally, name: &str) -> io::Result
     let wanted = fs::read_to_string(rt, &format!(in alloc; "layers/{name}.txt")?);
     let wanted = wanted.unwrap_or(String::new(alloc));
     let found = said(alloc, &source)?;
-    tally.compare(name, ".txt", str::from_utf8(&found).unwrap_or(""), &wanted)?;
-    Ok(())
+    tally.compare(name, ".txt", str::from_utf8(&found).unwrap_or(""), &wanted)
 }
 
 fn compare_sources(rt: &HostRuntime) -> io::Result<Tally> {

@@ -1,6 +1,6 @@
 //! How many texts are as wanted, and those that are not.
 
-use std::alloc::{AllocError, Global};
+use std::alloc::Global;
 use std::io;
 use std::io::Write;
 
@@ -28,13 +28,14 @@ impl Tally {
         ending: &str,
         text: &str,
         wanted: &str,
-    ) -> Result<(), AllocError> {
+    ) -> io::Result<()> {
         if text == wanted {
             self.right = self.right.saturating_add(1);
             return Ok(());
         }
         self.wrong = self.wrong.saturating_add(1);
-        write!(self.text, "== {name}{ending}\n{text}\n")
+        write!(self.text, "== {name}{ending}\n{text}\n")?;
+        Ok(())
     }
 
     /// Prints what is not as wanted and how many of these things are, and answers whether all are.

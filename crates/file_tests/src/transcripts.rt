@@ -1,10 +1,10 @@
-//! Does the commands of the transcripts in `commands` again, and prints how many transcripts say what the commands print.
-//! Of each other one it prints the first line that differs, as it is now.
+//! Does the commands of the transcripts in `commands` again, and compares what they print with what the transcripts say.
 //!
 //! A transcript has lines that begin with `$ ompc`, each a command as a shell takes it: its words, and behind ` < ` the
 //! file of its standard input. Below it stands what the command prints, a line of standard error behind `! `, and the
 //! status in brackets where it is not 0. Empty lines and those that begin with `#` are remarks.
 
+use crate::tally::Tally;
 use driver::{SourceError, Sources, drive};
 use std::alloc::{Alloc, AllocError, Global};
 use std::fs::Files;
@@ -33,7 +33,7 @@ impl<R: Files + Alloc<A = Global>> Sources for Folder<'_, R> {
 }
 
 // Adds each line of a text, with something before it. Where the last line has no end, it gets one.
-fn add_lines(told: &mut Vec<u8>, before: &[u8], text: &[u8]) -> Result<(), AllocError> {
+fn add_lines(told: &mut Vec<u8>, before: &[u8], text: &[u8]) -> io::Result<()> {
     let mut begins = true;
     for byte in text {
         if begins {
@@ -48,13 +48,23 @@ fn add_lines(told: &mut Vec<u8>, before: &[u8], text: &[u8]) -> Result<(), Alloc
     Ok(())
 }
 
+// What a command wrote, and its status.
+fn add_outcome(told: &mut Vec<u8>, out: &[u8], err: &[u8], status: u8) -> io::Result<()> {
+    add_lines(told, b"".as_slice(), out)?;
+    add_lines(told, b"! ".as_slice(), err)?;
+    if status == 0 {
+        return Ok(());
+    }
+    writeln!(told, "[{status}]")
+}
+
 // Runs a command on an input, and adds what it prints and its status.
 fn tell_outcome<R: Threads + Wait + Sync + Files + Alloc<A = Global>>(
     rt: &R,
     words: &[&str],
     input: &[u8],
     told: &mut Vec<u8>,
-) -> Result<(), AllocError> {
+) -> io::Result<()> {
     let alloc = rt.alloc();
     let mut reader = input;
     let mut out = Vec::new(alloc);
@@ -68,13 +78,7 @@ fn tell_outcome<R: Threads + Wait + Sync + Files + Alloc<A = Global>>(
         &mut out,
         &mut err,
     );
-    add_lines(told, b"".as_slice(), &out)?;
-    add_lines(told, b"! ".as_slice(), &err)?;
-    if status != 0 {
-        let line = format!(in alloc; "[{status}]\n")?;
-        told.extend_from_slice(line.as_bytes())?;
-    }
-    Ok(())
+    add_outcome(told, &out, &err, status)
 }
 
 // Runs the command of a line.
@@ -89,7 +93,22 @@ fn tell_command<R: Threads + Wait + Sync + Files + Alloc<A = Global>>(
         None => (line, Vec::new(alloc)),
     };
     let words: Vec<&str> = command.split(' ').skip(2).collect(alloc)?;
-    tell_outcome(rt, &words, &input, told)?;
+    tell_outcome(rt, &words, &input, told)
+}
+
+// A line of a transcript, and where it is a command, what that prints now. What it printed is left out.
+fn tell_line<R: Threads + Wait + Sync + Files + Alloc<A = Global>>(
+    rt: &R,
+    line: &str,
+    told: &mut Vec<u8>,
+) -> io::Result<()> {
+    if line.starts_with("$ ompc") {
+        writeln!(told, "{line}")?;
+        return tell_command(rt, line, told);
+    }
+    if line.is_empty() || line.starts_with('#') {
+        return writeln!(told, "{line}");
+    }
     Ok(())
 }
 
@@ -100,63 +119,38 @@ fn told_again<R: Threads + Wait + Sync + Files + Alloc<A = Global>>(
 ) -> io::Result<Vec<u8>> {
     let mut told = Vec::new(rt.alloc());
     for line in transcript.lines() {
-        let is_command = line.starts_with("$ ompc");
-        if is_command || line.is_empty() || line.starts_with('#') {
-            told.extend_from_slice(line.as_bytes())?;
-            told.push(b'\n')?;
-        }
-        if is_command {
-            tell_command(rt, line, &mut told)?;
-        }
+        tell_line(rt, line, &mut told)?;
     }
     Ok(told)
 }
 
-// The first line of a text that another one has not at its place.
-fn first_other<'a>(told: &'a str, wanted: &str) -> &'a str {
-    let mut others = wanted.lines();
-    for line in told.lines() {
-        if others.next() != Some(line) {
-            return line;
-        }
-    }
-    ""
-}
-
-// Whether a transcript says what its commands print. Where it does not, the first line that differs is written.
-fn is_told<R: Threads + Wait + Sync + Files + Alloc<A = Global>, W: Write>(
+fn compare_transcript<R: Threads + Wait + Sync + Files + Alloc<A = Global>>(
     rt: &R,
+    tally: &mut Tally,
     name: &str,
-    out: &mut W,
-) -> io::Result<bool> {
+) -> io::Result<()> {
     let transcript = fs::read_to_string(rt, &path_of(rt.alloc(), name)?)?;
     let told = told_again(rt, &transcript)?;
-    let told = str::from_utf8(&told).unwrap_or("");
-    if told != transcript.as_str() {
-        writeln!(out, "{name}: {}", first_other(told, &transcript))?;
-        return Ok(false);
-    }
-    Ok(true)
+    tally.compare(name, "", str::from_utf8(&told).unwrap_or(""), &transcript)
 }
 
-/// Compares all transcripts of the folder, and answers whether all are as told.
+fn compare_transcripts<R: Threads + Wait + Sync + Files + Alloc<A = Global> + Clone>(
+    rt: &R,
+) -> io::Result<Tally> {
+    let mut tally = Tally::new(rt.alloc());
+    for entry in fs::read_dir(rt, "commands")? {
+        let entry = entry?;
+        if entry.file_name().ends_with(".t") {
+            compare_transcript(rt, &mut tally, entry.file_name())?;
+        }
+    }
+    Ok(tally)
+}
+
+/// Compares all transcripts of the folder, and answers whether all are as wanted.
 pub(crate) fn compare<R: Threads + Wait + Sync + Files + Alloc<A = Global> + Clone, W: Write>(
     rt: &R,
     out: &mut W,
 ) -> io::Result<bool> {
-    let mut right = 0u64;
-    let mut wrong = 0u64;
-    for entry in fs::read_dir(rt, "commands")? {
-        let entry = entry?;
-        let name = entry.file_name();
-        if name.ends_with(".t") {
-            if is_told(rt, name, out)? {
-                right = right.saturating_add(1);
-            } else {
-                wrong = wrong.saturating_add(1);
-            }
-        }
-    }
-    writeln!(out, "{right} transcripts as told, {wrong} not")?;
-    Ok(wrong == 0)
+    compare_transcripts(rt)?.tell("transcripts", out)
 }

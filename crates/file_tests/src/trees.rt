@@ -64,8 +64,7 @@ fn compare_erased(rt: &HostRuntime, tally: &mut Tally, name: &str, case: &Case) 
     let kept = str::from_utf8(&erased).unwrap_or("");
     tally.compare(name, ".erased.c", kept, &case.source)?;
     let text = erased_reading(rt.alloc(), &source)?;
-    tally.compare(name, ".erased.txt", &text, &case.wanted)?;
-    Ok(())
+    tally.compare(name, ".erased.txt", &text, &case.wanted)
 }
 
 /// Compares what is read of a source. Where nothing says what is wanted of it, that is an empty text.
@@ -88,7 +87,7 @@ fn compare_file(rt: &HostRuntime, tally: &mut Tally, file: &str) -> io::Result<(
         return compare_source(rt, tally, name);
     }
     if file.ends_with(".rows") {
-        compare_rows(rt.alloc(), tally, &file_text(rt, file, "")?)?;
+        return compare_rows(rt.alloc(), tally, &file_text(rt, file, "")?);
     }
     Ok(())
 }

@@ -7,6 +7,7 @@ use base::fault::ReadFault;
 use base::tree::Program;
 use c_read::read_program;
 use std::alloc::{AllocError, Global};
+use std::io;
 
 fn add_times(out: &mut String, count: u32, text: &str) -> Result<(), AllocError> {
     for n in 0..count {
@@ -55,7 +56,7 @@ fn summary(alloc: Global, outcome: &Result<Program, ReadFault>) -> Result<String
 }
 
 /// Compares what the reader makes of each row. A row that differs is named by its source.
-pub(crate) fn compare_rows(alloc: Global, tally: &mut Tally, rows: &str) -> Result<(), AllocError> {
+pub(crate) fn compare_rows(alloc: Global, tally: &mut Tally, rows: &str) -> io::Result<()> {
     for row in rows.trim_end_matches('\n').split("\n== ").skip(1) {
         let (wanted, text) = row.split_once('\n').unwrap_or((row, ""));
         let source = expanded(alloc, text)?;
