@@ -24,5 +24,6 @@ pub fn read_erased(alloc: Global, bytes: &[u8]) -> Result<Program, ReadFault>
     let Ok(text) = erase(alloc, bytes) else {
         return Err(ReadFault::OutOfMemory);
     };
-    read_program(alloc, &text)
+    let erased: &[u8] = &text;
+    read_program(alloc, erased)
 }

@@ -1,15 +1,18 @@
-use Rattle.std.proofs.Common.{◌∙◌}
+use Rattle.std.proofs.Common.{◌∙◌, List, ℕ, subst}
+use Rattle.std.specs.Prelude.{IfOk, IfErr}
+use Rattle.c_grammar.specs.Source.{IsFirstFault}
+use Rattle.c_read.specs.Spells.{OnText, Spells}
 use Rattle.erased_meaning.proofs.Reading.{on_erased, on_memory}
 use Rattle.erased_meaning.proofs.read.read_erased.Goals as goal
 
--- src/read.rt:18:1
-pub returns-clause-erased : goal.returns-clause-erased
-returns-clause-erased c =
-    on_erased c.read_program.result c.args.bytes.now c.deref.result.now (c.deref.ensures.value ∙ c.in-Ok.ensures.erased)
-    c.read_program.ensures.found
-
--- src/read.rt:18:1
-pub returns-clause-memory : goal.returns-clause-memory
-returns-clause-memory c =
-    on_memory c.read_program.result c.args.bytes.now c.deref.result.now c.in-Ok.text.items c.deref.ensures.value
-    c.in-Ok.ensures.tree c.read_program.ensures.unspelled
+pub returns : goal.returns
+returns c = record {
+  found = subst (λ (t : List ℕ). IfOk c.read_program.result (λ q. Spells t q))
+      (c.deref-erased.ensures.value ∙ c.in-Ok.ensures.erased) c.read_program.ensures.found;
+  erased = on_erased c.read_program.result c.args.bytes.now c.deref-erased.result.now
+      (c.deref-erased.ensures.value ∙ c.in-Ok.ensures.erased) c.read_program.ensures.found;
+  memory = on_memory c.read_program.result c.args.bytes.now c.deref-erased.result.now c.in-Ok.text.items
+      c.deref-erased.ensures.value c.in-Ok.ensures.tree c.read_program.ensures.unspelled;
+  fault = subst (λ (t : List ℕ). IfErr c.read_program.result (OnText (λ f. IsFirstFault t f)))
+      (c.deref-erased.ensures.value ∙ c.in-Ok.ensures.erased) c.read_program.ensures.fault;
+}
