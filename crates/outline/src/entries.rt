@@ -33,6 +33,19 @@ fn entry<'p>(
     })
 }
 
+fn add_region<'p>(
+    alloc: Global,
+    region: &'p Region,
+    is_kernel: bool,
+    counts: NameCounts,
+    regions: &mut Vec<RegionEntry<'p>>,
+) -> Result<(), AllocError>
+    ensures { OnOk result (map entry_of regions.new.items ≡ map entry_of regions.old.items ++ entry counts.scalars counts.arrays is_kernel region.now ∷ []) }
+{
+    regions.push(entry(alloc, region, is_kernel, counts)?)?;
+    Ok(())
+}
+
 #[tactic(auto, using(crate::proofs::Trees::entries_Block))]
 /// Adds the regions of a part.
 #[cycle(entries)]
@@ -45,14 +58,13 @@ fn add_part<'p>(
     ensures { OnOk result (map entry_of regions.new.items ≡ map entry_of regions.old.items ++ part_entries counts.scalars counts.arrays part.now) }
 {
     match part {
-        Part::Host(region) => regions.push(entry(alloc, region, false, counts)?)?,
-        Part::Target(_, region) => regions.push(entry(alloc, region, true, counts)?)?,
-        Part::Block(all) => add_all(alloc, all, counts, regions)?,
-        Part::Loop(_, body) => add_all(alloc, body, counts, regions)?,
-        Part::Data(_, body) => add_all(alloc, body, counts, regions)?,
-        Part::Alone(_) => {}
+        Part::Host(region) => add_region(alloc, region, false, counts, regions),
+        Part::Target(_, region) => add_region(alloc, region, true, counts, regions),
+        Part::Block(all) => add_all(alloc, all, counts, regions),
+        Part::Loop(_, body) => add_all(alloc, body, counts, regions),
+        Part::Data(_, body) => add_all(alloc, body, counts, regions),
+        Part::Alone(_) => Ok(()),
     }
-    Ok(())
 }
 
 #[cycle(entries)]
