@@ -1,6 +1,6 @@
 // The items of a program's parts.
 
-ghost use Rattle.std.specs.Prelude.{◌≡◌, ◌-◌, ◌^◌, min, OnOk};
+ghost use Rattle.std.specs.Prelude.{◌≡◌, ◌-◌, ◌^◌, ◌++◌, ◌∷◌, [], min, OnOk};
 ghost use Rattle.base.specs.Items.{items_of};
 ghost use Rattle.outline.specs.Parts.{parts_items, turns_items};
 ghost use Rattle.outline.specs.Walk.{Added, PartIsAt, PartsAreAt, entries_in, list_regions, part_regions};
@@ -38,6 +38,13 @@ fn regions_in_all(parts: &[Part]) -> u32
     total
 }
 
+fn add_item(items: &mut Vec<Item>, item: Item) -> Result<(), AllocError>
+    ensures { OnOk result (items.new.items ≡ items.old.items ++ item ∷ []) }
+{
+    items.push(item)?;
+    Ok(())
+}
+
 // Adds the items of a part, whose first region has that number.
 #[cycle(walk)]
 fn add_part(
@@ -52,26 +59,18 @@ fn add_part(
     ensures items { OnOk result (Added (entries_in known.now) items.old.items items.new.items (items_of part.now known.now.lengths.now loops.old.items)) }
 {
     match part {
-        Part::Host(_) => {
-            items.push(host_item(known, first, loops)?)?;
-            Ok(())
-        }
+        Part::Host(_) => add_item(items, host_item(known, first, loops)?),
         Part::Block(all) => add_all(known, all, first, loops, items),
         Part::Loop(bounds, body) => add_turns(known, *bounds, body, first, loops, items),
         Part::Target(target, region) => {
-            items.push(target_item(known, target, region, first, loops)?)?;
-            Ok(())
+            add_item(items, target_item(known, target, region, first, loops)?)
         }
         Part::Data(maps, body) => {
-            items.push(data_item(known, ItemKind::Begin, maps, loops)?)?;
+            add_item(items, data_item(known, ItemKind::Begin, maps, loops)?)?;
             add_all(known, body, first, loops, items)?;
-            items.push(data_item(known, ItemKind::End, maps, loops)?)?;
-            Ok(())
+            add_item(items, data_item(known, ItemKind::End, maps, loops)?)
         }
-        Part::Alone(directive) => {
-            items.push(alone_item(known, directive, loops)?)?;
-            Ok(())
-        }
+        Part::Alone(directive) => add_item(items, alone_item(known, directive, loops)?),
     }
 }
 

@@ -68,14 +68,16 @@ add_part-returns-in-Loop-clause-items t c =
     c.deref-in-Loop.ensures.value)
     c.add_turns.ensures.items
 
-pub add_part-returns-in_ok-push-in-Data-2-clause-items : goal.add_part-returns-in_ok-push-in-Data-2-clause-items
-add_part-returns-in_ok-push-in-Data-2-clause-items t c =
-    added_Data (entries_in c.args.known.now) _ _ _ _ _ c.in-Data.maps c.in-Data.body _ _ _ _ _ _ _ _ _ c.in-Data.is
+pub add_part-returns-in_ok-data_item-in-Data-2-clause-items : goal.add_part-returns-in_ok-data_item-in-Data-2-clause-items
+add_part-returns-in_ok-data_item-in-Data-2-clause-items t c =
+    on_ok_weaker c.add_item-in-Data-2.result
+    (λ ended. added_Data (entries_in c.args.known.now) _ _ _ _ _ c.in-Data.maps c.in-Data.body _ _ _ _ _ _ _ _ _ c.in-Data.is
     c.deref-in-Data-3.ensures.value c.deref-in-Data.ensures c.deref-in-Data-4.ensures
     c.deref-in-Data-2.ensures.value (c.deref-in-Data-5.ensures.value
-    ∙ c.in_ok-add_all-in-Data.ensures.loops) c.in_ok-push-in-Data.ensures.items
-    c.in_ok-data_item-in-Data.ensures c.in_ok-add_all-in-Data.ensures.items c.in_ok-push-in-Data-2.ensures.items
-    c.in_ok-data_item-in-Data-2.ensures
+    ∙ c.in_ok-add_all-in-Data.ensures.loops) c.in_ok-add_item-in-Data.ensures
+    c.in_ok-data_item-in-Data.ensures c.in_ok-add_all-in-Data.ensures.items ended
+    c.in_ok-data_item-in-Data-2.ensures)
+    c.add_item-in-Data-2.ensures
 
 pub add_turns-returns-then-count_all-eq0-clause-items : goal.add_turns-returns-then-count_all-eq0-clause-items
 add_turns-returns-then-count_all-eq0-clause-items t c =
@@ -99,36 +101,42 @@ add_turns-returns-clause-items t c =
     added_turns (entries_in c.args.known.now) _ _ c.turns.v c.args.bounds c.args.body.now _ _ _ c.turns-test.false
     c.turns.invariant.items
 
-pub add_part-returns-in_ok-push-in-Host-clause-items : goal.add_part-returns-in_ok-push-in-Host-clause-items
-add_part-returns-in_ok-push-in-Host-clause-items t c =
-    added_is (entries_in c.args.known.now) _ _ _ _
+pub add_part-returns-in_ok-host_item-in-Host-clause-items : goal.add_part-returns-in_ok-host_item-in-Host-clause-items
+add_part-returns-in_ok-host_item-in-Host-clause-items t c =
+    on_ok_weaker c.add_item.result
+    (λ added. added_is (entries_in c.args.known.now) _ _ _ _
     (ap (λ p. items_of p c.args.known.now.lengths.now c.args.loops.now.items) (sym c.in-Host.is))
-    (added_one (entries_in c.args.known.now) _ _ _ _ c.in_ok-push-in-Host.ensures.items
+    (added_one (entries_in c.args.known.now) _ _ _ _ added
     (c.in_ok-host_item-in-Host.ensures c.in-Host.field-0
     (stand_is (entries_in c.args.known.now) c.args.first _ _
     (ap (λ p. part_entries c.args.known.now.counts.scalars c.args.known.now.counts.arrays p) c.in-Host.is) c.requires)
-    ∙ ap (λ ls. Some (host_work c.in-Host.field-0 ls)) c.deref.ensures.value))
+    ∙ ap (λ ls. Some (host_work c.in-Host.field-0 ls)) c.deref.ensures.value)))
+    c.add_item.ensures
 
 pub add_part-target_item-requires : goal.add_part-target_item-requires
 add_part-target_item-requires t c =
     stand_is (entries_in c.args.known.now) c.args.first _ _
     (ap (λ p. part_entries c.args.known.now.counts.scalars c.args.known.now.counts.arrays p) c.in-Target.is) c.requires
 
-pub add_part-returns-in_ok-push-in-Target-clause-items : goal.add_part-returns-in_ok-push-in-Target-clause-items
-add_part-returns-in_ok-push-in-Target-clause-items t c =
+pub add_part-returns-in_ok-target_item-in-Target-clause-items : goal.add_part-returns-in_ok-target_item-in-Target-clause-items
+add_part-returns-in_ok-target_item-in-Target-clause-items t c =
     let lengths = c.args.known.now.lengths.now in
-    added_is (entries_in c.args.known.now) _ _ _ _ (ap (λ p. items_of p lengths c.args.loops.now.items) (sym c.in-Target.is))
-    (added_one (entries_in c.args.known.now) _ _ _ _ c.in_ok-push-in-Target.ensures.items
+    on_ok_weaker c.add_item-in-Target.result
+    (λ added. added_is (entries_in c.args.known.now) _ _ _ _ (ap (λ p. items_of p lengths c.args.loops.now.items) (sym c.in-Target.is))
+    (added_one (entries_in c.args.known.now) _ _ _ _ added
     (c.in_ok-target_item-in-Target.ensures
-    ∙ ap (λ ls. Some (target_work lengths c.in-Target.target c.in-Target.region ls)) c.deref-in-Target.ensures.value))
+    ∙ ap (λ ls. Some (target_work lengths c.in-Target.target c.in-Target.region ls)) c.deref-in-Target.ensures.value)))
+    c.add_item-in-Target.ensures
 
-pub add_part-returns-in_ok-push-in-Alone-clause-items : goal.add_part-returns-in_ok-push-in-Alone-clause-items
-add_part-returns-in_ok-push-in-Alone-clause-items t c =
+pub add_part-returns-in_ok-alone_item-in-Alone-clause-items : goal.add_part-returns-in_ok-alone_item-in-Alone-clause-items
+add_part-returns-in_ok-alone_item-in-Alone-clause-items t c =
     let lengths = c.args.known.now.lengths.now in
-    added_is (entries_in c.args.known.now) _ _ _ _ (ap (λ p. items_of p lengths c.args.loops.now.items) (sym c.in-Alone.is))
-    (added_one (entries_in c.args.known.now) _ _ _ _ c.in_ok-push-in-Alone.ensures.items
+    on_ok_weaker c.add_item-in-Alone.result
+    (λ added. added_is (entries_in c.args.known.now) _ _ _ _ (ap (λ p. items_of p lengths c.args.loops.now.items) (sym c.in-Alone.is))
+    (added_one (entries_in c.args.known.now) _ _ _ _ added
     (c.in_ok-alone_item-in-Alone.ensures
-    ∙ ap (λ ls. Some (alone_work lengths c.in-Alone.directive ls)) c.deref-in-Alone.ensures.value))
+    ∙ ap (λ ls. Some (alone_work lengths c.in-Alone.directive ls)) c.deref-in-Alone.ensures.value)))
+    c.add_item-in-Alone.ensures
 
 pub add_turns-overflow_add-v : goal.add_turns-overflow_add-v
 add_turns-overflow_add-v t c = omega (arith, c.args.bounds.no_wrap, c.turns-test.true)
