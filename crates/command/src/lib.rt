@@ -1,6 +1,8 @@
-//! What the words of a command line ask for.
+//! The words of a command line, and what they ask for.
 #![tactic(auto)]
 
 mod request;
+mod words;
 
-pub use request::{Request, Run, Step, Workers, parse};
+pub use request::{Request, Run, Step, Workers};
+pub use words::parse;

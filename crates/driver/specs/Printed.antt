@@ -9,6 +9,7 @@ use Rattle.pipeline.specs.Checking.{IsChecked}
 use Rattle.pipeline.specs.Listing.{IsListed}
 use Rattle.report.specs.Runs.{log_bytes, finals_bytes}
 use Rattle.numbers.specs.Numbers.{input_of, choices_of}
+use Rattle.command.specs.CommandLine.{AskedBy}
 use Rattle.command.specs.declared.request.Request.{Request}
 use Rattle.command.specs.declared.request.Request.TheVariants.{Run, Step, Check, List as Items}
 use Rattle.driver.specs.declared.perform.Way.{Way}
@@ -65,12 +66,25 @@ IsDone (Step step) bytes known old new = IsStepped step.choices.now step.capacit
 IsDone (Check name) bytes known old new = IsChecked bytes old new
 IsDone (Items name) bytes known old new = IsListed bytes old new
 
--- that is so of the bytes of some source
-pub record OfSource (P : List ℕ → Type 0) : Type 0 where
+-- the bytes of each source, by its name, where they are known
+abbrev pub KnownSources : Type 0
+KnownSources = List ℕ → Option (List ℕ)
+
+-- the name of the source that a request is about
+abbrev pub file_of : Request → List ℕ
+file_of (Run run) = run.file.now
+file_of (Step step) = step.file.now
+file_of (Check name) = name.now
+file_of (Items name) = name.now
+
+-- that is so of the bytes of a source, which are these where they are known
+pub record OfSource (source : Option (List ℕ)) (P : List ℕ → Type 0) : Type 0 where
   pub bytes : List ℕ
+  pub are : IfSome source (λ xs. bytes ≡ xs)
   pub holds : P bytes
 
--- that is so of one of the four requests
-pub record IsCommandDone (known old new : Option (List ℕ)) : Type 0 where
+-- that is so of the request that the words ask for, and of the source that it names
+pub record IsCommandDone (words : List (List ℕ)) (sources : KnownSources) (known old new : Option (List ℕ)) : Type 0 where
   pub request : Request
-  pub done : OfSource (λ bytes. IsDone request bytes known old new)
+  pub asked : AskedBy words request
+  pub done : OfSource (sources (file_of request)) (λ bytes. IsDone request bytes known old new)

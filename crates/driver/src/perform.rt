@@ -1,13 +1,15 @@
 //! One command, over any sources, reader and writers.
 
-ghost use Rattle.std.specs.Prelude.{◌≡◌, ◌≤◌, ◌⊎◌, IfOk, OnErr, OnOk};
+ghost use Rattle.std.specs.Prelude.{◌≡◌, ◌≤◌, ◌⊎◌, IfOk, IfSome, IsSome, None, OnErr, OnOk, map, slice_get};
 ghost use Rattle.std.specs.Io.KnownBytes.{Appends};
 ghost use Rattle.base.specs.Limits.{AreShort};
 ghost use Rattle.pipeline.specs.Checking.{IsChecked};
 ghost use Rattle.pipeline.specs.Listing.{IsListed};
 ghost use Rattle.clap.specs.Values.{kind_of};
 ghost use Rattle.driver.specs.Statuses.{source_status, usage_status, ending_of};
-ghost use Rattle.driver.specs.Printed.{IsInput, IsReadAnswer, IsPrinted, IsDone, IsCommandDone, OfSource, answer_bytes, answers_of};
+ghost use Rattle.clap.specs.Faults.{fault_of};
+ghost use Rattle.command.specs.CommandLine.{ompc};
+ghost use Rattle.driver.specs.Printed.{IsInput, IsReadAnswer, IsPrinted, IsDone, IsCommandDone, KnownSources, OfSource, answer_bytes, answers_of, file_of};
 
 use base::fault::{CheckFault, OutlineFault, ReadFault, RunFault, SourceFault};
 use base::item::Answer;
@@ -35,8 +37,12 @@ pub enum SourceError {
 
 /// Where sources are found.
 pub trait Sources {
+    /// The bytes of each source by its name, where they are known.
+    ghost known: { Self → KnownSources } = { λ _ _. None };
+
     /// The bytes of the source of that name.
-    fn source(&mut self, name: &str) -> Result<Vec<u8>, SourceError>;
+    fn source(&mut self, name: &str) -> Result<Vec<u8>, SourceError>
+        ensures { IfOk result (λ v. IfSome (known self.old name.now) (λ xs. v.items ≡ xs)) };
 }
 
 /// The command did what was asked.
@@ -152,7 +158,9 @@ fn read_input<'a, R: Read>(alloc: Global, input: &mut R) -> Result<Vec<u64>, End
 }
 
 /// The bytes of the source of that name.
-fn bytes_of<'a, S: Sources>(sources: &mut S, name: &'a str) -> Result<Vec<u8>, Ending<'a>> {
+fn bytes_of<'a, S: Sources>(sources: &mut S, name: &'a str) -> Result<Vec<u8>, Ending<'a>>
+    ensures { IfOk result (λ v. IfSome (S.known sources.old name.now) (λ xs. v.items ≡ xs)) }
+{
     match sources.source(name) {
         Ok(bytes) => Ok(bytes),
         Err(error) => Err(no_source(error, name)),
@@ -272,7 +280,7 @@ fn run_file<'a, T: Threads + Wait + Sync, S: Sources, R: Read, W: Write, E: Writ
 ) -> Result<u8, Ending<'a>>
     ensures status { IfOk result (λ s. (s ≡ 0) ⊎ (s ≡ 3)) }
     ensures quiet { OnErr result (W.contents out.new ≡ W.contents out.old) }
-    ensures printed { IfOk result (λ s. s ≡ 0 → OfSource (λ bytes. IsPrinted (answers_of asked.entry.way asked.entry.capacity) asked.entry.log asked.entry.finals bytes (R.remaining input.old) (W.contents out.old) (W.contents out.new))) }
+    ensures printed { IfOk result (λ s. s ≡ 0 → OfSource (S.known sources.old asked.entry.file.now) (λ bytes. IsPrinted (answers_of asked.entry.way asked.entry.capacity) asked.entry.log asked.entry.finals bytes (R.remaining input.old) (W.contents out.old) (W.contents out.new))) }
 {
     let bytes = bytes_of(sources, asked.file)?;
     let program = match read_program(alloc, &bytes) {
@@ -298,7 +306,7 @@ fn do_run<'a, T: Threads + Wait + Sync, S: Sources, R: Read, W: Write, E: Write>
 ) -> Result<u8, Ending<'a>>
     ensures status { IfOk result (λ s. (s ≡ 0) ⊎ (s ≡ 3)) }
     ensures quiet { OnErr result (W.contents out.new ≡ W.contents out.old) }
-    ensures done { IfOk result (λ s. s ≡ 0 → OfSource (λ bytes. IsDone (Request.Run run.entry) bytes (R.remaining input.old) (W.contents out.old) (W.contents out.new))) }
+    ensures done { IfOk result (λ s. s ≡ 0 → OfSource (S.known sources.old run.entry.file.now) (λ bytes. IsDone (Request.Run run.entry) bytes (R.remaining input.old) (W.contents out.old) (W.contents out.new))) }
 {
     let asked = Asked {
         file: run.file,
@@ -322,7 +330,7 @@ fn do_step<'a, T: Threads + Wait + Sync, S: Sources, R: Read, W: Write, E: Write
 ) -> Result<u8, Ending<'a>>
     ensures status { IfOk result (λ s. (s ≡ 0) ⊎ (s ≡ 3)) }
     ensures quiet { OnErr result (W.contents out.new ≡ W.contents out.old) }
-    ensures done { IfOk result (λ s. s ≡ 0 → OfSource (λ bytes. IsDone (Request.Step step.entry) bytes (R.remaining input.old) (W.contents out.old) (W.contents out.new))) }
+    ensures done { IfOk result (λ s. s ≡ 0 → OfSource (S.known sources.old step.entry.file.now) (λ bytes. IsDone (Request.Step step.entry) bytes (R.remaining input.old) (W.contents out.old) (W.contents out.new))) }
 {
     let choices = match choice_list(alloc, step.choices) {
         Ok(choices) => choices,
@@ -349,7 +357,7 @@ fn do_check<'a, S: Sources, W: Write, E: Write>(
 ) -> Result<u8, Ending<'a>>
     ensures status { IfOk result (λ s. (s ≡ 0) ⊎ (s ≡ 3)) }
     ensures quiet { OnErr result (W.contents out.new ≡ W.contents out.old) }
-    ensures done { IfOk result (λ s. s ≡ 0 → OfSource (λ bytes. IsChecked bytes (W.contents out.old) (W.contents out.new))) }
+    ensures done { IfOk result (λ s. s ≡ 0 → OfSource (S.known sources.old name.now) (λ bytes. IsChecked bytes (W.contents out.old) (W.contents out.new))) }
 {
     let bytes = bytes_of(sources, name)?;
     match check_source(alloc, &bytes, out, err) {
@@ -369,7 +377,7 @@ fn do_list<'a, S: Sources, W: Write, E: Write>(
 ) -> Result<u8, Ending<'a>>
     ensures status { IfOk result (λ s. (s ≡ 0) ⊎ (s ≡ 3)) }
     ensures quiet { OnErr result (W.contents out.new ≡ W.contents out.old) }
-    ensures done { IfOk result (λ s. s ≡ 0 → OfSource (λ bytes. IsListed bytes (W.contents out.old) (W.contents out.new))) }
+    ensures done { IfOk result (λ s. s ≡ 0 → OfSource (S.known sources.old name.now) (λ bytes. IsListed bytes (W.contents out.old) (W.contents out.new))) }
 {
     let bytes = bytes_of(sources, name)?;
     match list_source(alloc, &bytes, out, err) {
@@ -391,7 +399,7 @@ fn do_request<'a, T: Threads + Wait + Sync, S: Sources, R: Read, W: Write, E: Wr
 ) -> Result<u8, Ending<'a>>
     ensures status { IfOk result (λ s. (s ≡ 0) ⊎ (s ≡ 3)) }
     ensures quiet { OnErr result (W.contents out.new ≡ W.contents out.old) }
-    ensures done { IfOk result (λ s. s ≡ 0 → OfSource (λ bytes. IsDone request.entry bytes (R.remaining input.old) (W.contents out.old) (W.contents out.new))) }
+    ensures done { IfOk result (λ s. s ≡ 0 → OfSource (S.known sources.old (file_of request.entry)) (λ bytes. IsDone request.entry bytes (R.remaining input.old) (W.contents out.old) (W.contents out.new))) }
 {
     match request {
         Request::Run(run) => do_run(rt, alloc, run, sources, input, out, err),
@@ -413,7 +421,7 @@ fn perform<T: Threads + Wait + Sync, S: Sources, R: Read, W: Write, E: Write>(
 ) -> u8
     ensures status { result ≤ 3 }
     ensures quiet { (result ≡ 1) ⊎ (result ≡ 2) → W.contents out.new ≡ W.contents out.old }
-    ensures done { result ≡ 0 → IsCommandDone (R.remaining input.old) (W.contents out.old) (W.contents out.new) }
+    ensures done { result ≡ 0 → OfSource (S.known sources.old (file_of request.entry)) (λ bytes. IsDone request.entry bytes (R.remaining input.old) (W.contents out.old) (W.contents out.new)) }
 {
     match do_request(rt, alloc, request, sources, input, out, err) {
         Ok(status) => status,
@@ -459,7 +467,8 @@ pub fn drive<T: Threads + Wait + Sync, S: Sources, R: Read, W: Write, E: Write>(
 ) -> u8
     ensures status { result ≤ 3 }
     ensures quiet { (result ≡ 1) ⊎ (result ≡ 2) → W.contents out.new ≡ W.contents out.old }
-    ensures done { result ≡ 0 → IsCommandDone (R.remaining input.old) (W.contents out.old) (W.contents out.new) }
+    ensures usage { IsSome (slice_get (fault_of ompc (map (λ w. w.now) words.now)) 0) → (result ≡ 2) ⊎ (result ≡ 3) }
+    ensures done { result ≡ 0 → IsCommandDone (map (λ w. w.now) words.now) (S.known sources.old) (R.remaining input.old) (W.contents out.old) (W.contents out.new) }
 {
     match parse(alloc, words) {
         Ok(request) => perform(rt, alloc, request, sources, input, out, err),

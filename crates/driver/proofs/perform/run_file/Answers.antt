@@ -4,6 +4,7 @@ pub returns-in-Ok-write_answer-clause-printed : goal.returns-in-Ok-write_answer-
 returns-in-Ok-write_answer-clause-printed g c =
     λ _. record {
       bytes = c.deref.result.now;
+      are = c.in_ok-bytes.ensures;
       holds = record {
         program = c.in-Ok.program;
         spelled = c.in-Ok.ensures.found;

@@ -1,0 +1,238 @@
+//! The words of a command line.
+
+ghost use Rattle.std.specs.Prelude.{◌≡◌, ◌≤◌, ℕ, List, [], ◌∷◌, ◌++◌, IfOk, IfSome, OnOk, codes, map};
+ghost use Rattle.clap.specs.Words.{FailsBy, Shape, fault_of, found_of, one_of, rows_of, subcommand_of, subcommand_rows_of};
+ghost use Rattle.command.specs.CommandLine.{AreCommands, AreWorkers, AskedBy, Asks, IsArg, IsCommand, IsNamed, IsNumber, IsProgram, IsRun, IsStep, capacity, check, file, flag, list, ompc, run, step, text_in, text_option, workers};
+
+use crate::request::{Request, Run, Step, Workers};
+use clap::{Arg, ArgAction, ArgMatches, Command, Error, value_parser};
+use std::alloc::{AllocError, Global};
+
+/// The device's capacity in cells, where none is given.
+const DEFAULT_CAPACITY: u64 = 4_194_304;
+
+/// The largest capacity in cells.
+const MAX_CAPACITY: i64 = 4_294_967_296;
+
+/// How many worker threads there are, where none is given.
+const DEFAULT_WORKERS: u64 = 4;
+
+/// The most worker threads.
+const MAX_WORKERS: u64 = 16;
+
+fn file_arg<'a>(alloc: Global) -> Arg<'a>
+    ensures { IsArg file result }
+{
+    Arg::new(alloc, "FILE").required(true).help("the source")
+}
+
+fn capacity_arg<'a>(alloc: Global) -> Arg<'a>
+    ensures { IsArg capacity result }
+{
+    Arg::new(alloc, "capacity")
+        .long("capacity")
+        .value_name("C")
+        .value_parser(value_parser!(u64).range(0..=MAX_CAPACITY))
+        .help("the device's capacity in cells, up to 4294967296; 4194304 where it is not given")
+}
+
+fn workers_arg<'a>(alloc: Global) -> Arg<'a>
+    ensures { IsArg workers result }
+{
+    Arg::new(alloc, "workers")
+        .long("workers")
+        .value_name("N")
+        .value_parser(value_parser!(u64).range(1..=MAX_WORKERS as i64))
+        .help(
+            "how many worker threads run targets and deferred items, up to 16; 4 where it is not given",
+        )
+}
+
+fn log_arg<'a>(alloc: Global) -> Arg<'a>
+    ensures { IsArg (flag (codes "log")) result }
+{
+    Arg::new(alloc, "log")
+        .long("log")
+        .action(ArgAction::SetTrue)
+        .help("prints the events too")
+}
+
+fn finals_arg<'a>(alloc: Global) -> Arg<'a>
+    ensures { IsArg (flag (codes "finals")) result }
+{
+    Arg::new(alloc, "finals")
+        .long("finals")
+        .action(ArgAction::SetTrue)
+        .help("prints the arrays that are current at the end too")
+}
+
+fn choices_arg<'a>(alloc: Global) -> Arg<'a>
+    ensures { IsArg (text_option (codes "choices")) result }
+{
+    Arg::new(alloc, "choices")
+        .long("choices")
+        .value_name("LIST")
+        .help(
+            "which of the enabled events is next, at each step: numbers separated by commas, 0 past the last",
+        )
+}
+
+fn run_command<'a>(alloc: Global) -> Result<Command<'a>, AllocError>
+    ensures { IfOk result (IsCommand run) }
+{
+    let args = vec![in alloc;
+        file_arg(alloc),
+        workers_arg(alloc),
+        capacity_arg(alloc),
+        log_arg(alloc),
+        finals_arg(alloc),
+    ]?;
+    Command::new(alloc, "run")
+        .about(
+            "runs a program on what standard input holds, by worker threads, and prints its output",
+        )
+        .args(args)
+}
+
+fn step_command<'a>(alloc: Global) -> Result<Command<'a>, AllocError>
+    ensures { IfOk result (IsCommand step) }
+{
+    let args = vec![in alloc; file_arg(alloc), choices_arg(alloc), capacity_arg(alloc)]?;
+    Command::new(alloc, "step")
+        .about("runs a program likewise, but event by event, and prints its output and its log")
+        .args(args)
+}
+
+fn check_command<'a>(alloc: Global) -> Result<Command<'a>, AllocError>
+    ensures { IfOk result (IsCommand check) }
+{
+    Command::new(alloc, "check")
+        .about("says whether a program is accepted, and which arrays are current at its end")
+        .arg(file_arg(alloc))
+}
+
+fn list_command<'a>(alloc: Global) -> Result<Command<'a>, AllocError>
+    ensures { IfOk result (IsCommand list) }
+{
+    Command::new(alloc, "list")
+        .about("prints the items of an accepted program, a line each")
+        .arg(file_arg(alloc))
+}
+
+#[tactic(auto, using(crate::proofs::Built::one_more))]
+fn add<'a>(
+    commands: &mut Vec<Command<'a>>,
+    command: Result<Command<'a>, AllocError>,
+) -> Result<(), AllocError>
+    ensures { (shapes : List Shape) (shape : Shape) → AreCommands shapes commands.old.items → IfOk command.entry (IsCommand shape)
+        → OnOk result (AreCommands (shapes ++ shape ∷ []) commands.new.items) }
+{
+    commands.push(command?).map_err(AllocError::from)
+}
+
+fn subcommands<'a>(alloc: Global) -> Result<Vec<Command<'a>>, AllocError>
+    ensures { IfOk result (λ v. AreCommands (check ∷ list ∷ run ∷ step ∷ []) v.items) }
+{
+    let mut commands = Vec::new(alloc);
+    add(&mut commands, check_command(alloc))?;
+    add(&mut commands, list_command(alloc))?;
+    add(&mut commands, run_command(alloc))?;
+    add(&mut commands, step_command(alloc))?;
+    Ok(commands)
+}
+
+fn program<'a>(alloc: Global) -> Result<Command<'a>, AllocError>
+    ensures { IfOk result IsProgram }
+{
+    let subcommands = subcommands(alloc)?;
+    Command::new(alloc, "ompc")
+        .about("checks and runs C programs with OpenMP target directives")
+        .subcommand_required(true)
+        .arg_required_else_help(true)
+        .no_binary_name(true)
+        .subcommands(subcommands)?
+        .bin_name("ompc")
+}
+
+/// The text of an argument, or none of its bytes where it is not given.
+fn text_of<'a>(step: &ArgMatches<'a>, id: &str) -> &'a str
+    ensures { result.now ≡ text_in id.now (rows_of (found_of step.now)) }
+{
+    match step.get_str(id) {
+        Some(text) => text,
+        None => "",
+    }
+}
+
+/// The number of an option, or `default` where it is not given.
+fn number_of(given: &ArgMatches<'_>, id: &str, default: u64) -> u64
+    ensures { (least most : ℕ) → IsNumber least most default (one_of id.now (rows_of (found_of given.now))) result }
+{
+    given.get_one(id).unwrap_or(default)
+}
+
+/// So many workers; the parser of words has refused each count out of range.
+fn workers_from(count: u64) -> Workers
+    ensures { 1 ≤ count → count ≤ 16 → result.count ≡ count }
+{
+    if 1 <= count && count <= MAX_WORKERS {
+        Workers {
+            count: count as usize,
+        }
+    } else {
+        Workers {
+            count: DEFAULT_WORKERS as usize,
+        }
+    }
+}
+
+fn workers_of(given: &ArgMatches<'_>) -> Workers
+    ensures { AreWorkers (rows_of (found_of given.now)) result.count }
+{
+    workers_from(number_of(given, "workers", DEFAULT_WORKERS))
+}
+
+fn run_of<'a>(given: &ArgMatches<'a>) -> Run<'a>
+    ensures { IsRun (rows_of (found_of given.now)) result }
+{
+    Run {
+        file: text_of(given, "FILE"),
+        workers: workers_of(given),
+        capacity: number_of(given, "capacity", DEFAULT_CAPACITY),
+        log: given.get_flag("log"),
+        finals: given.get_flag("finals"),
+    }
+}
+
+fn step_of<'a>(given: &ArgMatches<'a>) -> Step<'a>
+    ensures { IsStep (rows_of (found_of given.now)) result }
+{
+    Step {
+        file: text_of(given, "FILE"),
+        choices: text_of(given, "choices"),
+        capacity: number_of(given, "capacity", DEFAULT_CAPACITY),
+    }
+}
+
+fn request_of<'a>(given: &ArgMatches<'a>) -> Request<'a>
+    requires { IsNamed (subcommand_rows_of given.now) }
+    ensures { IfSome (subcommand_rows_of given.now) (λ p. Asks p.0 p.1 result) }
+{
+    match given.subcommand() {
+        Some(("check", given)) => Request::Check(text_of(given, "FILE")),
+        Some(("list", given)) => Request::List(text_of(given, "FILE")),
+        Some(("run", given)) => Request::Run(run_of(given)),
+        Some(("step", given)) => Request::Step(step_of(given)),
+        _ => unreachable!(),
+    }
+}
+
+/// Reads the words, without the program's name.
+pub fn parse<'a>(alloc: Global, words: &'a [&'a str]) -> Result<Request<'a>, Error>
+    ensures asks { IfOk result (AskedBy (map (λ w. w.now) words.now)) }
+    ensures fails { FailsBy (fault_of ompc (map (λ w. w.now) words.now)) result }
+{
+    let program = program(alloc)?;
+    let given = program.try_get_matches_from(words)?;
+    Ok(request_of(&given))
+}
