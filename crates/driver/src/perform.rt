@@ -1,15 +1,16 @@
 //! One command, over any sources, reader and writers.
 
-ghost use Rattle.std.specs.Prelude.{◌≡◌, ◌≤◌, ◌⊎◌, IfOk, IfSome, IsSome, None, OnErr, OnOk, map, slice_get};
+ghost use Rattle.std.specs.Prelude.{◌≡◌, ◌≢◌, ◌≤◌, ◌⊎◌, [], IfErr, IfOk, IfSome, None, OnErr, OnOk, map};
 ghost use Rattle.std.specs.Io.KnownBytes.{Appends};
-ghost use Rattle.base.specs.Limits.{AreShort};
-ghost use Rattle.pipeline.specs.Checking.{IsChecked};
-ghost use Rattle.pipeline.specs.Listing.{IsListed};
-ghost use Rattle.clap.specs.Values.{kind_of};
-ghost use Rattle.driver.specs.Statuses.{source_status, usage_status, ending_of};
 ghost use Rattle.clap.specs.Faults.{fault_of};
+ghost use Rattle.clap.specs.Values.{kind_of};
+ghost use Rattle.base.specs.Limits.{AreShort};
+ghost use Rattle.pipeline.specs.Checking.{IsChecked, IsUnaccepted};
+ghost use Rattle.pipeline.specs.Listing.{IsListed};
 ghost use Rattle.command.specs.CommandLine.{ompc};
-ghost use Rattle.driver.specs.Printed.{IsInput, IsReadAnswer, IsPrinted, IsDone, IsCommandDone, KnownSources, OfSource, answer_bytes, answers_of, file_of};
+ghost use Rattle.driver.specs.Statuses.{ending_of, source_status, usage_status};
+ghost use Rattle.driver.specs.Printed.{IsCommandDone, IsDone, IsInput, IsPrinted, IsReadAnswer, KnownSources, OfSource, answer_bytes, answers_of, file_of};
+ghost use Rattle.driver.specs.Refused.{IsCommandRefused, IsNoRefusal, IsPlanFault, IsRefusalBy, IsRefusedOf, IsRefusedSource};
 
 use base::fault::{CheckFault, OutlineFault, ReadFault, RunFault, SourceFault};
 use base::item::Answer;
@@ -129,7 +130,9 @@ fn ending_of<'a>(fault: SourceFault) -> Ending<'a>
     }
 }
 
-fn no_source(error: SourceError, name: &str) -> Ending<'_> {
+fn no_source(error: SourceError, name: &str) -> Ending<'_>
+    ensures { IsNoRefusal result }
+{
     match error {
         SourceError::Unreadable => Ending::Unreadable(name),
         SourceError::OutOfMemory => Ending::OutOfMemory,
@@ -138,7 +141,8 @@ fn no_source(error: SourceError, name: &str) -> Ending<'_> {
 
 /// Reads the input of a program to its end.
 fn read_input<'a, R: Read>(alloc: Global, input: &mut R) -> Result<Vec<u64>, Ending<'a>>
-    ensures { IfOk result (λ ns. IsInput (R.remaining input.old) ns.items) }
+    ensures numbers { IfOk result (λ ns. IsInput (R.remaining input.old) ns.items) }
+    ensures refused { IfErr result IsNoRefusal }
 {
     let mut bytes = Vec::new(alloc);
     match input.read_to_end(&mut bytes) {
@@ -159,7 +163,8 @@ fn read_input<'a, R: Read>(alloc: Global, input: &mut R) -> Result<Vec<u64>, End
 
 /// The bytes of the source of that name.
 fn bytes_of<'a, S: Sources>(sources: &mut S, name: &'a str) -> Result<Vec<u8>, Ending<'a>>
-    ensures { IfOk result (λ v. IfSome (S.known sources.old name.now) (λ xs. v.items ≡ xs)) }
+    ensures bytes { IfOk result (λ v. IfSome (S.known sources.old name.now) (λ xs. v.items ≡ xs)) }
+    ensures refused { IfErr result IsNoRefusal }
 {
     match sources.source(name) {
         Ok(bytes) => Ok(bytes),
@@ -214,7 +219,8 @@ fn answer_outlined<'a, T: Threads + Wait + Sync, R: Read, E: Write>(
     err: &mut E,
 ) -> Result<Answer, Ending<'a>>
     requires { AreShort outlined.now }
-    ensures { IfOk result (IsReadAnswer (answers_of asked.entry.way asked.entry.capacity) (R.remaining input.old) outlined.now) }
+    ensures answered { IfOk result (IsReadAnswer (answers_of asked.entry.way asked.entry.capacity) (R.remaining input.old) outlined.now) }
+    ensures refused { IfErr result (IsRefusalBy (IsUnaccepted outlined.now)) }
 {
     let accepted = match check(alloc, outlined) {
         Ok(accepted) => accepted,
@@ -239,7 +245,8 @@ fn answer<'a, T: Threads + Wait + Sync, R: Read, E: Write>(
     err: &mut E,
 ) -> Result<Answer, Ending<'a>>
     requires { AreShort program.now }
-    ensures { IfOk result (IsReadAnswer (answers_of asked.entry.way asked.entry.capacity) (R.remaining input.old) program.now) }
+    ensures answered { IfOk result (IsReadAnswer (answers_of asked.entry.way asked.entry.capacity) (R.remaining input.old) program.now) }
+    ensures refused { IfErr result (IsRefusalBy (IsPlanFault program.now)) }
 {
     let outlined = match outline(alloc, program) {
         Ok(outlined) => outlined,
@@ -280,6 +287,7 @@ fn run_file<'a, T: Threads + Wait + Sync, S: Sources, R: Read, W: Write, E: Writ
 ) -> Result<u8, Ending<'a>>
     ensures status { IfOk result (λ s. (s ≡ 0) ⊎ (s ≡ 3)) }
     ensures quiet { OnErr result (W.contents out.new ≡ W.contents out.old) }
+    ensures refused { IfErr result (IsRefusalBy (IsRefusedOf (S.known sources.old asked.entry.file.now))) }
     ensures printed { IfOk result (λ s. s ≡ 0 → OfSource (S.known sources.old asked.entry.file.now) (λ bytes. IsPrinted (answers_of asked.entry.way asked.entry.capacity) asked.entry.log asked.entry.finals bytes (R.remaining input.old) (W.contents out.old) (W.contents out.new))) }
 {
     let bytes = bytes_of(sources, asked.file)?;
@@ -306,6 +314,7 @@ fn do_run<'a, T: Threads + Wait + Sync, S: Sources, R: Read, W: Write, E: Write>
 ) -> Result<u8, Ending<'a>>
     ensures status { IfOk result (λ s. (s ≡ 0) ⊎ (s ≡ 3)) }
     ensures quiet { OnErr result (W.contents out.new ≡ W.contents out.old) }
+    ensures refused { IfErr result (IsRefusalBy (IsRefusedOf (S.known sources.old run.entry.file.now))) }
     ensures done { IfOk result (λ s. s ≡ 0 → OfSource (S.known sources.old run.entry.file.now) (λ bytes. IsDone (Request.Run run.entry) bytes (R.remaining input.old) (W.contents out.old) (W.contents out.new))) }
 {
     let asked = Asked {
@@ -330,6 +339,7 @@ fn do_step<'a, T: Threads + Wait + Sync, S: Sources, R: Read, W: Write, E: Write
 ) -> Result<u8, Ending<'a>>
     ensures status { IfOk result (λ s. (s ≡ 0) ⊎ (s ≡ 3)) }
     ensures quiet { OnErr result (W.contents out.new ≡ W.contents out.old) }
+    ensures refused { IfErr result (IsRefusalBy (IsRefusedOf (S.known sources.old step.entry.file.now))) }
     ensures done { IfOk result (λ s. s ≡ 0 → OfSource (S.known sources.old step.entry.file.now) (λ bytes. IsDone (Request.Step step.entry) bytes (R.remaining input.old) (W.contents out.old) (W.contents out.new))) }
 {
     let choices = match choice_list(alloc, step.choices) {
@@ -357,6 +367,7 @@ fn do_check<'a, S: Sources, W: Write, E: Write>(
 ) -> Result<u8, Ending<'a>>
     ensures status { IfOk result (λ s. (s ≡ 0) ⊎ (s ≡ 3)) }
     ensures quiet { OnErr result (W.contents out.new ≡ W.contents out.old) }
+    ensures refused { IfErr result (IsRefusalBy (IsRefusedOf (S.known sources.old name.now))) }
     ensures done { IfOk result (λ s. s ≡ 0 → OfSource (S.known sources.old name.now) (λ bytes. IsChecked bytes (W.contents out.old) (W.contents out.new))) }
 {
     let bytes = bytes_of(sources, name)?;
@@ -377,6 +388,7 @@ fn do_list<'a, S: Sources, W: Write, E: Write>(
 ) -> Result<u8, Ending<'a>>
     ensures status { IfOk result (λ s. (s ≡ 0) ⊎ (s ≡ 3)) }
     ensures quiet { OnErr result (W.contents out.new ≡ W.contents out.old) }
+    ensures refused { IfErr result (IsRefusalBy (IsRefusedOf (S.known sources.old name.now))) }
     ensures done { IfOk result (λ s. s ≡ 0 → OfSource (S.known sources.old name.now) (λ bytes. IsListed bytes (W.contents out.old) (W.contents out.new))) }
 {
     let bytes = bytes_of(sources, name)?;
@@ -399,6 +411,7 @@ fn do_request<'a, T: Threads + Wait + Sync, S: Sources, R: Read, W: Write, E: Wr
 ) -> Result<u8, Ending<'a>>
     ensures status { IfOk result (λ s. (s ≡ 0) ⊎ (s ≡ 3)) }
     ensures quiet { OnErr result (W.contents out.new ≡ W.contents out.old) }
+    ensures refused { IfErr result (IsRefusalBy (IsRefusedOf (S.known sources.old (file_of request.entry)))) }
     ensures done { IfOk result (λ s. s ≡ 0 → OfSource (S.known sources.old (file_of request.entry)) (λ bytes. IsDone request.entry bytes (R.remaining input.old) (W.contents out.old) (W.contents out.new))) }
 {
     match request {
@@ -421,6 +434,7 @@ fn perform<T: Threads + Wait + Sync, S: Sources, R: Read, W: Write, E: Write>(
 ) -> u8
     ensures status { result ≤ 3 }
     ensures quiet { (result ≡ 1) ⊎ (result ≡ 2) → W.contents out.new ≡ W.contents out.old }
+    ensures refused { result ≡ 1 → IsRefusedSource (S.known sources.old (file_of request.entry)) }
     ensures done { result ≡ 0 → OfSource (S.known sources.old (file_of request.entry)) (λ bytes. IsDone request.entry bytes (R.remaining input.old) (W.contents out.old) (W.contents out.new)) }
 {
     match do_request(rt, alloc, request, sources, input, out, err) {
@@ -435,7 +449,7 @@ fn perform<T: Threads + Wait + Sync, S: Sources, R: Read, W: Write, E: Write>(
 
 /// Tells what is wrong with the words.
 fn misused<E: Write>(error: &clap::Error, err: &mut E) -> u8
-    ensures within { (1 ≤ result) × (result ≤ 3) }
+    ensures fails { (result ≡ 2) ⊎ (result ≡ 3) }
     ensures status { result ≡ usage_status (kind_of error.now) }
 {
     match error.kind() {
@@ -467,7 +481,8 @@ pub fn drive<T: Threads + Wait + Sync, S: Sources, R: Read, W: Write, E: Write>(
 ) -> u8
     ensures status { result ≤ 3 }
     ensures quiet { (result ≡ 1) ⊎ (result ≡ 2) → W.contents out.new ≡ W.contents out.old }
-    ensures usage { IsSome (slice_get (fault_of ompc (map (λ w. w.now) words.now)) 0) → (result ≡ 2) ⊎ (result ≡ 3) }
+    ensures refused { result ≡ 1 → IsCommandRefused (map (λ w. w.now) words.now) (S.known sources.old) }
+    ensures usage { fault_of ompc (map (λ w. w.now) words.now) ≢ [] → (result ≡ 2) ⊎ (result ≡ 3) }
     ensures done { result ≡ 0 → IsCommandDone (map (λ w. w.now) words.now) (S.known sources.old) (R.remaining input.old) (W.contents out.old) (W.contents out.new) }
 {
     match parse(alloc, words) {

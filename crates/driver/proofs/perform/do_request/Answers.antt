@@ -2,13 +2,13 @@ use Rattle.driver.proofs.Requests.{same_request}
 use Rattle.driver.proofs.perform.do_request.Goals as goal
 
 pub returns-in-Run-clause-done : goal.returns-in-Run-clause-done
-returns-in-Run-clause-done g c = same_request c.do_run.result _ _ _ _ c.args.request _ c.in-Run.is c.do_run.ensures.done
+returns-in-Run-clause-done g c = same_request c.do_run.result (g.S.Sources.known c.args.sources.now) _ _ _ c.args.request _ c.in-Run.is c.do_run.ensures.done
 
 pub returns-in-Step-clause-done : goal.returns-in-Step-clause-done
-returns-in-Step-clause-done g c = same_request c.do_step.result _ _ _ _ c.args.request _ c.in-Step.is c.do_step.ensures.done
+returns-in-Step-clause-done g c = same_request c.do_step.result (g.S.Sources.known c.args.sources.now) _ _ _ c.args.request _ c.in-Step.is c.do_step.ensures.done
 
 pub returns-in-Check-clause-done : goal.returns-in-Check-clause-done
-returns-in-Check-clause-done g c = same_request c.do_check.result _ _ _ _ c.args.request _ c.in-Check.is c.do_check.ensures.done
+returns-in-Check-clause-done g c = same_request c.do_check.result (g.S.Sources.known c.args.sources.now) _ _ _ c.args.request _ c.in-Check.is c.do_check.ensures.done
 
 pub returns-in-List-clause-done : goal.returns-in-List-clause-done
-returns-in-List-clause-done g c = same_request c.do_list.result _ _ _ _ c.args.request _ c.in-List.is c.do_list.ensures.done
+returns-in-List-clause-done g c = same_request c.do_list.result (g.S.Sources.known c.args.sources.now) _ _ _ c.args.request _ c.in-List.is c.do_list.ensures.done

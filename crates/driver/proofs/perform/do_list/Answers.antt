@@ -1,0 +1,13 @@
+use Rattle.std.proofs.Common.{subst, sym}
+use Rattle.pipeline.specs.Checking.{IsRefused}
+use Rattle.driver.specs.Refused.{IsRefusalBy, IsRefusedOf}
+use Rattle.driver.proofs.Refusals.{told}
+use Rattle.driver.proofs.Requests.{of_source}
+use Rattle.driver.proofs.perform.do_list.Goals as goal
+
+pub returns-clause-refused : goal.returns-clause-refused
+returns-clause-refused g c =
+    let source = g.S.Sources.known c.args.sources.now c.args.name.now in
+    subst (IsRefusalBy (IsRefusedOf source)) (sym c.ending_of.ensures)
+    (told (IsRefusedOf source) c.in-Err.fault
+    (of_source source (λ bytes. IsRefused bytes c.in-Err.fault) c.in_ok-bytes.bytes.items c.deref.result.now c.in_ok-bytes.ensures.bytes c.deref.ensures.value c.in-Err.ensures.fault))

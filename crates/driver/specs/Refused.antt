@@ -1,0 +1,52 @@
+-- Why a command has the status of a refused program.
+use Rattle.std.specs.Prelude.{⊤, ℕ, ◌≡◌, ◌<◌, ◌≤◌, List, Option, length}
+use Rattle.base.specs.declared.tree.Program.{Program}
+use Rattle.base.specs.declared.fault.OutlineFault.TheVariants as outline
+use Rattle.base.specs.declared.fault.SourceFault.{SourceFault}
+use Rattle.base.specs.declared.fault.SourceFault.TheVariants.{Outline, Check}
+use Rattle.base.specs.Items.{plan}
+use Rattle.base.specs.Limits.{most_items}
+use Rattle.mapcheck.specs.Passes.{IsCheckFault}
+use Rattle.pipeline.specs.Checking.{IsRefused}
+use Rattle.command.specs.CommandLine.{AskedBy}
+use Rattle.command.specs.declared.request.Request.{Request}
+use Rattle.driver.specs.declared.perform.Ending.{Ending}
+use Rattle.driver.specs.declared.perform.Ending.TheVariants as ending
+use Rattle.driver.specs.Statuses.{source_status}
+use Rattle.driver.specs.Printed.{KnownSources, OfSource, file_of}
+
+-- a fault of a program, of its items first
+abbrev pub IsPlanFault : Program → SourceFault → Type 0
+IsPlanFault p (Outline outline.TooManyItems) = most_items < length (plan p).items
+IsPlanFault p (Check f) = (length (plan p).items ≤ most_items) × IsCheckFault (plan p) f
+IsPlanFault p _ = ⊥
+
+-- a fault of the bytes of a source, which are these where they are known
+abbrev pub IsRefusedOf : Option (List ℕ) → SourceFault → Type 0
+IsRefusedOf source f = OfSource source (λ bytes. IsRefused bytes f)
+
+-- a program is refused by a fault of this kind
+pub record IsRefusal (P : SourceFault → Type 0) : Type 0 where
+  pub fault : SourceFault
+  pub refuses : source_status fault ≡ 1
+  pub is : P fault
+
+-- where a command ends in that, it is by such a fault
+abbrev pub IsRefusalBy : (SourceFault → Type 0) → Ending → Type 0
+IsRefusalBy P (ending.Source f) = source_status f ≡ 1 → P f
+IsRefusalBy P ending.Refused = IsRefusal P
+IsRefusalBy P _ = ⊤
+
+-- a command does not end in that
+abbrev pub IsNoRefusal : Ending → Type 0
+IsNoRefusal = IsRefusalBy (λ f. ⊥)
+
+-- the bytes of a source spell no program, or one that is refused
+abbrev pub IsRefusedSource : Option (List ℕ) → Type 0
+IsRefusedSource source = IsRefusal (IsRefusedOf source)
+
+-- so do those of the source that the request of the words names
+pub record IsCommandRefused (words : List (List ℕ)) (sources : KnownSources) : Type 0 where
+  pub request : Request
+  pub asked : AskedBy words request
+  pub refused : IsRefusedSource (sources (file_of request))
