@@ -1,3 +1,4 @@
 pub mod Statuses
 pub mod Printed
 pub mod Refused
+pub mod Misused

@@ -8,8 +8,9 @@ ghost use Rattle.base.specs.Limits.{AreShort};
 ghost use Rattle.pipeline.specs.Checking.{IsChecked, IsUnaccepted};
 ghost use Rattle.pipeline.specs.Listing.{IsListed};
 ghost use Rattle.command.specs.CommandLine.{ompc};
-ghost use Rattle.driver.specs.Statuses.{ending_of, source_status, usage_status};
+ghost use Rattle.driver.specs.Statuses.{ending_of, source_status, status_of, usage_status};
 ghost use Rattle.driver.specs.Printed.{IsCommandDone, IsDone, IsInput, IsPrinted, IsReadAnswer, KnownSources, OfSource, answer_bytes, answers_of, file_of};
+ghost use Rattle.driver.specs.Misused.{IsMisused, IsMisusedRequest};
 ghost use Rattle.driver.specs.Refused.{IsCommandRefused, IsNoRefusal, IsPlanFault, IsRefusalBy, IsRefusedOf, IsRefusedSource};
 
 use base::fault::{CheckFault, OutlineFault, ReadFault, RunFault, SourceFault};
@@ -43,7 +44,8 @@ pub trait Sources {
 
     /// The bytes of the source of that name.
     fn source(&mut self, name: &str) -> Result<Vec<u8>, SourceError>
-        ensures { IfOk result (λ v. IfSome (known self.old name.now) (λ xs. v.items ≡ xs)) };
+        ensures bytes { IfOk result (λ v. IfSome (known self.old name.now) (λ xs. v.items ≡ xs)) }
+        ensures unknown { IfErr result (λ e. e ≡ SourceError.Unreadable → known self.old name.now ≡ None) };
 }
 
 /// The command did what was asked.
@@ -68,12 +70,6 @@ enum Ending<'a> {
     Refused,
     BadInput,
     OutOfMemory,
-}
-
-impl From<SourceFault> for Ending<'_> {
-    fn from(fault: SourceFault) -> Self {
-        Ending::Source(fault)
-    }
 }
 
 impl Ending<'_> {
@@ -131,7 +127,8 @@ fn ending_of<'a>(fault: SourceFault) -> Ending<'a>
 }
 
 fn no_source(error: SourceError, name: &str) -> Ending<'_>
-    ensures { IsNoRefusal result }
+    ensures refused { IsNoRefusal result }
+    ensures status { status_of result ≡ 2 → error ≡ SourceError.Unreadable }
 {
     match error {
         SourceError::Unreadable => Ending::Unreadable(name),
@@ -165,6 +162,7 @@ fn read_input<'a, R: Read>(alloc: Global, input: &mut R) -> Result<Vec<u64>, End
 fn bytes_of<'a, S: Sources>(sources: &mut S, name: &'a str) -> Result<Vec<u8>, Ending<'a>>
     ensures bytes { IfOk result (λ v. IfSome (S.known sources.old name.now) (λ xs. v.items ≡ xs)) }
     ensures refused { IfErr result IsNoRefusal }
+    ensures misused { IfErr result (λ e. status_of e ≡ 2 → S.known sources.old name.now ≡ None) }
 {
     match sources.source(name) {
         Ok(bytes) => Ok(bytes),
@@ -368,6 +366,7 @@ fn do_check<'a, S: Sources, W: Write, E: Write>(
     ensures status { IfOk result (λ s. (s ≡ 0) ⊎ (s ≡ 3)) }
     ensures quiet { OnErr result (W.contents out.new ≡ W.contents out.old) }
     ensures refused { IfErr result (IsRefusalBy (IsRefusedOf (S.known sources.old name.now))) }
+    ensures misused { IfErr result (λ e. status_of e ≡ 2 → S.known sources.old name.now ≡ None) }
     ensures done { IfOk result (λ s. s ≡ 0 → OfSource (S.known sources.old name.now) (λ bytes. IsChecked bytes (W.contents out.old) (W.contents out.new))) }
 {
     let bytes = bytes_of(sources, name)?;
@@ -389,6 +388,7 @@ fn do_list<'a, S: Sources, W: Write, E: Write>(
     ensures status { IfOk result (λ s. (s ≡ 0) ⊎ (s ≡ 3)) }
     ensures quiet { OnErr result (W.contents out.new ≡ W.contents out.old) }
     ensures refused { IfErr result (IsRefusalBy (IsRefusedOf (S.known sources.old name.now))) }
+    ensures misused { IfErr result (λ e. status_of e ≡ 2 → S.known sources.old name.now ≡ None) }
     ensures done { IfOk result (λ s. s ≡ 0 → OfSource (S.known sources.old name.now) (λ bytes. IsListed bytes (W.contents out.old) (W.contents out.new))) }
 {
     let bytes = bytes_of(sources, name)?;
@@ -412,6 +412,7 @@ fn do_request<'a, T: Threads + Wait + Sync, S: Sources, R: Read, W: Write, E: Wr
     ensures status { IfOk result (λ s. (s ≡ 0) ⊎ (s ≡ 3)) }
     ensures quiet { OnErr result (W.contents out.new ≡ W.contents out.old) }
     ensures refused { IfErr result (IsRefusalBy (IsRefusedOf (S.known sources.old (file_of request.entry)))) }
+    ensures misused { IfErr result (λ e. status_of e ≡ 2 → IsMisusedRequest request.entry (S.known sources.old (file_of request.entry))) }
     ensures done { IfOk result (λ s. s ≡ 0 → OfSource (S.known sources.old (file_of request.entry)) (λ bytes. IsDone request.entry bytes (R.remaining input.old) (W.contents out.old) (W.contents out.new))) }
 {
     match request {
@@ -435,6 +436,7 @@ fn perform<T: Threads + Wait + Sync, S: Sources, R: Read, W: Write, E: Write>(
     ensures status { result ≤ 3 }
     ensures quiet { (result ≡ 1) ⊎ (result ≡ 2) → W.contents out.new ≡ W.contents out.old }
     ensures refused { result ≡ 1 → IsRefusedSource (S.known sources.old (file_of request.entry)) }
+    ensures misused { result ≡ 2 → IsMisusedRequest request.entry (S.known sources.old (file_of request.entry)) }
     ensures done { result ≡ 0 → OfSource (S.known sources.old (file_of request.entry)) (λ bytes. IsDone request.entry bytes (R.remaining input.old) (W.contents out.old) (W.contents out.new)) }
 {
     match do_request(rt, alloc, request, sources, input, out, err) {
@@ -482,6 +484,7 @@ pub fn drive<T: Threads + Wait + Sync, S: Sources, R: Read, W: Write, E: Write>(
     ensures status { result ≤ 3 }
     ensures quiet { (result ≡ 1) ⊎ (result ≡ 2) → W.contents out.new ≡ W.contents out.old }
     ensures refused { result ≡ 1 → IsCommandRefused (map (λ w. w.now) words.now) (S.known sources.old) }
+    ensures misused { result ≡ 2 → IsMisused (map (λ w. w.now) words.now) (S.known sources.old) }
     ensures usage { fault_of ompc (map (λ w. w.now) words.now) ≢ [] → (result ≡ 2) ⊎ (result ≡ 3) }
     ensures done { result ≡ 0 → IsCommandDone (map (λ w. w.now) words.now) (S.known sources.old) (R.remaining input.old) (W.contents out.old) (W.contents out.new) }
 {

@@ -1,6 +1,8 @@
-use Rattle.std.proofs.Common.{subst, sym}
+use Rattle.std.proofs.Common.{◌∙◌, ap, subst, sym}
 use Rattle.pipeline.specs.Checking.{IsRefused}
+use Rattle.driver.specs.Statuses.{status_of}
 use Rattle.driver.specs.Refused.{IsRefusalBy, IsRefusedOf}
+use Rattle.driver.proofs.Misuses.{not_misused}
 use Rattle.driver.proofs.Refusals.{told}
 use Rattle.driver.proofs.Requests.{of_source}
 use Rattle.driver.proofs.perform.do_check.Goals as goal
@@ -11,3 +13,6 @@ returns-clause-refused g c =
     subst (IsRefusalBy (IsRefusedOf source)) (sym c.ending_of.ensures)
     (told (IsRefusedOf source) c.in-Err.fault
     (of_source source (λ bytes. IsRefused bytes c.in-Err.fault) c.in_ok-bytes.bytes.items c.deref.result.now c.in_ok-bytes.ensures.bytes c.deref.ensures.value c.in-Err.ensures.fault))
+
+pub returns-clause-misused : goal.returns-clause-misused
+returns-clause-misused g c = λ two. absurd (not_misused c.in-Err.fault (ap status_of (sym c.ending_of.ensures) ∙ two))
