@@ -7,4 +7,6 @@ pub mod Nils
 pub mod Leasts
 pub mod Sections
 pub mod Blocks
+pub mod Moves
+pub mod StmtRows
 pub mod LoopTurns

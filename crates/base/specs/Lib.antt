@@ -16,3 +16,4 @@ pub mod Accepted
 pub mod Headline
 pub mod Answer
 pub mod Limits
+pub mod Rows

@@ -1,9 +1,9 @@
 -- The words that are kept, and the zeros that stand before them.
-use Rattle.std.proofs.Common.{◌≡◌, ℕ, ◌+◌, ◌-◌, ◌*◌, ◌/◌, ◌%◌, ◌<◌, ◌≤◌, max, Bool, false, List, ◌++◌, length, get_or, refl, sym, ap, ◌∙◌, append_assoc, arith, ⊎_elim}
-use Rattle.std.specs.Prelude.{replicate, take, slice_set, ◌&&◌, ◌==◌}
+use Rattle.std.proofs.Common.{◌≡◌, ℕ, ◌+◌, ◌-◌, ◌*◌, ◌/◌, ◌%◌, ◌<◌, ◌≤◌, max, Bool, false, List, ◌++◌, length, get_or, refl, sym, ap, ◌∙◌, arith, ⊎_elim}
+use Rattle.std.specs.Prelude.{replicate, take, ◌&&◌, ◌==◌}
 use Rattle.std.specs.Int.{bit_at}
 use Rattle.std.proofs.lemmas.Bool.{cases_lt, and_right}
-use Rattle.std.proofs.lemmas.List.{length-append, length-replicate, get_or-replicate, get_or_append_left, get_or-append_right, get_or_past, take_all, set-append_right, replicate-append-replicate}
+use Rattle.std.proofs.lemmas.List.{length-append, length-replicate, get_or-replicate, get_or_append_left, get_or-append_right, get_or_past, take_all}
 use Rattle.std.proofs.lemmas.Nat.Bits.{bit_at-zero}
 use Rattle.bits.specs.declared.set.BitSet.{BitSet}
 use Rattle.bits.specs.Sets.{all_words, has, has_bit}
@@ -21,31 +21,10 @@ word_before n kept k lt =
 pub word_kept : (n : ℕ) (kept : List ℕ) (k : ℕ) → n ≤ k → get_or (replicate n 0 ++ kept) k 0 ≡ get_or kept (k - n) 0
 word_kept n kept k le = get_or-append_right (replicate n 0) kept n k 0 (length-replicate {A = ℕ} n 0) le
 
-pub word_set : (n : ℕ) (kept : List ℕ) (k word : ℕ) → n ≤ k →
-    replicate n 0 ++ slice_set kept (k - n) word ≡ slice_set (replicate n 0 ++ kept) k word
-word_set n kept k word le = sym (set-append_right (replicate n 0) kept n k word (length-replicate {A = ℕ} n 0) le)
-
 -- ---- lists of words that have the same bits
 
 pub same_bits : (old new : List ℕ) → ((k : ℕ) → get_or new k 0 ≡ get_or old k 0) → (i : ℕ) → has_bit new i ≡ has_bit old i
 same_bits old new same i = ap (λ word. bit_at word (i % 64) == 1) (same (i / 64))
-
--- zeros, and no word that is kept
-zeros_alone : (n k : ℕ) (kept : List ℕ) → length kept ≡ 0 → get_or (replicate n 0 ++ kept) k 0 ≡ 0
-zeros_alone n k kept none = ⊎_elim (λ (lt : k < n). word_before n kept k lt)
-    (λ (le : n ≤ k). get_or_past (replicate n 0 ++ kept) k 0 (omega (arith, length_before n kept, none))) (cases_lt k n)
-
-pub none_kept : (m n : ℕ) (kept : List ℕ) → length kept ≡ 0 → (i : ℕ) →
-    has_bit (replicate m 0 ++ kept) i ≡ has_bit (replicate n 0 ++ kept) i
-none_kept m n kept none = same_bits (replicate n 0 ++ kept) (replicate m 0 ++ kept)
-    (λ k. zeros_alone m k kept none ∙ sym (zeros_alone n k kept none))
-
--- zeros before the words that are kept
-pub zeros_before : (m n : ℕ) (kept : List ℕ) → m ≤ n → replicate m 0 ++ (replicate (n - m) 0 ++ kept) ≡ replicate n 0 ++ kept
-zeros_before m n kept le =
-    let sum : m + (n - m) ≡ n = omega arith in
-    sym (append_assoc (replicate m 0) (replicate (n - m) 0) kept)
-    ∙ ap (λ zeros. zeros ++ kept) (replicate-append-replicate m (n - m) 0 ∙ ap (λ k. replicate k 0) sum)
 
 -- zeros after them
 pub resized : (n m len : ℕ) (kept more : List ℕ) → len ≡ length kept → len ≤ m → more ≡ take m kept ++ replicate (m - len) 0 →

@@ -4,10 +4,10 @@ use Rattle.std.proofs.lemmas.Bool.{eqb-false}
 use Rattle.c_tokens.specs.declared.kind.Sign.TheVariants as sign
 use Rattle.c_grammar.specs.Lexeme.{Lexeme, For, If, Else}
 use Rattle.c_grammar.specs.Terminal.{Terminal, Fixed, same}
-use Rattle.c_grammar.specs.Grammar.{Act, Starts, StartsIf, Prints, Assigned, StartsBlock, Otherwise, Alone, Over, Slots, for, mark, Term, term, IsRanked, Source, Head, Stmt, Declare, Assign, Store, Repeat, Choose, ChooseElse, Show, Block, Directive, OverBlock, OverLoop, Stmts, body_opening, body_closing, stmt, stmts}
+use Rattle.c_grammar.specs.Grammar.{Act, Starts, StartsIf, Prints, Assigned, StartsBlock, Otherwise, Alone, Over, Slots, for, mark, Term, term, IsRanked, Source, Head, Stmt, Declare, Assign, Store, Repeat, Choose, ChooseElse, Show, Block, Directive, OverBlock, OverLoop, Stmts, body_opening, body_closing, stmt, stmts, loop_slots}
 use Rattle.c_grammar.proofs.GoesOn.{NoElse}
 use Rattle.c_grammar.proofs.TermReader.{one_term}
-use Rattle.c_grammar.proofs.Views.{tokens_too, OneBody, one_body, turns, one_turns}
+use Rattle.c_grammar.proofs.Views.{tokens_too, OneBody, one_body, one_turns}
 
 -- ---- how a statement begins
 
@@ -149,7 +149,7 @@ choose_clash e f a b c p q one xs ys n h =
 pub one_repeat : (h k : Head) (b c : Stmts) → OneBody b c → (xs ys : Slots)
     → stmt (Repeat h b) ++ xs ≡ stmt (Repeat k c) ++ ys → (Repeat h b ≡ Repeat k c) × (xs ≡ ys)
 one_repeat h k b c one xs ys e =
-    let tail : turns h b ++ xs ≡ turns k c ++ ys = cc in
+    let tail : loop_slots h b ++ xs ≡ loop_slots k c ++ ys = cc in
     let all = one_turns h k b c one xs ys tail in
     (ap (λ (u : Head). Repeat u b) all.0 ∙ ap (λ (u : Stmts). Repeat k u) all.1, all.2)
 
@@ -181,7 +181,7 @@ pub one_over_loop : (l m : List Lexeme) (h k : Head) (b c : Stmts) → OneBody b
 one_over_loop l m h k b c one xs ys e =
     let all = tokens_too _ _ e in
     let lines : l ≡ m = cc in
-    let tail : turns h b ++ xs ≡ turns k c ++ ys = cc in
+    let tail : loop_slots h b ++ xs ≡ loop_slots k c ++ ys = cc in
     let rest = one_turns h k b c one xs ys tail in (
       ap (λ (u : List Lexeme). OverLoop u h b) lines ∙ ap (λ (u : Head). OverLoop m u b) rest.0
           ∙ ap (λ (u : Stmts). OverLoop m k u) rest.1,

@@ -3,7 +3,7 @@ use Rattle.std.proofs.Common.{◌≡◌, ℕ, false, List, [], ◌∷◌, ◌++�
 use Rattle.c_tokens.specs.declared.kind.Sign.TheVariants as sign
 use Rattle.c_grammar.specs.Lexeme.{Read}
 use Rattle.c_grammar.specs.Terminal.{Fixed, Mark, same}
-use Rattle.c_grammar.specs.Grammar.{MakesScalar, Slot, Slots, for, mark, Term, term, IsRanked, Source, Input, Value, source, IsRankedSource, Head, Declare, Assign, Store, Show, Stmts, head_slots, body_opening, body_closing, end_mark, stmt, stmts, Global, Scalar, Array, globals, Text, main_part}
+use Rattle.c_grammar.specs.Grammar.{MakesScalar, Slot, Slots, for, mark, Term, term, IsRanked, Source, Input, Value, source, IsRankedSource, Head, Declare, Assign, Store, Show, Stmts, head_slots, body_opening, body_closing, end_mark, stmt, stmts, Global, Scalar, Array, globals, Text, main_part, loop_slots}
 use Rattle.c_grammar.specs.Rules.{source_grammar}
 use Rattle.c_grammar.specs.Texts.{kinds}
 use Rattle.c_grammar.proofs.GoesOn.{NoRead, term_no_read}
@@ -115,11 +115,8 @@ one_body b c one xs ys e =
     one xs ys
     (sym (append_assoc (stmts b) (body_closing ∷ []) xs) ∙ e ∙ append_assoc (stmts c) (body_closing ∷ []) ys)
 
-abbrev pub turns : Head → Stmts → Slots
-turns h b = head_slots h ++ (body_opening ∷ (stmts b ++ body_closing ∷ []))
-
 -- a loop behind its first word
-pub one_turns : (h k : Head) (b c : Stmts) → OneBody b c → (xs ys : Slots) → turns h b ++ xs ≡ turns k c ++ ys
+pub one_turns : (h k : Head) (b c : Stmts) → OneBody b c → (xs ys : Slots) → loop_slots h b ++ xs ≡ loop_slots k c ++ ys
     → (h ≡ k) × (b ≡ c) × (xs ≡ ys)
 one_turns h k b c one xs ys e =
     let heads = one_head h k (body_opening ∷ (ended b ++ xs)) (body_opening ∷ (ended c ++ ys)) e in

@@ -13,7 +13,7 @@ use Rattle.c_grammar.specs.Lexeme.{Lexeme, For}
 use Rattle.c_grammar.specs.Texts.{Item}
 use Rattle.c_grammar.specs.Terminal.{Terminal, Fixed, Mark, Name, Num, Line, Unknown, End}
 use Rattle.c_grammar.specs.Rules.{inside}
-use Rattle.c_grammar.specs.Grammar.{Head, Stmt, Stmts, Done, Then, Declare, Assign, Store, Repeat, Choose, ChooseElse, Show, Block, Directive, OverBlock, OverLoop, stmt, stmts, IsStmt as IsText}
+use Rattle.c_grammar.specs.Grammar.{Head, Stmt, Stmts, Done, Then, Declare, Assign, Store, Repeat, Choose, ChooseElse, Show, Block, Directive, OverBlock, OverLoop, stmt, stmts, IsStmt as IsText, loop_slots}
 use Rattle.c_expressions.specs.declared.cursor.Cursor.{Cursor}
 use Rattle.c_expressions.specs.declared.scope.Scope.{Scope}
 use Rattle.c_expressions.specs.Means.{Items, place_of}
@@ -31,7 +31,7 @@ use Rattle.c_constructs.specs.LineMeaning.{IsRead, lexemes_on, scope_behind}
 use Rattle.c_read.specs.declared.piece.Piece.{Piece}
 use Rattle.c_read.specs.declared.piece.Piece.TheVariants as piece
 use Rattle.c_read.specs.Parts.{in_target, pieces_of, AreLongest, AreMixed, ArePieces, IsHostLoop, IsPiece, OneLoop}
-use Rattle.c_read.specs.Read.{loop_slots, AreAlone, IsBlockRead, IsLoop, IsLoopRead, IsPieceRead}
+use Rattle.c_read.specs.Read.{AreAlone, IsBlockRead, IsLoop, IsLoopRead, IsPieceRead}
 use Rattle.c_statements.proofs.Prints.{more_none}
 
 line_is : (t : Terminal) → is_directive t ≡ true → t ≡ Line (lexemes_on t)

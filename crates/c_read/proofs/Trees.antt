@@ -6,7 +6,7 @@ use Rattle.base.specs.declared.tree.Bounds.{Bounds}
 use Rattle.c_grammar.specs.Lexeme.{For, Uint64}
 use Rattle.c_grammar.specs.Terminal.{Terminal, Fixed, Mark, Name}
 use Rattle.c_grammar.specs.Rules.{Context, opened}
-use Rattle.c_grammar.specs.Grammar.{Slots, Head, Stmts, Repeat, Block, head_slots, body_opening, stmts}
+use Rattle.c_grammar.specs.Grammar.{Slots, Head, Stmts, Repeat, Block, head_slots, body_opening, stmts, loop_slots}
 use Rattle.c_expressions.specs.declared.changes.Turn.{Turn}
 use Rattle.c_expressions.specs.declared.cursor.Cursor.{Cursor}
 use Rattle.c_expressions.specs.declared.scope.Scope.{Scope}
@@ -26,7 +26,7 @@ use Rattle.c_statements.proofs.Nesting.{back_now, env_inner, env_named, inner_sa
 use Rattle.c_statements.proofs.Wholes.{ended, kinds_ended, size_ended, gone_less}
 use Rattle.c_read.specs.declared.piece.Piece.{Piece}
 use Rattle.c_read.specs.Parts.{Placed, ArePieces, IsPiece}
-use Rattle.c_read.specs.Read.{loop_slots, AreInnerRead, IsBlockRead, IsLoopRead, IsPieceRead}
+use Rattle.c_read.specs.Read.{AreInnerRead, IsBlockRead, IsLoopRead, IsPieceRead}
 
 -- ---- in braces
 

@@ -10,7 +10,7 @@ use Rattle.base.specs.declared.tree.Stmt.{Stmt as Statement}
 use Rattle.base.specs.declared.tree.Stmt.TheVariants as statement
 use Rattle.c_grammar.specs.Lexeme.{For}
 use Rattle.c_grammar.specs.Terminal.{Fixed, Mark}
-use Rattle.c_grammar.specs.Grammar.{Slots, Head, Stmt, Stmts, Repeat, head_slots, body_opening, body_closing, stmt, stmts, IsStmt, AreStmts}
+use Rattle.c_grammar.specs.Grammar.{Head, Stmt, Stmts, Repeat, stmt, stmts, IsStmt, AreStmts, loop_slots}
 use Rattle.c_grammar.specs.Rules.{inside, under_if}
 use Rattle.c_expressions.specs.declared.scope.Scope.{Scope}
 use Rattle.c_expressions.specs.Means.{Items, place_of}
@@ -41,9 +41,6 @@ pub record IsPieceRead (env next : Env) (before after : Items) (p : Piece) : Typ
   pub fewer : length after < length before
   pub means : IsPiece env before text p
   pub next_is : next ≡ behind text env
-
-abbrev pub loop_slots : Head → Stmts → Slots
-loop_slots h b = head_slots h ++ (body_opening ∷ (stmts b ++ body_closing ∷ []))
 
 abbrev pub IsLoop : Statement → Type 0
 IsLoop (statement.Loop' b shape row) = Unit {0}

@@ -14,7 +14,7 @@ use Rattle.base.specs.Map.{Device, copies_from, copies_to, update}
 use Rattle.present.specs.declared.Table.{Table}
 use Rattle.base.specs.Blocks.{holder}
 use Rattle.present.specs.Table.{Shows, count_at}
-use Rattle.present.proofs.Moves.{created_move, entry_absent, entry_part, entry_there, exit_absent, exit_part, exit_there, ignored_move, lowered_move, raised_move}
+use Rattle.base.proofs.Moves.{copied_blocks, created_move, entry_absent, entry_part, entry_there, exit_absent, exit_part, exit_there, ignored_move, lowered_move, raised_move}
 use Rattle.device.specs.Moves.{AreCounted, CountsAtMost, entered_by, opens_with}
 use Rattle.device.proofs.Updating.{is_updated}
 
@@ -88,10 +88,6 @@ moved n f (Some x) m same h e =
     subst (λ (y : Memories). CountsAtMost n y.device.blocks) (same_Some (f x) m e)
     (subst (CountsAtMost n) (sym (same x)) (h x refl))
 
-when_copied : (b : Bool) (s : Section) (m : Memories) → (when b (copy_in s) m).device.blocks ≡ m.device.blocks
-when_copied true s m = refl
-when_copied false s m = refl
-
 when_out : (b : Bool) (s : Section) (m : Memories) → (when b (copy_out s) m).device.blocks ≡ m.device.blocks
 when_out true s m = refl
 when_out false s m = refl
@@ -144,7 +140,7 @@ entered_once n fill item m m' h e =
     moved (n + 1) (λ move. when move.copies (copy_in item.section)
     (when move.changes (with_cells (λ c. Some (fill c)) move.block) (with_blocks move.blocks m)))
     (entry item m.device.blocks) m'
-    (λ x. when_copied x.copies item.section _ ∙ when_celled x.changes (λ c. Some (fill c)) x.block (with_blocks x.blocks m))
+    (λ x. copied_blocks x.copies item.section _ ∙ when_celled x.changes (λ c. Some (fill c)) x.block (with_blocks x.blocks m))
     (λ x k. entry_blocks n item m.device.blocks x h k) e
 
 pub left_once : (n : ℕ) (item : MapItem) (m m' : Memories) → CountsAtMost n m.device.blocks →
@@ -166,7 +162,7 @@ updated_once n item m m' h e = go (presence m.device.blocks item.section) refl
     go Absent k = is m refl (is_updated item m Absent k)
     go (Inside b) k =
         is (when (copies_from item.kind) (copy_out item.section) (when (copies_to item.kind) (copy_in item.section) m))
-        (when_out (copies_from item.kind) item.section _ ∙ when_copied (copies_to item.kind) item.section m)
+        (when_out (copies_from item.kind) item.section _ ∙ copied_blocks (copies_to item.kind) item.section m)
         (is_updated item m (Inside b) k)
     go InPart k = absurd (let bad : None ≡ Some m' = sym (is_updated item m InPart k) ∙ e in cc)
 

@@ -27,14 +27,14 @@ sound p fill input events s ran =
     (λ u k. subst (Sound (plan p) fill (sensible p)) (same_Some (start input) u k)
     (start_sound (plan p) fill (sensible p) input)) ran
 
-open_closed : (c : Condition) → is_open c ≡ true → is_closed c ≡ true → ⊥
+pub open_closed : (c : Condition) → is_open c ≡ true → is_closed c ≡ true → ⊥
 open_closed Untouched h k = false≢true h
 open_closed (Generated s) h k = false≢true h
 open_closed (Opened s v) h k = false≢true k
 open_closed Closed h k = false≢true h
 open_closed Passed h k = false≢true h
 
-waiting_closed : (c : Condition) → is_waiting true c ≡ true → is_closed c ≡ true → ⊥
+pub waiting_closed : (c : Condition) → is_waiting true c ≡ true → is_closed c ≡ true → ⊥
 waiting_closed Untouched h k = false≢true h
 waiting_closed (Generated s) h k = false≢true k
 waiting_closed (Opened s v) h k = false≢true h

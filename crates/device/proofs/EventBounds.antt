@@ -8,9 +8,10 @@ use Rattle.base.specs.declared.item.Event.{Event}
 use Rattle.base.specs.declared.item.Event.TheVariants.{Gen, Open, Close, Wait, End}
 use Rattle.base.specs.Items.{Work, Plan}
 use Rattle.base.specs.Map.{Memories, Fill}
-use Rattle.base.specs.Machine.{State, Condition, Untouched, Generated, Opened, Closed, Passed, start, is_closed, is_open, is_waiting, is_wait, on_item, is_ready, deferred_closed, enabled, with_condition, moved_on, opening, open_item, captured_by, worked_on, closing, step, Run, RunFrom, HasEnded}
+use Rattle.base.specs.Machine.{State, Condition, Untouched, Generated, Opened, Closed, Passed, start, is_open, is_waiting, is_wait, on_item, is_ready, deferred_closed, enabled, with_condition, moved_on, opening, open_item, captured_by, worked_on, closing, step, Run, RunFrom, HasEnded}
 use Rattle.base.proofs.Closing.{Kept, closing_keeps}
 use Rattle.base.proofs.Runs.{enabled_Gen, enabled_Wait, enabled_End}
+use Rattle.device.proofs.Ended.{open_closed, waiting_closed}
 use Rattle.headline.proofs.SoundConditions.{is_untouched}
 use Rattle.two_memories.proofs.PlanItems.{at_item, closed_at, on_true}
 
@@ -129,20 +130,6 @@ waiting_touched (Opened s v) h k = false≢true h
 waiting_touched Closed h k = false≢true h
 waiting_touched Passed h k = false≢true h
 
-closed_waiting : (c : Condition) → is_waiting true c ≡ true → is_closed c ≡ true → ⊥
-closed_waiting Untouched h k = false≢true h
-closed_waiting (Generated s) h k = false≢true k
-closed_waiting (Opened s v) h k = false≢true h
-closed_waiting Closed h k = false≢true h
-closed_waiting Passed h k = false≢true h
-
-closed_open : (c : Condition) → is_open c ≡ true → is_closed c ≡ true → ⊥
-closed_open Untouched h k = false≢true h
-closed_open (Generated s) h k = false≢true h
-closed_open (Opened s v) h k = false≢true k
-closed_open Closed h k = false≢true h
-closed_open Passed h k = false≢true h
-
 differ : {A : Type 0} (b : Bool) → b ≡ true → b ≡ false → A
 differ b h k = absurd (true≢false (sym h ∙ k))
 
@@ -200,7 +187,7 @@ module _ (pl : Plan) (fill : ℕ → Fill) where
       where
         go : (w : Work) → slice_get pl.items i ≡ Some w → (b : Bool) → w.deferred ≡ b →
             (b || (s.place == i)) ≡ true → is_waiting b (s.condition i) ≡ true → ⊥
-        go w e true d h k = closed_waiting (s.condition i) k (closed_at pl s i w (ok.last ended) e d)
+        go w e true d h k = waiting_closed (s.condition i) k (closed_at pl s i w (ok.last ended) e d)
         go w e false d h k =
             let at = eqb-true s.place i h in
             let lt = slice_get_within pl.items i w e in
@@ -211,7 +198,7 @@ module _ (pl : Plan) (fill : ℕ → Fill) where
       where
         go : (w : Work) → slice_get pl.items i ≡ Some w → (b : Bool) → w.deferred ≡ b →
             is_open (s.condition i) ≡ true → ⊥
-        go w e true d h = closed_open (s.condition i) h (closed_at pl s i w (ok.last ended) e d)
+        go w e true d h = open_closed (s.condition i) h (closed_at pl s i w (ok.last ended) e d)
         go w e false d h =
             let lt = slice_get_within pl.items i w e in
             differ (is_open (s.condition i)) h ((ok.items i w e).behind d (omega arith))

@@ -12,7 +12,8 @@ use Rattle.base.specs.Memory.{View}
 use Rattle.base.specs.Meaning.{run_region}
 use Rattle.kernel.specs.declared.frames.Frame.{Frame}
 use Rattle.kernel.specs.declared.frames.Row.{Row}
-use Rattle.kernel.specs.Rows.{cells_of, in_row}
+use Rattle.base.specs.Rows.{at_index}
+use Rattle.kernel.specs.Rows.{cells_of}
 use Rattle.present.specs.declared.Table.{Table}
 use Rattle.present.specs.Rows.{cell_at}
 use Rattle.present.specs.Table.{number_at}
@@ -23,23 +24,23 @@ use Rattle.device.specs.Standing.{Issue, done_on, frame_parts, row_parts}
 
 -- the cells of rows by value
 abbrev cells_in : List (ℕ × List ℕ) → View
-cells_in rows c = elim (slice_get rows c.array.0) [ None ↦ None | Some r ↦ in_row r.0 r.1 c.index ]
+cells_in rows c = elim (slice_get rows c.array.0) [ None ↦ None | Some r ↦ at_index r.0 r.1 c.index ]
 
 cells_by_parts : (rows : List Row) → cells_of rows ≡ cells_in (map row_parts rows)
 cells_by_parts rows =
     fun_ext (λ (c : Cell). go c (slice_get rows c.array.0) refl)
   where
     found : Cell → Option (ℕ × List ℕ) → Option ℕ
-    found c o = elim o [ None ↦ None | Some r ↦ in_row r.0 r.1 c.index ]
+    found c o = elim o [ None ↦ None | Some r ↦ at_index r.0 r.1 c.index ]
 
     go : (c : Cell) (o : Option Row) → slice_get rows c.array.0 ≡ o → cells_of rows c ≡ cells_in (map row_parts rows) c
     go c None e =
-        ap (λ (o : Option Row). elim o [ None ↦ None | Some r ↦ in_row r.first r.cells.items c.index ]) e
-        ∙ sym (ap (λ (o : Option (ℕ × List ℕ)). elim o [ None ↦ None | Some r ↦ in_row r.0 r.1 c.index ])
+        ap (λ (o : Option Row). elim o [ None ↦ None | Some r ↦ at_index r.first r.cells.items c.index ]) e
+        ∙ sym (ap (λ (o : Option (ℕ × List ℕ)). elim o [ None ↦ None | Some r ↦ at_index r.0 r.1 c.index ])
         (slice_get-map row_parts rows c.array.0 ∙ ap (option_map row_parts) e))
     go c (Some r) e =
-        ap (λ (o : Option Row). elim o [ None ↦ None | Some r ↦ in_row r.first r.cells.items c.index ]) e
-        ∙ sym (ap (λ (o : Option (ℕ × List ℕ)). elim o [ None ↦ None | Some r ↦ in_row r.0 r.1 c.index ])
+        ap (λ (o : Option Row). elim o [ None ↦ None | Some r ↦ at_index r.first r.cells.items c.index ]) e
+        ∙ sym (ap (λ (o : Option (ℕ × List ℕ)). elim o [ None ↦ None | Some r ↦ at_index r.0 r.1 c.index ])
         (slice_get-map row_parts rows c.array.0 ∙ ap (option_map row_parts) e))
 
 -- a region does the same on them

@@ -1,23 +1,18 @@
 -- An update of a section to both sides, and one to none.
-use Rattle.std.proofs.Common.{◌≡◌, false, Option, Some, None, refl, sym, ap, ◌∙◌, subst}
+use Rattle.std.proofs.Common.{◌≡◌, false, Some, None, refl, sym, ap, ◌∙◌, subst}
 use Rattle.std.specs.Prelude.{IsSomeAnd}
 use Rattle.std.proofs.lemmas.Option.{same_Some}
 use Rattle.base.specs.declared.item.MapItem.{MapItem}
 use Rattle.base.specs.declared.item.MapKind.TheVariants as kind
 use Rattle.base.specs.declared.memory.Memory.{Memory as Arrays}
 use Rattle.base.specs.Map.{Memories, Presence, Absent, Inside, InPart, copies_from, copies_to, copy_in, copy_out, presence, update, when}
+use Rattle.base.proofs.Moves.{update_at}
 use Rattle.present.specs.declared.Table.{Table}
 use Rattle.present.specs.Table.{Are, Does, item_to, item_from, memories}
 use Rattle.device.specs.Moves.{Leads}
 
-abbrev pub updated : MapItem → Memories → Presence → Option Memories
-updated item m Absent = Some m
-updated item m (Inside b) = Some (when (copies_from item.kind) (copy_out item.section)
-    (when (copies_to item.kind) (copy_in item.section) m))
-updated item m InPart = None
-
 pub is_updated : (item : MapItem) (m : Memories) (q : Presence) → presence m.device.blocks item.section ≡ q →
-    update item m ≡ updated item m q
+    update item m ≡ update_at item m q
 is_updated item m q e = rw (e, update) refl
 
 known : (x m : Memories) (h : Arrays) (t : Table) → Some x ≡ Some m → Are h t x → Are h t m

@@ -8,7 +8,8 @@ use Rattle.base.specs.declared.item.Cell.{Cell}
 use Rattle.base.specs.declared.tree.ArrayId.{ArrayId}
 use Rattle.base.specs.Memory.{View}
 use Rattle.kernel.specs.declared.frames.Row.{Row}
-use Rattle.kernel.specs.Rows.{cells_of, in_row}
+use Rattle.base.specs.Rows.{at_index}
+use Rattle.kernel.specs.Rows.{cells_of}
 use Rattle.present.specs.Rows.{IsLoaded, cell_at, over}
 use Rattle.present.proofs.RowParts.{at_index_from, at_index_before}
 use Rattle.regions.specs.Footprints.{BoundedView}
@@ -16,11 +17,11 @@ use Rattle.frames.specs.Rows.{AreNumbers, TakeNumbers, TakesNumbers}
 use Rattle.frames.proofs.RowViews.{by_row, cells_bounded, past_end}
 
 loaded_row : (view : View) (a : ArrayId) (first : ℕ) (old new : List ℕ) → IsLoaded view a first old new →
-    (i : ℕ) → in_row first new i ≡ option_map (λ n. unwrap_or (view (record { array = a; index = i })) n) (in_row first old i)
+    (i : ℕ) → at_index first new i ≡ option_map (λ n. unwrap_or (view (record { array = a; index = i })) n) (at_index first old i)
 loaded_row view a first old new h i = go (nat_le first i) refl
   where
     go : (b : Bool) → nat_le first i ≡ b →
-        in_row first new i ≡ option_map (λ n. unwrap_or (view (record { array = a; index = i })) n) (in_row first old i)
+        at_index first new i ≡ option_map (λ n. unwrap_or (view (record { array = a; index = i })) n) (at_index first old i)
     go true e =
         let l = leb-true first i e in
         let at : first + (i - first) ≡ i = omega arith in
@@ -34,10 +35,10 @@ loaded_row view a first old new h i = go (nat_le first i) refl
 
 -- what stands at an index of a row that took the numbers
 loaded : (view : View) (a : ℕ) (x y : Row) → TakesNumbers view a x y → (i : ℕ) →
-    in_row y.first y.cells.items i ≡ option_map (λ n. unwrap_or (view (record { array = record { 0 = a }; index = i })) n)
-    (in_row x.first x.cells.items i)
+    at_index y.first y.cells.items i ≡ option_map (λ n. unwrap_or (view (record { array = record { 0 = a }; index = i })) n)
+    (at_index x.first x.cells.items i)
 loaded view a x y t i =
-    ap (λ first. in_row first y.cells.items i) t.first
+    ap (λ first. at_index first y.cells.items i) t.first
     ∙ loaded_row view (record { 0 = a }) x.first x.cells.items y.cells.items t.numbers i
 
 module _ (view : View) where

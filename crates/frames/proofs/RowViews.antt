@@ -12,7 +12,8 @@ use Rattle.base.specs.Memory.{View, end_of, is_in, view_of}
 use Rattle.base.specs.Arrays.{IsWithin, items_of, length_of, lengths_of, memory_of, row_of}
 use Rattle.base.proofs.Places.{get_left, get_right}
 use Rattle.kernel.specs.declared.frames.Row.{Row}
-use Rattle.kernel.specs.Rows.{cells_of, in_row}
+use Rattle.base.specs.Rows.{at_index}
+use Rattle.kernel.specs.Rows.{cells_of}
 use Rattle.base.proofs.Sections.{in_parts, in_from}
 use Rattle.present.proofs.Founds.{one_block}
 use Rattle.present.proofs.Copies.{host_number, section_length}
@@ -29,14 +30,14 @@ use Rattle.present.proofs.Entries.{get_replicate}
 -- numbers that stand for a run of cells
 pub row_from : (view : View) (s : Section) (xs : List ℕ) → length xs ≡ s.length →
     ((i : ℕ) → is_in (cell_of s.array.0 i) s ≡ true → slice_get xs (i - s.first) ≡ view (cell_of s.array.0 i)) →
-    (i : ℕ) → in_row s.first xs i ≡ in_run view s i
+    (i : ℕ) → at_index s.first xs i ≡ in_run view s i
 row_from view s xs long here i = go (cases_Bool (is_in (cell_of s.array.0 i) s))
   where
     chosen : (b : Bool) → is_in (cell_of s.array.0 i) s ≡ b →
         (if b then view (cell_of s.array.0 i) else None) ≡ in_run view s i
     chosen b e = ap (λ (t : Bool). if t then view (cell_of s.array.0 i) else None) (sym e)
 
-    outside : is_in (cell_of s.array.0 i) s ≡ false → (b : Bool) → nat_le s.first i ≡ b → in_row s.first xs i ≡ None
+    outside : is_in (cell_of s.array.0 i) s ≡ false → (b : Bool) → nat_le s.first i ≡ b → at_index s.first xs i ≡ None
     outside e false f = at_index_before s.first xs i (leb-false s.first i f)
     outside e true f =
         let l = leb-true s.first i f in
@@ -49,14 +50,14 @@ row_from view s xs long here i = go (cases_Bool (is_in (cell_of s.array.0 i) s))
         past false g = let m = ltb-false i (s.first + s.length) g in omega arith
 
     go : (is_in (cell_of s.array.0 i) s ≡ true) ⊎ (is_in (cell_of s.array.0 i) s ≡ false) →
-        in_row s.first xs i ≡ in_run view s i
+        at_index s.first xs i ≡ in_run view s i
     go (inl e) =
         let p = in_parts (cell_of s.array.0 i) s e in
         at_index_from s.first xs i p.above ∙ here i e ∙ chosen true e
     go (inr e) = outside e (nat_le s.first i) refl ∙ chosen false e
 
 -- no cell
-pub row_none : (view : View) (s : Section) → s.length ≡ 0 → (i : ℕ) → in_row s.first [] i ≡ in_run view s i
+pub row_none : (view : View) (s : Section) → s.length ≡ 0 → (i : ℕ) → at_index s.first [] i ≡ in_run view s i
 row_none view s none =
     row_from view s [] (sym none) (λ i e. (let p = in_parts (cell_of s.array.0 i) s e in
     let a = p.above in let b = p.below in absurd (omega arith)))
@@ -77,7 +78,7 @@ host_view m c h =
     (lt-ltb c.index (slice_index (lengths_of m) c.array.0) (let l = length_at m c.array.0 in omega arith))
 
 pub row_of_host : (m : Arrays) (s : Section) → IsWithin m s → (i : ℕ) →
-    in_row s.first (slice_range (row_of m s.array.0) s.first (end_of s)) i
+    at_index s.first (slice_range (row_of m s.array.0) s.first (end_of s)) i
     ≡ in_run (view_of (lengths_of m) (memory_of m)) s i
 row_of_host m s w =
     row_from (view_of (lengths_of m) (memory_of m)) s (slice_range (row_of m s.array.0) s.first (end_of s))
@@ -94,7 +95,7 @@ within_host m s some h =
 pub empty_row : (view : View) (s : Section) (xs : List ℕ) → s.length ≡ 0 → xs ≡ [] → (r : Row) →
     r.cells.items ≡ xs → r.first ≡ s.first → IsRow view s r
 empty_row view s xs none e r f g = record {
-  cells = λ i. (λ j. in_row (g j) ((f ∙ e) j) i) ∙ row_none view s none i;
+  cells = λ i. (λ j. at_index (g j) ((f ∙ e) j) i) ∙ row_none view s none i;
   bounded = subst AreNumbers (sym (f ∙ e)) (λ k n h. absurd (cc h));
 }
 
@@ -102,12 +103,12 @@ pub filled_row : (m : Arrays) (s : Section) (xs : List ℕ) (r : Row) → IsWith
     xs ≡ slice_range (row_of m s.array.0) s.first (end_of s) → AreNumbers xs →
     r.cells.items ≡ xs → r.first ≡ s.first → IsRow (view_of (lengths_of m) (memory_of m)) s r
 filled_row m s xs r w e b f g = record {
-  cells = λ i. (λ j. in_row (g j) ((f ∙ e) j) i) ∙ row_of_host m s w i;
+  cells = λ i. (λ j. at_index (g j) ((f ∙ e) j) i) ∙ row_of_host m s w i;
   bounded = subst AreNumbers (sym f) b;
 }
 
 pub row_of_zeros : (s : Section) (xs : List ℕ) → xs ≡ replicate s.length 0 → (i : ℕ) →
-    in_row s.first xs i ≡ in_run (every 0) s i
+    at_index s.first xs i ≡ in_run (every 0) s i
 row_of_zeros s xs e =
     row_from (every 0) s xs (ap length e ∙ length-replicate s.length 0)
     (λ i h. ap (λ ys. slice_get ys (i - s.first)) e
@@ -171,7 +172,7 @@ past_end (x ∷ xs) (suc i) e = let l = past_end xs i e in omega arith
 
 -- the cells of a frame
 abbrev pub by_row : ℕ → Option Row → Option ℕ
-by_row i o = elim o [ None ↦ None | Some r ↦ in_row r.first r.cells.items i ]
+by_row i o = elim o [ None ↦ None | Some r ↦ at_index r.first r.cells.items i ]
 
 abbrev by_run : View → Cell → Option Section → Option ℕ
 by_run view c o = if (elim o [ None ↦ false | Some s ↦ is_in c s ]) then view c else None

@@ -15,7 +15,7 @@ use Rattle.base.specs.Blocks.{holder}
 use Rattle.present.specs.Table.{Shows, with_created}
 use Rattle.base.proofs.Blocks.{holder_counted, holder_inside, holder_none, holder_some}
 use Rattle.present.proofs.Finds.{find_yes, find_no}
-use Rattle.present.proofs.Moves.{created_move, raised_move, entry_absent, entry_there, entry_part}
+use Rattle.base.proofs.Moves.{copied_blocks, created_move, raised_move, entry_absent, entry_there, entry_part}
 use Rattle.present.proofs.Orders.{Stored, parts, stored_parts}
 use Rattle.present.proofs.Rules.{enters}
 use Rattle.present.proofs.Shown.{stored_has}
@@ -88,10 +88,6 @@ entry_holds item blocks move h = go (presence blocks item.section) refl
               (holder_inside blocks item.section f.block c f.is f.inside i) refl);
         })
     go InPart e = absurd (cc (sym (entry_part item blocks e) ∙ h))
-
-copied_blocks : (b : Bool) (s : Section) (m : Memories) → (when b (copy_in s) m).device.blocks ≡ m.device.blocks
-copied_blocks true s m = refl
-copied_blocks false s m = refl
 
 enter_holds : (fill : Fill) (item : MapItem) (m next : Memories) → enter fill item m ≡ Some next →
     Holds item.section m.device.blocks next.device.blocks

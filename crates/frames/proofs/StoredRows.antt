@@ -9,8 +9,9 @@ use Rattle.base.specs.declared.item.Cell.{Cell}
 use Rattle.base.specs.Memory.{Memory, View, is_cell}
 use Rattle.base.specs.Map.{Device}
 use Rattle.kernel.specs.declared.frames.KeptRow.{KeptRow}
-use Rattle.kernel.specs.Rows.{cells_stored, in_row, where_marked}
-use Rattle.present.specs.Rows.{if_marked, marked_at, marked_in, with_numbers}
+use Rattle.base.specs.Rows.{at_index, if_marked}
+use Rattle.kernel.specs.Rows.{cells_stored}
+use Rattle.present.specs.Rows.{marked_at, marked_in, with_numbers}
 use Rattle.frames.specs.Views.{AreCells, with_stored}
 use Rattle.frames.proofs.Stores.{none_elsewhere}
 
@@ -40,13 +41,8 @@ module _ (rows : List KeptRow) where
   by_row : Cell → Option KeptRow → Option ℕ
   by_row c o = elim o [
     | None ↦ None
-    | Some r ↦ where_marked (in_row r.first r.stored.items c.index) (in_row r.first r.cells.items c.index)
+    | Some r ↦ if_marked (at_index r.first r.stored.items c.index) (at_index r.first r.cells.items c.index)
   ]
-
-  same_marks : (m : Option Bool) (o : Option ℕ) → where_marked m o ≡ if_marked m o
-  same_marks None o = refl
-  same_marks (Some false) o = refl
-  same_marks (Some true) o = refl
 
   -- a row is what is stored in its array
   pub row_stored : (r : KeptRow) (c : Cell) → slice_get rows c.array.0 ≡ Some r →
@@ -54,9 +50,8 @@ module _ (rows : List KeptRow) where
   row_stored r c e =
       ap (λ (o : Option KeptRow). elim o [
         | None ↦ None
-        | Some r ↦ where_marked (in_row r.first r.stored.items c.index) (in_row r.first r.cells.items c.index)
+        | Some r ↦ if_marked (at_index r.first r.stored.items c.index) (at_index r.first r.cells.items c.index)
       ]) e
-      ∙ same_marks (in_row r.first r.stored.items c.index) (in_row r.first r.cells.items c.index)
       ∙ sym (ap (λ (t : Bool). elim t [ true ↦ marked_at r.first r.cells.items r.stored.items c.index | false ↦ None ])
       (eq-eqb c.array.0 c.array.0 refl))
 
@@ -104,7 +99,7 @@ module _ (rows : List KeptRow) where
   none_behind n l c m =
       ap (λ (o : Option KeptRow). elim o [
         | None ↦ None
-        | Some r ↦ where_marked (in_row r.first r.stored.items c.index) (in_row r.first r.cells.items c.index)
+        | Some r ↦ if_marked (at_index r.first r.stored.items c.index) (at_index r.first r.cells.items c.index)
       ]) (slice_get_past rows c.array.0 (omega arith))
 
   pub none_high : (n : ℕ) → ((c : Cell) (k : ℕ) → cells_stored rows c ≡ Some k → c.array.0 < n) → (c : Cell) →

@@ -10,7 +10,8 @@ use Rattle.base.specs.declared.tree.ArrayId.{ArrayId}
 use Rattle.base.specs.declared.memory.Memory.{Memory as Arrays}
 use Rattle.base.specs.Memory.{Memory, View, is_in, within}
 use Rattle.base.specs.Arrays.{items_of, row_of}
-use Rattle.present.specs.Rows.{at_index, if_marked, marked_at, marked_in}
+use Rattle.base.specs.Rows.{at_index, if_marked}
+use Rattle.present.specs.Rows.{marked_at, marked_in}
 use Rattle.base.proofs.Sections.{in_parts, in_from}
 use Rattle.present.proofs.Shown.{within_in, within_out}
 use Rattle.present.proofs.Copies.{part_at}

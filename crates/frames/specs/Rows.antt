@@ -3,7 +3,7 @@ use Rattle.std.specs.Prelude.{ℕ, ◌≡◌, ◌<◌, ◌^◌, List, length, Op
 use Rattle.base.specs.declared.item.Section.{Section}
 use Rattle.base.specs.Memory.{View, is_in}
 use Rattle.kernel.specs.declared.frames.Row.{Row}
-use Rattle.kernel.specs.Rows.{in_row}
+use Rattle.base.specs.Rows.{at_index}
 use Rattle.present.specs.Rows.{IsLoaded}
 use Rattle.ranges.specs.Reach.{cell_of}
 
@@ -17,7 +17,7 @@ AreNumbers xs = (k n : ℕ) → slice_get xs k ≡ Some n → n < 2 ^ 64
 
 -- the row has the cells of a run, with numbers below 2^64
 pub record IsRow (view : View) (s : Section) (r : Row) : Type 0 where
-  pub cells : (i : ℕ) → in_row r.first r.cells.items i ≡ in_run view s i
+  pub cells : (i : ℕ) → at_index r.first r.cells.items i ≡ in_run view s i
   pub bounded : AreNumbers r.cells.items
 
 -- each of these rows has those of the run at its place

@@ -5,7 +5,8 @@ use Rattle.base.specs.Meaning.{Run, run_region}
 use Rattle.regions.specs.Footprints.{BoundedView}
 use Rattle.regions.specs.Certain.{RegionRuns, RunsToEnd}
 use Rattle.kernel.specs.declared.frames.Row.{Row}
-use Rattle.kernel.specs.Rows.{cells_of, in_row}
+use Rattle.base.specs.Rows.{at_index}
+use Rattle.kernel.specs.Rows.{cells_of}
 use Rattle.kernel.specs.Runnable.{RunsOn, AreNumbers, HaveNumbers}
 
 behind : (x : ℕ) (xs : List ℕ) → AreNumbers (x ∷ xs) → AreNumbers xs
@@ -16,7 +17,7 @@ number_at [] k n h e = absurd cc
 number_at (x ∷ xs) zero n h e = let same : x ≡ n = cc in subst (λ (m : ℕ). m < 2 ^ 64) same (h 0 0 (omega arith))
 number_at (x ∷ xs) (suc k) n h e = number_at xs k n (behind x xs h) e
 
-number_in : (first : ℕ) (xs : List ℕ) (i n : ℕ) → AreNumbers xs → in_row first xs i ≡ Some n → n < 2 ^ 64
+number_in : (first : ℕ) (xs : List ℕ) (i n : ℕ) → AreNumbers xs → at_index first xs i ≡ Some n → n < 2 ^ 64
 number_in first xs i n h e = go (nat_le first i) e
   where
     go : (b : Bool) → elim b [ true ↦ slice_get xs (i - first) | false ↦ None ] ≡ Some n → n < 2 ^ 64
@@ -24,7 +25,7 @@ number_in first xs i n h e = go (nat_le first i) e
     go false e = absurd cc
 
 row_number : (rows : List Row) (a i n : ℕ) → HaveNumbers rows →
-    elim (slice_get rows a) [ None ↦ None | Some r ↦ in_row r.first r.cells.items i ] ≡ Some n → n < 2 ^ 64
+    elim (slice_get rows a) [ None ↦ None | Some r ↦ at_index r.first r.cells.items i ] ≡ Some n → n < 2 ^ 64
 row_number [] a i n h e = absurd cc
 row_number (r ∷ rs) zero i n h e = number_in r.first r.cells.items i n h.0 e
 row_number (r ∷ rs) (suc a) i n h e = row_number rs a i n h.1 e

@@ -1,15 +1,9 @@
 -- Lists of numbers that agree at every place, where a number past the end is 0.
-use Rattle.std.proofs.Common.{◌≡◌, ℕ, zero, suc, ◌+◌, ◌<◌, ◌≤◌, List, length, take, set, replicate, refl, sym, ap, ◌∙◌, arith, ⊎_elim}
+use Rattle.std.proofs.Common.{◌≡◌, ℕ, zero, suc, ◌+◌, ◌<◌, ◌≤◌, List, length, set, replicate, refl, sym, ap, ◌∙◌, arith, ⊎_elim}
 use Rattle.std.specs.Prelude.{slice_index}
 use Rattle.std.proofs.lemmas.Bool.{cases_lt, cases_eq}
-use Rattle.std.proofs.lemmas.List.{get_or-take, get_or_past, get_or-set_same, get_or-set_other, length-take-le}
+use Rattle.std.proofs.lemmas.List.{get_or_past, get_or-set_same, get_or-set_other}
 use mathlib.Core.Path.{fun_ext}
-
--- the zeros at the end are left out
-pub without_zeros : (xs : List ℕ) (n : ℕ) → n ≤ length xs → ((k : ℕ) → n ≤ k → slice_index xs k ≡ 0) →
-    slice_index (take n xs) ≡ slice_index xs
-without_zeros xs n le zeros = fun_ext (λ (k : ℕ). ⊎_elim (λ lt. get_or-take n xs k 0 lt)
-    (λ ge. get_or_past (take n xs) k 0 (omega (arith, length-take-le n xs le, ge)) ∙ sym (zeros k ge)) (cases_lt k n))
 
 -- a list of zeros has taken the first numbers of another one
 pub record HasFirst (all xs : List ℕ) (n : ℕ) : Type 0 where

@@ -11,12 +11,6 @@ use Rattle.outline.specs.Shown.{all_shown, as_shown, shown, work_with}
 use Rattle.frames.proofs.RowViews.{past_end}
 use Rattle.lower.specs.Image.{IsRegionOf, region_of}
 
--- as many items as works
-pub as_many : (es : List Entry) (items : List Item) (works : List Work) → all_shown es items ≡ as_shown works →
-    length items ≡ length works
-as_many es items works e =
-    sym (length-map items (shown es)) ∙ ap (λ xs. length xs) e ∙ length-map works (λ w. Some w)
-
 -- an item and its work
 pub work_at : (es : List Entry) (items : List Item) (works : List Work) → all_shown es items ≡ as_shown works →
     (i : ℕ) (item : Item) (w : Work) → slice_get items i ≡ Some item → slice_get works i ≡ Some w →

@@ -18,6 +18,7 @@ use Rattle.ranges.specs.declared.cells.Footprint.{Footprint}
 use Rattle.mapwalk.specs.declared.rows.Acts.{Acts}
 use Rattle.mapwalk.specs.Laws.{actions_of, entry_actions, exit_actions, update_actions}
 use Rattle.mapwalk.specs.Regions.{AreTouches}
+use Rattle.mapwalk.proofs.RegionEffects.{actions_with, same_actions, touches_with}
 use Rattle.mapcheck.specs.declared.accesses.Accesses.{Accesses}
 use Rattle.mapcheck.specs.declared.items.Part.{Part}
 use Rattle.mapcheck.specs.declared.items.Part.TheVariants as part
@@ -87,30 +88,15 @@ idle x a actions r w h = subst (AreAccesses a) (sym (append-nil actions)) (recor
       ∙ ap (λ b. list_any (λ y. action_writes y loc c) actions || (b || false)) (w loc c) ∙ or-false _;
 })
 
-abbrev acts_with : (List Touch → Action) → Work → Option Region → List Action
-acts_with act w None = []
-acts_with act w (Some r) = act (touches_of r w.loops) ∷ []
-
-same_acts : (act : List Touch → Action) (w : Work) → (region_acts act w []).actions ≡ acts_with act w w.region
-same_acts act w = go w.region refl
-  where
-    go : (o : Option Region) → w.region ≡ o → (region_acts act w []).actions ≡ acts_with act w w.region
-    go None e = rw e refl
-    go (Some r) e = rw e refl
-
-abbrev touches_with : Work → Option Region → List Touch
-touches_with w None = []
-touches_with w (Some r) = touches_of r w.loops
-
 pub host_region : (w : Work) (f : Footprint) (old new : Accesses) → AreTouches w f →
     ((touches : List Touch) → HasTouches f touches → GrowsBy (HostRegion touches) old new) →
     ExtendsBy (region_acts HostRegion w []).actions old new
-host_region w f old new t h = subst (λ xs. ExtendsBy xs old new) (sym (same_acts HostRegion w)) (go w.region has)
+host_region w f old new t h = subst (λ xs. ExtendsBy xs old new) (sym (same_actions HostRegion w [])) (go w.region has)
   where
     has : HasTouches f (touches_with w w.region)
     has = record { read = t.read; write = t.write }
 
-    go : (o : Option Region) → HasTouches f (touches_with w o) → ExtendsBy (acts_with HostRegion w o) old new
+    go : (o : Option Region) → HasTouches f (touches_with w o) → ExtendsBy (actions_with HostRegion w o) old new
     go (Some r) k actions are = h (touches_of r w.loops) k actions are
     go None k actions are = idle (HostRegion []) new actions nothing nothing_written (h [] k actions are)
       where
@@ -127,12 +113,12 @@ host_region w f old new t h = subst (λ xs. ExtendsBy xs old new) (sym (same_act
 pub kernel_region : (w : Work) (f : Footprint) (old new : Accesses) → AreTouches w f →
     ((touches : List Touch) → HasTouches f touches → GrowsBy (Kernel touches) old new) →
     ExtendsBy (region_acts Kernel w []).actions old new
-kernel_region w f old new t h = subst (λ xs. ExtendsBy xs old new) (sym (same_acts Kernel w)) (go w.region has)
+kernel_region w f old new t h = subst (λ xs. ExtendsBy xs old new) (sym (same_actions Kernel w [])) (go w.region has)
   where
     has : HasTouches f (touches_with w w.region)
     has = record { read = t.read; write = t.write }
 
-    go : (o : Option Region) → HasTouches f (touches_with w o) → ExtendsBy (acts_with Kernel w o) old new
+    go : (o : Option Region) → HasTouches f (touches_with w o) → ExtendsBy (actions_with Kernel w o) old new
     go (Some r) k actions are = h (touches_of r w.loops) k actions are
     go None k actions are = idle (Kernel []) new actions nothing nothing_written (h [] k actions are)
       where

@@ -11,7 +11,8 @@ use Rattle.mapcheck.specs.declared.accesses.Accesses.{Accesses}
 use Rattle.mapcheck.specs.Collisions.{IsLeastConflict}
 use Rattle.mapcheck.specs.Unordered.{AreAccessesOf, AreOfItems, IsLeastUnordered}
 
-abbrev asked : Option Stage → Option Stage → Cell → Bool
+-- whether two items conflict on a cell
+abbrev pub asked : Option Stage → Option Stage → Cell → Bool
 asked o p c = elim o [ None ↦ false | Some s ↦ elim p [ None ↦ false | Some t ↦ conflict s t c ] ]
 
 least_asked : (x y : Option Stage) (a b : Accesses) (o : Option Cell) → AreAccessesOf x a → AreAccessesOf y b →

@@ -12,12 +12,13 @@ use Rattle.base.specs.declared.fault.Refusal.{Refusal}
 use Rattle.base.specs.declared.fault.RefusalCode.{RefusalCode}
 use Rattle.base.specs.declared.fault.RefusalCode.TheVariants.{OverlapsInPart, ExitOfAbsent, UpdateOfAbsent, Unmapped, HostNotCurrent, DeviceNotCurrent, Conflict}
 use Rattle.base.specs.Items.{Plan}
-use Rattle.base.specs.Actions.{Stage, conflict, stages}
+use Rattle.base.specs.Actions.{Stage, stages}
 use Rattle.base.specs.Accepted.{Conflicts, Fault, IsFault, IsFirstFault, IsRefusal, Order, Range, Refused, fault_key, key_less, refusal_rank}
 use Rattle.order.specs.Built.{HasNoClash}
 use Rattle.mapwalk.specs.declared.rows.Acts.{Acts}
 use Rattle.mapwalk.specs.Acts.{acts_rows}
 use Rattle.mapwalk.specs.Walk.{HasNoRangeFault, IsFirstAlone, IsFirstRefusal, IsSound, items_before, row_items}
+use Rattle.mapcheck.proofs.Pairs.{asked}
 use Rattle.mapcheck.specs.Third.{AreMarked, IsConflictIn, IsFirstIn, IsPassed, NoConflictBelow, NoneAlone}
 use Rattle.mapcheck.specs.Unordered.{IsConflictOf, IsFirstConflict}
 use Rattle.mapcheck.proofs.Accepting.{faultless}
@@ -66,9 +67,6 @@ split plan g h = go g.code g.other h
 
 no_false : {P : Type 0} → false ≡ true → P
 no_false e = absurd cc
-
-abbrev asked : Option Stage → Option Stage → Cell → Bool
-asked o p c = elim o [ None ↦ false | Some s ↦ elim p [ None ↦ false | Some t ↦ conflict s t c ] ]
 
 -- an item that conflicts is there
 conflict_inside : (plan : Plan) (i j : ℕ) (c : Cell) → Conflicts plan i j c → j < length plan.items

@@ -6,6 +6,7 @@ use Rattle.base.specs.Map.{Block, Move, Presence, Absent, Inside, InPart, blocks
 use Rattle.base.specs.Actions.{Acted, Action, Counts, Creates, CopiesIn, CopiesOut, Removes, Met, each_acts, entry_acts, exit_acts, here, only_if, update_acts}
 use Rattle.base.specs.Current.{Current, after_action, after_actions}
 use Rattle.base.specs.Accepted.{reads_stale}
+use Rattle.base.proofs.Moves.{update_acts_of}
 use Rattle.mapwalk.specs.declared.rows.Acts.{Acts}
 use Rattle.mapwalk.specs.Acts.{entered, entries_after, entry_of, entry_row, exit_of, exit_row, exits_after, left, moved, update_row, updated}
 use Rattle.mapwalk.specs.Seen.{entry_mets, exit_mets, update_mets}
@@ -145,19 +146,8 @@ all_left f (item ∷ maps) blocks =
     one_more (exit_acts f) item maps blocks next (exits_after maps next) (exit_of (f item) item blocks)
     (exit_row f maps next) (exit_mets maps next) (one_left (f item) item blocks (exit item blocks)) (all_left f maps next)
 
-abbrev updated_acts : MapItem → List Block → Presence → Acted
-updated_acts item blocks Absent = record { actions = Counts item.section true ∷ []; met = here item blocks; blocks = blocks }
-updated_acts item blocks InPart = record { actions = []; met = here item blocks; blocks = blocks }
-updated_acts item blocks (Inside b) =
-    record {
-      actions = Counts b.section true ∷
-          (only_if (copies_to item.kind) (CopiesIn item.section) ++ only_if (copies_from item.kind) (CopiesOut item.section));
-      met = here item blocks;
-      blocks = blocks;
-    }
-
 one_updated : (item : MapItem) (blocks : List Block) (at : Presence) →
-    IsOne item blocks (updated item at) blocks (updated_acts item blocks at)
+    IsOne item blocks (updated item at) blocks (update_acts_of item blocks at)
 one_updated item blocks Absent = record { met = refl; blocks_after = refl; current = λ k. refl; quiet = λ r k c. refl }
 one_updated item blocks InPart = record { met = refl; blocks_after = refl; current = λ k. refl; quiet = λ r k c. refl }
 one_updated item blocks (Inside b) =

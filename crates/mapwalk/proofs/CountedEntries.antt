@@ -12,8 +12,9 @@ use Rattle.base.specs.Accepted.{in_part, met_at}
 use Rattle.mapwalk.specs.Acts.{entries_after}
 use Rattle.mapwalk.specs.Laws.{AllWide, meets_in_part}
 use Rattle.mapwalk.specs.Seen.{entry_mets}
-use Rattle.mapwalk.proofs.HeldBlocks.{after_absent, after_inside, absent_at, counted_other, counted_same, find_added, find_kept, find_other, has_length, held, held_counted, inside_at, meets_itself, name, name_absent, name_inside, names, no_block, part_at, same_is, section_counted}
-use Rattle.base.proofs.Blocks.{find_yes, find_no, meets}
+use Rattle.base.proofs.Moves.{is_absent, is_there, is_part}
+use Rattle.mapwalk.proofs.HeldBlocks.{after_absent, after_inside, find_added, find_kept, find_other, has_length, held, held_counted, meets_itself, name, name_absent, name_inside, names, no_block, same_is, section_counted}
+use Rattle.base.proofs.Blocks.{find_yes, find_no, meets, counted_other, counted_same}
 
 -- how many of some entries are in a block
 
@@ -227,14 +228,14 @@ step f m blocks long h part = go (held m.section blocks) refl
     inner : (b : Block) → held m.section blocks ≡ Some b →
         (is_inside m.section b.section ≡ true) ⊎ (is_inside m.section b.section ≡ false) → Step f m blocks
     inner b e (inl i) =
-        let at = inside_at blocks m.section b e i in
+        let at = is_there blocks m.section b e i in
         step_from f m blocks b.section (map (counted b.section (b.count + 1)) blocks) (name_inside m blocks b at)
         (after_inside m blocks b at) (step_inside f m blocks b long h e i)
-    inner b e (inr i) = absurd (true≢false (sym (ap in_part (part_at blocks m.section b e i)) ∙ part))
+    inner b e (inr i) = absurd (true≢false (sym (ap in_part (is_part blocks m.section b e i)) ∙ part))
 
     go : (o : Option Block) → held m.section blocks ≡ o → Step f m blocks
     go None e =
-        let at = absent_at blocks m.section e in
+        let at = is_absent blocks m.section e in
         step_from f m blocks m.section (blocks ++ record { section = m.section; count = 1 } ∷ []) (name_absent m blocks at)
         (after_absent m blocks at) (step_absent f m blocks long h e)
     go (Some b) e = inner b e (cases_Bool (is_inside m.section b.section))

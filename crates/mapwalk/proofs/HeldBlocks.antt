@@ -103,30 +103,6 @@ has_length s t long i =
     let end : end_of t ≤ end_of s = leb-true (end_of t) (end_of s) (and_parts (nat_le s.first t.first) _ rest).1 in
     omega arith
 
--- where a section lies
-
-abbrev judged : Section → Option Block → Presence
-judged s None = Absent
-judged s (Some b) = if is_inside s b.section then Inside b else InPart
-
-presence_is : (blocks : List Block) (s : Section) → presence blocks s ≡ judged s (held s blocks)
-presence_is blocks s = go (held s blocks) refl
-  where
-    go : (o : Option Block) → held s blocks ≡ o → presence blocks s ≡ judged s (held s blocks)
-    go None e = rw e refl
-    go (Some b) e = rw e refl
-
-pub absent_at : (blocks : List Block) (s : Section) → held s blocks ≡ None → presence blocks s ≡ Absent
-absent_at blocks s e = presence_is blocks s ∙ ap (judged s) e
-
-pub inside_at : (blocks : List Block) (s : Section) (b : Block) → held s blocks ≡ Some b → is_inside s b.section ≡ true →
-    presence blocks s ≡ Inside b
-inside_at blocks s b e h = presence_is blocks s ∙ ap (judged s) e ∙ cond-true (is_inside s b.section) (Inside b) InPart h
-
-pub part_at : (blocks : List Block) (s : Section) (b : Block) → held s blocks ≡ Some b → is_inside s b.section ≡ false →
-    presence blocks s ≡ InPart
-part_at blocks s b e h = presence_is blocks s ∙ ap (judged s) e ∙ cond-false (is_inside s b.section) (Inside b) InPart h
-
 -- the block of an entry
 abbrev pub name : MapItem → List Block → Section
 name m blocks = (entry_of false m blocks).block
@@ -170,12 +146,6 @@ section_counted s n b = go (cases_Bool (same_section b.section s))
         ap (λ (x : Block). x.section) (cond-true (same_section b.section s) (record { section = s; count = n }) b e)
         ∙ sym (same_is b.section s e)
     go (inr e) = ap (λ (x : Block). x.section) (cond-false (same_section b.section s) (record { section = s; count = n }) b e)
-
-pub counted_same : (s : Section) (n : ℕ) (b : Block) → same_section b.section s ≡ true → counted s n b ≡ record { section = s; count = n }
-counted_same s n b e = cond-true (same_section b.section s) (record { section = s; count = n }) b e
-
-pub counted_other : (s : Section) (n : ℕ) (b : Block) → same_section b.section s ≡ false → counted s n b ≡ b
-counted_other s n b e = cond-false (same_section b.section s) (record { section = s; count = n }) b e
 
 pub held_counted : (u s : Section) (n : ℕ) (blocks : List Block) →
     held u (map (counted s n) blocks) ≡ option_map (counted s n) (held u blocks)

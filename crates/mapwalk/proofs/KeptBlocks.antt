@@ -12,9 +12,10 @@ use Rattle.base.specs.Map.{Block, Inside, blocks_after, counted, entry, exit, ex
 use Rattle.base.specs.Actions.{rests}
 use Rattle.mapwalk.specs.Acts.{entries_after, exit_of, exit_row}
 use Rattle.mapwalk.specs.Laws.{NoDelete, TargetsKeepBlocks, block_named}
-use Rattle.mapwalk.proofs.HeldBlocks.{counted_other, counted_same, entries_named, find_filtered, held, inside_at, names}
+use Rattle.base.proofs.Moves.{is_there}
+use Rattle.mapwalk.proofs.HeldBlocks.{entries_named, find_filtered, held, names}
 use Rattle.mapwalk.proofs.CountedEntries.{AllHeld, Enough, Stays, enough_found, enough_less, enough_same, one_same, stays_counted, steps, uses}
-use Rattle.base.proofs.Blocks.{meets}
+use Rattle.base.proofs.Blocks.{meets, counted_other, counted_same}
 
 -- the exits
 
@@ -112,7 +113,7 @@ exits_named f [] (t ∷ ts) blocks keeps long h held = absurd cc
 exits_named f (m ∷ maps) [] blocks keeps long h held = absurd held
 exits_named f (m ∷ maps) (t ∷ ts) blocks keeps long h held =
     let b : Block = record { section = t; count = held.0.count } in
-    let at = inside_at blocks m.section b held.0.is held.0.inside in
+    let at = is_there blocks m.section b held.0.is held.0.inside in
     let some : uses (t ∷ ts) t ≤ held.0.count = enough_found (uses (t ∷ ts)) (meets m.section) blocks b h held.0.is in
     let own = one_same t t (same_self t) in
     let less : uses ts t ≤ held.0.count - 1 = omega (arith, some, own) in

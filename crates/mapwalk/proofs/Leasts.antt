@@ -48,7 +48,8 @@ least_also p q (Some x) (Some y) h k = go (is_less y x) refl
     go false e =
         (or_left (p x) (q x) h.0, λ d t. ⊎_elim (h.1 d) (λ u. later_still y x d e (k.1 d u)) (or_cases (p d) (q d) t))
 
-abbrev first_of : Section → Section → Cell
+-- the first cell that two sections share, if they share one
+abbrev pub first_of : Section → Section → Cell
 first_of s t = record { array = s.array; index = max s.first t.first }
 
 is_shared : (s t : Section) → ((s.array.0 == t.array.0) && (nat_lt (max s.first t.first) (end_of s)

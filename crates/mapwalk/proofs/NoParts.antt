@@ -18,7 +18,9 @@ use Rattle.mapwalk.specs.Causes.{is_part_cell}
 use Rattle.mapwalk.specs.Kinds.{after_maps, met_by}
 use Rattle.mapwalk.specs.Laws.{AllWide, meets_in_part}
 use Rattle.mapwalk.specs.Seen.{entry_mets, exit_mets, update_mets}
-use Rattle.mapwalk.proofs.HeldBlocks.{absent_at, find_passes, held, no_block, section_counted}
+use Rattle.base.proofs.Moves.{is_absent}
+use Rattle.mapwalk.proofs.Leasts.{first_of}
+use Rattle.mapwalk.proofs.HeldBlocks.{find_passes, held, no_block, section_counted}
 use Rattle.base.proofs.Blocks.{find_yes, find_no, meets}
 
 -- each block has a cell
@@ -124,11 +126,8 @@ any_found p q (x ∷ blocks) b e h = go (λ f. any_found p q blocks b f h) (case
     go again (inl t) = or_left (q x) (list_any q blocks) (ap q (same_Some x b (sym (find_yes p x blocks t) ∙ e)) ∙ h)
     go again (inr t) = or_right (q x) (list_any q blocks) (again (sym (find_no p x blocks t) ∙ e))
 
-abbrev shared : Section → Section → Cell
-shared s t = record { array = s.array; index = max s.first t.first }
-
 shared_cell : (s t : Section) → 0 < s.length → 0 < t.length → overlaps t s ≡ true →
-    (is_in (shared s t) s ≡ true) × (is_in (shared s t) t ≡ true)
+    (is_in (first_of s t) s ≡ true) × (is_in (first_of s t) t ≡ true)
 shared_cell s t long other o =
     let array : t.array.0 ≡ s.array.0 = eqb-true t.array.0 s.array.0
     (and_parts _ (nat_lt t.first (end_of s) && nat_lt s.first (end_of t)) o).0 in
@@ -155,12 +154,12 @@ part_cell m long wide none = go (held m.item.section m.blocks) refl
     inner b e (inl t) =
         let both = shared_cell m.item.section b.section long (wide_found (meets m.item.section) m.blocks b wide e)
         (find_passes (meets m.item.section) m.blocks b e) in
-        let c = shared m.item.section b.section in
+        let c = first_of m.item.section b.section in
         let held_there = any_found (meets m.item.section) (λ x. is_in c x.section) m.blocks b e both.1 in
         absurd (true≢false (sym (and_from _ _ t (and_from _ _ both.0 held_there)) ∙ none c))
 
     go : (o : Option Block) → held m.item.section m.blocks ≡ o → in_part (met_at m) ≡ false
-    go None e = ap in_part (absent_at m.blocks m.item.section e)
+    go None e = ap in_part (is_absent m.blocks m.item.section e)
     go (Some b) e = inner b e (cases_Bool (in_part (met_at m)))
 
 pub no_part : (mets : List Met) → MetsWide mets → ((c : Cell) → list_any (is_part_cell c) mets ≡ false) →

@@ -38,16 +38,6 @@ work_at entries (y ∷ items) (w ∷ works) (suc i) x e h g =
     let at = work_at entries items works i x rest (omega arith) g in
     record { work = at.work; there = at.there; is = at.is }
 
-pub as_many : (entries : List Entry) (items : List Item) (works : List Work) → all_shown entries items ≡ as_shown works →
-    length items ≡ length works
-as_many entries [] [] e = refl
-as_many entries [] (w ∷ works) e = absurd cc
-as_many entries (y ∷ items) [] e = absurd cc
-as_many entries (y ∷ items) (w ∷ works) e =
-    let rest : all_shown entries items ≡ as_shown works = cc in
-    let same : length items ≡ length works = as_many entries items works rest in
-    omega arith
-
 pub no_fault_at : (plan : Plan) (i : ℕ) (w : Work) → HasNoRangeFault plan → slice_get plan.items i ≡ Some w →
     range_faults plan.lengths w ≡ []
 no_fault_at plan i w h e =

@@ -15,7 +15,8 @@ use Rattle.outline.specs.Parts.{parts_items}
 use Rattle.outline.specs.Shown.{shown, all_shown, as_shown}
 use Rattle.outline.proofs.Lengths.{list_is_parts}
 
-as_many : (es : List Entry) (items : List Item) (works : List Work) → all_shown es items ≡ as_shown works →
+-- as many items as works
+pub as_many : (es : List Entry) (items : List Item) (works : List Work) → all_shown es items ≡ as_shown works →
     length items ≡ length works
 as_many es items works e =
     sym (length-map items (shown es)) ∙ ap (λ xs. length xs) e ∙ length-map works (λ w. Some w)

@@ -1,22 +1,7 @@
--- The rows of a tree's statements and parts.
+-- The rows that the parts in a part have in its vector.
 use mathlib.Core.Former.{Count}
-use Rattle.base.specs.declared.tree.Stmt.{Stmt, Row_of-Stmt, end_of-Stmt}
-use Rattle.base.specs.declared.tree.Stmt.TheVariants.{Block', Loop', If'}
 use Rattle.base.specs.declared.tree.Part.{Part, Row_of-Part, end_of-Part}
 use Rattle.base.specs.declared.tree.Part.TheVariants as part
-
-abbrev pub StmtRow : Type 0
-StmtRow = (n : Count) × Row_of-Stmt n
-
-abbrev pub first_row : Stmt → StmtRow
-first_row (Block' _ row) = (_, row)
-first_row (Loop' _ _ row) = (_, row)
-first_row (If' _ _ row _ _) = (_, row)
-first_row _ = (_, end_of-Stmt)
-
-abbrev pub second_row : Stmt → StmtRow
-second_row (If' _ _ _ _ row) = (_, row)
-second_row _ = (_, end_of-Stmt)
 
 abbrev pub PartRow : Type 0
 PartRow = (n : Count) × Row_of-Part n

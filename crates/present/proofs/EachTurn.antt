@@ -14,7 +14,7 @@ use Rattle.present.specs.Change.{IsCountedAt, IsCountFault, IsOver, blocks_of}
 use Rattle.present.specs.Table.{Shows, Are, Does, Fails, CountsFit, SomeRoom, IsPartFault, capacity_of, fill_of, first_cell, memories, with_created, with_host, with_host_if}
 use Rattle.present.proofs.Entries.{is_absent_at, is_inside_at, opens_entry, opens_used, opens_shown, raises_entry, raises_shown, recount_used}
 use Rattle.present.proofs.Undone.{count_grows}
-use Rattle.present.proofs.Moves.{entry_absent}
+use Rattle.base.proofs.Moves.{entry_absent}
 use Rattle.present.proofs.Rules.{done, done_inside, enters, no_enter}
 use Rattle.present.proofs.Turns.{Found, found, present_from, turn_swaps, turn_keeps}
 

@@ -18,7 +18,7 @@ use Rattle.base.proofs.Sections.{in_parts, inside_in, inside_self, first_in}
 use Rattle.present.proofs.Orders.{cells_insert, cells_set}
 use Rattle.present.proofs.Founds.{at_block, absent_none}
 use Rattle.present.proofs.Shown.{presence_absent, presence_inside, presence_part, shows_created, shows_counted}
-use Rattle.present.proofs.Moves.{created_move, raised_move, entry_absent, entry_there, entry_part}
+use Rattle.base.proofs.Moves.{created_move, raised_move, entry_absent, entry_there, entry_part}
 use Rattle.present.proofs.BlockReads.{change_insert, change_set}
 
 pub get_replicate : (n i v : ℕ) → i < n → slice_get (replicate n v) i ≡ Some v

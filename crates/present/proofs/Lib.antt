@@ -1,7 +1,6 @@
 pub mod Finds
 pub mod Orders
 pub mod Founds
-pub mod Moves
 pub mod InUse
 pub mod Shown
 pub mod BlockReads

@@ -16,7 +16,7 @@ use Rattle.present.specs.Needed.{Covers, Meets, Takes, IsMetOr, IsFreeOr, IsNumb
 use Rattle.base.proofs.Sections.{common}
 use Rattle.present.proofs.Finds.{find_yes, find_no}
 use Rattle.base.proofs.Blocks.{meets, judge, presence_is, absent_from, holder_absent, holder_counted, holder_some, holder_none, counted_apart, more_apart}
-use Rattle.present.proofs.Moves.{is_absent, entry_absent, entry_there, entry_part}
+use Rattle.base.proofs.Moves.{is_absent, entry_absent, entry_there, entry_part}
 
 none_of : {A : Type 0} (o : Option A) → is_some o ≡ false → o ≡ None
 none_of None e = refl

@@ -6,7 +6,8 @@ use Rattle.std.proofs.lemmas.Option.{slice_get-get_or, slice_get_past}
 use Rattle.std.proofs.lemmas.List.Edits.{length-between}
 use Rattle.base.specs.Arrays.{overwritten}
 use Rattle.base.proofs.Places.{overwritten_before, overwritten_in, overwritten_after}
-use Rattle.present.specs.Rows.{Takes, at_index}
+use Rattle.base.specs.Rows.{at_index}
+use Rattle.present.specs.Rows.{Takes}
 use Rattle.present.proofs.Copies.{part_at}
 
 -- What stands at an index.

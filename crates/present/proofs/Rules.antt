@@ -20,7 +20,7 @@ use Rattle.present.proofs.Orders.{stored_each, cells_remove}
 use Rattle.present.proofs.Founds.{at_block}
 use Rattle.present.proofs.Shown.{shows_removed}
 use Rattle.present.proofs.BlockReads.{change_remove}
-use Rattle.present.proofs.Moves.{entry_part, exit_part, exit_absent, exit_there}
+use Rattle.base.proofs.Moves.{entry_part, exit_part, exit_absent, exit_there}
 use Rattle.present.proofs.Entries.{is_absent_at, is_inside_at, is_in_part, opens_entry, opens_shown, opens_inside, raises_entry, raises_shown, raises_inside, recount_shown, need_absent, need_inside, need_part}
 
 -- Entries.
@@ -155,14 +155,6 @@ pub no_enter : (t : Table) (item : MapItem) (host : Arrays) → IsSection item.s
 no_enter t item host w h d sh = ap (option_map _) (no_entry t item w h d sh)
 
 -- Updates.
-
-pub update_absent : (item : MapItem) (m : Memories) → presence m.device.blocks item.section ≡ Absent →
-    update item m ≡ Some m
-update_absent item m e = rw (e, update) refl
-
-pub update_part : (item : MapItem) (m : Memories) → presence m.device.blocks item.section ≡ InPart →
-    update item m ≡ None
-update_part item m e = rw (e, update) refl
 
 pub update_to : (s : Section) (m : Memories) (b : Present) → presence m.device.blocks s ≡ Inside b →
     update (item_to s) m ≡ Some (copy_in s m)

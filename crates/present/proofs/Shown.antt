@@ -12,7 +12,7 @@ use Rattle.base.specs.Blocks.{holder}
 use Rattle.base.proofs.Sections.{inside_in, same_in, same_self, first_in}
 use Rattle.present.proofs.Finds.{find_yes, find_no}
 use Rattle.base.proofs.Blocks.{meets, holder_absent, holder_inside, absent_from, inside_found, holder_counted, holder_some, holder_none, holder_outside, holder_removed, counted_apart, more_apart, fewer_apart}
-use Rattle.present.proofs.Moves.{is_absent, is_there, is_part}
+use Rattle.base.proofs.Moves.{is_absent, is_there, is_part}
 use Rattle.present.proofs.InUse.{in_use_created, in_use_counted, in_use_removed}
 
 pub within_in : {A : Type 0} (s : Section) (f g : Cell → A) (c : Cell) → is_in c s ≡ true → within s f g c ≡ f c

@@ -13,7 +13,7 @@ use Rattle.base.proofs.Sections.{same_parts}
 use Rattle.base.proofs.Blocks.{meets, judge, presence_is, find_yes, find_no, holder_absent, holder_inside}
 use Rattle.present.proofs.NeededCells.{absent_found}
 use Rattle.present.proofs.Shown.{within_in, within_out}
-use Rattle.present.proofs.Moves.{created_move, raised_move, entry_absent, entry_there, entry_part}
+use Rattle.base.proofs.Moves.{created_move, raised_move, entry_absent, entry_there, entry_part}
 use Rattle.present.proofs.Rules.{enters}
 
 -- A section that is present stays present.

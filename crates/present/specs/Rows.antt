@@ -1,21 +1,12 @@
 -- Rows: numbers for a run of cells of an array.
-use Rattle.std.specs.Prelude.{ℕ, ◌≡◌, ◌+◌, ◌-◌, ◌==◌, Bool, true, false, nat_le, List, length, Option, Some, None, option_map, option_and_then, slice_get, unwrap_or}
+use Rattle.std.specs.Prelude.{ℕ, ◌≡◌, ◌+◌, ◌-◌, ◌==◌, Bool, true, false, List, length, Option, Some, None, option_map, option_and_then, slice_get, unwrap_or}
 use Rattle.base.specs.declared.tree.ArrayId.{ArrayId}
 use Rattle.base.specs.declared.item.Cell.{Cell}
 use Rattle.base.specs.Memory.{View, is_in}
 use Rattle.base.specs.Map.{Device}
+use Rattle.base.specs.Rows.{at_index, if_marked}
 use Rattle.present.specs.declared.block.Block.{Block}
 use Rattle.present.specs.Blocks.{number_in, stored_at}
-
--- what stands at an index, where the first of the list has the index `first`
-abbrev pub at_index : {A : Type 0} → ℕ → List A → ℕ → Option A
-at_index first xs i = elim (nat_le first i) [ true ↦ slice_get xs (i - first) | false ↦ None ]
-
--- the number, where the mark is set
-abbrev pub if_marked : Option Bool → Option ℕ → Option ℕ
-if_marked None o = None
-if_marked (Some false) o = None
-if_marked (Some true) o = o
 
 -- the marked number at an index
 abbrev pub marked_at : ℕ → List ℕ → List Bool → ℕ → Option ℕ

@@ -3,7 +3,8 @@
 ghost use Rattle.std.specs.Prelude.{◌≡◌, ◌+◌, ◌≤◌, true, length};
 ghost use Rattle.base.specs.Map.{Device};
 ghost use Rattle.present.specs.Blocks.{are_stored, is_stored};
-ghost use Rattle.present.specs.Rows.{AreStoredIn, IsLoaded, IsStoredIn, Takes, at_index, marked_at, marked_in, numbers_of, view_in, with_numbers};
+ghost use Rattle.base.specs.Rows.{at_index};
+ghost use Rattle.present.specs.Rows.{AreStoredIn, IsLoaded, IsStoredIn, Takes, marked_at, marked_in, numbers_of, view_in, with_numbers};
 ghost use Rattle.present.specs.Table.{IsKept, Shows, number_at};
 
 use crate::Table;

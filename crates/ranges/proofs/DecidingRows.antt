@@ -7,7 +7,7 @@ use Rattle.base.specs.declared.tree.Expr.{Expr}
 use Rattle.base.specs.declared.tree.Bounds.{Bounds}
 use Rattle.base.specs.declared.tree.Stmt.{Stmt, Block, Loop, If, Row_of-Stmt, end_of-Stmt, more_of-Stmt, items-the_row-Stmt, items_hidden-the_row-Stmt-0}
 use Rattle.ranges.specs.Deciding.{expr_decided, stmt_decided, row_decided, list_decided}
-use Rattle.ranges.proofs.Touches.{first_row, second_row}
+use Rattle.base.proofs.StmtRows.{first_row, second_row}
 
 decided_list : (k : ℕ) (n : Count) (row : Row_of-Stmt n) → row_decided k row ≡ list_decided k (items-the_row-Stmt n row)
 decided_list k n end_of-Stmt = refl

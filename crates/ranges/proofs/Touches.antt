@@ -6,21 +6,11 @@ use mathlib.Core.Path.{fun_ext}
 use Rattle.base.specs.declared.tree.Expr.{Expr}
 use Rattle.base.specs.declared.tree.Bounds.{Bounds}
 use Rattle.base.specs.declared.tree.Stmt.{Stmt, Block, Loop, If, Row_of-Stmt, end_of-Stmt, more_of-Stmt, items-the_row-Stmt, items_hidden-the_row-Stmt-0}
-use Rattle.base.specs.declared.tree.Stmt.TheVariants.{Block', Loop', If'}
+use Rattle.base.proofs.StmtRows.{first_row, second_row}
 use Rattle.base.specs.Meaning.{turns_of}
 use Rattle.base.specs.Interval.{interval, is_known_zero, is_known_nonzero}
 use Rattle.base.specs.Footprint.{expr_touches, stmt_touches, row_touches, turns_touch, unless}
 use Rattle.ranges.specs.Seen.{list_touches, turns_from}
-
-abbrev pub first_row : Stmt → (n : Count) × Row_of-Stmt n
-first_row (Block' _ row) = (_, row)
-first_row (Loop' _ _ row) = (_, row)
-first_row (If' _ _ row _ _) = (_, row)
-first_row _ = (_, end_of-Stmt)
-
-abbrev pub second_row : Stmt → (n : Count) × Row_of-Stmt n
-second_row (If' _ _ _ _ row) = (_, row)
-second_row _ = (_, end_of-Stmt)
 
 row_is_list : (n : Count) (row : Row_of-Stmt n) (loops : List ℕ) (certain : Bool) →
     row_touches row loops certain ≡ list_touches (items-the_row-Stmt n row) loops certain

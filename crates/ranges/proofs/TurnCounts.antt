@@ -11,7 +11,7 @@ use Rattle.base.specs.declared.tree.Stmt.{Stmt, Block, Loop, If, Row_of-Stmt, en
 use Rattle.base.specs.Meaning.{turns_of}
 use Rattle.base.specs.Footprint.{stmt_turns, row_turns}
 use Rattle.ranges.specs.Seen.{list_turns}
-use Rattle.ranges.proofs.Touches.{first_row, second_row}
+use Rattle.base.proofs.StmtRows.{first_row, second_row}
 
 sum_from : (f : Stmt → ℕ) (first : Stmt) (rest : List Stmt) → sum_by f (first ∷ rest) ≡ f first + sum_by f rest
 sum_from f first rest = sum_by-cons f first rest

@@ -7,21 +7,8 @@ use mathlib.Core.Former.{Count}
 use Rattle.base.specs.declared.tree.Expr.{Expr}
 use Rattle.base.specs.declared.tree.Bounds.{Bounds}
 use Rattle.base.specs.declared.tree.Stmt.{Stmt, Block, Loop, If, Row_of-Stmt, end_of-Stmt, more_of-Stmt, items-the_row-Stmt, items_hidden-the_row-Stmt-0}
-use Rattle.base.specs.declared.tree.Stmt.TheVariants.{Block', Loop', If'}
+use Rattle.base.proofs.StmtRows.{StmtRow, first_row, second_row}
 use Rattle.regions.specs.Unread.{expr_reads_outer, stmt_reads_outer, row_reads_outer}
-
-abbrev StmtRow : Type 0
-StmtRow = (n : Count) × Row_of-Stmt n
-
-abbrev first_row : Stmt → StmtRow
-first_row (Block' _ row) = (_, row)
-first_row (Loop' _ _ row) = (_, row)
-first_row (If' _ _ row _ _) = (_, row)
-first_row _ = (_, end_of-Stmt)
-
-abbrev second_row : Stmt → StmtRow
-second_row (If' _ _ _ _ row) = (_, row)
-second_row _ = (_, end_of-Stmt)
 
 reads_list : (k : ℕ) (n : Count) (row : Row_of-Stmt n) → row_reads_outer k row ≡ list_any (stmt_reads_outer k)
     (items-the_row-Stmt n row)

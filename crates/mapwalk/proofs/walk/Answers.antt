@@ -16,7 +16,8 @@ use Rattle.mapwalk.proofs.Prints.{at_inside, found_at}
 use Rattle.mapwalk.proofs.Endings.{marked_at_end}
 use Rattle.mapwalk.proofs.Refusals.{first_alone, none_refused}
 use Rattle.mapwalk.proofs.SideRows.{lengths_count}
-use Rattle.mapwalk.proofs.Walking.{Reached, as_many, next, rows_before, work_at}
+use Rattle.outline.proofs.Builds.{as_many}
+use Rattle.mapwalk.proofs.Walking.{Reached, next, rows_before, work_at}
 use Rattle.mapwalk.proofs.walk.Goals as goal
 
 pub bounds-found-len : goal.bounds-found-len

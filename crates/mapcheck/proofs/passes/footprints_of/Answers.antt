@@ -8,7 +8,7 @@ use Rattle.mapwalk.specs.Footprints.{AreFirstFootprints}
 use Rattle.mapwalk.proofs.Copies.{item_at}
 use Rattle.mapwalk.proofs.Prints.{one_print}
 use Rattle.mapwalk.proofs.Touched.{no_region_fault}
-use Rattle.mapwalk.proofs.Walking.{as_many}
+use Rattle.outline.proofs.Builds.{as_many}
 use Rattle.mapcheck.specs.Passes.{IsCheckFault}
 use Rattle.mapcheck.proofs.FirstFaults.{first_fault, none_at_all, none_more}
 use Rattle.mapcheck.proofs.passes.footprints_of.Goals as goal

@@ -6,7 +6,7 @@ use Rattle.base.specs.Accepted.{section_faults}
 use Rattle.outline.specs.Regions.{entries_of}
 use Rattle.ranges.specs.Faults.{IsFirst}
 use Rattle.mapwalk.proofs.OneRegion.{shown_at}
-use Rattle.mapwalk.proofs.Walking.{as_many}
+use Rattle.outline.proofs.Builds.{as_many}
 use Rattle.mapcheck.proofs.ItemFaults.{as_region, region_fault, region_fine, sections_first}
 use Rattle.mapcheck.proofs.passes.item_footprint.Goals as goal
 

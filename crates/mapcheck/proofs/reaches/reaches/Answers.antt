@@ -4,7 +4,7 @@ use Rattle.base.specs.declared.item.Section.{Section}
 use Rattle.base.specs.Items.{plan}
 use Rattle.outline.specs.Regions.{entries_of}
 use Rattle.mapwalk.proofs.Copies.{item_at}
-use Rattle.mapwalk.proofs.Walking.{as_many}
+use Rattle.outline.proofs.Builds.{as_many}
 use Rattle.mapcheck.specs.Reaches.{AreFirstReaches}
 use Rattle.mapcheck.proofs.Reached.{one_reach}
 use Rattle.mapcheck.proofs.reaches.reaches.Goals as goal

@@ -2,7 +2,8 @@ use Rattle.std.proofs.Common.{◌+◌, length, sym, subst, List, arith}
 use Rattle.base.specs.Items.{plan}
 use Rattle.outline.specs.Regions.{entries_of}
 use Rattle.mapwalk.proofs.Prints.{found_at}
-use Rattle.mapwalk.proofs.Walking.{as_many, work_at}
+use Rattle.outline.proofs.Builds.{as_many}
+use Rattle.mapwalk.proofs.Walking.{work_at}
 use Rattle.mapcheck.specs.declared.accesses.Accesses.{Accesses}
 use Rattle.mapcheck.specs.Accesses.{AreAccesses}
 use Rattle.mapwalk.specs.declared.rows.Acts.{Acts}

@@ -4,7 +4,7 @@ use Rattle.std.proofs.lemmas.Option.{slice_get-get_or}
 use Rattle.base.specs.Items.{plan}
 use Rattle.outline.specs.Regions.{entries_of}
 use Rattle.mapwalk.proofs.OneRegion.{shown_at}
-use Rattle.mapwalk.proofs.Walking.{as_many}
+use Rattle.outline.proofs.Builds.{as_many}
 use Rattle.mapwalk.proofs.alike.earlier_alike.Goals as goal
 
 pub returns-then-touch_alike : goal.returns-then-touch_alike

@@ -4,7 +4,7 @@ use Rattle.base.specs.Items.{plan}
 use Rattle.mapwalk.specs.Repeats.{AreFirstRepeats, IsRepeat}
 use Rattle.outline.specs.Regions.{entries_of}
 use Rattle.mapwalk.proofs.OneRegion.{one_repeat}
-use Rattle.mapwalk.proofs.Walking.{as_many}
+use Rattle.outline.proofs.Builds.{as_many}
 use Rattle.mapwalk.proofs.alike.repeats.Goals as goal
 
 pub items-preserved : goal.items-preserved

@@ -3,7 +3,7 @@ use Rattle.base.specs.Items.{plan}
 use Rattle.outline.specs.Regions.{entries_of}
 use Rattle.mapwalk.proofs.Copies.{copied_fine, copied_found, repeat_at}
 use Rattle.mapwalk.proofs.OneRegion.{shown_at}
-use Rattle.mapwalk.proofs.Walking.{as_many}
+use Rattle.outline.proofs.Builds.{as_many}
 use Rattle.mapwalk.proofs.footprints.next_footprint.Goals as goal
 
 pub returns-in-Some-clause-found : goal.returns-in-Some-clause-found

@@ -4,7 +4,8 @@ use Rattle.present.specs.Found.{IsAbsentAt, IsInsideAt, IsInPart}
 use Rattle.present.specs.Blocks.{present}
 use Rattle.present.specs.Table.{Are, item_from, memories}
 use Rattle.present.proofs.Entries.{is_absent_at, is_inside_at, is_in_part}
-use Rattle.present.proofs.Rules.{update_absent, update_part, update_from}
+use Rattle.base.proofs.Moves.{update_absent, update_part}
+use Rattle.present.proofs.Rules.{update_from}
 use Rattle.present.proofs.Table.copy_out.Goals as goal
 
 pub returns-in-Absent-clause-copied : goal.returns-in-Absent-clause-copied

@@ -6,7 +6,7 @@ use Rattle.present.specs.declared.block.Block.{Block}
 use Rattle.present.specs.Found.{IsAbsentAt, IsInsideAt, IsInPart}
 use Rattle.present.specs.Change.{with_count}
 use Rattle.present.proofs.Founds.{one_block}
-use Rattle.present.proofs.Moves.{exit_part}
+use Rattle.base.proofs.Moves.{exit_part}
 use Rattle.present.proofs.Entries.{is_absent_at, is_in_part}
 use Rattle.present.proofs.Rules.{counts_out, counts_out_absent}
 use Rattle.present.proofs.Table.count_out.Goals as goal

@@ -1,5 +1,6 @@
 use Rattle.std.proofs.Common.{sym, subst, arith}
-use Rattle.present.specs.Rows.{Takes, at_index}
+use Rattle.base.specs.Rows.{at_index}
+use Rattle.present.specs.Rows.{Takes}
 use Rattle.present.proofs.RowParts.{taken_none, taken_part}
 use Rattle.present.proofs.rows.load_values.Goals as goal
 

@@ -4,7 +4,8 @@ use Rattle.base.specs.declared.tree.Program.{Program}
 use Rattle.base.specs.Items.{plan}
 use Rattle.outline.specs.Regions.{entries_of}
 use Rattle.lower.specs.Image.{region_of}
-use Rattle.lower.proofs.Images.{as_many, code_none, code_some, code_there}
+use Rattle.outline.proofs.Builds.{as_many}
+use Rattle.lower.proofs.Images.{code_none, code_some, code_there}
 use Rattle.lower.proofs.image.Image.code.Goals as goal
 
 pub index-requires : goal.index-requires

@@ -1,12 +1,15 @@
--- Entries and exits, by where their sections lie.
-use Rattle.std.proofs.Common.{◌≡◌, ◌+◌, true, false, ◌==◌, List, [], ◌∷◌, ◌++◌, map, Some, None, refl, ◌∙◌, ap}
+-- Entries, exits and updates, by where their sections lie.
+use Rattle.std.proofs.Common.{◌≡◌, ◌+◌, Bool, true, false, ◌==◌, List, [], ◌∷◌, ◌++◌, map, Option, Some, None, refl, ◌∙◌, ap}
 use Rattle.std.specs.Prelude.{if◌then◌else◌, find}
 use Rattle.std.proofs.lemmas.Bool.{cond-true, cond-false}
 use Rattle.base.specs.declared.item.Section.{Section}
 use Rattle.base.specs.declared.item.MapItem.{MapItem}
 use Rattle.base.specs.Memory.{is_inside}
-use Rattle.base.specs.Map.{Block, Move, Absent, Inside, InPart, presence, counted, without, entry, exit, entry_copies, exit_copies, exit_count}
+use Rattle.base.specs.Map.{Block, Memories, Move, Presence, Absent, Inside, InPart, copies_from, copies_to, copy_in, copy_out, counted, entry, entry_copies, exit, exit_copies, exit_count, presence, update, when, without}
+use Rattle.base.specs.Actions.{Acted, CopiesIn, CopiesOut, Counts, here, only_if}
 use Rattle.base.proofs.Blocks.{meets, judge, presence_is}
+
+-- Where a section lies.
 
 pub is_absent : (blocks : List Block) (s : Section) → find (meets s) blocks ≡ None → presence blocks s ≡ Absent
 is_absent blocks s e = presence_is blocks s ∙ ap (judge s) e
@@ -24,6 +27,8 @@ pub is_part : (blocks : List Block) (s : Section) (b : Block) →
     presence blocks s ≡ InPart
 is_part blocks s b e i = presence_is blocks s ∙
     (ap (judge s) e ∙ cond-false (is_inside s b.section) (Inside b) InPart i)
+
+-- Entries.
 
 abbrev pub created_move : MapItem → List Block → Move
 created_move item blocks = record {
@@ -55,6 +60,8 @@ pub entry_part : (item : MapItem) (blocks : List Block) → presence blocks item
     entry item blocks ≡ None
 entry_part item blocks e = rw (e, entry) refl
 
+-- Exits.
+
 abbrev pub ignored_move : MapItem → List Block → Move
 ignored_move item blocks = record { block = item.section; changes = false; copies = false; blocks = blocks }
 
@@ -78,6 +85,41 @@ pub exit_there : (item : MapItem) (blocks : List Block) (b : Block) →
     exit item blocks ≡ Some (lowered_move item b blocks)
 exit_there item blocks b e = rw (e, exit) refl
 
-pub exit_part : (item : MapItem) (blocks : List Block) → presence blocks item.section ≡ InPart →
-    exit item blocks ≡ None
+pub exit_part : (item : MapItem) (blocks : List Block) → presence blocks item.section ≡ InPart → exit item blocks ≡ None
 exit_part item blocks e = rw (e, exit) refl
+
+-- Updates.
+
+-- the memories after an update
+abbrev pub update_at : MapItem → Memories → Presence → Option Memories
+update_at item m Absent = Some m
+update_at item m (Inside b) =
+    Some (when (copies_from item.kind) (copy_out item.section) (when (copies_to item.kind) (copy_in item.section) m))
+update_at item m InPart = None
+
+-- what it does to the section
+abbrev pub update_acts_of : MapItem → List Block → Presence → Acted
+update_acts_of item blocks Absent =
+    record { actions = Counts item.section true ∷ []; met = here item blocks; blocks = blocks }
+update_acts_of item blocks InPart = record { actions = []; met = here item blocks; blocks = blocks }
+update_acts_of item blocks (Inside b) = record {
+  actions =
+      Counts b.section true ∷
+      (only_if (copies_to item.kind) (CopiesIn item.section) ++ only_if (copies_from item.kind)
+      (CopiesOut item.section));
+  met = here item blocks;
+  blocks = blocks;
+}
+
+pub update_absent : (item : MapItem) (m : Memories) → presence m.device.blocks item.section ≡ Absent →
+    update item m ≡ Some m
+update_absent item m e = rw (e, update) refl
+
+pub update_part : (item : MapItem) (m : Memories) → presence m.device.blocks item.section ≡ InPart →
+    update item m ≡ None
+update_part item m e = rw (e, update) refl
+
+-- copies leave the blocks
+pub copied_blocks : (b : Bool) (s : Section) (m : Memories) → (when b (copy_in s) m).device.blocks ≡ m.device.blocks
+copied_blocks true s m = refl
+copied_blocks false s m = refl
