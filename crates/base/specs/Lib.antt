@@ -15,5 +15,6 @@ pub mod Current
 pub mod Accepted
 pub mod Headline
 pub mod Answer
+pub mod Codes
 pub mod Limits
 pub mod Rows

@@ -1,69 +1,89 @@
 // Why a program is refused, and why a run stops.
 
+ghost use Rattle.std.specs.Prelude.{◌≡◌};
+ghost use Rattle.base.specs.Codes.{range_code, read_code, refusal_code};
+
 use crate::item::Cell;
+use std::fmt::{self, Display, Formatter};
 use thiserror::Error;
 
 /// The rules of the language that a text can break, in the order in which they are answered at one token.
-#[derive(Clone, Copy, Debug, Error)]
+#[derive(Clone, Copy, Debug)]
 pub enum ReadCode {
     /// A byte that begins no token, or a comment without end.
-    #[error("E101")]
     UnknownByte,
     /// A token that the grammar does not allow there.
-    #[error("E102")]
     Unexpected,
     /// A name that is not declared, or not of the kind that its place needs.
-    #[error("E103")]
     Undeclared,
     /// A declared name that is visible already.
-    #[error("E104")]
     AlreadyDeclared,
     /// A number above 2^64 - 1, or with a superfluous leading zero.
-    #[error("E105")]
     BadNumber,
     /// An array length outside 1 to 65,536.
-    #[error("E106")]
     BadLength,
-    #[error("E107")]
     LoopNameAssigned,
     /// A divisor or shift count that is no literal or out of range; a step of 0; a loop that would wrap.
-    #[error("E108")]
     BadOperand,
     /// Too many open brackets.
-    #[error("E109")]
     TooDeep,
     /// Another limit.
-    #[error("E110")]
     TooMany,
-    #[error("E201")]
     UnknownDirective,
     /// A clause that the directive does not take, or no clause.
-    #[error("E202")]
     UnknownClause,
     /// A clause that is missing, or stands twice.
-    #[error("E203")]
     ClauseCount,
-    #[error("E204")]
     BadMapType,
     /// A token that does not fit in the bounds of a section.
-    #[error("E205")]
     BadBound,
     /// An array twice in one directive.
-    #[error("E206")]
     ArrayTwice,
-    #[error("E207")]
     DirectiveInTarget,
     /// Inside a target, an assignment to a scalar declared outside it.
-    #[error("E208")]
     OuterAssigned,
     /// `print` or `read` inside a target.
-    #[error("E209")]
     HostOnly,
     /// A directive that needs a block or loop, and none follows.
-    #[error("E210")]
     NoBody,
-    #[error("E211")]
     DirectiveUnderIf,
+}
+
+impl ReadCode {
+    /// The code as it is printed.
+    pub fn as_str(self) -> &'static str
+        ensures { result.now ≡ read_code self }
+    {
+        match self {
+            ReadCode::UnknownByte => "E101",
+            ReadCode::Unexpected => "E102",
+            ReadCode::Undeclared => "E103",
+            ReadCode::AlreadyDeclared => "E104",
+            ReadCode::BadNumber => "E105",
+            ReadCode::BadLength => "E106",
+            ReadCode::LoopNameAssigned => "E107",
+            ReadCode::BadOperand => "E108",
+            ReadCode::TooDeep => "E109",
+            ReadCode::TooMany => "E110",
+            ReadCode::UnknownDirective => "E201",
+            ReadCode::UnknownClause => "E202",
+            ReadCode::ClauseCount => "E203",
+            ReadCode::BadMapType => "E204",
+            ReadCode::BadBound => "E205",
+            ReadCode::ArrayTwice => "E206",
+            ReadCode::DirectiveInTarget => "E207",
+            ReadCode::OuterAssigned => "E208",
+            ReadCode::HostOnly => "E209",
+            ReadCode::NoBody => "E210",
+            ReadCode::DirectiveUnderIf => "E211",
+        }
+    }
+}
+
+impl Display for ReadCode {
+    fn fmt<W: fmt::Write>(&self, f: &mut Formatter<W>) -> fmt::Result {
+        f.write_str(self.as_str())
+    }
 }
 
 /// A rule that a text breaks, and where. Lines and columns (in bytes) count from 1.
@@ -102,17 +122,33 @@ pub struct Interval {
 }
 
 /// The faults of range, in the order in which they are looked for.
-#[derive(Clone, Copy, Debug, Error)]
+#[derive(Clone, Copy, Debug)]
 pub enum RangeCode {
     /// A section is empty or leaves its array.
-    #[error("E302")]
     SectionOutside,
     /// A region has more turns than the limit.
-    #[error("E303")]
     TooManyTurns,
     /// A subscript can leave its array.
-    #[error("E301")]
     SubscriptOutside,
+}
+
+impl RangeCode {
+    /// The code as it is printed.
+    pub fn as_str(self) -> &'static str
+        ensures { result.now ≡ range_code self }
+    {
+        match self {
+            RangeCode::SectionOutside => "E302",
+            RangeCode::TooManyTurns => "E303",
+            RangeCode::SubscriptOutside => "E301",
+        }
+    }
+}
+
+impl Display for RangeCode {
+    fn fmt<W: fmt::Write>(&self, f: &mut Formatter<W>) -> fmt::Result {
+        f.write_str(self.as_str())
+    }
 }
 
 #[derive(Clone, Copy, Debug, Error)]
@@ -133,27 +169,43 @@ pub struct OrderFault {
 }
 
 /// Why an item is refused, in ascending order.
-#[derive(Clone, Copy, Debug, Error)]
+#[derive(Clone, Copy, Debug)]
 pub enum RefusalCode {
     /// A mapped or updated section overlaps a present block without lying inside it.
-    #[error("E501")]
     OverlapsInPart,
-    #[error("E502")]
     ExitOfAbsent,
-    #[error("E503")]
     UpdateOfAbsent,
     /// A kernel reads or writes a cell in none of its target's map items.
-    #[error("E504")]
     Unmapped,
     /// A host item has an exposed read of a cell that is not current on the host.
-    #[error("E506")]
     HostNotCurrent,
     /// A kernel has an exposed read of a cell that is not current on the device.
-    #[error("E507")]
     DeviceNotCurrent,
     /// Two items conflict, and neither is before the other.
-    #[error("E508")]
     Conflict,
+}
+
+impl RefusalCode {
+    /// The code as it is printed.
+    pub fn as_str(self) -> &'static str
+        ensures { result.now ≡ refusal_code self }
+    {
+        match self {
+            RefusalCode::OverlapsInPart => "E501",
+            RefusalCode::ExitOfAbsent => "E502",
+            RefusalCode::UpdateOfAbsent => "E503",
+            RefusalCode::Unmapped => "E504",
+            RefusalCode::HostNotCurrent => "E506",
+            RefusalCode::DeviceNotCurrent => "E507",
+            RefusalCode::Conflict => "E508",
+        }
+    }
+}
+
+impl Display for RefusalCode {
+    fn fmt<W: fmt::Write>(&self, f: &mut Formatter<W>) -> fmt::Result {
+        f.write_str(self.as_str())
+    }
 }
 
 #[derive(Clone, Copy, Debug, Error)]

@@ -2,39 +2,15 @@
 
 ghost use Rattle.std.specs.Prelude.{◌≡◌, IfOk, OnOk, string_bytes};
 ghost use Rattle.std.specs.Io.KnownBytes.{Appends};
-ghost use Rattle.report.specs.Refusals.{cell_line, cell_text, check_line, other_text, place_text, range_line, range_word, refusal_word};
+ghost use Rattle.report.specs.Refusals.{cell_line, cell_text, check_line, other_text, place_text, range_line};
 
 use crate::listing::name_of;
-use base::fault::{CheckFault, RangeCode, RangeFault, RefusalCode};
+use base::fault::{CheckFault, RangeFault};
 use base::item::Cell;
 use base::tree::Program;
 use std::alloc::{AllocError, Global};
 use std::io;
 use std::io::Write;
-
-fn range_word(code: RangeCode) -> &'static str
-    ensures { result.now ≡ range_word code }
-{
-    match code {
-        RangeCode::SubscriptOutside => "E301",
-        RangeCode::SectionOutside => "E302",
-        RangeCode::TooManyTurns => "E303",
-    }
-}
-
-fn refusal_word(code: RefusalCode) -> &'static str
-    ensures { result.now ≡ refusal_word code }
-{
-    match code {
-        RefusalCode::OverlapsInPart => "E501",
-        RefusalCode::ExitOfAbsent => "E502",
-        RefusalCode::UpdateOfAbsent => "E503",
-        RefusalCode::Unmapped => "E504",
-        RefusalCode::HostNotCurrent => "E506",
-        RefusalCode::DeviceNotCurrent => "E507",
-        RefusalCode::Conflict => "E508",
-    }
-}
 
 fn cell_text(alloc: Global, program: &Program, cell: Cell) -> Result<String, AllocError>
     ensures { IfOk result (λ text. string_bytes text ≡ cell_text program.now cell) }
@@ -77,7 +53,7 @@ fn range_line(alloc: Global, item: u32, fault: RangeFault) -> Result<String, All
     ensures { IfOk result (λ text. string_bytes text ≡ range_line item fault) }
 {
     let place = place_text(alloc, fault.line, fault.column)?;
-    format!(in alloc; "{} item {}{}\n", range_word(fault.code), item, place)
+    format!(in alloc; "{} item {}{}\n", fault.code.as_str(), item, place)
 }
 
 fn check_line(alloc: Global, program: &Program, fault: &CheckFault) -> Result<String, AllocError>
@@ -87,14 +63,7 @@ fn check_line(alloc: Global, program: &Program, fault: &CheckFault) -> Result<St
         CheckFault::Range { item, fault } => range_line(alloc, *item, *fault),
         CheckFault::Order(f) => cell_line(alloc, program, "E505", f.item, f.cell, Some(f.other)),
         CheckFault::Refused(r) => {
-            cell_line(
-                alloc,
-                program,
-                refusal_word(r.code),
-                r.item,
-                r.cell,
-                r.other,
-            )
+            cell_line(alloc, program, r.code.as_str(), r.item, r.cell, r.other)
         }
         CheckFault::OutOfMemory => format!(in alloc; "F1\n"),
     }
