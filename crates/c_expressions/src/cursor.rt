@@ -82,7 +82,6 @@ impl<'a> Cursor<'a> {
     }
 
     /// The fault at the next token, which may not stand there: in its place another one has the code.
-    #[tactic(auto, using(crate::proofs::Misfits::unknown_misfits, crate::proofs::Misfits::number_misfits, crate::proofs::Misfits::long_misfits, crate::proofs::Misfits::short_misfits, crate::proofs::Misfits::foreign_misfits, crate::proofs::Misfits::line_misfits, crate::proofs::Misfits::others_misfit))]
     pub fn misfit(&self, code: ReadCode) -> TextFault
         ensures { result ≡ misfit_at (Some (rule_here code)) (first_item self.now) }
     {
@@ -145,7 +144,6 @@ impl<'a> Cursor<'a> {
     }
 
     /// Goes past that sign.
-    #[tactic(auto, using(crate::proofs::Going::stop_want, crate::proofs::Going::go_plain, crate::proofs::Going::went))]
     pub fn expect(&mut self, sign: Sign) -> Result<(), ReadError>
         ensures read { (c : Context) (s : Stack) → Outcome result (run c (m sign ∷ s) (items self.old))
             (run (out c) s (items self.new)) }
@@ -178,7 +176,6 @@ impl<'a> Cursor<'a> {
     }
 
     /// Goes past that word.
-    #[tactic(auto, using(crate::proofs::Going::stop_fixed, crate::proofs::Going::go_fixed, crate::proofs::Going::went))]
     pub fn expect_word(&mut self, word: Word) -> Result<(), ReadError>
         ensures read { (c : Context) (s : Stack) → Outcome result (run c (w (seen_word word) ∷ s) (items self.old))
             (run (out c) s (items self.new)) }

@@ -135,7 +135,6 @@ impl Scope<'_> {
 
     /// What is read joined by the operator that stands next with the operand behind it.
     #[cycle(expr)]
-    #[tactic(auto, using(crate::proofs::Outcomes::on_from, crate::proofs::Terms::go_operator, crate::proofs::Terms::sign_sound))]
     fn joined(
         &self,
         tokens: &mut Cursor<'_>,
@@ -242,7 +241,6 @@ impl Scope<'_> {
 
     /// The operator that stands next and its operand.
     #[cycle(expr)]
-    #[tactic(auto, using(crate::proofs::Outcomes::on_from, crate::proofs::Terms::prefix_operand, crate::proofs::Terms::sign_sound, crate::proofs::Expressions::read_prefix))]
     fn prefixed(
         &self,
         tokens: &mut Cursor<'_>,
@@ -340,7 +338,6 @@ impl Scope<'_> {
     }
 
     /// An expression before the sign that ends it, which is left.
-    #[tactic(auto, using(crate::proofs::Outcomes::on_from, crate::proofs::Terms::skip_tail, crate::proofs::Expressions::read_term))]
     pub fn value(&self, tokens: &mut Cursor<'_>, tally: &mut Tally) -> Result<Expr, ReadError>
         ensures read { (x : Sign) (act : Act) (s : Stack) → Outcome result
             (run (context_of self.now 0 tally.old.tokens) (Atom ∷ Tail 9 ∷ Want (Mark x) (for act) ∷ s)
@@ -352,7 +349,6 @@ impl Scope<'_> {
     }
 
     /// An expression and the sign behind it.
-    #[tactic(auto, using(crate::proofs::Outcomes::on_from, crate::proofs::Expressions::read_before))]
     pub fn expr(&self, tokens: &mut Cursor<'_>, closing: Sign) -> Result<Expr, ReadError>
         ensures read { (s : Stack) → Outcome result
             (run (context_of self.now 0 0) (Atom ∷ Tail 9 ∷ m closing ∷ s) (items tokens.old))

@@ -42,7 +42,6 @@ impl Cursor<'_> {
     }
 
     /// Goes past the step of a loop with that limit.
-    #[tactic(auto, using(crate::proofs::Numbers::go_step, crate::proofs::Numbers::zero_step, crate::proofs::Numbers::large_step))]
     pub fn step(&mut self, limit: u64) -> Result<u64, ReadError>
         ensures read { (c : Context) (s : Stack) → Outcome result
             (run (limited limit c) (WantNum Step ∷ s) (items self.old)) (run (limited limit c) s (items self.new)) }

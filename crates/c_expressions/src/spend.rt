@@ -67,7 +67,6 @@ impl Scope<'_> {
     }
 
     /// Goes past a divisor.
-    #[tactic(auto, using(crate::proofs::Fractions::zero_divisor, crate::proofs::Fractions::many_divisor, crate::proofs::Fractions::go_divisor))]
     pub fn divisor(&self, tokens: &mut Cursor<'_>, tally: &mut Tally) -> Result<Divisor, ReadError>
         ensures read { (d : ℕ) (o : DivideOp) (s : Stack) →
             Outcome result (run (context_of self.now d tally.old.tokens) (Fractional (divide_of o) ∷ s)

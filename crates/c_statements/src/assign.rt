@@ -129,7 +129,6 @@ fn assigned_source(scope: &Scope<'_>, tokens: &mut Cursor<'_>) -> Result<Source,
 }
 
 /// What is stored, behind an array's name: the subscript and the value.
-#[tactic(auto, using(c_expressions::proofs::Outcomes::on_from, crate::proofs::Assigns::array_name, crate::proofs::Stores::read_store_rest))]
 fn element(scope: &Scope<'_>, tokens: &mut Cursor<'_>) -> Result<(Expr, Source), ReadError>
     requires { same (Mark sign.Equal) (first_item tokens.old).terminal ≡ false }
     ensures read { (s : Stack) → Outcome result (run (context_of scope.now 0 0) (AfterName ∷ s) (items tokens.old))
@@ -142,7 +141,6 @@ fn element(scope: &Scope<'_>, tokens: &mut Cursor<'_>) -> Result<(Expr, Source),
 }
 
 /// The statement that begins with the name that stands next.
-#[tactic(auto, using(c_expressions::proofs::Outcomes::on_from, crate::proofs::Assigns::scalar_name, crate::proofs::Assigns::stop_name, crate::proofs::Stores::read_assign, crate::proofs::Stores::read_store))]
 pub fn assigned(
     scope: &mut Scope<'_>,
     tokens: &mut Cursor<'_>,

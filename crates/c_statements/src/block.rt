@@ -20,7 +20,6 @@ use c_tokens::Sign;
 use c_tokens::limits::{MAX_BRACES, MAX_STATEMENTS};
 
 /// Goes past the brace with which a body begins, that of a loop with its name.
-#[tactic(auto, using(crate::proofs::Braces::stop_opens, crate::proofs::Braces::deep_opens, c_expressions::proofs::Going::was_mark))]
 pub fn open_body<'a>(
     scope: &mut Scope<'a>,
     tokens: &mut Cursor<'a>,

@@ -38,7 +38,6 @@ fn begin_print(scope: &mut Scope<'_>, tokens: &mut Cursor<'_>) -> Result<(), Rea
 }
 
 /// What is printed, behind the word.
-#[tactic(auto, using(c_expressions::proofs::Outcomes::on_from, crate::proofs::Prints::read_print_rest))]
 fn print_value(scope: &Scope<'_>, tokens: &mut Cursor<'_>) -> Result<Expr, ReadError>
     ensures read { (s : Stack) → Outcome result (run (context_of scope.now 0 0) (print_rest s) (items tokens.old))
         (run (context_of scope.now 0 0) s (items tokens.new)) }
@@ -51,7 +50,6 @@ fn print_value(scope: &Scope<'_>, tokens: &mut Cursor<'_>) -> Result<Expr, ReadE
 }
 
 /// A print, whose word stands next.
-#[tactic(auto, using(c_expressions::proofs::Outcomes::on_from, crate::proofs::Prints::read_print))]
 pub fn printed(scope: &mut Scope<'_>, tokens: &mut Cursor<'_>) -> Result<Stmt, ReadError>
     requires { (first_item tokens.old).terminal ≡ Fixed Print }
     ensures read { (s : Stack) → Outcome result (took (context_of scope.old 0 0) (for Prints) (print_rest s)

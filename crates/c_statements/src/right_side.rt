@@ -54,7 +54,6 @@ fn input(scope: &Scope<'_>, tokens: &mut Cursor<'_>) -> Result<(), ReadError>
 }
 
 /// The expression that stands next, before a semicolon.
-#[tactic(auto, using(c_expressions::proofs::Outcomes::on_from, crate::proofs::Sources::not_read, crate::proofs::Sources::value_ends, crate::proofs::Sources::value_stops, crate::proofs::Sources::read_value))]
 fn value(scope: &Scope<'_>, tokens: &mut Cursor<'_>) -> Result<Expr, ReadError>
     requires { same (Fixed Read) (first_item tokens.old).terminal ≡ false }
     ensures read { (b : Bool) (s : Stack) → Outcome result (run (context_of scope.now 0 0) (Value ∷ ending b ∷ s)
@@ -103,7 +102,6 @@ pub fn source(scope: &Scope<'_>, tokens: &mut Cursor<'_>) -> Result<Source, Read
 }
 
 /// What is assigned, and the semicolon behind it.
-#[tactic(auto, using(c_expressions::proofs::Outcomes::on_from, crate::proofs::Sources::go_end, crate::proofs::Sources::read_ended))]
 pub fn ended_source(scope: &Scope<'_>, tokens: &mut Cursor<'_>) -> Result<Source, ReadError>
     ensures read { (s : Stack) → Outcome result (run (context_of scope.now 0 0) (Value ∷ m sign.Semicolon ∷ s)
         (items tokens.old)) (run (context_of scope.now 0 0) s (items tokens.new)) }

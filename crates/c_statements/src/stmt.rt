@@ -57,7 +57,6 @@ pub fn statement<'a>(scope: &mut Scope<'a>, tokens: &mut Cursor<'a>) -> Result<S
 
 /// The loop whose word stands next.
 #[cycle(statement)]
-#[tactic(auto, using(c_expressions::proofs::Outcomes::on_from))]
 fn looped<'a>(scope: &mut Scope<'a>, tokens: &mut Cursor<'a>) -> Result<Stmt, ReadError>
     requires ready { IsReady scope.old }
     requires within { (inside (context_of scope.old 0 0) || under_if (context_of scope.old 0 0)) ≡ true }

@@ -35,7 +35,6 @@ impl<'a> Line<'a> {
     }
 
     /// The number that stands next, and the name behind it where there is one.
-    #[tactic(auto, using(crate::proofs::Outcomes::on_from, crate::proofs::Bounding::number_term, crate::proofs::Bounding::at_star, crate::proofs::Bounding::no_star, crate::proofs::BoundsRead::read_literal, crate::proofs::BoundsRead::read_product))]
     fn product(&mut self, number: u64) -> Result<Term<'a>, DirectiveFault>
         requires { (first_item self.old).terminal ≡ Numbered (Some number) }
         ensures read { (second : Bool) (act : LineAct) (s : LineStack) → Outcome result (rest self.old (Terms second act ∷ s)) (rest self.new (AfterTerm second act ∷ s)) }
@@ -51,7 +50,6 @@ impl<'a> Line<'a> {
     }
 
     /// A term of a bound.
-    #[tactic(auto, using(crate::proofs::Outcomes::on_from, crate::proofs::Bounding::name_term, crate::proofs::Bounding::bad_term, crate::proofs::Bounding::stop_term, crate::proofs::BoundsRead::read_name))]
     fn term(&mut self) -> Result<Term<'a>, DirectiveFault>
         ensures read { (second : Bool) (act : LineAct) (s : LineStack) → Outcome result (rest self.old (Terms second act ∷ s)) (rest self.new (AfterTerm second act ∷ s)) }
         ensures tree { IfOk result (λ t. IsSpelled (term_marks t) (items self.old) (items self.new)) }
@@ -80,7 +78,6 @@ impl<'a> Line<'a> {
     }
 
     /// Terms, each behind a plus.
-    #[tactic(auto, using(crate::proofs::Spellings::spelled_none, crate::proofs::Spellings::spelled_more))]
     fn more_terms(&mut self) -> Result<Vec<Term<'a>>, DirectiveFault>
         ensures read { (second : Bool) (act : LineAct) (s : LineStack) → Outcome result (rest self.old (AfterTerm second act ∷ s)) (rest self.new (AfterTerm second act ∷ s)) }
         ensures tree { IfOk result (λ more. IsSpelled (each_behind sign.Plus term_marks more.items) (items self.old) (items self.new)) }
@@ -122,7 +119,6 @@ impl<'a> Line<'a> {
     }
 
     /// The bracket behind the bounds.
-    #[tactic(auto, using(crate::proofs::Outcomes::on_from, crate::proofs::Bounding::at_bracket, crate::proofs::Bounding::stop_bracket, crate::proofs::Moves::sign_is))]
     fn bracket(&mut self) -> Result<(), DirectiveFault>
         requires { same (Signed sign.Plus) (first_item self.old).terminal ≡ false }
         ensures read { (act : LineAct) (s : LineStack) → Outcome result (rest self.old (AfterTerm true act ∷ s))
@@ -137,7 +133,6 @@ impl<'a> Line<'a> {
     }
 
     /// The first bound, whose bracket stands next, and the colon behind it.
-    #[tactic(auto, using(crate::proofs::Outcomes::on_from, crate::proofs::Bounding::at_opening, crate::proofs::Bounding::is_opening, crate::proofs::BoundsRead::read_first))]
     fn first_bound(&mut self) -> Result<Bound<'a>, DirectiveFault>
         requires { (first_item self.old).terminal ≡ Signed sign.OpenBracket }
         ensures read { (act : LineAct) (s : LineStack) → Outcome result (rest self.old (AfterName act ∷ s))
@@ -151,7 +146,6 @@ impl<'a> Line<'a> {
     }
 
     /// The second bound and the bracket behind it.
-    #[tactic(auto, using(crate::proofs::Outcomes::on_from, crate::proofs::BoundsRead::read_second))]
     fn second_bound(&mut self) -> Result<Bound<'a>, DirectiveFault>
         ensures read { (act : LineAct) (s : LineStack) → Outcome result (rest self.old (Terms true act ∷ s))
             (rest self.new (AfterItem act ∷ s)) }
@@ -162,7 +156,6 @@ impl<'a> Line<'a> {
     }
 
     /// The bounds of a section, whose bracket stands next.
-    #[tactic(auto, using(crate::proofs::Outcomes::on_from, crate::proofs::BoundsRead::read_two))]
     fn two_bounds(&mut self) -> Result<(Bound<'a>, Bound<'a>), DirectiveFault>
         requires { (first_item self.old).terminal ≡ Signed sign.OpenBracket }
         ensures read { (act : LineAct) (s : LineStack) → Outcome result (rest self.old (AfterName act ∷ s))

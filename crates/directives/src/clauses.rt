@@ -60,7 +60,6 @@ impl<'a> Line<'a> {
     }
 
     /// A map clause, whose word stands next.
-    #[tactic(auto, using(crate::proofs::Outcomes::on_from, crate::proofs::Clausing::map_is, crate::proofs::Clausing::map_taken, crate::proofs::Clausing::at_map, crate::proofs::ClausesRead::read_map))]
     fn map_clause(&mut self, kind: DirectiveKind) -> Result<MapClause<'a>, DirectiveFault>
         requires { is_map (seen_kind kind) (first_item self.old).terminal ≡ true }
         ensures read { (s : LineStack) → Outcome result (rest self.old (Clauses (seen_kind kind) ∷ s))
@@ -81,7 +80,6 @@ impl<'a> Line<'a> {
     }
 
     /// A depend clause, whose word stands next.
-    #[tactic(auto, using(crate::proofs::Outcomes::on_from, crate::proofs::Clausing::depend_is, crate::proofs::Clausing::depend_taken, crate::proofs::Clausing::at_depend, crate::proofs::ClausesRead::read_depend))]
     fn depend_clause(&mut self, kind: DirectiveKind) -> Result<DependClause<'a>, DirectiveFault>
         requires { is_depend (seen_kind kind) (first_item self.old).terminal ≡ true }
         ensures read { (s : LineStack) → Outcome result (rest self.old (Clauses (seen_kind kind) ∷ s))
@@ -100,7 +98,6 @@ impl<'a> Line<'a> {
     }
 
     /// The clause of an update, whose word stands next.
-    #[tactic(auto, using(crate::proofs::Outcomes::on_from, crate::proofs::Clausing::at_motion, crate::proofs::ClausesRead::read_motion))]
     fn motion_clause(
         &mut self,
         kind: DirectiveKind,
@@ -122,7 +119,6 @@ impl<'a> Line<'a> {
     }
 
     /// A `to`, `from` or `nowait` clause.
-    #[tactic(auto, using(crate::proofs::Outcomes::on_from, crate::proofs::Clausing::nowait_is, crate::proofs::Clausing::nowait_taken, crate::proofs::Clausing::at_nowait, crate::proofs::Clausing::stop_clause, crate::proofs::ClausesRead::read_nowait))]
     fn short_clause(&mut self, kind: DirectiveKind) -> Result<Clause<'a>, DirectiveFault>
         requires going { same Ended (first_item self.old).terminal ≡ false }
         requires no_map { is_map (seen_kind kind) (first_item self.old).terminal ≡ false }
@@ -161,7 +157,6 @@ impl<'a> Line<'a> {
     }
 
     /// The clauses of the directive and the end of the line.
-    #[tactic(auto, using(crate::proofs::Outcomes::on_from, crate::proofs::Clausing::end_is, crate::proofs::Clausing::at_last, crate::proofs::ClausesRead::clause_less, crate::proofs::ClausesRead::read_no_clauses, crate::proofs::ClausesRead::read_clauses_more, crate::proofs::ClausesRead::takes_clauses_more, crate::proofs::ClausesRead::read_ends))]
     pub fn clauses(&mut self, kind: DirectiveKind) -> Result<Vec<Clause<'a>>, DirectiveFault>
         ensures read { Outcome result (rest self.old (Clauses (seen_kind kind) ∷ [])) None }
         ensures tree { IfOk result (λ cs. IsSpelled (clauses_marks cs.items ++ (Ended, None) ∷ [])

@@ -26,7 +26,6 @@ impl<'a> Line<'a> {
     ghost use Rattle.directives.specs.Trees.{head_marks, kind_marks, line_marks, target_marks, text_of, word_mark};
 
     /// The kind of a directive behind the word `target`.
-    #[tactic(auto, using(crate::proofs::Outcomes::on_from_by, crate::proofs::Outcomes::failed_from, crate::proofs::Moves::word_is, crate::proofs::Heading::at_data, crate::proofs::Heading::at_update, crate::proofs::Heading::at_enter, crate::proofs::Heading::at_exit, crate::proofs::Heading::no_more, crate::proofs::Heading::read_one, crate::proofs::Heading::read_both, crate::proofs::Heading::read_no_words))]
     fn target_kind(&mut self) -> Result<DirectiveKind, DirectiveFault>
         ensures read { (s : LineStack) → OutcomeBy result (rest self.old (AfterTarget ∷ s))
             (λ k. rest self.new (Clauses (seen_kind k) ∷ s)) }
@@ -55,7 +54,6 @@ impl<'a> Line<'a> {
     }
 
     /// The kind of the directive.
-    #[tactic(auto, using(crate::proofs::Outcomes::on_from_by, crate::proofs::Outcomes::failed_from, crate::proofs::Moves::word_is, crate::proofs::Heading::at_target, crate::proofs::Heading::at_wait, crate::proofs::Heading::stop_begin, crate::proofs::Heading::read_target, crate::proofs::Heading::read_wait))]
     fn kind(&mut self) -> Result<DirectiveKind, DirectiveFault>
         ensures read { (s : LineStack) → OutcomeBy result (rest self.old (Begin ∷ s))
             (λ k. rest self.new (Clauses (seen_kind k) ∷ s)) }
@@ -115,7 +113,6 @@ fn read_line<'a>(
 
 /// Reads one directive line, its `#` first, which stands at the column. Columns count bytes. No name is looked up.
 /// A fault is the first of the line, the lowest code at its token. Want of memory comes in place of any answer.
-#[tactic(auto, using(crate::proofs::Answering::spells, crate::proofs::Answering::first_line_fault, crate::proofs::Answering::told, crate::proofs::Answering::no_directive, crate::proofs::InSource::in_source))]
 pub fn read_directive_at<'a>(
     alloc: Global,
     line: &'a [u8],

@@ -20,7 +20,6 @@ impl<'a> Line<'a> {
     ghost use Rattle.directives.specs.Trees.{each_behind, name_mark, section_marks, sections_marks, sign_mark};
 
     /// An array's name, which is there for that.
-    #[tactic(auto, using(crate::proofs::Outcomes::on_from, crate::proofs::Listing::at_name, crate::proofs::Listing::stop_name, crate::proofs::BoundsRead::read_name))]
     fn array(&mut self, act: Act) -> Result<Name<'a>, DirectiveFault>
         ensures read { (s : LineStack) → Outcome result (rest self.old (NameOf (seen_act act) ∷ s))
             (rest self.new (AfterName (seen_act act) ∷ s)) }
@@ -76,7 +75,6 @@ impl<'a> Line<'a> {
     }
 
     /// Sections, each behind a comma.
-    #[tactic(auto, using(crate::proofs::Spellings::spelled_none, crate::proofs::Spellings::spelled_more))]
     fn more_sections(&mut self, act: Act) -> Result<Vec<Section<'a>>, DirectiveFault>
         ensures read { (s : LineStack) → Outcome result (rest self.old (AfterItem (seen_act act) ∷ s))
             (rest self.new (AfterItem (seen_act act) ∷ s)) }
@@ -92,7 +90,6 @@ impl<'a> Line<'a> {
     }
 
     /// Sections, as long as a comma follows.
-    #[tactic(auto, using(crate::proofs::Outcomes::on_from, crate::proofs::Spellings::spelled_then))]
     fn open_sections(&mut self, act: Act) -> Result<Sections<'a>, DirectiveFault>
         ensures read { (s : LineStack) → Outcome result (rest self.old (NameOf (seen_act act) ∷ s))
             (rest self.new (AfterItem (seen_act act) ∷ s)) }
@@ -105,7 +102,6 @@ impl<'a> Line<'a> {
     }
 
     /// The sections of a clause and the bracket behind them.
-    #[tactic(auto, using(crate::proofs::Outcomes::on_from, crate::proofs::Listing::read_sections))]
     pub fn sections(&mut self, act: Act) -> Result<Sections<'a>, DirectiveFault>
         ensures read { (s : LineStack) → Outcome result (rest self.old (NameOf (seen_act act) ∷ s)) (rest self.new s) }
         ensures tree { IfOk result (λ x. IsSpelled (sections_marks x) (items self.old) (items self.new)) }

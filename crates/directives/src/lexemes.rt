@@ -54,7 +54,6 @@ impl<'a> Lexemes<'a> {
     }
 
     /// The next token.
-    #[tactic(auto, using(crate::proofs::Pieces::at_layout, crate::proofs::Pieces::at_token, crate::proofs::Pieces::at_unknown, crate::proofs::Pieces::at_end, crate::proofs::Pieces::token_goes))]
     pub fn next(&mut self) -> PlacedLexeme<'a>
         requires { self.old.over ≡ false }
         ensures next { ahead_on_line self.old ≡ seen_placed result ∷ ahead_on_line self.new }

@@ -128,7 +128,6 @@ impl<'a> Line<'a> {
     }
 
     /// Goes past that sign.
-    #[tactic(auto, using(crate::proofs::Outcomes::on_from, crate::proofs::Moves::at_sign, crate::proofs::Moves::stop_sign, crate::proofs::Moves::sign_is))]
     pub fn expect(&mut self, sign: Sign) -> Result<(), DirectiveFault>
         ensures read { (s : LineStack) → Outcome result (rest self.old (w sign ∷ s)) (rest self.new s) }
         ensures first { OnOk result ((first_item self.old).terminal ≡ Signed sign) }

@@ -65,7 +65,6 @@ impl<'a> Line<'a> {
     }
 
     /// A map type of the directive and the colon behind it.
-    #[tactic(auto, using(crate::proofs::Outcomes::on_from, crate::proofs::Typing::at_type, crate::proofs::Typing::stop_type, crate::proofs::Typing::allowed, crate::proofs::Typing::read_type))]
     pub fn map_type(&mut self, kind: DirectiveKind) -> Result<MapType, DirectiveFault>
         ensures read { (s : LineStack) → Outcome result (rest self.old (TypeOf (seen_kind kind) ∷ s))
             (rest self.new (Name grammar.Maps ∷ s)) }
@@ -84,7 +83,6 @@ impl<'a> Line<'a> {
     }
 
     /// Whether `always` stands before the type, and goes past it and its comma.
-    #[tactic(auto, using(crate::proofs::Outcomes::on_from, crate::proofs::Moves::word_is, crate::proofs::Typing::at_always, crate::proofs::Typing::no_always, crate::proofs::Typing::read_always, crate::proofs::Typing::read_no_always))]
     pub fn always(&mut self, kind: DirectiveKind) -> Result<bool, DirectiveFault>
         ensures read { (s : LineStack) → Outcome result (rest self.old (MapHead (seen_kind kind) ∷ s))
             (rest self.new (TypeOf (seen_kind kind) ∷ s)) }
@@ -117,7 +115,6 @@ impl<'a> Line<'a> {
     }
 
     /// A depend type and the colon behind it.
-    #[tactic(auto, using(crate::proofs::Outcomes::on_from, crate::proofs::Typing::at_depend, crate::proofs::Typing::stop_depend, crate::proofs::Typing::read_type))]
     pub fn depend_type(&mut self) -> Result<DependType, DirectiveFault>
         ensures read { (s : LineStack) → Outcome result (rest self.old (DependHead ∷ w sign.Colon ∷ s))
             (rest self.new s) }

@@ -18,6 +18,7 @@ use Rattle.mapwalk.proofs.Refusals.{first_alone, none_refused}
 use Rattle.mapwalk.proofs.SideRows.{lengths_count}
 use Rattle.outline.proofs.Builds.{as_many}
 use Rattle.mapwalk.proofs.Walking.{Reached, next, rows_before, work_at}
+use Rattle.std.proofs.lemmas.Grind.{common_steps}
 use Rattle.mapwalk.proofs.walk.Goals as goal
 
 pub bounds-found-len : goal.bounds-found-len
@@ -147,3 +148,6 @@ returns-clause-current c =
     c.in_ok-current.ensures
     ∙ marked_at_end (plan p) c.items.item-index (blocks_of c.items.state.blocks) c.items.state.sides
     (map row_items c.items.acts.items) c.items.invariant.lengths last c.items.invariant.reached
+
+pub offset_bounds-found-len : goal.offset_bounds-found-len
+offset_bounds-found-len c = grind (arith, common_steps)

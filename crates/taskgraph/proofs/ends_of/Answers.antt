@@ -1,8 +1,9 @@
-use Rattle.std.proofs.Common.{◌≡◌, ◌+◌, ℕ, List, length, sym, ap, ◌∙◌, subst}
+use Rattle.std.proofs.Common.{arith, ◌≡◌, ◌+◌, ℕ, List, length, sym, ap, ◌∙◌, subst}
 use Rattle.std.specs.Prelude.{slice_index}
 use Rattle.taskgraph.specs.Waiting.{AreEndsTo, IsExtended, plan_for}
 use Rattle.taskgraph.proofs.ClosedGraph.{written_back}
 use Rattle.taskgraph.proofs.Ends.{one_more}
+use Rattle.std.proofs.lemmas.Grind.{common_steps}
 use Rattle.taskgraph.proofs.ends_of.Goals as goal
 
 pub items-preserved : goal.items-preserved
@@ -17,3 +18,6 @@ items-preserved c =
     let noted = subst (λ (xs : List ℕ). IsExtended plan (slice_index starts n) n xs now) c.deref_mut.ensures.value c.extend.ensures in
     subst (λ (xs : List ℕ). AreEndsTo plan starts xs (n + 1)) (sym (written_back now old c.items.ends.len c.items.ends.ok.0 long))
     (one_more plan starts old now n c.items.invariant noted)
+
+pub items-init : goal.items-init
+items-init c = grind (arith, common_steps)

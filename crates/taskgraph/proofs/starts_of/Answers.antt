@@ -28,3 +28,6 @@ items-preserved c = record {
         ap (λ (ns : List ℕ). slice_index ns j) c.in_ok-push.ensures.items
         ∙ get_or_append_left c.items.starts.items (c.start_of.result ∷ []) 0 j (omega (arith, less, c.items.invariant.long)) in
         subst (λ n. IsStart (plan_for c.args.tasks.now) j n) (sym same) (c.items.invariant.each j less)
+
+pub returns : goal.returns
+returns c = grind (arith, common_steps)

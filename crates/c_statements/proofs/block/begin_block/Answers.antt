@@ -1,5 +1,5 @@
 use Rattle.std.proofs.Common.{arith}
-use Rattle.c_statements.proofs.Braces.{go_block}
+use Rattle.c_statements.proofs.Braces.{deep_block, go_block}
 use Rattle.c_statements.proofs.block.begin_block.Goals as goal
 
 pub returns-clause-read : goal.returns-clause-read
@@ -10,3 +10,6 @@ returns-clause-read c = λ s.
 
 pub returns-clause-opened : goal.returns-clause-opened
 returns-clause-opened c = c.in_ok-open_frame.ensures.opened 0 0
+
+pub returns-then-len-gt-MAX_BRACES-clause-read : goal.returns-then-len-gt-MAX_BRACES-clause-read
+returns-then-len-gt-MAX_BRACES-clause-read c = grind (arith, deep_block)

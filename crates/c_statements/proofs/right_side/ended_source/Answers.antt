@@ -1,6 +1,6 @@
-use Rattle.std.proofs.Common.{◌∙◌, false}
+use Rattle.std.proofs.Common.{arith, ◌∙◌, false}
 use Rattle.std.proofs.lemmas.Result.{err_from_is_err_and}
-use Rattle.c_statements.proofs.Sources.{go_end}
+use Rattle.c_statements.proofs.Sources.{go_end, read_ended}
 use Rattle.c_statements.proofs.right_side.ended_source.Goals as goal
 
 pub returns-in_err-source-clause-read : goal.returns-in_err-source-clause-read
@@ -12,3 +12,6 @@ pub returns-clause-read : goal.returns-clause-read
 returns-clause-read c = λ s.
     c.in_ok-source.ensures.read false s
     ∙ go_end c.args.scope.now s c.source.new.tokens c.take.new.self c.in_ok-source.ensures.stands c.take.ensures
+
+pub returns-clause-tree : goal.returns-clause-tree
+returns-clause-tree c = grind (arith, read_ended)

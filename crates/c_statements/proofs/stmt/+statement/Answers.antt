@@ -5,12 +5,13 @@ use Rattle.c_grammar.specs.Program.{Body, OrElse}
 use Rattle.c_expressions.specs.Cursor.{items}
 use Rattle.c_expressions.specs.Scopes.{context_of}
 use Rattle.c_expressions.proofs.Going.{was_mark, went}
-use Rattle.c_expressions.proofs.Outcomes.{failed_from}
+use Rattle.c_expressions.proofs.Outcomes.{on_from, failed_from}
 use Rattle.c_statements.specs.Simple.{env_of}
-use Rattle.c_statements.proofs.Begins.{no_else_here}
+use Rattle.c_statements.proofs.Begins.{at_print, at_name, at_loop, at_choice, no_else_here, stop_stmt}
 use Rattle.c_statements.proofs.Composes.{within_same, body_scope, body_tree, block_scope, block_tree, loop_tree, if_tree, if_else_tree, choice_scope, else_scope}
 use Rattle.c_statements.proofs.Fronts.{front_begins, front_more, front_ends, front_ready}
 use Rattle.c_statements.proofs.Levels.{same_again, same_none}
+use Rattle.std.proofs.lemmas.Grind.{common_steps}
 use Rattle.c_statements.proofs.stmt.+statement.Goals as goal
 
 pub blocked-returns-clause-scope : goal.blocked-returns-clause-scope
@@ -119,3 +120,27 @@ choice-returns-clause-scope t c = else_scope c.args.scope.now c.body.new.scope c
     (choice_scope c.args.scope.now c.begin_choice.new.scope c.body.new.scope c.in_ok-begin_choice.ensures.scope
     c.in_ok-first.ensures.scope c.in_ok-first.ensures.waiting) c.otherwise.ensures.scope c.in_ok-second.ensures.scope
     c.in_ok-second.ensures.waiting
+
+pub looped-body-requires : goal.looped-body-requires
+looped-body-requires t c = grind (arith, common_steps)
+
+pub looped-returns-in_err-body-clause-read : goal.looped-returns-in_err-body-clause-read
+looped-returns-in_err-body-clause-read t c = grind (arith, on_from)
+
+pub looped-returns-clause-read : goal.looped-returns-clause-read
+looped-returns-clause-read t c = grind (arith, common_steps)
+
+pub statement-returns-in-Word-For-clause-read : goal.statement-returns-in-Word-For-clause-read
+statement-returns-in-Word-For-clause-read t c = grind (arith, at_loop)
+
+pub statement-returns-in-Word-If-clause-read : goal.statement-returns-in-Word-If-clause-read
+statement-returns-in-Word-If-clause-read t c = grind (arith, at_choice)
+
+pub statement-returns-in-Word-Print-clause-read : goal.statement-returns-in-Word-Print-clause-read
+statement-returns-in-Word-Print-clause-read t c = grind (arith, at_print)
+
+pub statement-returns-in-Name-clause-read : goal.statement-returns-in-Name-clause-read
+statement-returns-in-Name-clause-read t c = grind (arith, at_name)
+
+pub statement-returns-in_default-clause-read : goal.statement-returns-in_default-clause-read
+statement-returns-in_default-clause-read t c = grind (arith, stop_stmt)

@@ -1,6 +1,7 @@
-use Rattle.std.proofs.Common.{◌++◌, ◌∷◌, [], ap, sym, ◌∙◌}
+use Rattle.std.proofs.Common.{arith, ◌++◌, ◌∷◌, [], ap, sym, ◌∙◌}
 use Rattle.std.specs.Prelude.{decimal, slice_index}
 use Rattle.device.proofs.Answers.{output_more}
+use Rattle.std.proofs.lemmas.Grind.{common_steps}
 use Rattle.device.proofs.answer.text_of.Goals as goal
 
 pub loop-n-preserved : goal.loop-n-preserved
@@ -10,3 +11,6 @@ loop-n-preserved c =
     c.in_ok-add_line.ensures
     ∙ ap (λ b. b ++ (decimal (slice_index printed i) ++ 10 ∷ [])) c.loop-n.invariant
     ∙ sym (output_more printed i 0 c.loop-n-test.true)
+
+pub returns : goal.returns
+returns c = grind (arith, common_steps)

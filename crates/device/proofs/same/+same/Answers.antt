@@ -1,6 +1,7 @@
-use Rattle.std.proofs.Common.{◌&&◌, sym, ap, ap₂, ◌∙◌}
+use Rattle.std.proofs.Common.{arith, ◌&&◌, sym, ap, ap₂, ◌∙◌}
 use Rattle.device.specs.Same.{same_list, same_stmt}
 use Rattle.device.proofs.SameBodies.{of_If, of_Loop, other_length, same_Block}
+use Rattle.std.proofs.lemmas.Grind.{common_steps}
 use Rattle.device.proofs.same.+same.Goals as goal
 
 pub is_same_list-returns-then-left-right : goal.is_same_list-returns-then-left-right
@@ -37,3 +38,12 @@ is_same_stmt-returns-else-is_same_list t c =
     (sym c.if-is_same_list.false ∙ c.is_same_list-then-is_same_expr-2.ensures
     ∙ ap₂ same_list c.deref-then-is_same_expr-2.ensures.value c.deref-then-is_same_expr-2-2.ensures.value)
     ∙ sym (of_If c.args.left.now c.args.right.now w.a w.b w.all w.more w.other w.rest w.is-0 w.is-1)
+
+pub is_same_list-returns-then-not-is_same_stmt : goal.is_same_list-returns-then-not-is_same_stmt
+is_same_list-returns-then-not-is_same_stmt t c = grind (arith, common_steps)
+
+pub is_same_list-each-preserved : goal.is_same_list-each-preserved
+is_same_list-each-preserved t c = grind (arith, common_steps)
+
+pub is_same_list-returns : goal.is_same_list-returns
+is_same_list-returns t c = grind (arith, common_steps)

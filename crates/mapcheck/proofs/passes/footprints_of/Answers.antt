@@ -11,6 +11,7 @@ use Rattle.mapwalk.proofs.Touched.{no_region_fault}
 use Rattle.outline.proofs.Builds.{as_many}
 use Rattle.mapcheck.specs.Passes.{IsCheckFault}
 use Rattle.mapcheck.proofs.FirstFaults.{first_fault, none_at_all, none_more}
+use Rattle.std.proofs.lemmas.Grind.{common_steps}
 use Rattle.mapcheck.proofs.passes.footprints_of.Goals as goal
 
 pub returns-in-Err-clause-fault : goal.returns-in-Err-clause-fault
@@ -49,3 +50,9 @@ returns-clause-fine c =
     let same = as_many (entries_of p) c.items-number-end.result.now (plan p).items c.items-number-end.ensures.shown in
     let last : length (plan p).items ≤ c.items.number = omega (arith, same, c.items-test.false) in
     none_at_all (plan p) c.items.number c.items.invariant.none last
+
+pub item_footprint-requires-clause-inside : goal.item_footprint-requires-clause-inside
+item_footprint-requires-clause-inside c = grind (arith, common_steps)
+
+pub returns-clause-found : goal.returns-clause-found
+returns-clause-found c = grind (arith, common_steps)

@@ -7,6 +7,7 @@ use Rattle.mapwalk.proofs.Copies.{item_at}
 use Rattle.outline.proofs.Builds.{as_many}
 use Rattle.mapcheck.specs.Reaches.{AreFirstReaches}
 use Rattle.mapcheck.proofs.Reached.{one_reach}
+use Rattle.std.proofs.lemmas.Grind.{common_steps}
 use Rattle.mapcheck.proofs.reaches.reaches.Goals as goal
 
 pub items-preserved : goal.items-preserved
@@ -22,3 +23,9 @@ items-preserved c =
     (one_reach (plan p) n c.items.all.items at.work c.in_ok-next_reach.field-0 c.items.invariant at.there
     (c.in_ok-next_reach.ensures at.work
     (subst (λ (k : ℕ). slice_get (plan p).items k ≡ Some at.work) (sym last) at.there)))
+
+pub next_reach-requires-clause-inside : goal.next_reach-requires-clause-inside
+next_reach-requires-clause-inside c = grind (arith, common_steps)
+
+pub returns : goal.returns
+returns c = grind (arith, common_steps)

@@ -1,4 +1,4 @@
-use Rattle.std.proofs.Common.{◌≡◌, ◌∙◌, List, Option, ap, length, subst, sym}
+use Rattle.std.proofs.Common.{arith, ◌≡◌, ◌∙◌, List, Option, ap, length, subst, sym}
 use Rattle.std.specs.Prelude.{Vec}
 use Rattle.std.specs.declared.alloc.Global.{Global}
 use Rattle.base.specs.declared.fault.Refusal.{Refusal}
@@ -7,6 +7,7 @@ use Rattle.mapwalk.specs.declared.rows.Acts.{Acts}
 use Rattle.mapwalk.specs.Walk.{AreMarked, IsFirstRefusal, IsSound, items_before}
 use Rattle.mapcheck.specs.Third.{IsConflictIn, NoneAlone}
 use Rattle.mapcheck.proofs.ThirdFaults.{alone_first, before_inside, conflict_first, none_alone, passed, rows_count}
+use Rattle.std.proofs.lemmas.Grind.{common_steps}
 use Rattle.mapcheck.proofs.third.third_pass.Goals as goal
 
 pub conflict_among-requires-clause-alone : goal.conflict_among-requires-clause-alone
@@ -56,3 +57,6 @@ returns-clause-passed c =
     (subst (λ (x : Option Refusal). IsSound p x) c.in-None-None.is-1 c.in-Ok.ensures.sound)
     (subst (λ (x : Option Refusal). IsConflictIn p n x) c.in-None-None.is-0 c.in-Ok-conflict_among.ensures)
     (subst (λ (x : Option Refusal). AreMarked p x c.in-Ok.walked.current.items) c.in-None-None.is-1 c.in-Ok.ensures.current)
+
+pub conflict_among-requires-clause-rows : goal.conflict_among-requires-clause-rows
+conflict_among-requires-clause-rows c = grind (arith, common_steps)

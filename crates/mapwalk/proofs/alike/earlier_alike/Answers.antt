@@ -5,6 +5,7 @@ use Rattle.base.specs.Items.{plan}
 use Rattle.outline.specs.Regions.{entries_of}
 use Rattle.mapwalk.proofs.OneRegion.{shown_at}
 use Rattle.outline.proofs.Builds.{as_many}
+use Rattle.std.proofs.lemmas.Grind.{common_steps}
 use Rattle.mapwalk.proofs.alike.earlier_alike.Goals as goal
 
 pub returns-then-touch_alike : goal.returns-then-touch_alike
@@ -49,3 +50,12 @@ bounds-items-number-2 c =
     let p = c.args.outlined.now in
     let many = as_many (entries_of p) c.items-items.result.now (plan p).items c.items-items.ensures.shown in
     omega (arith, many, c.requires.inside)
+
+pub offset_bounds-items-number : goal.offset_bounds-items-number
+offset_bounds-items-number c = grind (arith, common_steps)
+
+pub bounds-items-number-in-Some-1 : goal.bounds-items-number-in-Some-1
+bounds-items-number-in-Some-1 c = grind (arith, common_steps)
+
+pub offset_bounds-items-number-2 : goal.offset_bounds-items-number-2
+offset_bounds-items-number-2 c = grind (arith, common_steps)

@@ -4,6 +4,7 @@ use Rattle.outline.specs.Regions.{entries_of}
 use Rattle.mapwalk.proofs.Copies.{copied_fine, copied_found, repeat_at}
 use Rattle.mapwalk.proofs.OneRegion.{shown_at}
 use Rattle.outline.proofs.Builds.{as_many}
+use Rattle.std.proofs.lemmas.Grind.{common_steps}
 use Rattle.mapwalk.proofs.footprints.next_footprint.Goals as goal
 
 pub returns-in-Some-clause-found : goal.returns-in-Some-clause-found
@@ -51,3 +52,6 @@ returns-in-None-clause-fault c w there =
     c.footprint_of.ensures.fault w
     (shown_at (entries_of p) items (plan p).items (length c.args.found.now) c.index-items-number.result w
     c.items.ensures.shown inside c.index-items-number.is there)
+
+pub bounds-items-number : goal.bounds-items-number
+bounds-items-number c = grind (arith, common_steps)

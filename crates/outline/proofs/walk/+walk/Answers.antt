@@ -140,3 +140,6 @@ add_part-returns-in_ok-alone_item-in-Alone-clause-items t c =
 
 pub add_turns-overflow_add-v : goal.add_turns-overflow_add-v
 add_turns-overflow_add-v t c = omega (arith, c.args.bounds.no_wrap, c.turns-test.true)
+
+pub add_all-returns-clause-items : goal.add_all-returns-clause-items
+add_all-returns-clause-items t c = grind (arith, common_steps)

@@ -8,6 +8,7 @@ use Rattle.present.specs.Table.{Are, Fails, IsPartFault, SomeRoom, fill_of, memo
 use Rattle.present.proofs.NeededCells.{drop_item}
 use Rattle.present.proofs.Undone.{can_uncount, uncounted}
 use Rattle.present.proofs.EachTurn.{part_fault, later_fault, no_first, counts_left, room_left, turn_fails, turn_done}
+use Rattle.std.proofs.lemmas.Grind.{common_steps}
 use Rattle.present.proofs.Table.+enter_each.Goals as goal
 
 abbrev other : MapItem
@@ -118,3 +119,6 @@ returns-in-Ok-enter_each-clause-entered m c d sh =
     (turn_done t c.count.new.self item k.at k.copies w k.creates c.in-Ok.ensures.counted host rest d sh
     c.in-Ok.ensures.kept.fill
     c.enter_each.new.self c.bring_in_if.new.self c.in-Ok-enter_each.ensures.entered c.bring_in_if.ensures.brought)
+
+pub returns-then-from-items-clause-entered : goal.returns-then-from-items-clause-entered
+returns-then-from-items-clause-entered t c = grind (arith, common_steps)

@@ -1,8 +1,9 @@
-use Rattle.std.proofs.Common.{◌+◌, ◌*◌, ◌-◌, ◌^◌, min, ap, sym, ◌∙◌}
+use Rattle.std.proofs.Common.{arith, ◌+◌, ◌*◌, ◌-◌, ◌^◌, min, ap, sym, ◌∙◌}
 use Rattle.base.specs.Meaning.{turns_of}
 use Rattle.base.specs.Footprint.{stmt_turns}
 use Rattle.ranges.specs.Seen.{list_turns}
-use Rattle.ranges.proofs.TurnCounts.{turns_Loop, turns_If, least_product, least_sum}
+use Rattle.ranges.proofs.TurnCounts.{turns_Block, turns_Loop, turns_If, least_product, least_sum}
+use Rattle.std.proofs.lemmas.Grind.{common_steps}
 use Rattle.ranges.proofs.turns.+turns.Goals as goal
 
 pub turns_in-returns-in-Loop : goal.turns_in-returns-in-Loop
@@ -25,3 +26,12 @@ turns_in-returns-in-If t c =
     ∙ least_sum (list_turns c.in-If.first.items) (list_turns c.in-If.second.items) (2 ^ 64 - 1)
     ∙ ap (λ n. min n (2 ^ 64 - 1)) (sym (turns_If c.in-If.field-0 c.in-If.first c.in-If.second) ∙ ap
     (λ s. stmt_turns s) (sym c.in-If.is))
+
+pub turns_in-returns-in-Block : goal.turns_in-returns-in-Block
+turns_in-returns-in-Block t c = grind (arith, turns_Block)
+
+pub turns_in_all-loop-s-preserved : goal.turns_in_all-loop-s-preserved
+turns_in_all-loop-s-preserved t c = grind (arith, common_steps)
+
+pub turns_in_all-returns : goal.turns_in_all-returns
+turns_in_all-returns t c = grind (arith, common_steps)

@@ -6,6 +6,7 @@ use Rattle.ranges.specs.Seen.{after, seen_in}
 use Rattle.ranges.proofs.Outcomes.{ok_end}
 use Rattle.ranges.proofs.FirstTurns.{told_Loop}
 use Rattle.ranges.proofs.Walked.{walked_If, walked_next, walked_turn, no_turn_touches}
+use Rattle.ranges.proofs.Touches.{touches_Block}
 use Rattle.ranges.proofs.walk.+walk.Goals as goal
 
 pub walk_stmt-returns-in-Loop-clause-seen : goal.walk_stmt-returns-in-Loop-clause-seen
@@ -62,3 +63,9 @@ walk_stmt-returns-in_ok-walk_unless-in-If-clause-seen t c =
     c.deref-in-If.ensures.value)
     c.in_ok-walk_unless-in-If.ensures.seen)
     c.walk_unless-in-If.ensures.seen
+
+pub walk_all-returns-clause-seen : goal.walk_all-returns-clause-seen
+walk_all-returns-clause-seen t c = grind (arith, common_steps)
+
+pub walk_stmt-returns-in-Block-clause-seen : goal.walk_stmt-returns-in-Block-clause-seen
+walk_stmt-returns-in-Block-clause-seen t c = grind (arith, touches_Block)

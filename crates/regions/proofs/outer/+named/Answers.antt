@@ -1,4 +1,6 @@
-use Rattle.regions.proofs.UnreadRows.{reads_in_Loop, reads_in_If}
+use Rattle.regions.proofs.UnreadRows.{reads_Block, reads_in_Loop, reads_in_If}
+use Rattle.std.proofs.Common.{arith}
+use Rattle.std.proofs.lemmas.Grind.{common_steps}
 use Rattle.regions.proofs.outer.+named.Goals as goal
 
 pub in_stmt-returns-in-Loop : goal.in_stmt-returns-in-Loop
@@ -10,3 +12,15 @@ pub in_stmt-returns-in-If : goal.in_stmt-returns-in-If
 in_stmt-returns-in-If t c =
     reads_in_If _ _ c.in-If.c c.in-If.first c.in-If.second _ _ _ _ _ c.in-If.is c.deref-in-If.ensures.value
     c.deref-in-If-2.ensures.value c.in_expr-in-If.ensures c.in_all-in-If.ensures c.in_all-in-If-2.ensures
+
+pub in_all-returns-then-in_stmt : goal.in_all-returns-then-in_stmt
+in_all-returns-then-in_stmt t c = grind (arith, common_steps)
+
+pub in_all-all-preserved : goal.in_all-all-preserved
+in_all-all-preserved t c = grind (arith, common_steps)
+
+pub in_all-returns : goal.in_all-returns
+in_all-returns t c = grind (arith, common_steps)
+
+pub in_stmt-returns-in-Block : goal.in_stmt-returns-in-Block
+in_stmt-returns-in-Block t c = grind (arith, reads_Block)

@@ -1,7 +1,7 @@
 use Rattle.std.proofs.Common.{◌≡◌, ◌+◌, ℕ, List, true, length, map, sym, ap, subst, ◌∙◌, arith}
 use Rattle.std.specs.Prelude.{◌==◌, slice_index}
 use Rattle.std.specs.List.{slice_set}
-use Rattle.std.proofs.lemmas.Grind.{get_or_default_zero}
+use Rattle.std.proofs.lemmas.Grind.{common_steps, get_or_default_zero}
 use Rattle.std.proofs.lemmas.List.{length-map}
 use Rattle.base.specs.declared.item.Event.TheVariants.{Gen}
 use Rattle.taskgraph.specs.declared.Stage.{Stage}
@@ -71,3 +71,6 @@ overflow_add-self-2 c =
     c.self.invariant asked at c.one_if.ensures in
     let small = count_small (slice_set c.self.inside.stages.items i stage.Generated) c.self.inside.missing.items (length (map task_facts ts)) in
     omega (arith, g.free, small, length-map ts task_facts)
+
+pub returns : goal.returns
+returns c = grind (arith, common_steps)

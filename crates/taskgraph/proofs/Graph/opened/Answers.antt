@@ -11,6 +11,7 @@ use Rattle.taskgraph.proofs.ClosedGraph.{facts_at}
 use Rattle.taskgraph.proofs.FreeGraph.{opened_with}
 use Rattle.taskgraph.proofs.Kept.{may_open}
 use Rattle.taskgraph.specs.Waiting.{IsGraphWith, board_of, one_if}
+use Rattle.std.proofs.lemmas.Grind.{common_steps}
 use Rattle.taskgraph.proofs.Graph.opened.Goals as goal
 
 pub index_mut-requires : goal.index_mut-requires
@@ -54,3 +55,6 @@ overflow_sub-self c =
     (fewer c.self.inside.tasks.items c.self.inside.stages.items c.self.inside.starts.items c.self.inside.ends.items
     c.self.inside.missing.items c.self.inside.place c.self.inside.first c.self.inside.free c.args.item c.index.result.now c.one_if.result
     c.self.invariant asked c.index.ensures c.one_if.ensures).0
+
+pub returns : goal.returns
+returns c = grind (arith, common_steps)

@@ -3,7 +3,7 @@ use Rattle.std.specs.Prelude.{slice_get, slice_index, option_map, ◌&&◌, ◌|
 use Rattle.std.proofs.lemmas.Bool.{eq-eqb, ne_eqb}
 use Rattle.std.proofs.lemmas.Option.{slice_get-map, slice_get-get_or}
 use Rattle.std.proofs.lemmas.List.{length-map, get_or_default}
-use Rattle.std.proofs.lemmas.Grind.{get_or_default_zero}
+use Rattle.std.proofs.lemmas.Grind.{common_steps, get_or_default_zero}
 use Rattle.base.specs.declared.item.Event.TheVariants.{Open, Wait}
 use Rattle.taskgraph.specs.declared.Task.{Task}
 use Rattle.taskgraph.specs.declared.Stage.{Stage}
@@ -86,3 +86,9 @@ returns-else-self-item c =
     away ∙ ap (λ x. x && (c.self.inside.first == i)) (sym away)
     ∙ subst (λ (x : Board). ((b.place == i) && (c.self.inside.first == i)) ≡ (allows x (Open i) || allows x (Wait i)))
     c.self.view_is answer
+
+pub index-requires : goal.index-requires
+index-requires c = grind (arith, common_steps)
+
+pub index-requires-2 : goal.index-requires-2
+index-requires-2 c = grind (arith, common_steps)

@@ -10,6 +10,7 @@ use Rattle.taskgraph.specs.Waiting.{AreClosed, IsFirst, board_of}
 use Rattle.taskgraph.proofs.Events.{passed_below}
 use Rattle.taskgraph.proofs.FreeGraph.{passed_with}
 use Rattle.taskgraph.proofs.Kept.{may_pass}
+use Rattle.std.proofs.lemmas.Grind.{common_steps}
 use Rattle.taskgraph.proofs.Graph.waited.Goals as goal
 
 pub overflow_add-self : goal.overflow_add-self
@@ -65,3 +66,6 @@ invariant_of-self c =
     c.deref.ensures.value
     (subst (λ (xs : List Stage). IsFirst (board_of c.deref.result.now xs (p + 1)) c.first_left-self-inside.result)
     c.deref-2.ensures.value c.first_left-self-inside.ensures))
+
+pub returns : goal.returns
+returns c = grind (arith, common_steps)

@@ -5,6 +5,7 @@ use Rattle.base.specs.Items.{plan}
 use Rattle.device.specs.Run.{state_of}
 use Rattle.device.specs.Running.{run_of}
 use Rattle.device.proofs.Reaching.{asked, before, goes_on}
+use Rattle.std.proofs.lemmas.Grind.{common_steps}
 use Rattle.device.proofs.state.RunState.generate.Goals as goal
 
 pub generate-requires-clause-here : goal.generate-requires-clause-here
@@ -36,3 +37,9 @@ invariant_of-self-in-Ok c =
       history = c.in_ok-note.ensures.noted;
     })
     (ap (λ t. t.capacity) c.in-Ok.ensures.table)
+
+pub invariant_of-self-in-Err : goal.invariant_of-self-in-Err
+invariant_of-self-in-Err c = grind (arith, common_steps)
+
+pub returns-in-Err-clause-unchanged : goal.returns-in-Err-clause-unchanged
+returns-in-Err-clause-unchanged c = grind (arith, common_steps)

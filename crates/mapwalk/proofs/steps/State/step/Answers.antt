@@ -1,4 +1,4 @@
-use Rattle.std.proofs.Common.{◌≡◌, Option, Some, None, ap, ◌∙◌, subst}
+use Rattle.std.proofs.Common.{arith, ◌≡◌, Option, Some, None, ap, ◌∙◌, subst}
 use Rattle.std.specs.Prelude.{IfNone}
 use Rattle.base.specs.Current.{after_actions}
 use Rattle.mapwalk.specs.declared.causes.Cause.{Cause}
@@ -10,6 +10,7 @@ use Rattle.mapwalk.specs.Sides.{shown_by}
 use Rattle.mapwalk.specs.Table.{blocks_of}
 use Rattle.mapwalk.proofs.ShownItems.{shown_of}
 use Rattle.mapwalk.proofs.Verdicts.{met_is_first, met_verdict, reached_region, region_is_first, region_verdict, step_done}
+use Rattle.std.proofs.lemmas.Grind.{common_steps}
 use Rattle.mapwalk.proofs.steps.State.step.Goals as goal
 
 pub returns-in-Some-clause-step : goal.returns-in-Some-clause-step
@@ -64,3 +65,6 @@ returns-clause-step c entries w e t =
     (met_verdict w bs k item.kind item.maps.items None is.kind is.maps
     (c.in_default.ensures mets (c.in_ok-rows.ensures.seen ∙ ap (seen_all mets) c.new-seen.ensures)))
     (region_verdict w bs k k1 None one none))
+
+pub run_region-requires-clause-few : goal.run_region-requires-clause-few
+run_region-requires-clause-few c = grind (arith, common_steps)

@@ -2,6 +2,7 @@ use Rattle.std.proofs.Common.{rules, ◌+◌, ◌≤◌, sym, ap, ◌∙◌, ari
 use Rattle.std.specs.Prelude.{slice_get}
 use Rattle.std.proofs.lemmas.List.{with_items_is, places}
 use Rattle.mapwalk.proofs.Recounts.{higher, raised}
+use Rattle.std.proofs.lemmas.Grind.{common_steps}
 use Rattle.mapwalk.proofs.table.Blocks.enter.Goals as goal
 
 pub invariant_of-self-in-Inside : goal.invariant_of-self-in-Inside
@@ -17,3 +18,9 @@ invariant_of-self-in-Inside c =
           (ap (λ xs. slice_get xs k)
           (sym (with_items_is c.args.self.now.blocks c.set_count.new.blocks (search (rules, places)))) ∙ e);
     }
+
+pub returns-in_ok-push-in-Absent-clause-blocks : goal.returns-in_ok-push-in-Absent-clause-blocks
+returns-in_ok-push-in-Absent-clause-blocks c = grind (arith, common_steps)
+
+pub returns-in-Inside-clause-blocks : goal.returns-in-Inside-clause-blocks
+returns-in-Inside-clause-blocks c = grind (arith, common_steps)

@@ -3,6 +3,7 @@ use Rattle.mapwalk.specs.Blocks.{block_of}
 use Rattle.mapwalk.specs.Kinds.{rests_before}
 use Rattle.mapwalk.specs.Table.{blocks_of}
 use Rattle.mapwalk.proofs.RowSteps.{entries_step, entry_row_step, entry_seen_step}
+use Rattle.std.proofs.lemmas.Grind.{common_steps}
 use Rattle.mapwalk.proofs.table.Blocks.enter_all.Goals as goal
 
 pub maps-preserved : goal.maps-preserved
@@ -22,3 +23,12 @@ maps-preserved c =
           c.maps.invariant.seen c.note.ensures (ap (map block_of) c.deref.ensures.value) done.blocks;
       entries = omega arith;
     }
+
+pub returns-clause-row : goal.returns-clause-row
+returns-clause-row c = grind (arith, common_steps)
+
+pub returns-clause-blocks : goal.returns-clause-blocks
+returns-clause-blocks c = grind (arith, common_steps)
+
+pub returns-clause-seen : goal.returns-clause-seen
+returns-clause-seen c = grind (arith, common_steps)

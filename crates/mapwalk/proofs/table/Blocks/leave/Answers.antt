@@ -3,6 +3,7 @@ use Rattle.std.specs.Prelude.{slice_get}
 use Rattle.std.proofs.lemmas.List.{with_items_is, places}
 use Rattle.base.specs.Map.{exit_count}
 use Rattle.mapwalk.proofs.Recounts.{exit_low, higher, raised}
+use Rattle.std.proofs.lemmas.Grind.{common_steps}
 use Rattle.mapwalk.proofs.table.Blocks.leave.Goals as goal
 
 pub invariant_of-self : goal.invariant_of-self
@@ -25,3 +26,6 @@ invariant_of-self-else-count-eq0 c =
           (ap (λ xs. slice_get xs k)
           (sym (with_items_is c.args.self.now.blocks c.set_count.new.blocks (search (rules, places)))) ∙ e);
     }
+
+pub returns-after-count-eq0-clause-blocks : goal.returns-after-count-eq0-clause-blocks
+returns-after-count-eq0-clause-blocks c = grind (arith, common_steps)

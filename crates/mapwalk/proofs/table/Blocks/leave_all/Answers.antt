@@ -1,8 +1,9 @@
-use Rattle.std.proofs.Common.{map, ap, ◌∙◌}
+use Rattle.std.proofs.Common.{arith, map, ap, ◌∙◌}
 use Rattle.mapwalk.specs.Blocks.{block_of}
 use Rattle.mapwalk.specs.Kinds.{rests_before}
 use Rattle.mapwalk.specs.Table.{blocks_of}
 use Rattle.mapwalk.proofs.RowSteps.{exit_row_step, exit_seen_step, exits_step}
+use Rattle.std.proofs.lemmas.Grind.{common_steps}
 use Rattle.mapwalk.proofs.table.Blocks.leave_all.Goals as goal
 
 pub maps-preserved : goal.maps-preserved
@@ -20,3 +21,12 @@ maps-preserved c =
           c.maps.invariant.seen c.note.ensures (ap (map block_of) c.deref.ensures.value) done.blocks;
       entries = done.entries ∙ c.maps.invariant.entries;
     }
+
+pub returns-clause-row : goal.returns-clause-row
+returns-clause-row c = grind (arith, common_steps)
+
+pub returns-clause-blocks : goal.returns-clause-blocks
+returns-clause-blocks c = grind (arith, common_steps)
+
+pub returns-clause-seen : goal.returns-clause-seen
+returns-clause-seen c = grind (arith, common_steps)

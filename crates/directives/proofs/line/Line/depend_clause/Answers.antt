@@ -1,0 +1,22 @@
+use Rattle.directives.proofs.ClausesRead.{read_depend}
+use Rattle.directives.proofs.Clausing.{at_depend, depend_is}
+use Rattle.std.proofs.Common.{arith}
+use Rattle.directives.proofs.line.Line.depend_clause.Goals as goal
+
+pub returns-in_err-enter-clause-read : goal.returns-in_err-enter-clause-read
+returns-in_err-enter-clause-read c = grind (arith, at_depend)
+
+pub returns-in_err-expect-clause-read : goal.returns-in_err-expect-clause-read
+returns-in_err-expect-clause-read c = grind (arith, at_depend)
+
+pub returns-in_err-depend_type-clause-read : goal.returns-in_err-depend_type-clause-read
+returns-in_err-depend_type-clause-read c = grind (arith, at_depend)
+
+pub returns-in_err-sections-clause-read : goal.returns-in_err-sections-clause-read
+returns-in_err-sections-clause-read c = grind (arith, at_depend)
+
+pub returns-clause-read : goal.returns-clause-read
+returns-clause-read c = grind (arith, at_depend)
+
+pub returns-clause-tree : goal.returns-clause-tree
+returns-clause-tree c = grind (arith, depend_is, read_depend)
