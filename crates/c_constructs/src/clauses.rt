@@ -83,7 +83,6 @@ fn clause<K: MapKind>(
 }
 
 /// The clauses of a directive on that line of the source.
-#[tactic(auto, using(crate::proofs::ClauseSteps::typed_at))]
 pub fn all_clauses<K: MapKind>(
     scope: &Scope<'_>,
     line: usize,

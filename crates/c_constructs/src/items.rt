@@ -16,7 +16,6 @@ use directives::{DirectiveFault, Section, Sections};
 use smallvec::SmallVec;
 
 /// One more map item.
-#[tactic(auto, using(directives::proofs::Outcomes::on_from, crate::proofs::Growing::grows_map))]
 fn map_item<K: MapKind>(
     scope: &Scope<'_>,
     line: usize,

@@ -56,7 +56,6 @@ fn resolved_at(
 }
 
 /// The directive of that line, which stands next, outside a target and under no `if`.
-#[tactic(auto, using(crate::proofs::Taken::misnamed_line, crate::proofs::Passing::is_read, crate::proofs::Passing::passes))]
 fn next_on_line<'a>(
     scope: &Scope<'_>,
     tokens: &Cursor<'a>,

@@ -36,7 +36,6 @@ pub enum Resolved {
 }
 
 /// What the clauses of a directive on that line of the source mean.
-#[tactic(auto, using(crate::proofs::Directives::all_told, crate::proofs::Directives::all_failed))]
 fn clauses_of<K: MapKind>(
     scope: &Scope<'_>,
     line: usize,
@@ -50,7 +49,6 @@ fn clauses_of<K: MapKind>(
 }
 
 /// What a directive that stands alone on that line of the source means.
-#[tactic(auto, using(crate::proofs::Directives::enter_types, crate::proofs::Directives::exit_types, crate::proofs::Directives::update_types, crate::proofs::Directives::wait_types, crate::proofs::Directives::tasking))]
 pub fn alone_at(
     scope: &Scope<'_>,
     line: usize,
@@ -90,7 +88,6 @@ pub fn alone_at(
 }
 
 /// What a directive over a block or loop means, which stands on that line of the source.
-#[tactic(auto, using(crate::proofs::Directives::over_types, crate::proofs::Directives::tasking))]
 pub fn construct_at(
     scope: &Scope<'_>,
     line: usize,

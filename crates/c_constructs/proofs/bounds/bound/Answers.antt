@@ -1,9 +1,10 @@
-use Rattle.std.proofs.Common.{◌+◌, ◌++◌, drop, refl}
+use Rattle.std.proofs.Common.{arith, ◌+◌, ◌++◌, drop, refl}
 use Rattle.std.proofs.lemmas.Result.{err_from_is_err_and}
 use Rattle.c_expressions.specs.Scopes.{names_of}
 use Rattle.directives.specs.Names.{each_names, term_names}
 use Rattle.c_constructs.proofs.NameSteps.{next_failed, next_read}
 use Rattle.c_constructs.proofs.Terms.{terms_more}
+use Rattle.std.proofs.lemmas.Grind.{common_steps}
 use Rattle.c_constructs.proofs.bounds.bound.Goals as goal
 
 pub terms-preserved : goal.terms-preserved
@@ -25,3 +26,12 @@ returns-in_err-next-clause-told c = λ us.
     c.deref-more-items.result.now c.terms.more-index _ _ us _ _ c.deref-more-items.ensures.value c.terms-test.true refl
     (c.terms.invariant.read us) (c.in_err-next.ensures.told
     (each_names term_names (drop (c.terms.more-index + 1) c.args.bound.now.more.items) ++ us)))
+
+pub returns-in_err-first-clause-told : goal.returns-in_err-first-clause-told
+returns-in_err-first-clause-told c = grind (arith, common_steps)
+
+pub returns-clause-told : goal.returns-clause-told
+returns-clause-told c = grind (arith, common_steps)
+
+pub returns-clause-means : goal.returns-clause-means
+returns-clause-means c = grind (arith, common_steps)

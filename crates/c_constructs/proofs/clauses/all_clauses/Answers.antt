@@ -1,8 +1,8 @@
-use Rattle.std.proofs.Common.{◌+◌, ◌++◌, drop, refl}
+use Rattle.std.proofs.Common.{arith, ◌+◌, ◌++◌, drop, refl}
 use Rattle.std.proofs.lemmas.Result.{err_from_is_err_and}
 use Rattle.c_expressions.specs.Scopes.{names_of}
 use Rattle.directives.specs.Names.{clause_names, each_names}
-use Rattle.c_constructs.proofs.ClauseSteps.{read_all, read_next}
+use Rattle.c_constructs.proofs.ClauseSteps.{typed_at, read_all, read_next}
 use Rattle.c_constructs.proofs.NameSteps.{all_read, next_failed, next_read}
 use Rattle.c_constructs.proofs.clauses.all_clauses.Goals as goal
 
@@ -32,3 +32,9 @@ pub returns-clause-means : goal.returns-clause-means
 returns-clause-means g c =
     read_all g.K.MapKind.seen (names_of c.args.scope.now) c.args.line c.args.clauses.now c.clauses.one-index
     c.clauses.read c.clauses-test.false c.clauses.invariant.means
+
+pub clause-requires : goal.clause-requires
+clause-requires g c = grind (arith, typed_at)
+
+pub returns-in_err-clause-clause-means : goal.returns-in_err-clause-clause-means
+returns-in_err-clause-clause-means g c = grind (arith, typed_at)

@@ -1,6 +1,7 @@
-use Rattle.std.proofs.Common.{refl}
+use Rattle.std.proofs.Common.{arith, refl}
 use Rattle.c_expressions.specs.Scopes.{names_of}
 use Rattle.c_constructs.proofs.Reading.{reads_maps, reads_depends, reads_updates, reads_nowait}
+use Rattle.std.proofs.lemmas.Grind.{common_steps}
 use Rattle.c_constructs.proofs.clauses.clause.Goals as goal
 
 pub returns-in_ok-map_items-in-Map-clause-means : goal.returns-in_ok-map_items-in-Map-clause-means
@@ -22,3 +23,9 @@ returns-in_ok-update_items-in-Motion-clause-means g c = rw c.in-Motion.is (reads
 pub returns-in-NoWait-clause-means : goal.returns-in-NoWait-clause-means
 returns-in-NoWait-clause-means g c = rw c.in-NoWait.is (reads_nowait g.K.MapKind.seen (names_of c.args.scope.now)
     c.args.line c.args.read.now _ refl refl refl refl)
+
+pub returns-in_err-map_items-in-Map-clause-told : goal.returns-in_err-map_items-in-Map-clause-told
+returns-in_err-map_items-in-Map-clause-told g c = grind (arith, common_steps)
+
+pub returns-in_ok-map_items-in-Map-clause-told : goal.returns-in_ok-map_items-in-Map-clause-told
+returns-in_ok-map_items-in-Map-clause-told g c = grind (arith, common_steps)

@@ -26,6 +26,10 @@ use Rattle.c_read.proofs.Pieces.{front_none, front_more, front_ends, front_outsi
 use Rattle.c_read.proofs.Trees.{body_braces, loop_turns, read_block, read_loop, same_inner}
 use Rattle.c_read.proofs.Directed.{read_alone}
 use Rattle.c_read.proofs.Overs.{read_over}
+use Rattle.c_constructs.proofs.AtStatement.{directive_begins}
+use Rattle.c_read.proofs.Unders.{under_loop, under_brace, stop_under}
+use Rattle.c_statements.proofs.Begins.{at_loop, at_block}
+use Rattle.std.proofs.lemmas.Grind.{common_steps}
 use Rattle.c_read.proofs.parts.+piece.Goals as goal
 
 pub blocked-returns-clause-scope : goal.blocked-returns-clause-scope
@@ -178,3 +182,27 @@ turns-returns-clause-tree t c =
     c.in_ok-open_body.ensures.opened c.in_ok-open_body.ensures.names c.in_ok-open_body.ensures.next
     c.in_ok-gathered.ensures.scope c.in_ok-open_body.ensures.first c.in_ok-open_body.ensures.taken
     c.in_ok-gathered.ensures.tree c.in_ok-turns.ensures.means
+
+pub data_parts-returns-then-at-clause-read : goal.data_parts-returns-then-at-clause-read
+data_parts-returns-then-at-clause-read t c = grind (arith, under_brace)
+
+pub data_parts-returns-in_err-turns-clause-read : goal.data_parts-returns-in_err-turns-clause-read
+data_parts-returns-in_err-turns-clause-read t c = grind (arith, under_loop)
+
+pub data_parts-returns-then-at_word-clause-read : goal.data_parts-returns-then-at_word-clause-read
+data_parts-returns-then-at_word-clause-read t c = grind (arith, under_loop)
+
+pub data_parts-returns-clause-read : goal.data_parts-returns-clause-read
+data_parts-returns-clause-read t c = grind (arith, stop_under)
+
+pub directed-returns-in-Alone-clause-read : goal.directed-returns-in-Alone-clause-read
+directed-returns-in-Alone-clause-read t c = grind (arith, directive_begins)
+
+pub piece-returns-then-at_word-clause-read : goal.piece-returns-then-at_word-clause-read
+piece-returns-then-at_word-clause-read t c = grind (arith, at_loop)
+
+pub piece-returns-then-at-clause-read : goal.piece-returns-then-at-clause-read
+piece-returns-then-at-clause-read t c = grind (arith, at_block)
+
+pub turns-gather-requires : goal.turns-gather-requires
+turns-gather-requires t c = grind (arith, common_steps)

@@ -1,6 +1,6 @@
-use Rattle.std.proofs.Common.{refl}
+use Rattle.std.proofs.Common.{arith, refl}
 use Rattle.c_expressions.specs.Cursor.{items}
-use Rattle.c_read.proofs.Programs.{read_text}
+use Rattle.c_read.proofs.Programs.{main_outside, read_text}
 use Rattle.c_read.proofs.program.program.Goals as goal
 
 pub returns-clause-tree : goal.returns-clause-tree
@@ -12,3 +12,6 @@ returns-clause-tree c =
     c.requires.fresh c.in_ok-arrays.ensures.tree c.in_ok-main_head.ensures.opened c.in_ok-main_head.ensures.names
     c.in_ok-main_head.ensures.next c.in_ok-main_head.ensures.gone c.in_ok-body.ensures.tree c.in_ok-body.ensures.over
     refl refl c.in_ok-body.ensures.longest
+
+pub main_parts-requires : goal.main_parts-requires
+main_parts-requires c = grind (arith, main_outside)

@@ -1,4 +1,4 @@
-use Rattle.std.proofs.Common.{◌∙◌, ap}
+use Rattle.std.proofs.Common.{arith, ◌∙◌, ap}
 use Rattle.std.proofs.lemmas.Result.{err_from_is_err_and}
 use Rattle.c_grammar.specs.Program.{loop}
 use Rattle.c_expressions.specs.Cursor.{items}
@@ -7,6 +7,7 @@ use Rattle.c_expressions.specs.Reading.{run}
 use Rattle.c_expressions.specs.Scopes.{context_of}
 use Rattle.c_expressions.proofs.Outcomes.{failed_from}
 use Rattle.c_read.proofs.Regions.{target_loop_tree}
+use Rattle.std.proofs.lemmas.Grind.{common_steps}
 use Rattle.c_read.proofs.region.target_loop.Goals as goal
 
 pub returns-in_err-bounds-clause-read : goal.returns-in_err-bounds-clause-read
@@ -21,3 +22,9 @@ returns-clause-tree c = target_loop_tree c.args.scope.now c.head_name.new.scope 
     (items c.head_name.new.tokens) (items c.bounds.new.tokens) (items c.body.new.tokens) c.in_ok-body.body
     c.requires.target.target c.in_ok-name.ensures.scope c.in_ok-bounds.ensures.scope c.loops_around-level.ensures
     c.requires.word c.take.ensures c.in_ok-name.ensures.gone c.in_ok-bounds.ensures.gone c.in_ok-body.ensures.tree
+
+pub returns-in_err-body-clause-read : goal.returns-in_err-body-clause-read
+returns-in_err-body-clause-read c = grind (arith, common_steps)
+
+pub returns-clause-read : goal.returns-clause-read
+returns-clause-read c = grind (arith, common_steps)
