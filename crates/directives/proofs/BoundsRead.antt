@@ -1,33 +1,19 @@
 -- The bounds that were read.
-use Rattle.std.proofs.Common.{◌≡◌, ℕ, true, List, [], ◌∷◌, ◌++◌, Some, None, sym}
+use Rattle.std.proofs.Common.{◌≡◌, ℕ, List, [], ◌∷◌, ◌++◌, Some, None, sym}
 use Rattle.std.specs.Borrow.{Bor}
 use Rattle.c_tokens.specs.declared.kind.Sign.TheVariants as sign
-use Rattle.c_grammar.specs.Lexeme.{Signed, Worded, Numbered, same}
+use Rattle.c_grammar.specs.Lexeme.{Signed, Worded}
 use Rattle.directives.specs.declared.line.Line.{Line}
-use Rattle.directives.specs.declared.tree.Name.{Name}
-use Rattle.directives.specs.declared.tree.Term.TheVariants.{Literal, Product}
 use Rattle.directives.specs.declared.tree.Bound.{Bound}
 use Rattle.directives.specs.Cursor.{first_item, behind, items}
 use Rattle.directives.specs.Reading.{IsSpelled}
-use Rattle.directives.specs.Trees.{Spelling, name_mark, sign_mark, term_marks, bound_marks, first_marks, second_marks, bounds_marks}
-use Rattle.directives.proofs.Moves.{sign_is}
+use Rattle.directives.specs.Trees.{Spelling, name_mark, sign_mark, bound_marks, first_marks, second_marks, bounds_marks}
 use Rattle.directives.proofs.Spellings.{spelled_one, spelled_first, spelled_then, spelled_none}
 
 pub read_name : (l l' : Line) (x : Bor (List ℕ)) (k : ℕ) → (first_item l).terminal ≡ Worded x.now →
     k ≡ (first_item l).column → behind l ≡ items l' →
     IsSpelled (name_mark (record { text = x; column = k }) ∷ []) (items l) (items l')
 read_name l l' x k e h b = spelled_one l (items l') (Worded x.now) (Some k) e (sym h) b
-
-pub read_literal : (l l' : Line) (n : ℕ) → (first_item l).terminal ≡ Numbered (Some n) → behind l ≡ items l' →
-    IsSpelled (term_marks (Literal n)) (items l) (items l')
-read_literal l l' n e b = spelled_one l (items l') (Numbered (Some n)) None e tt b
-
-pub read_product : (l l1 l2 l3 : Line) (n : ℕ) (x : Name) → (first_item l).terminal ≡ Numbered (Some n) →
-    behind l ≡ items l1 → same (Signed sign.Star) (first_item l1).terminal ≡ true → behind l1 ≡ items l2 →
-    IsSpelled (name_mark x ∷ []) (items l2) (items l3) → IsSpelled (term_marks (Product n x)) (items l) (items l3)
-read_product l l1 l2 l3 n x e b f d r =
-    spelled_first l l1 (Numbered (Some n)) None (sign_mark sign.Star ∷ name_mark x ∷ []) (items l3) e tt b
-    (spelled_first l1 l2 (Signed sign.Star) None (name_mark x ∷ []) (items l3) (sign_is l1 sign.Star f) tt d r)
 
 -- ---- two bounds
 

@@ -16,7 +16,7 @@ use Rattle.directives.specs.Cursor.{Items, first_item, behind, items}
 use Rattle.directives.specs.Reading.{IsSpelled}
 use Rattle.directives.specs.Trees.{Spelling, word_mark, sign_mark, always_marks, type_marks, sections_marks, clause_of, clause_marks, clauses_marks}
 use Rattle.directives.proofs.Clausing.{end_is}
-use Rattle.directives.proofs.Spellings.{spelled_one, spelled_first, spelled_then, spelled_none, spelled_as, spelled_less}
+use Rattle.directives.proofs.Spellings.{spelled_one, spelled_first, spelled_then, spelled_as, spelled_less}
 
 -- a word and the bracket behind it
 read_word : (l l1 l2 : Line) (x : List ℕ) → (first_item l).terminal ≡ Worded x → behind l ≡ items l1 →
@@ -94,9 +94,6 @@ pub read_clauses_more : (cs ds : List Clause) (c : Clause) (a b d : Items) → d
     IsSpelled (clauses_marks cs) a b → IsSpelled (clause_marks c) b d → IsSpelled (clauses_marks ds) a d
 read_clauses_more cs ds c a b d e r s = spelled_as (clauses_marks cs ++ clause_marks c) (clauses_marks ds) a d
     (sym (ap clauses_marks e ∙ clauses_more cs c)) (spelled_then (clauses_marks cs) (clause_marks c) a b d r s)
-
-pub read_no_clauses : (a : Items) → IsSpelled (clauses_marks []) a a
-read_no_clauses a = spelled_none a
 
 takes_more : (k : grammar.DirectiveKind) (cs : List Clause) (c : Clause) → AreClauses k (map clause_of cs) →
     IsClause k (clause_of c) → AreClauses k (map clause_of (cs ++ c ∷ []))

@@ -14,7 +14,7 @@ use Rattle.directives.specs.Reading.{rest, took, misfit_at, IsSpelled}
 use Rattle.directives.specs.Trees.{word_mark, target_marks, kind_marks, head_marks, line_marks, clauses_marks}
 use Rattle.directives.proofs.Moves.{goes, stops, word_is}
 use Rattle.directives.proofs.Bounding.{same_rest}
-use Rattle.directives.proofs.Spellings.{spelled_one, spelled_first, spelled_then, spelled_none, spelled_as}
+use Rattle.directives.proofs.Spellings.{spelled_one, spelled_first, spelled_then, spelled_as}
 
 -- ---- behind the word target
 
@@ -116,20 +116,12 @@ stop_begin l s d e = stops l (Begin ∷ s) UnknownDirective (begin_none s (first
 
 -- ---- what was read
 
--- one word of the name
-pub read_one : (l l1 : Line) (x : List ℕ) → is_word x (first_item l).terminal ≡ true → behind l ≡ items l1 →
-    IsSpelled (word_mark x ∷ []) (items l) (items l1)
-read_one l l1 x e b = spelled_one l (items l1) (Worded x) None (word_is l x e) tt b
-
 -- two
 pub read_both : (l l1 l2 : Line) (x y : List ℕ) → is_word x (first_item l).terminal ≡ true → behind l ≡ items l1 →
     (first_item l1).terminal ≡ Worded y → behind l1 ≡ items l2 →
     IsSpelled (word_mark x ∷ word_mark y ∷ []) (items l) (items l2)
 read_both l l1 l2 x y e b f d = spelled_first l l1 (Worded x) None (word_mark y ∷ []) (items l2) (word_is l x e) tt b
     (spelled_one l1 (items l2) (Worded y) None f tt d)
-
-pub read_no_words : (l : Line) → IsSpelled (target_marks kind.Target) (items l) (items l)
-read_no_words l = spelled_none (items l)
 
 -- the word target and those behind it
 pub read_target : (l l1 l2 : Line) (k : GivenKind) → is_word (codes "target") (first_item l).terminal ≡ true →
@@ -139,10 +131,6 @@ read_target l l1 l2 k e b r n = spelled_as (word_mark (codes "target") ∷ targe
     (items l2)
     (sym n) (spelled_first l l1 (Worded (codes "target")) None (target_marks k) (items l2)
     (word_is l (codes "target") e) tt b r)
-
-pub read_wait : (l l1 : Line) → is_word (codes "taskwait") (first_item l).terminal ≡ true → behind l ≡ items l1 →
-    IsSpelled (kind_marks kind.TaskWait) (items l) (items l1)
-read_wait l l1 e b = read_one l l1 (codes "taskwait") e b
 
 -- the words before the clauses
 pub read_head : (l l1 l2 l3 : Line) (k : GivenKind) → (first_item l).terminal ≡ Worded (codes "pragma") →

@@ -1,13 +1,12 @@
 -- The tokens of a line behind a piece.
-use Rattle.std.proofs.Common.{◌≡◌, ℕ, zero, suc, ◌+◌, ◌-◌, ◌<◌, ◌≤◌, true, false, List, [], ◌∷◌, length, drop, take, Option, Some, None, refl, sym, ap, ◌∙◌, arith}
+use Rattle.std.proofs.Common.{◌≡◌, ℕ, zero, suc, ◌+◌, ◌-◌, ◌<◌, ◌≤◌, false, List, [], ◌∷◌, length, drop, take, refl, sym, ap, ◌∙◌, arith}
 use Rattle.c_tokens.specs.declared.kind.Kind.{Kind}
 use Rattle.c_tokens.specs.declared.kind.Mood.{Mood}
 use Rattle.c_tokens.specs.declared.kind.Piece.TheVariants as piece
 use Rattle.c_tokens.specs.Text.{after_kind}
 use Rattle.c_tokens.specs.declared.kind.Kind.TheVariants as kind
-use Rattle.c_grammar.specs.Lexeme.{Word, word_of, reserved_or_not, Strange, Ended, Placed, lexeme_of, lexemes_from}
+use Rattle.c_grammar.specs.Lexeme.{Strange, Ended, Placed, lexeme_of, lexemes_from}
 use Rattle.directives.specs.declared.lexemes.Lexemes.{Lexemes}
-use Rattle.directives.specs.Seen.{ends_well}
 use Rattle.directives.specs.Pieces.{piece_on}
 use Rattle.directives.specs.Ahead.{ahead_on_line}
 
@@ -87,16 +86,3 @@ at_unknown l o lt e = going l o ∙ unknown_from l.rest.now l.mood l.column lt e
 pub at_end : (l : Lexemes) → l.over ≡ false → length l.rest.now ≡ 0 → ahead_on_line l ≡
     record { lexeme = Ended; column = l.column } ∷ []
 at_end l o e = going l o ∙ end_from l.rest.now l.mood l.column e
-
--- a token of a piece does not end the line
-pub token_goes : (k : Kind) (x : List ℕ) → ends_well (lexeme_of k x) false ≡ true
-token_goes kind.Name x = named (word_of x)
-  where
-    named : (o : Option Word) → ends_well (reserved_or_not x o) false ≡ true
-    named None = refl
-    named (Some w) = refl
-token_goes (kind.Number n) x = refl
-token_goes kind.BadNumber x = refl
-token_goes (kind.Sign s) x = refl
-token_goes kind.Line x = refl
-token_goes kind.Unknown x = refl

@@ -1,21 +1,19 @@
 -- The machine at the words behind which sections stand.
-use Rattle.std.proofs.Common.{◌≡◌, ℕ, true, false, List, [], ◌∷◌, Some, None, refl, sym, ap, ◌∙◌, inl, inr}
+use Rattle.std.proofs.Common.{◌≡◌, true, false, List, [], ◌∷◌, Some, None, refl, sym, ap, ◌∙◌, inl, inr}
 use Rattle.std.specs.Prelude.{codes}
 use Rattle.std.proofs.lemmas.Bool.{or_cases}
 use Rattle.c_tokens.specs.declared.kind.Sign.TheVariants as sign
 use Rattle.base.specs.declared.fault.ReadCode.TheVariants.{Unexpected, BadMapType}
-use Rattle.c_grammar.specs.Lexeme.{Lexeme, Signed, Worded}
+use Rattle.c_grammar.specs.Lexeme.{Lexeme, Worded}
 use Rattle.c_grammar.specs.LineGrammar.{Plain, Maps, plain, of, DirectiveKind, MapType, To, From, ToFrom, Alloc, Release, Delete, DependType, In, Out, InOut, map_word, depend_word, map_types}
 use Rattle.c_grammar.specs.LineRules.{IsAmong}
 use Rattle.c_grammar.specs.LineMachine.{LineStack, MapHead, TypeOf, DependHead, Name, w, is_word, is_map_type, line_advance, line_place}
 use Rattle.directives.specs.declared.line.Line.{Line}
 use Rattle.directives.specs.Kinds.{allows, IsNoMapWord, IsNoDependWord}
-use Rattle.directives.specs.Cursor.{first_item, behind, items}
-use Rattle.directives.specs.Reading.{rest, took, misfit_at, IsSpelled}
-use Rattle.directives.specs.Trees.{sign_mark, always_marks, type_marks}
-use Rattle.directives.proofs.Moves.{goes, stops, word_is}
+use Rattle.directives.specs.Cursor.{first_item, behind}
+use Rattle.directives.specs.Reading.{rest, took, misfit_at}
+use Rattle.directives.proofs.Moves.{goes, stops}
 use Rattle.directives.proofs.Bounding.{same_rest}
-use Rattle.directives.proofs.Spellings.{spelled_one, spelled_first, spelled_none}
 
 -- ---- map types
 
@@ -106,13 +104,6 @@ pub stop_type : (l : Line) (k : DirectiveKind) (s : LineStack) →
 unfolding line_place
 stop_type l k s e = stops l (TypeOf k ∷ s) BadMapType (type_none k s (first_item l).terminal e) refl
 
--- a word and the colon behind it
-pub read_type : (l l1 l2 : Line) (x : List ℕ) → (first_item l).terminal ≡ Worded x → behind l ≡ items l1 →
-    (first_item l1).terminal ≡ Signed sign.Colon → behind l1 ≡ items l2 →
-    IsSpelled (type_marks x) (items l) (items l2)
-read_type l l1 l2 x e b f d = spelled_first l l1 (Worded x) None (sign_mark sign.Colon ∷ []) (items l2) e tt b
-    (spelled_one l1 (items l2) (Signed sign.Colon) None f tt d)
-
 -- ---- always
 
 always_goes : (k : DirectiveKind) (s : LineStack) (t : Lexeme) → is_word (codes "always") t ≡ true →
@@ -135,15 +126,6 @@ pub no_always : (l : Line) (k : DirectiveKind) (s : LineStack) →
     is_word (codes "always") (first_item l).terminal ≡ false → rest l (MapHead k ∷ s) ≡ rest l (TypeOf k ∷ s)
 unfolding line_place
 no_always l k s e = same_rest l (MapHead k ∷ s) (TypeOf k ∷ s) (always_not k s (first_item l).terminal e) refl
-
-pub read_always : (l l1 l2 : Line) → is_word (codes "always") (first_item l).terminal ≡ true → behind l ≡ items l1 →
-    (first_item l1).terminal ≡ Signed sign.Comma → behind l1 ≡ items l2 →
-    IsSpelled (always_marks true) (items l) (items l2)
-read_always l l1 l2 e b f d = spelled_first l l1 (Worded (codes "always")) None (sign_mark sign.Comma ∷ []) (items l2)
-    (word_is l (codes "always") e) tt b (spelled_one l1 (items l2) (Signed sign.Comma) None f tt d)
-
-pub read_no_always : (l : Line) → IsSpelled (always_marks false) (items l) (items l)
-read_no_always l = spelled_none (items l)
 
 -- ---- depend types
 

@@ -4,7 +4,7 @@ use Rattle.c_tokens.specs.declared.kind.Sign.TheVariants as sign
 use Rattle.c_grammar.specs.Program.{Stack, Value, m}
 use Rattle.c_expressions.specs.declared.scope.Scope.{Scope}
 use Rattle.c_expressions.specs.Scopes.{context_of, fresh_name}
-use Rattle.c_expressions.proofs.Outcomes.{failed_from, on_from}
+use Rattle.c_expressions.proofs.Outcomes.{failed_from}
 use Rattle.c_statements.specs.Simple.{ending}
 use Rattle.c_statements.proofs.Declares.{go_declared}
 use Rattle.c_statements.proofs.Locals.{read_declared, new_scope}
