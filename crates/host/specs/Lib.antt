@@ -1,4 +1,5 @@
 pub mod Origins
 pub mod Threads
 pub mod Stops
+pub mod Idle
 pub mod Looks

@@ -18,6 +18,14 @@ start_of r = record { program = r.program; input = r.input; capacity = r.capacit
 abbrev pub IsFrom : Option Start → Run → Type 0
 IsFrom o r = o ≡ Some (start_of r)
 
+-- the run is of this program
+abbrev pub IsOf : Program → Run → Type 0
+IsOf p r = p ≡ r.program
+
+-- in at most one way
+pub one_program : (p : Program) (r : Run) → IsProp (IsOf p r)
+one_program p r = Coded-set program_code.the_row.coded p r.program
+
 abbrev pub start_code : Coded Start
 start_code =
     code_by (Program × (List ℕ × ℕ)) (coded× program_code.the_row.coded (coded× (coded_list coded_ℕ) coded_ℕ))

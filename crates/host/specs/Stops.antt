@@ -34,6 +34,14 @@ abbrev pub first_stop : Option Stop → Stop → Option Stop
 first_stop None s = Some s
 first_stop (Some t) s = Some t
 
+-- the cause is want of memory or of room, with which an event can meet
+abbrev pub IsLack : Option Stop → Type 0
+IsLack None = ⊥
+IsLack (Some stop.OutOfMemory) = Unit {0}
+IsLack (Some (stop.DeviceFull item)) = Unit {0}
+IsLack (Some stop.Stranger) = ⊥
+IsLack (Some stop.ThreadNotStarted) = ⊥
+
 -- a run that is stopped stays so, for the same cause and in the same state
 abbrev pub StaysStopped : Option Stop → Run → Option Stop → Run → Type 0
 StaysStopped None old o new = Unit {0}

@@ -1,16 +1,17 @@
 // What stands behind the lock.
 
-ghost use Rattle.std.specs.Prelude.{◌≡◌, true, false, IsTrue, IfErr, IfNone, IfOk, IfSome, None, OnOk};
+ghost use Rattle.std.specs.Prelude.{◌≡◌, ◌≤◌, ◌&&◌, true, false, not, IsTrue, IfErr, IfNone, IfOk, IfSome, None, OnOk, length, slice_get};
 ghost use Rattle.base.specs.declared.item.Event.TheVariants as event;
 ghost use Rattle.base.specs.Items.{plan};
+ghost use Rattle.base.specs.Limits.{most_items};
 ghost use Rattle.base.specs.Machine.{enabled};
 ghost use Rattle.device.specs.Room.{IsAnswerWithin};
 ghost use Rattle.device.specs.Run.{state_of};
-ghost use Rattle.host.specs.Looks.{IsClosing, IsForWorker, IsLook, IsOpeningOf, IsWorkerLook};
-ghost use Rattle.host.specs.Origins.{IsFrom, one_origin};
+ghost use Rattle.host.specs.Idle.{AreWorkersIdle, IsHostIdle, IsNoTargetHere, is_for_workers, is_target, turn_of};
+ghost use Rattle.host.specs.Looks.{IsClosing, IsEventOf, IsForWorker, IsHostLook, IsLook, IsOpeningOf, IsWorkerLook, WantsNoWorker};
+ghost use Rattle.host.specs.Origins.{IsFrom, IsOf, one_origin, one_program};
 ghost use Rattle.host.specs.Stops.{HasCause, IsEndFault, IsOver, IsPlain, StaysStopped, fault_of, first_stop, one_cause};
 ghost use Rattle.host.specs.Threads.{IsThreadAnswer, IsThreadFault};
-ghost use Rattle.taskgraph.specs.Board.{HasNoTask};
 
 use crate::origin::Origin;
 use base::fault::RunFault;
@@ -53,17 +54,23 @@ pub struct Board<'a, B: Origin> {
     state: RunState<'a>,
     stop: Option<Stop>,
     of: PhantomData<B>,
+    ghost program: { IsOf image.now state } by { one_program image.now state },
     ghost origin: { IsFrom B.start state } by { one_origin B.start state },
     ghost cause: { HasCause state stop } by { one_cause state stop },
 }
 
 // Whether the workers open and close an item where the host stands at it.
-fn is_host_target(item: &Item) -> bool {
-    !item.deferred && item.kind == ItemKind::Target
+fn is_host_target(item: &Item) -> bool
+    ensures { result ≡ not item.now.deferred && is_target item.now.kind }
+{
+    !item.deferred && matches!(item.kind, ItemKind::Target)
 }
 
 // What the host does with the item at which it stands; nothing with one that the workers open and close.
-fn event_at(items: &[Item], place: usize) -> Option<Event> {
+fn event_at(items: &[Item], place: usize) -> Option<Event>
+    requires { length items.now ≤ most_items }
+    ensures { result ≡ turn_of place (slice_get items.now place) }
+{
     let Some(item) = items.get(place) else {
         return Some(Event::End);
     };
@@ -108,7 +115,8 @@ fn answer_of(alloc: Global, state: &RunState<'_>) -> Result<Answer, RunFault>
 impl<'a, B: Origin> Board<'a, B> {
     /// The board of a run that goes on.
     pub fn new(image: &'a Image<'a>, state: RunState<'a>) -> Self
-        requires { IsFrom B.start state }
+        requires program { IsOf image.now state }
+        requires start { IsFrom B.start state }
         ensures state { result.state ≡ state.entry }
         ensures goes { result.stop ≡ None }
     {
@@ -143,13 +151,13 @@ impl<'a, B: Origin> Board<'a, B> {
     fn target_here(&self) -> Option<u32>
         ensures may { IfSome result (λ item. IsTrue (enabled (plan self.now.state.program) (state_of self.now.state) (event.Open item))) }
         ensures here { IfSome result (λ item. (state_of self.now.state).place ≡ item) }
+        ensures none { IfNone result (IsNoTargetHere (plan self.now.state.program) (state_of self.now.state)) }
     {
         let place = self.state.place();
-        let item = u32::try_from(place).ok()?;
-        if is_host_target(self.image.items().get(place)?)
-            && self.state.is_enabled(Event::Open(item))
-        {
-            Some(item)
+        let item = self.image.items().get(place)?;
+        let number = u32::try_from(place).ok()?;
+        if is_host_target(item) && self.state.is_enabled(Event::Open(number)) {
+            Some(number)
         } else {
             None
         }
@@ -159,7 +167,7 @@ impl<'a, B: Origin> Board<'a, B> {
     fn next_for_worker(&self) -> Option<u32>
         ensures may { IfSome result (λ item. IsTrue (enabled (plan self.now.state.program) (state_of self.now.state) (event.Open item))) }
         ensures next { IfSome result (IsForWorker self.now.state) }
-        ensures none { IfNone result (HasNoTask (plan self.now.state.program) (state_of self.now.state) 0) }
+        ensures none { IfNone result (AreWorkersIdle (plan self.now.state.program) (state_of self.now.state)) }
     {
         match self.state.next_task(0) {
             Some(item) => Some(item),
@@ -167,19 +175,25 @@ impl<'a, B: Origin> Board<'a, B> {
         }
     }
 
-    /// Whether a worker may open an item, in a run that is not over.
-    pub fn calls_worker(&self) -> bool {
+    /// Whether a worker may open an item, in a run that is not over. Where it may not, none needs to be called.
+    pub fn calls_worker(&self) -> bool
+        ensures { result ≡ false → WantsNoWorker self.now.stop self.now.state }
+    {
         !self.is_over() && self.next_for_worker().is_some()
     }
 
-    /// Whether the host may do its next event, or the run is over.
-    pub fn calls_host(&self) -> bool {
+    /// Whether the host may do its next event, or the run is over. Where neither, it need not be called.
+    pub fn calls_host(&self) -> bool
+        ensures { result ≡ false → IsHostIdle (plan self.now.state.program) (state_of self.now.state) }
+    {
         self.is_over() || self.next_for_host().is_some()
     }
 
     // The host's next event, if it may happen.
     fn next_for_host(&self) -> Option<Event>
-        ensures { IfSome result (λ e. IsTrue (enabled (plan self.now.state.program) (state_of self.now.state) e)) }
+        ensures may { IfSome result (λ e. IsTrue (enabled (plan self.now.state.program) (state_of self.now.state) e)) }
+        ensures own { IfSome result (λ e. is_for_workers (plan self.now.state.program) e ≡ false) }
+        ensures none { IfNone result (IsHostIdle (plan self.now.state.program) (state_of self.now.state)) }
     {
         let event = event_at(self.image.items(), self.state.place())?;
         if self.state.is_enabled(event) {
@@ -213,7 +227,8 @@ impl<'a, B: Origin> Board<'a, B> {
     fn happen(&mut self, event: Event) -> Look<'a>
         requires goes { self.old.stop ≡ None }
         requires may { IsTrue (enabled (plan self.old.state.program) (state_of self.old.state) event) }
-        ensures { IsLook self.old.stop self.old.state result self.new.stop self.new.state }
+        ensures found { IsLook self.old.stop self.old.state result self.new.stop self.new.state }
+        ensures event { IsEventOf event self.old.state result self.new.state }
     {
         if let Event::Open(item) = event {
             return self.open(item);
@@ -245,6 +260,7 @@ impl<'a, B: Origin> Board<'a, B> {
     /// The host does its next event.
     pub fn look_as_host(&mut self) -> Look<'a>
         ensures found { IsLook self.old.stop self.old.state result self.new.stop self.new.state }
+        ensures own { IsHostLook self.old.state result self.new.state }
         ensures stopped { StaysStopped self.old.stop self.old.state self.new.stop self.new.state }
     {
         if self.is_over() {

@@ -3,9 +3,11 @@
 
 pub use crate::gate::{Gate, OpenGate, Phase};
 pub use crate::run::run_threads;
+pub use crate::waits::waits_are_for_a_closing;
 
 mod board;
 mod gate;
 mod origin;
 mod run;
+mod waits;
 mod work;
