@@ -11,18 +11,16 @@ use Rattle.base.specs.declared.item.Item.{Item}
 use Rattle.base.specs.declared.item.ItemKind.{ItemKind}
 use Rattle.base.specs.declared.item.ItemKind.TheVariants as kind
 use Rattle.base.specs.declared.tree.Program.{Program}
+use Rattle.base.specs.Accepted.{is_target}
 use Rattle.base.specs.Items.{Plan, Work, plan}
 use Rattle.base.specs.Machine.{State, enabled, is_wait, on_item, is_waiting, is_ready, deferred_closed}
 use Rattle.outline.specs.Regions.{entries_of}
 use Rattle.outline.specs.Shown.{all_shown, as_shown}
 use Rattle.device.specs.Run.{Run}
 use Rattle.device.proofs.Starts.{all_facts}
-use Rattle.taskgraph.specs.Board.{Facts, facts_of, item_facts, HasNoTask}
-use Rattle.host.specs.Idle.{is_target, is_for_workers, turn_of, turn_of_kind, IsHostIdle, AreWorkersIdle, IsNotEnabled, IsNoTargetHere}
-use Rattle.host.specs.Looks.{IsEventOf, IsHostLook}
+use Rattle.taskgraph.specs.Board.{Facts, facts_of, item_facts}
+use Rattle.host.specs.Idle.{is_for_workers, turn_of, turn_of_kind, IsHostIdle, IsNotEnabled, IsNoTargetHere}
 use Rattle.host.specs.Origins.{IsOf}
-use Rattle.host.specs.declared.board.Look.{Look}
-use Rattle.host.specs.declared.board.Look.TheVariants as look
 
 -- ---- the items of a plan
 
@@ -241,14 +239,6 @@ host_turn p s items e alike is = go (slice_get items s.place) refl is
         at true q is = same_event (Gen s.place) is refl
         at false q is = of_kind it.kind (λ t. opened it f q t) is
 
--- so the host does an event of its own
-pub host_look : (e : Event) (old new : Run) (l : Look) → is_for_workers (plan old.program) e ≡ false → IsEventOf e old l new →
-    IsHostLook old l new
-host_look e old new look.Stop own h = tt
-host_look e old new look.Wait own h = absurd h
-host_look e old new look.Again own h = (e, (own, h))
-host_look e old new (look.Do job) own h = subst (λ (x : Event). is_for_workers (plan old.program) x ≡ false) h own
-
 -- ---- a worker
 
 -- there is none where no item stands, and where the one that does is no such target, or may not be opened
@@ -272,28 +262,3 @@ no_target_here p s items it alike is off w e d t =
 
 pub not_opened_here : (p : Plan) (s : State) → enabled p s (Open s.place) ≡ false → IsNoTargetHere p s
 not_opened_here p s off w e d t = off
-
-pub workers_idle : (p : Plan) (s : State) → HasNoTask p s 0 → IsNoTargetHere p s → AreWorkersIdle p s
-workers_idle p s none no_target i h = go (is_for_workers p (Open i)) refl
-  where
-    go : (b : Bool) → is_for_workers p (Open i) ≡ b → is_for_workers p (Open i) ≡ false
-    go false e = e
-    go true e =
-        let f = found p i (λ w. w.deferred || is_target w.kind) e in absurd (at f.work f.is f.yes f.work.deferred refl)
-      where
-        at : (w : Work) → slice_get p.items i ≡ Some w → (w.deferred || is_target w.kind) ≡ true → (d : Bool) → w.deferred ≡ d → ⊥
-        at w e y true d = none i (omega arith) (at_work p i (λ v. v.deferred) true w e d, h)
-        at w e y false d =
-            let t : is_target w.kind ≡ true = ap (λ (b : Bool). b || is_target w.kind) (sym d) ∙ y in
-            let f = found p i (λ v. not (is_wait v.kind) && ((v.deferred || (s.place == i)) && (is_waiting v.deferred (s.condition i) && is_ready p s i))) h in
-            let same : ◌≡◌ {A = Option Work} (Some f.work) (Some w) = sym f.is ∙ e in
-            let same_work : f.work ≡ w = cc in
-            let q = and_parts (not (is_wait f.work.kind)) _ f.yes in
-            let r = and_parts (f.work.deferred || (s.place == i)) _ q.1 in
-            let d' : f.work.deferred ≡ false = ap (λ (v : Work). v.deferred) same_work ∙ d in
-            let here_or : (false || (s.place == i)) ≡ true = ap (λ (b : Bool). b || (s.place == i)) (sym d') ∙ r.0 in
-            let here : s.place ≡ i = eqb-true s.place i here_or in
-            let off : enabled p s (Open s.place) ≡ false =
-            no_target w (subst (λ (n : ℕ). slice_get p.items n ≡ Some w) (sym here) e) d t in
-            let on : enabled p s (Open s.place) ≡ true = subst (λ (n : ℕ). enabled p s (Open n) ≡ true) (sym here) h in
-            absurd cc

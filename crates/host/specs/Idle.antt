@@ -5,18 +5,9 @@ use Rattle.base.specs.declared.item.Event.TheVariants.{Gen, Open, Close, Wait, E
 use Rattle.base.specs.declared.item.Item.{Item}
 use Rattle.base.specs.declared.item.ItemKind.{ItemKind}
 use Rattle.base.specs.declared.item.ItemKind.TheVariants as kind
+use Rattle.base.specs.Accepted.{is_target}
 use Rattle.base.specs.Items.{Plan, Work}
 use Rattle.base.specs.Machine.{State, enabled, on_item}
-
-abbrev pub is_target : ItemKind → Bool
-is_target kind.Target = true
-is_target kind.Host = false
-is_target kind.Begin = false
-is_target kind.End = false
-is_target kind.Enter = false
-is_target kind.Exit = false
-is_target kind.Update = false
-is_target kind.Wait = false
 
 -- an event that a worker does: a target or a deferred item is opened, or any item closed
 abbrev pub is_for_workers : Plan → Event → Bool

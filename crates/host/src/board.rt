@@ -2,12 +2,13 @@
 
 ghost use Rattle.std.specs.Prelude.{◌≡◌, ◌≤◌, ◌&&◌, true, false, not, IsTrue, IfErr, IfNone, IfOk, IfSome, None, OnOk, length, slice_get};
 ghost use Rattle.base.specs.declared.item.Event.TheVariants as event;
+ghost use Rattle.base.specs.Accepted.{is_target};
 ghost use Rattle.base.specs.Items.{plan};
 ghost use Rattle.base.specs.Limits.{most_items};
 ghost use Rattle.base.specs.Machine.{enabled};
 ghost use Rattle.device.specs.Room.{IsAnswerWithin};
 ghost use Rattle.device.specs.Run.{state_of};
-ghost use Rattle.host.specs.Idle.{AreWorkersIdle, IsHostIdle, IsNoTargetHere, is_for_workers, is_target, turn_of};
+ghost use Rattle.host.specs.Idle.{AreWorkersIdle, IsHostIdle, IsNoTargetHere, is_for_workers, turn_of};
 ghost use Rattle.host.specs.Looks.{IsClosing, IsEventOf, IsForWorker, IsHostLook, IsLook, IsOpeningOf, IsWorkerLook, WantsNoWorker};
 ghost use Rattle.host.specs.Origins.{IsFrom, IsOf, one_origin, one_program};
 ghost use Rattle.host.specs.Stops.{HasCause, IsEndFault, IsOver, IsPlain, StaysStopped, fault_of, first_stop, one_cause};
