@@ -1,5 +1,5 @@
 -- The command line of `ompc` as the library of command lines sees it, and what its words ask for.
-use Rattle.std.specs.Prelude.{⊤, ℕ, ◌≡◌, ◌⊎◌, Bool, true, false, List, [], ◌∷◌, Option, Some, None, IfSome, unwrap_or, codes}
+use Rattle.std.specs.Prelude.{ℕ, ◌≡◌, ◌⊎◌, Bool, true, false, List, [], ◌∷◌, Option, Some, None, IfSome, unwrap_or, codes}
 use Rattle.std.specs.Str.Parse.{digits_value, without_leading_plus}
 use Rattle.clap.specs.Values.{IsUnsignedIn}
 use Rattle.clap.specs.Walk.{Row, Rule, Text, first_of, one_of, rule_of}
@@ -72,15 +72,13 @@ IsArg rule a = (rule_of a ≡ rule) × (a.global ≡ false)
 abbrev pub IsCommand : Shape → Command → Type 0
 IsCommand shape c = (shape_of c ≡ shape) × ((fields_of c).has_globals ≡ false)
 
--- the commands of a list, each of which it reads so
-abbrev pub AreCommands : List Shape → List Command → Type 0
-AreCommands [] [] = ⊤
-AreCommands (s ∷ ss) (c ∷ cs) = IsCommand s c × AreCommands ss cs
-AreCommands _ _ = ⊥
+-- a command line with commands that the library reads so
+abbrev pub IsReadAs : App → Command → Type 0
+IsReadAs app c = (app_of c ≡ app) × ((fields_of c).has_globals ≡ false)
 
 -- the command that it reads as the whole command line
 abbrev pub IsProgram : Command → Type 0
-IsProgram c = (app_of c ≡ ompc) × ((fields_of c).has_globals ≡ false)
+IsProgram = IsReadAs ompc
 
 -- the text of an argument, which is empty where it is not given
 abbrev pub text_in : Text → List Row → Text

@@ -1,8 +1,10 @@
 //! The words of a command line.
 
-ghost use Rattle.std.specs.Prelude.{◌≡◌, ◌≤◌, ℕ, List, [], ◌∷◌, ◌++◌, IfOk, IfSome, OnOk, codes, map};
-ghost use Rattle.clap.specs.Words.{FailsBy, Shape, fault_of, found_of, one_of, rows_of, subcommand_of, subcommand_rows_of};
-ghost use Rattle.command.specs.CommandLine.{AreCommands, AreWorkers, AskedBy, Asks, IsArg, IsCommand, IsNamed, IsNumber, IsProgram, IsRun, IsStep, capacity, check, file, flag, list, ompc, run, step, text_in, text_option, workers};
+ghost use Rattle.std.specs.Prelude.{◌≡◌, ◌≤◌, ℕ, [], ◌∷◌, ◌++◌, IfOk, IfSome, codes, map};
+ghost use Rattle.clap.specs.Simple.{App, Shape, with_subcommand};
+ghost use Rattle.clap.specs.Walk.{Rule};
+ghost use Rattle.clap.specs.Words.{FailsBy, fault_of, found_of, one_of, rows_of, subcommand_of, subcommand_rows_of};
+ghost use Rattle.command.specs.CommandLine.{AreWorkers, AskedBy, Asks, IsArg, IsCommand, IsNamed, IsNumber, IsProgram, IsReadAs, IsRun, IsStep, capacity, check, command, file, flag, list, ompc, run, step, text_in, text_option, workers};
 
 use crate::request::{Request, Run, Step, Workers};
 use clap::{Arg, ArgAction, ArgMatches, Command, Error, value_parser};
@@ -77,81 +79,90 @@ fn choices_arg<'a>(alloc: Global) -> Arg<'a>
         )
 }
 
+/// A command that takes the source.
+fn file_command<'a>(
+    alloc: Global,
+    name: &'a str,
+    about: &'static str,
+) -> Result<Command<'a>, AllocError>
+    ensures { IfOk result (IsCommand (command name.entry.now (file ∷ []))) }
+{
+    Command::new(alloc, name).about(about).arg(file_arg(alloc))
+}
+
+/// The command with one more argument. (That none could be made is told here, once for all arguments.)
+fn with_arg<'a>(
+    command: Result<Command<'a>, AllocError>,
+    arg: Arg<'a>,
+) -> Result<Command<'a>, AllocError>
+    ensures { (shape : Shape) (rule : Rule) → IfOk command.entry (IsCommand shape) → IsArg rule arg.entry
+        → IfOk result (IsCommand (record shape { rules = shape.rules ++ rule ∷ [] })) }
+{
+    command?.arg(arg)
+}
+
 fn run_command<'a>(alloc: Global) -> Result<Command<'a>, AllocError>
     ensures { IfOk result (IsCommand run) }
 {
-    let args = vec![in alloc;
-        file_arg(alloc),
-        workers_arg(alloc),
-        capacity_arg(alloc),
-        log_arg(alloc),
-        finals_arg(alloc),
-    ]?;
-    Command::new(alloc, "run")
-        .about(
-            "runs a program on what standard input holds, by worker threads, and prints its output",
-        )
-        .args(args)
+    let about =
+        "runs a program on what standard input holds, by worker threads, and prints its output";
+    let command = file_command(alloc, "run", about);
+    let command = with_arg(command, workers_arg(alloc));
+    let command = with_arg(command, capacity_arg(alloc));
+    let command = with_arg(command, log_arg(alloc));
+    with_arg(command, finals_arg(alloc))
 }
 
 fn step_command<'a>(alloc: Global) -> Result<Command<'a>, AllocError>
     ensures { IfOk result (IsCommand step) }
 {
-    let args = vec![in alloc; file_arg(alloc), choices_arg(alloc), capacity_arg(alloc)]?;
-    Command::new(alloc, "step")
-        .about("runs a program likewise, but event by event, and prints its output and its log")
-        .args(args)
+    let about = "runs a program likewise, but event by event, and prints its output and its log";
+    let command = file_command(alloc, "step", about);
+    let command = with_arg(command, choices_arg(alloc));
+    with_arg(command, capacity_arg(alloc))
 }
 
 fn check_command<'a>(alloc: Global) -> Result<Command<'a>, AllocError>
     ensures { IfOk result (IsCommand check) }
 {
-    Command::new(alloc, "check")
-        .about("says whether a program is accepted, and which arrays are current at its end")
-        .arg(file_arg(alloc))
+    let about = "says whether a program is accepted, and which arrays are current at its end";
+    file_command(alloc, "check", about)
 }
 
 fn list_command<'a>(alloc: Global) -> Result<Command<'a>, AllocError>
     ensures { IfOk result (IsCommand list) }
 {
-    Command::new(alloc, "list")
-        .about("prints the items of an accepted program, a line each")
-        .arg(file_arg(alloc))
+    file_command(
+        alloc,
+        "list",
+        "prints the items of an accepted program, a line each",
+    )
 }
 
-#[tactic(auto, using(crate::proofs::Built::one_more))]
-fn add<'a>(
-    commands: &mut Vec<Command<'a>>,
+/// What the words are read by, with one more command.
+fn with_command<'a>(
+    program: Result<Command<'a>, AllocError>,
     command: Result<Command<'a>, AllocError>,
-) -> Result<(), AllocError>
-    ensures { (shapes : List Shape) (shape : Shape) → AreCommands shapes commands.old.items → IfOk command.entry (IsCommand shape)
-        → OnOk result (AreCommands (shapes ++ shape ∷ []) commands.new.items) }
+) -> Result<Command<'a>, AllocError>
+    ensures { (app : App) (shape : Shape) → IfOk program.entry (IsReadAs app) → IfOk command.entry (IsCommand shape)
+        → IfOk result (IsReadAs (with_subcommand app shape)) }
 {
-    commands.push(command?).map_err(AllocError::from)
-}
-
-fn subcommands<'a>(alloc: Global) -> Result<Vec<Command<'a>>, AllocError>
-    ensures { IfOk result (λ v. AreCommands (check ∷ list ∷ run ∷ step ∷ []) v.items) }
-{
-    let mut commands = Vec::new(alloc);
-    add(&mut commands, check_command(alloc))?;
-    add(&mut commands, list_command(alloc))?;
-    add(&mut commands, run_command(alloc))?;
-    add(&mut commands, step_command(alloc))?;
-    Ok(commands)
+    program?.subcommand(command?)
 }
 
 fn program<'a>(alloc: Global) -> Result<Command<'a>, AllocError>
     ensures { IfOk result IsProgram }
 {
-    let subcommands = subcommands(alloc)?;
-    Command::new(alloc, "ompc")
+    let program = Command::new(alloc, "ompc")
         .about("checks and runs C programs with OpenMP target directives")
         .subcommand_required(true)
         .arg_required_else_help(true)
         .no_binary_name(true)
-        .subcommands(subcommands)?
-        .bin_name("ompc")
+        .bin_name("ompc");
+    let program = with_command(program, check_command(alloc));
+    let program = with_command(program, list_command(alloc));
+    let program = with_command(program, run_command(alloc));
+    with_command(program, step_command(alloc))
 }
 
 /// The text of an argument, or none of its bytes where it is not given.

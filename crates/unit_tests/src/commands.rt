@@ -1,4 +1,4 @@
-//! Commands whose output cannot be written, or whose words a transcript does not have.
+//! Commands whose output cannot be written.
 
 use driver::{SourceError, Sources, drive};
 use std::alloc::Global;
@@ -43,22 +43,17 @@ impl Write for Narrow {
 }
 
 // The status of a command whose output has room for so many bytes.
-fn status_of<R: Threads + Wait + Sync>(
-    rt: &R,
-    alloc: Global,
-    words: &[&str],
-    room: usize,
-    err: &mut Vec<u8>,
-) -> u8 {
+fn status_of<R: Threads + Wait + Sync>(rt: &R, alloc: Global, room: usize) -> u8 {
     let mut input: &[u8] = &[];
+    let mut err = Vec::new(alloc);
     drive(
         rt,
         alloc,
-        words,
+        &["step", "a.c"],
         &mut One { alloc },
         &mut input,
         &mut Narrow { room },
-        err,
+        &mut err,
     )
 }
 
@@ -66,22 +61,7 @@ fn status_of<R: Threads + Wait + Sync>(
 #[test]
 fn output_that_cannot_be_written_is_a_fault(rt: HostRuntime) {
     for room in 0..26 {
-        let mut err = Vec::new(rt.alloc());
-        let status = status_of(&rt, rt.alloc(), &["step", "a.c"], room, &mut err);
+        let status = status_of(&rt, rt.alloc(), room);
         assert_eq!(rt; status, if room < 25 { 3 } else { 0 }, "{room}");
     }
-}
-
-#[test]
-fn a_choice_begins_with_no_blank(rt: HostRuntime) {
-    let mut err = Vec::new(rt.alloc());
-    let status = status_of(
-        &rt,
-        rt.alloc(),
-        &["step", "a.c", "--choices", " 1"],
-        0,
-        &mut err,
-    );
-    assert_eq!(rt; status, 2);
-    assert_eq!(rt; err.as_slice(), b"bad choices\n".as_slice());
 }

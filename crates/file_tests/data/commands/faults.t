@@ -20,7 +20,7 @@ $ ompc run double.c < not_a_number.txt
 ! bad input
 [2]
 
-# choices and inputs that are no numbers
+# choices and inputs that are no numbers, the last choice since it begins with a blank, a tab
 $ ompc step double.c --choices ,
 ! bad choices
 [2]
@@ -34,6 +34,9 @@ $ ompc step double.c --choices +1
 ! bad choices
 [2]
 $ ompc step double.c --choices 4294967296
+! bad choices
+[2]
+$ ompc step double.c --choices 	1
 ! bad choices
 [2]
 $ ompc step double.c < letter.txt

@@ -1,0 +1,9 @@
+use Rattle.std.proofs.Common.{[], ◌∷◌, codes}
+use Rattle.command.specs.CommandLine.{capacity, command, file, text_option}
+use Rattle.command.proofs.words.step_command.Goals as goal
+
+pub returns : goal.returns
+returns c =
+    let one = c.with_arg-command.ensures (command (codes "step") (file ∷ [])) (text_option (codes "choices")) c.file_command-command.ensures
+    c.choices_arg.ensures in
+    c.with_arg.ensures (command (codes "step") (file ∷ text_option (codes "choices") ∷ [])) capacity one c.capacity_arg.ensures
