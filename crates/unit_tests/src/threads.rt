@@ -6,7 +6,7 @@ use crate::sources::{Fault, run_source};
 use base::fault::RunFault;
 use base::item::Event;
 use device::Job;
-use host::{Gate, OpenGate, Phase};
+use host::{Gate, Phase};
 use kernel::{Done, run};
 use std::alloc::{AllocError, Global};
 use std::process::Abort;
