@@ -12,10 +12,10 @@ use std::{fs, io};
 fn compare_source(rt: &HostRuntime, tally: &mut Tally, name: &str) -> io::Result<()> {
     let alloc = rt.alloc();
     let source = fs::read(rt, &format!(in alloc; "layers/{name}.c")?)?;
-    let wanted = fs::read_to_string(rt, &format!(in alloc; "layers/{name}.txt")?);
-    let wanted = wanted.unwrap_or(String::new(alloc));
+    let wanted = fs::read(rt, &format!(in alloc; "layers/{name}.txt")?);
     let found = said(alloc, &source)?;
-    tally.compare(name, ".txt", str::from_utf8(&found).unwrap_or(""), &wanted)
+    tally.compare(name, ".txt", &found, &wanted.unwrap_or(Vec::new(alloc)));
+    Ok(())
 }
 
 fn compare_sources(rt: &HostRuntime) -> io::Result<Tally> {

@@ -5,6 +5,7 @@
 mod layers;
 mod retries;
 mod tally;
+mod text;
 mod transcripts;
 mod trees;
 

@@ -5,6 +5,7 @@
 //! status in brackets where it is not 0. Empty lines and those that begin with `#` are remarks.
 
 use crate::tally::Tally;
+use crate::text::Text;
 use driver::{SourceError, Sources, drive};
 use std::alloc::{Alloc, AllocError, Global};
 use std::fs::Files;
@@ -33,29 +34,29 @@ impl<R: Files + Alloc<A = Global>> Sources for Folder<'_, R> {
 }
 
 // Adds each line of a text, with something before it. Where the last line has no end, it gets one.
-fn add_lines(told: &mut Vec<u8>, before: &[u8], text: &[u8]) -> io::Result<()> {
+fn add_lines(told: &mut Text, before: &str, text: &[u8]) {
     let mut begins = true;
     for byte in text {
         if begins {
-            told.extend_from_slice(before)?;
+            told.add(before);
         }
-        told.push(*byte)?;
+        told.add_bytes(&[*byte]);
         begins = *byte == b'\n';
     }
     if !begins {
-        told.push(b'\n')?;
+        told.add("\n");
     }
-    Ok(())
 }
 
 // What a command wrote, and its status.
-fn add_outcome(told: &mut Vec<u8>, out: &[u8], err: &[u8], status: u8) -> io::Result<()> {
-    add_lines(told, b"".as_slice(), out)?;
-    add_lines(told, b"! ".as_slice(), err)?;
-    if status == 0 {
-        return Ok(());
+fn add_outcome(told: &mut Text, out: &[u8], err: &[u8], status: u8) {
+    add_lines(told, "", out);
+    add_lines(told, "! ", err);
+    if status != 0 {
+        told.add("[");
+        told.add_shown(status);
+        told.add("]\n");
     }
-    writeln!(told, "[{status}]")
 }
 
 // Runs a command on an input, and adds what it prints and its status.
@@ -63,8 +64,8 @@ fn tell_outcome<R: Threads + Wait + Sync + Files + Alloc<A = Global>>(
     rt: &R,
     words: &[&str],
     input: &[u8],
-    told: &mut Vec<u8>,
-) -> io::Result<()> {
+    told: &mut Text,
+) {
     let alloc = rt.alloc();
     let mut reader = input;
     let mut out = Vec::new(alloc);
@@ -78,14 +79,14 @@ fn tell_outcome<R: Threads + Wait + Sync + Files + Alloc<A = Global>>(
         &mut out,
         &mut err,
     );
-    add_outcome(told, &out, &err, status)
+    add_outcome(told, &out, &err, status);
 }
 
 // Runs the command of a line.
 fn tell_command<R: Threads + Wait + Sync + Files + Alloc<A = Global>>(
     rt: &R,
     line: &str,
-    told: &mut Vec<u8>,
+    told: &mut Text,
 ) -> io::Result<()> {
     let alloc = rt.alloc();
     let (command, input) = match line.split_once(" < ") {
@@ -93,21 +94,22 @@ fn tell_command<R: Threads + Wait + Sync + Files + Alloc<A = Global>>(
         None => (line, Vec::new(alloc)),
     };
     let words: Vec<&str> = command.split(' ').skip(2).collect(alloc)?;
-    tell_outcome(rt, &words, &input, told)
+    tell_outcome(rt, &words, &input, told);
+    Ok(())
 }
 
 // A line of a transcript, and where it is a command, what that prints now. What it printed is left out.
 fn tell_line<R: Threads + Wait + Sync + Files + Alloc<A = Global>>(
     rt: &R,
     line: &str,
-    told: &mut Vec<u8>,
+    told: &mut Text,
 ) -> io::Result<()> {
     if line.starts_with("$ ompc") {
-        writeln!(told, "{line}")?;
+        told.add_line(line);
         return tell_command(rt, line, told);
     }
     if line.is_empty() || line.starts_with('#') {
-        return writeln!(told, "{line}");
+        told.add_line(line);
     }
     Ok(())
 }
@@ -117,11 +119,11 @@ fn told_again<R: Threads + Wait + Sync + Files + Alloc<A = Global>>(
     rt: &R,
     transcript: &str,
 ) -> io::Result<Vec<u8>> {
-    let mut told = Vec::new(rt.alloc());
+    let mut told = Text::new(rt.alloc());
     for line in transcript.lines() {
         tell_line(rt, line, &mut told)?;
     }
-    Ok(told)
+    Ok(told.end()?)
 }
 
 fn compare_transcript<R: Threads + Wait + Sync + Files + Alloc<A = Global>>(
@@ -130,8 +132,13 @@ fn compare_transcript<R: Threads + Wait + Sync + Files + Alloc<A = Global>>(
     name: &str,
 ) -> io::Result<()> {
     let transcript = fs::read_to_string(rt, &path_of(rt.alloc(), name)?)?;
-    let told = told_again(rt, &transcript)?;
-    tally.compare(name, "", str::from_utf8(&told).unwrap_or(""), &transcript)
+    tally.compare(
+        name,
+        "",
+        &told_again(rt, &transcript)?,
+        transcript.as_bytes(),
+    );
+    Ok(())
 }
 
 fn compare_transcripts<R: Threads + Wait + Sync + Files + Alloc<A = Global> + Clone>(

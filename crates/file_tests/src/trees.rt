@@ -9,9 +9,10 @@
 mod printed;
 mod rows;
 
-use self::printed::program_text;
+use self::printed::add_program;
 use self::rows::compare_rows;
 use crate::tally::Tally;
+use crate::text::Text;
 use base::fault::ReadFault;
 use base::tree::Program;
 use c_read::read_program;
@@ -21,27 +22,32 @@ use std::alloc::{AllocError, Global};
 use std::io::Write;
 use std::{fs, io};
 
-fn outcome_text(alloc: Global, outcome: &Result<Program, ReadFault>) -> Result<String, AllocError> {
+fn outcome_text(
+    alloc: Global,
+    outcome: &Result<Program, ReadFault>,
+) -> Result<Vec<u8>, AllocError> {
+    let mut out = Text::new(alloc);
     match outcome {
-        Ok(program) => program_text(alloc, program),
-        Err(fault) => format!(in alloc; "{fault}\n"),
+        Ok(program) => add_program(&mut out, program),
+        Err(fault) => out.add_line(*fault),
     }
+    out.end()
 }
 
 /// What is read of a source.
-fn reading(alloc: Global, source: &str) -> Result<String, AllocError> {
-    outcome_text(alloc, &read_program(alloc, source.as_bytes()))
+fn reading(alloc: Global, source: &[u8]) -> Result<Vec<u8>, AllocError> {
+    outcome_text(alloc, &read_program(alloc, source))
 }
 
 /// What is read of the text of a source without its directives.
-fn erased_reading(alloc: Global, source: &str) -> Result<String, AllocError> {
-    outcome_text(alloc, &read_erased(alloc, source.as_bytes()))
+fn erased_reading(alloc: Global, source: &[u8]) -> Result<Vec<u8>, AllocError> {
+    outcome_text(alloc, &read_erased(alloc, source))
 }
 
 /// The file of that name with that ending.
-fn file_text(rt: &HostRuntime, name: &str, ending: &str) -> io::Result<String> {
+fn file_bytes(rt: &HostRuntime, name: &str, ending: &str) -> io::Result<Vec<u8>> {
     let path = format!(in rt.alloc(); "sources/{name}{ending}")?;
-    fs::read_to_string(rt, &path)
+    fs::read(rt, &path)
 }
 
 /// Whether a program that ends before its last brace is refused, wherever it ends. Of what is no program nothing is asked.
@@ -53,28 +59,32 @@ fn are_cuts_refused(alloc: Global, text: &[u8]) -> bool {
 /// A source with what is wanted of it.
 #[derive(Drop)]
 struct Case {
-    source: String,
-    wanted: String,
+    source: Vec<u8>,
+    wanted: Vec<u8>,
 }
 
 /// Compares what is left of a source without its directives with the text of the case, and what that means.
 fn compare_erased(rt: &HostRuntime, tally: &mut Tally, name: &str, case: &Case) -> io::Result<()> {
-    let source = file_text(rt, name, ".c")?;
-    let erased = erase(rt.alloc(), source.as_bytes())?;
-    let kept = str::from_utf8(&erased).unwrap_or("");
-    tally.compare(name, ".erased.c", kept, &case.source)?;
+    let source = file_bytes(rt, name, ".c")?;
+    tally.compare(
+        name,
+        ".erased.c",
+        &erase(rt.alloc(), &source)?,
+        &case.source,
+    );
     let text = erased_reading(rt.alloc(), &source)?;
-    tally.compare(name, ".erased.txt", &text, &case.wanted)
+    tally.compare(name, ".erased.txt", &text, &case.wanted);
+    Ok(())
 }
 
 /// Compares what is read of a source. Where nothing says what is wanted of it, that is an empty text.
 fn compare_source(rt: &HostRuntime, tally: &mut Tally, name: &str) -> io::Result<()> {
     let alloc = rt.alloc();
-    let source = file_text(rt, name, ".c")?;
-    let wanted = file_text(rt, name, ".txt").unwrap_or(String::new(alloc));
-    tally.compare(name, ".txt", &reading(alloc, &source)?, &wanted)?;
-    if !are_cuts_refused(alloc, source.trim_end().as_bytes()) {
-        tally.compare(name, ".c", "a part of it is read", "")?;
+    let source = file_bytes(rt, name, ".c")?;
+    let wanted = file_bytes(rt, name, ".txt").unwrap_or(Vec::new(alloc));
+    tally.compare(name, ".txt", &reading(alloc, &source)?, &wanted);
+    if !are_cuts_refused(alloc, source.trim_ascii_end()) {
+        tally.compare(name, ".c", b"a part of it is read", b"");
     }
     match name.strip_suffix(".erased") {
         None => Ok(()),
@@ -87,7 +97,8 @@ fn compare_file(rt: &HostRuntime, tally: &mut Tally, file: &str) -> io::Result<(
         return compare_source(rt, tally, name);
     }
     if file.ends_with(".rows") {
-        return compare_rows(rt.alloc(), tally, &file_text(rt, file, "")?);
+        let path = format!(in rt.alloc(); "sources/{file}")?;
+        return compare_rows(rt.alloc(), tally, &fs::read_to_string(rt, &path)?);
     }
     Ok(())
 }

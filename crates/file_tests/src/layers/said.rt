@@ -19,6 +19,7 @@ ghost use Rattle.base.specs.Items.{plan};
 ghost use Rattle.mapwalk.specs.Footprints.{AreFootprints};
 ghost use Rattle.mapwalk.specs.Walk.{HasNoRangeFault};
 
+use crate::text::Text;
 use base::fault::CheckFault;
 use base::item::{Cell, Item, Section};
 use base::tree::{ArrayId, Program};
@@ -31,81 +32,85 @@ use outline::{Outlined, RegionEntry, outline};
 use ranges::{CellSet, Footprint, FootprintFault, sections};
 use report::{accepted_text, list_text, refusal_text};
 use std::alloc::{AllocError, Global};
-use std::io;
-use std::io::Write;
 
 /// What the layers say of a source.
-pub(crate) fn said(alloc: Global, source: &[u8]) -> io::Result<Vec<u8>> {
-    let mut out = Vec::new(alloc);
-    say_source(alloc, source, &mut out)?;
-    Ok(out)
+pub(crate) fn said(alloc: Global, source: &[u8]) -> Result<Vec<u8>, AllocError> {
+    let mut out = Text::new(alloc);
+    say_source(alloc, source, &mut out);
+    out.end()
 }
 
-fn say_source(alloc: Global, source: &[u8], out: &mut Vec<u8>) -> io::Result<()> {
+fn say_source(alloc: Global, source: &[u8], out: &mut Text) {
     match read_program(alloc, source) {
-        Err(fault) => writeln!(out, "{fault}"),
+        Err(fault) => out.add_line(fault),
         Ok(program) => say_program(alloc, &program, out),
     }
 }
 
-fn say_program(alloc: Global, program: &Program, out: &mut Vec<u8>) -> io::Result<()> {
+fn say_program(alloc: Global, program: &Program, out: &mut Text) {
     match outline(alloc, program) {
-        Err(fault) => writeln!(out, "{fault}"),
+        Err(fault) => out.add_line(fault),
         Ok(outlined) => say_outlined(alloc, &outlined, out),
     }
 }
 
-fn say_outlined(alloc: Global, outlined: &Outlined<'_>, out: &mut Vec<u8>) -> io::Result<()> {
-    list_text(alloc, outlined, out)?;
+fn say_outlined(alloc: Global, outlined: &Outlined<'_>, out: &mut Text) {
+    let listed = list_text(alloc, outlined, out.bytes());
+    out.keep(listed);
     for (number, entry) in outlined.regions().iter().enumerate() {
-        say_region(outlined, number, entry, out)?;
+        say_region(outlined, number, entry, out);
     }
-    say_cells(alloc, outlined, out)?;
-    say_found(alloc, outlined, out)?;
-    say_check(alloc, outlined, out)
+    say_cells(alloc, outlined, out);
+    say_found(alloc, outlined, out);
+    say_check(alloc, outlined, out);
 }
 
-fn say_found(alloc: Global, outlined: &Outlined<'_>, out: &mut Vec<u8>) -> io::Result<()> {
-    match footprints_of(alloc, outlined, &repeats(alloc, outlined)?) {
+fn say_found(alloc: Global, outlined: &Outlined<'_>, out: &mut Text) {
+    let Ok(repeats) = repeats(alloc, outlined) else {
+        return out.lack();
+    };
+    match footprints_of(alloc, outlined, &repeats) {
         Ok(found) => say_passes(alloc, outlined, &found, out),
-        Err(CheckFault::OutOfMemory) => Err(io::Error::from(AllocError)),
+        Err(CheckFault::OutOfMemory) => out.lack(),
         // The lines of cells end with it.
-        Err(_) => Ok(()),
+        Err(_) => {}
     }
 }
 
-fn name_of<'p>(outlined: &Outlined<'p>, array: ArrayId) -> &'p str {
-    match outlined.program().arrays.get_index(array.0 as usize) {
-        None => "",
-        Some((name, _)) => name.as_str(),
+fn say_refusal(alloc: Global, outlined: &Outlined<'_>, fault: &CheckFault, out: &mut Text) {
+    let written = refusal_text(alloc, outlined.program(), fault, out.bytes());
+    out.keep(written);
+}
+
+fn say_name(outlined: &Outlined<'_>, array: ArrayId, out: &mut Text) {
+    if let Some((name, _)) = outlined.program().arrays.get_index(array.0 as usize) {
+        out.add(name);
     }
 }
 
-fn say_region(
-    outlined: &Outlined<'_>,
-    number: usize,
-    entry: &RegionEntry<'_>,
-    out: &mut Vec<u8>,
-) -> io::Result<()> {
-    let kind = if entry.is_kernel { "kernel" } else { "host" };
-    write!(out, "region {number} {kind}")?;
-    say_arrays(outlined, &entry.arrays, out)?;
+fn say_region(outlined: &Outlined<'_>, number: usize, entry: &RegionEntry<'_>, out: &mut Text) {
+    out.add_with("region ", number);
+    out.add(if entry.is_kernel { " kernel" } else { " host" });
+    say_arrays(outlined, &entry.arrays, out);
     for scalar in &entry.captures {
-        write!(out, " s{}", scalar.0)?;
+        out.add_with(" s", scalar.0);
     }
-    writeln!(out)
+    out.add("\n");
 }
 
-fn say_arrays(outlined: &Outlined<'_>, arrays: &[ArrayId], out: &mut Vec<u8>) -> io::Result<()> {
+fn say_arrays(outlined: &Outlined<'_>, arrays: &[ArrayId], out: &mut Text) {
     for array in arrays {
-        write!(out, " {}", name_of(outlined, *array))?;
+        out.add(" ");
+        say_name(outlined, *array, out);
     }
-    Ok(())
 }
 
-fn say_section(outlined: &Outlined<'_>, section: &Section, out: &mut Vec<u8>) -> io::Result<()> {
-    let name = name_of(outlined, section.array);
-    write!(out, " {name}[{}:{}]", section.first, section.length)
+fn say_section(outlined: &Outlined<'_>, section: &Section, out: &mut Text) {
+    out.add(" ");
+    say_name(outlined, section.array, out);
+    out.add_with("[", section.first);
+    out.add_with(":", section.length);
+    out.add("]");
 }
 
 // A copy of the cells that the region of an item touches.
@@ -127,22 +132,21 @@ fn touched(
 }
 
 // Up to the first item with a fault of range.
-fn say_cells(alloc: Global, outlined: &Outlined<'_>, out: &mut Vec<u8>) -> io::Result<()> {
+fn say_cells(alloc: Global, outlined: &Outlined<'_>, out: &mut Text) {
     for (item, number) in outlined.items().iter().zip(0u32..) {
         match touched(alloc, outlined, item) {
-            Ok(Some(found)) => say_footprint(outlined, number, item, &found, out)?,
+            Ok(Some(found)) => say_footprint(outlined, number, item, &found, out),
             Ok(None) => {}
-            Err(FootprintFault::OutOfMemory) => return Err(io::Error::from(AllocError)),
+            Err(FootprintFault::OutOfMemory) => out.lack(),
             Err(FootprintFault::Range(fault)) => {
                 let fault = CheckFault::Range {
                     item: number,
                     fault,
                 };
-                return refusal_text(alloc, outlined.program(), &fault, out);
+                return say_refusal(alloc, outlined, &fault, out);
             }
         }
     }
-    Ok(())
 }
 
 fn say_footprint(
@@ -150,17 +154,18 @@ fn say_footprint(
     number: u32,
     item: &Item,
     found: &Footprint,
-    out: &mut Vec<u8>,
-) -> io::Result<()> {
-    write!(out, "cells {number} region {} at", item.region.unwrap_or(0))?;
+    out: &mut Text,
+) {
+    out.add_with("cells ", number);
+    out.add_with(" region ", item.region.unwrap_or(0));
+    out.add(" at");
     for value in item.loops.values.as_slice() {
-        write!(out, " {value}")?;
+        out.add_with(" ", *value);
     }
-    writeln!(out)?;
+    out.add("\n");
     for (length, number) in outlined.lengths().iter().zip(0u32..) {
-        say_touched(outlined, ArrayId(number), *length, found, out)?;
+        say_touched(outlined, ArrayId(number), *length, found, out);
     }
-    Ok(())
 }
 
 // The cells of an array that a footprint has.
@@ -169,157 +174,131 @@ fn say_touched(
     array: ArrayId,
     length: u32,
     found: &Footprint,
-    out: &mut Vec<u8>,
-) -> io::Result<()> {
-    write!(out, "{}", name_of(outlined, array))?;
-    say_set("exposed", &found.exposed, array, length, out)?;
-    say_set("read", &found.read, array, length, out)?;
-    say_set("write", &found.write, array, length, out)?;
-    say_set("sure", &found.sure, array, length, out)?;
-    writeln!(out)
+    out: &mut Text,
+) {
+    say_name(outlined, array, out);
+    say_set(" exposed ", &found.exposed, array, length, out);
+    say_set(" read ", &found.read, array, length, out);
+    say_set(" write ", &found.write, array, length, out);
+    say_set(" sure ", &found.sure, array, length, out);
+    out.add("\n");
 }
 
 // A digit for each cell of an array: 1 where the set has it.
-fn say_set(
-    what: &str,
-    set: &CellSet,
-    array: ArrayId,
-    length: u32,
-    out: &mut Vec<u8>,
-) -> io::Result<()> {
-    write!(out, " {what} ")?;
+fn say_set(what: &str, set: &CellSet, array: ArrayId, length: u32, out: &mut Text) {
+    out.add(what);
     for index in 0..u64::from(length) {
-        let digit = u8::from(set.contains(Cell { array, index }));
-        write!(out, "{digit}")?;
+        out.add_shown(u8::from(set.contains(Cell { array, index })));
     }
-    Ok(())
 }
 
 // The order and what the walk finds.
-fn say_passes(
-    alloc: Global,
-    outlined: &Outlined<'_>,
-    found: &[Option<Footprint>],
-    out: &mut Vec<u8>,
-) -> io::Result<()>
+fn say_passes(alloc: Global, outlined: &Outlined<'_>, found: &[Option<Footprint>], out: &mut Text)
     requires fine { HasNoRangeFault (plan outlined.now) }
     requires found { AreFootprints (plan outlined.now) found.now }
 {
     match order_of(alloc, outlined) {
-        Err(CheckFault::OutOfMemory) => Err(io::Error::from(AllocError)),
-        Err(fault) => refusal_text(alloc, outlined.program(), &fault, out),
+        Err(CheckFault::OutOfMemory) => out.lack(),
+        Err(fault) => say_refusal(alloc, outlined, &fault, out),
         Ok(order) => {
-            say_order(&order, outlined.items().len() as u32, out)?;
-            say_walk(alloc, outlined, found, out)
+            say_order(&order, outlined.items().len() as u32, out);
+            say_walk(alloc, outlined, found, out);
         }
     }
 }
 
-fn say_order(order: &Order<'_>, items: u32, out: &mut Vec<u8>) -> io::Result<()> {
+fn say_order(order: &Order<'_>, items: u32, out: &mut Text) {
     for item in 0..items {
-        say_before(order, items, item, out)?;
+        say_before(order, items, item, out);
     }
-    Ok(())
 }
 
-fn say_before(order: &Order<'_>, items: u32, item: u32, out: &mut Vec<u8>) -> io::Result<()> {
-    write!(out, "before {item}:")?;
+fn say_before(order: &Order<'_>, items: u32, item: u32, out: &mut Text) {
+    out.add_with("before ", item);
+    out.add(":");
     for other in 0..=items {
         if order.before(other, item) {
-            write!(out, " {other}")?;
+            out.add_with(" ", other);
         }
     }
-    writeln!(out)
+    out.add("\n");
 }
 
-fn say_walk(
-    alloc: Global,
-    outlined: &Outlined<'_>,
-    found: &[Option<Footprint>],
-    out: &mut Vec<u8>,
-) -> io::Result<()>
+fn say_walk(alloc: Global, outlined: &Outlined<'_>, found: &[Option<Footprint>], out: &mut Text)
     requires fine { HasNoRangeFault (plan outlined.now) }
     requires found { AreFootprints (plan outlined.now) found.now }
 {
-    let walked = walk(alloc, outlined, found)?;
-    say_walked(alloc, outlined, &walked, out)
+    match walk(alloc, outlined, found) {
+        Ok(walked) => say_walked(alloc, outlined, &walked, out),
+        Err(_) => out.lack(),
+    }
 }
 
-fn say_walked(
-    alloc: Global,
-    outlined: &Outlined<'_>,
-    walked: &Walked,
-    out: &mut Vec<u8>,
-) -> io::Result<()> {
+fn say_walked(alloc: Global, outlined: &Outlined<'_>, walked: &Walked, out: &mut Text) {
     for (number, row) in walked.acts.iter().enumerate() {
-        say_acts(outlined, number, row, out)?;
+        say_acts(outlined, number, row, out);
     }
-    write!(out, "marked")?;
-    say_arrays(outlined, &walked.current, out)?;
-    writeln!(out)?;
-    match walked.fault {
-        None => Ok(()),
-        Some(fault) => refusal_text(alloc, outlined.program(), &CheckFault::Refused(fault), out),
+    out.add("marked");
+    say_arrays(outlined, &walked.current, out);
+    out.add("\n");
+    if let Some(fault) = walked.fault {
+        say_refusal(alloc, outlined, &CheckFault::Refused(fault), out);
     }
 }
 
-fn say_acts(
-    outlined: &Outlined<'_>,
-    number: usize,
-    row: &[Acts],
-    out: &mut Vec<u8>,
-) -> io::Result<()> {
-    write!(out, "acts {number}:")?;
+fn say_acts(outlined: &Outlined<'_>, number: usize, row: &[Acts], out: &mut Text) {
+    out.add_with("acts ", number);
+    out.add(":");
     for acts in row {
-        say_section(outlined, &acts.block, out)?;
-        let [creates, copies_in, copies_out, removes, rests] = words_of(acts);
-        write!(out, "{creates}{copies_in}{copies_out}{removes}{rests}")?;
+        say_section(outlined, &acts.block, out);
+        say_words(acts, out);
     }
-    writeln!(out)
+    out.add("\n");
 }
 
 // A word for each thing that a map item does.
-fn words_of(acts: &Acts) -> [&'static str; 5] {
-    [
-        word_if(acts.creates, " creates"),
-        word_if(acts.copies_in, " copies-in"),
-        word_if(acts.copies_out, " copies-out"),
-        word_if(acts.removes, " removes"),
-        word_if(acts.rests, " rests"),
-    ]
+fn say_words(acts: &Acts, out: &mut Text) {
+    out.add(word_if(acts.creates, " creates"));
+    out.add(word_if(acts.copies_in, " copies-in"));
+    out.add(word_if(acts.copies_out, " copies-out"));
+    out.add(word_if(acts.removes, " removes"));
+    out.add(word_if(acts.rests, " rests"));
 }
 
 fn word_if(does: bool, word: &'static str) -> &'static str {
     if does { word } else { "" }
 }
 
-fn say_check(alloc: Global, outlined: &Outlined<'_>, out: &mut Vec<u8>) -> io::Result<()> {
-    write!(out, "check: ")?;
+fn say_check(alloc: Global, outlined: &Outlined<'_>, out: &mut Text) {
+    out.add("check: ");
     match check(alloc, outlined) {
-        Err(fault) => refusal_text(alloc, outlined.program(), &fault, out),
+        Err(fault) => say_refusal(alloc, outlined, &fault, out),
         Ok(accepted) => say_accepted(alloc, &accepted, out),
     }
 }
 
-fn say_accepted(alloc: Global, accepted: &Accepted<'_>, out: &mut Vec<u8>) -> io::Result<()> {
-    say_current(alloc, accepted, out)?;
+fn say_accepted(alloc: Global, accepted: &Accepted<'_>, out: &mut Text) {
+    say_current(alloc, accepted, out);
     for (number, runs) in accepted.reaches().iter().enumerate() {
-        write!(out, "reach {number}:")?;
-        say_runs(accepted.outlined(), runs, out)?;
+        out.add_with("reach ", number);
+        out.add(":");
+        say_runs(accepted.outlined(), runs, out);
     }
-    Ok(())
 }
 
-fn say_runs(outlined: &Outlined<'_>, runs: &[Section], out: &mut Vec<u8>) -> io::Result<()> {
+fn say_runs(outlined: &Outlined<'_>, runs: &[Section], out: &mut Text) {
     for run in runs {
         if run.length > 0 {
-            say_section(outlined, run, out)?;
+            say_section(outlined, run, out);
         }
     }
-    writeln!(out)
+    out.add("\n");
 }
 
-fn say_current(alloc: Global, accepted: &Accepted<'_>, out: &mut Vec<u8>) -> io::Result<()> {
-    let current = current_at_end(alloc, accepted)?;
-    accepted_text(alloc, accepted.outlined().program(), &current, out)
+fn say_current(alloc: Global, accepted: &Accepted<'_>, out: &mut Text) {
+    let Ok(current) = current_at_end(alloc, accepted) else {
+        return out.lack();
+    };
+    let written = accepted_text(alloc, accepted.outlined().program(), &current, out.bytes());
+    out.keep(written);
 }

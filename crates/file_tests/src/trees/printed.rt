@@ -3,288 +3,306 @@
 //! 0 by a name on line 3 at column 5. A section without bounds is the whole array. A part of `main` has the name of its
 //! kind, and a region the place where it begins; operators have the names of the tree.
 
+use crate::text::Text;
 use base::tree::{
-    ArrayId, Bound, Bounds, DependText, Directive, Expr, MapText, Part, Place, Program,
+    ArrayId, Bound, Bounds, DependText, Directive, Expr, MapText, Part, Place, Program, Region,
     SectionText, Source, Stmt, Tasking, Term, UpdateText,
 };
-use std::alloc::{AllocError, Global};
 use std::fmt::Debug;
 
-fn add_indent(out: &mut String, depth: usize) -> Result<(), AllocError> {
+fn add_indent(out: &mut Text, depth: usize) {
     for _ in 0..depth {
-        out.push_str("  ")?;
+        out.add("  ");
     }
-    Ok(())
 }
 
-fn add_name(out: &mut String, array: ArrayId, place: Place) -> Result<(), AllocError> {
-    write!(out, "a{}@{}:{}", array.0, place.line, place.column)
+fn add_place(out: &mut Text, place: Place) {
+    out.add_shown(place.line);
+    out.add_with(":", place.column);
 }
 
-fn add_bounds(out: &mut String, bounds: Bounds) -> Result<(), AllocError> {
-    write!(
-        out,
-        "loop {} {} {}\n",
-        bounds.first, bounds.end, bounds.step
-    )
+fn add_name(out: &mut Text, array: ArrayId, place: Place) {
+    out.add_with("a", array.0);
+    out.add("@");
+    add_place(out, place);
+}
+
+fn add_bounds(out: &mut Text, bounds: Bounds) {
+    out.add_with("loop ", bounds.first);
+    out.add_with(" ", bounds.end);
+    out.add_with(" ", bounds.step);
+    out.add("\n");
 }
 
 /// What stands in front of an expression's operands.
-fn add_head(out: &mut String, e: &Expr) -> Result<(), AllocError> {
+fn add_head(out: &mut Text, e: &Expr) {
     match e {
-        Expr::Number(n) => write!(out, "{n}"),
-        Expr::Scalar(id) => write!(out, "s{}", id.0),
-        Expr::LoopName(level) => write!(out, "l{level}"),
+        Expr::Number(n) => out.add_shown(*n),
+        Expr::Scalar(id) => out.add_with("s", id.0),
+        Expr::LoopName(level) => out.add_with("l", *level),
         Expr::Cell(array, place, _) => add_name(out, *array, *place),
-        Expr::Unary(op, _) => write!(out, "{op:?}"),
-        Expr::Binary(op, _, _) => write!(out, "{op:?}"),
-        Expr::And(_, _) => out.push_str("And"),
-        Expr::Or(_, _) => out.push_str("Or"),
-        Expr::Shift(op, _, _) => write!(out, "{op:?}"),
-        Expr::Divide(op, _, _) => write!(out, "{op:?}"),
+        Expr::Unary(op, _) => out.add_debug(*op),
+        Expr::Binary(op, _, _) => out.add_debug(*op),
+        Expr::And(_, _) => out.add("And"),
+        Expr::Or(_, _) => out.add("Or"),
+        Expr::Shift(op, _, _) => out.add_debug(*op),
+        Expr::Divide(op, _, _) => out.add_debug(*op),
     }
 }
 
-fn add_expr(out: &mut String, e: &Expr) -> Result<(), AllocError> {
-    add_head(out, e)?;
+fn add_expr(out: &mut Text, e: &Expr) {
+    add_head(out, e);
     match e {
-        Expr::Number(_) | Expr::Scalar(_) | Expr::LoopName(_) => Ok(()),
+        Expr::Number(_) | Expr::Scalar(_) | Expr::LoopName(_) => {}
         Expr::Cell(_, _, index) => {
-            out.push_str("[")?;
-            add_expr(out, index)?;
-            out.push_str("]")
+            out.add("[");
+            add_expr(out, index);
+            out.add("]");
         }
         Expr::Unary(_, inner) => {
-            out.push_str("(")?;
-            add_expr(out, inner)?;
-            out.push_str(")")
+            out.add("(");
+            add_expr(out, inner);
+            out.add(")");
         }
         Expr::Binary(_, left, right) | Expr::And(left, right) | Expr::Or(left, right) => {
-            out.push_str("(")?;
-            add_expr(out, left)?;
-            out.push_str(", ")?;
-            add_expr(out, right)?;
-            out.push_str(")")
+            out.add("(");
+            add_expr(out, left);
+            out.add(", ");
+            add_expr(out, right);
+            out.add(")");
         }
         Expr::Shift(_, left, by) => {
-            out.push_str("(")?;
-            add_expr(out, left)?;
-            write!(out, ", {})", by.count)
+            out.add("(");
+            add_expr(out, left);
+            out.add_with(", ", by.count);
+            out.add(")");
         }
         Expr::Divide(_, left, by) => {
-            out.push_str("(")?;
-            add_expr(out, left)?;
-            write!(out, ", {})", by.value)
+            out.add("(");
+            add_expr(out, left);
+            out.add_with(", ", by.value);
+            out.add(")");
         }
     }
 }
 
 /// An equals sign, what is assigned and the end of the line.
-fn add_source(out: &mut String, source: &Source) -> Result<(), AllocError> {
-    out.push_str(" = ")?;
+fn add_source(out: &mut Text, source: &Source) {
+    out.add(" = ");
     match source {
-        Source::Read => out.push_str("read")?,
-        Source::Value(e) => add_expr(out, e)?,
+        Source::Read => out.add("read"),
+        Source::Value(e) => add_expr(out, e),
     }
-    out.push_str("\n")
+    out.add("\n");
 }
 
 #[cycle(show)]
-fn add_stmt(out: &mut String, depth: usize, stmt: &Stmt) -> Result<(), AllocError> {
+fn add_stmt(out: &mut Text, depth: usize, stmt: &Stmt) {
     let below = depth.saturating_add(1);
-    add_indent(out, depth)?;
+    add_indent(out, depth);
     match stmt {
         Stmt::Declare(id, source) => {
-            write!(out, "declare s{}", id.0)?;
-            add_source(out, source)
+            out.add_with("declare s", id.0);
+            add_source(out, source);
         }
         Stmt::Assign(id, source) => {
-            write!(out, "s{}", id.0)?;
-            add_source(out, source)
+            out.add_with("s", id.0);
+            add_source(out, source);
         }
         Stmt::Store(array, place, index, source) => {
-            add_name(out, *array, *place)?;
-            out.push_str("[")?;
-            add_expr(out, index)?;
-            out.push_str("]")?;
-            add_source(out, source)
+            add_name(out, *array, *place);
+            out.add("[");
+            add_expr(out, index);
+            out.add("]");
+            add_source(out, source);
         }
         Stmt::Print(e) => {
-            out.push_str("print ")?;
-            add_expr(out, e)?;
-            out.push_str("\n")
+            out.add("print ");
+            add_expr(out, e);
+            out.add("\n");
         }
         Stmt::Block(inner) => {
-            out.push_str("block\n")?;
-            add_block(out, below, inner)
+            out.add("block\n");
+            add_block(out, below, inner);
         }
         Stmt::Loop(bounds, inner) => {
-            add_bounds(out, *bounds)?;
-            add_block(out, below, inner)
+            add_bounds(out, *bounds);
+            add_block(out, below, inner);
         }
         Stmt::If(test, first, second) => {
-            out.push_str("if ")?;
-            add_expr(out, test)?;
-            out.push_str("\n")?;
-            add_block(out, below, first)?;
-            add_indent(out, depth)?;
-            out.push_str("else\n")?;
-            add_block(out, below, second)
+            out.add("if ");
+            add_expr(out, test);
+            out.add("\n");
+            add_block(out, below, first);
+            add_indent(out, depth);
+            out.add("else\n");
+            add_block(out, below, second);
         }
     }
 }
 
 #[cycle(show)]
-fn add_block(out: &mut String, depth: usize, block: &Vec<Stmt>) -> Result<(), AllocError> {
+fn add_block(out: &mut Text, depth: usize, block: &Vec<Stmt>) {
     for stmt in block {
-        add_stmt(out, depth, stmt)?;
+        add_stmt(out, depth, stmt);
     }
-    Ok(())
 }
 
-fn add_bound(out: &mut String, bound: &Bound) -> Result<(), AllocError> {
-    for (n, term) in bound.terms.iter().enumerate() {
-        if n > 0 {
-            out.push_str(" + ")?;
-        }
-        match term {
-            Term::Literal(value) => write!(out, "{value}")?,
-            Term::Times(factor, level) => write!(out, "{factor}*l{level}")?,
+fn add_term(out: &mut Text, term: &Term) {
+    match term {
+        Term::Literal(value) => out.add_shown(*value),
+        Term::Times(factor, level) => {
+            out.add_shown(*factor);
+            out.add_with("*l", *level);
         }
     }
-    Ok(())
+}
+
+fn add_bound(out: &mut Text, bound: &Bound) {
+    for (n, term) in bound.terms.iter().enumerate() {
+        if n > 0 {
+            out.add(" + ");
+        }
+        add_term(out, term);
+    }
+}
+
+fn add_section(out: &mut Text, section: &SectionText) {
+    add_name(out, section.array, section.place);
+    if let Some((first, length)) = &section.bounds {
+        out.add("[");
+        add_bound(out, first);
+        out.add(" : ");
+        add_bound(out, length);
+        out.add("]");
+    }
 }
 
 /// The line of an item of a clause: the clause, its kind, and the section.
-fn add_item<K: Debug>(
-    out: &mut String,
+fn add_item<K: Debug + Copy>(
+    out: &mut Text,
     depth: usize,
     clause: &str,
-    kind: &K,
+    kind: K,
     section: &SectionText,
-) -> Result<(), AllocError> {
-    add_indent(out, depth)?;
-    write!(out, "{clause} {kind:?} ")?;
-    add_name(out, section.array, section.place)?;
-    if let Some((first, length)) = &section.bounds {
-        out.push_str("[")?;
-        add_bound(out, first)?;
-        out.push_str(" : ")?;
-        add_bound(out, length)?;
-        out.push_str("]")?;
-    }
-    out.push_str("\n")
+) {
+    add_indent(out, depth);
+    out.add(clause);
+    out.add_debug(kind);
+    out.add(" ");
+    add_section(out, section);
+    out.add("\n");
 }
 
-fn add_maps<K: Debug>(
-    out: &mut String,
-    depth: usize,
-    maps: &[MapText<K>],
-) -> Result<(), AllocError> {
+fn add_maps<K: Debug + Copy>(out: &mut Text, depth: usize, maps: &[MapText<K>]) {
     for map in maps {
-        let clause = if map.always { "map always" } else { "map" };
-        add_item(out, depth, clause, &map.kind, &map.section)?;
+        let clause = if map.always { "map always " } else { "map " };
+        add_item(out, depth, clause, map.kind, &map.section);
     }
-    Ok(())
 }
 
-fn add_depends(out: &mut String, depth: usize, depends: &[DependText]) -> Result<(), AllocError> {
+fn add_depends(out: &mut Text, depth: usize, depends: &[DependText]) {
     for depend in depends {
-        add_item(out, depth, "depend", &depend.kind, &depend.section)?;
+        add_item(out, depth, "depend ", depend.kind, &depend.section);
     }
-    Ok(())
 }
 
-fn add_updates(out: &mut String, depth: usize, updates: &[UpdateText]) -> Result<(), AllocError> {
+fn add_updates(out: &mut Text, depth: usize, updates: &[UpdateText]) {
     for update in updates {
-        add_item(out, depth, "motion", &update.kind, &update.section)?;
+        add_item(out, depth, "motion ", update.kind, &update.section);
     }
-    Ok(())
 }
 
-fn add_tasking(out: &mut String, depth: usize, tasking: &Tasking) -> Result<(), AllocError> {
-    add_depends(out, depth, &tasking.depends)?;
+fn add_tasking(out: &mut Text, depth: usize, tasking: &Tasking) {
+    add_depends(out, depth, &tasking.depends);
     if tasking.nowait {
-        add_indent(out, depth)?;
-        out.push_str("nowait\n")?;
+        add_indent(out, depth);
+        out.add("nowait\n");
     }
-    Ok(())
 }
 
-fn add_alone(out: &mut String, depth: usize, directive: &Directive) -> Result<(), AllocError> {
+fn add_alone(out: &mut Text, depth: usize, directive: &Directive) {
     match directive {
         Directive::Enter(maps, tasking) => {
-            out.push_str("enter\n")?;
-            add_maps(out, depth, maps)?;
-            add_tasking(out, depth, tasking)
+            out.add("enter\n");
+            add_maps(out, depth, maps);
+            add_tasking(out, depth, tasking);
         }
         Directive::Exit(maps, tasking) => {
-            out.push_str("exit\n")?;
-            add_maps(out, depth, maps)?;
-            add_tasking(out, depth, tasking)
+            out.add("exit\n");
+            add_maps(out, depth, maps);
+            add_tasking(out, depth, tasking);
         }
         Directive::Update(updates, tasking) => {
-            out.push_str("update\n")?;
-            add_updates(out, depth, updates)?;
-            add_tasking(out, depth, tasking)
+            out.add("update\n");
+            add_updates(out, depth, updates);
+            add_tasking(out, depth, tasking);
         }
         Directive::Wait(depends) => {
-            out.push_str("wait\n")?;
-            add_depends(out, depth, depends)
+            out.add("wait\n");
+            add_depends(out, depth, depends);
         }
     }
+}
+
+/// The line of a region of that kind.
+fn add_region(out: &mut Text, kind: &str, region: &Region) {
+    out.add(kind);
+    add_place(out, region.place);
+    out.add("\n");
 }
 
 #[cycle(parts)]
-fn add_part(out: &mut String, depth: usize, part: &Part) -> Result<(), AllocError> {
+fn add_part(out: &mut Text, depth: usize, part: &Part) {
     let below = depth.saturating_add(1);
-    add_indent(out, depth)?;
+    add_indent(out, depth);
     match part {
         Part::Host(region) => {
-            write!(out, "host {}:{}\n", region.place.line, region.place.column)?;
-            add_block(out, below, &region.body)
+            add_region(out, "host ", region);
+            add_block(out, below, &region.body);
         }
         Part::Block(inner) => {
-            out.push_str("block\n")?;
-            add_parts(out, below, inner)
+            out.add("block\n");
+            add_parts(out, below, inner);
         }
         Part::Loop(bounds, inner) => {
-            add_bounds(out, *bounds)?;
-            add_parts(out, below, inner)
+            add_bounds(out, *bounds);
+            add_parts(out, below, inner);
         }
         Part::Target(target, region) => {
-            write!(
-                out,
-                "target {}:{}\n",
-                region.place.line, region.place.column
-            )?;
-            add_maps(out, below, &target.maps)?;
-            add_tasking(out, below, &target.tasking)?;
-            add_block(out, below, &region.body)
+            add_region(out, "target ", region);
+            add_maps(out, below, &target.maps);
+            add_tasking(out, below, &target.tasking);
+            add_block(out, below, &region.body);
         }
         Part::Data(maps, inner) => {
-            out.push_str("data\n")?;
-            add_maps(out, below, maps)?;
-            add_parts(out, below, inner)
+            out.add("data\n");
+            add_maps(out, below, maps);
+            add_parts(out, below, inner);
         }
         Part::Alone(directive) => add_alone(out, below, directive),
     }
 }
 
 #[cycle(parts)]
-fn add_parts(out: &mut String, depth: usize, parts: &Vec<Part>) -> Result<(), AllocError> {
+fn add_parts(out: &mut Text, depth: usize, parts: &Vec<Part>) {
     for part in parts {
-        add_part(out, depth, part)?;
+        add_part(out, depth, part);
     }
-    Ok(())
 }
 
-pub(crate) fn program_text(alloc: Global, program: &Program) -> Result<String, AllocError> {
-    let mut out = String::new(alloc);
+fn add_array(out: &mut Text, name: &str, length: u32) {
+    out.add("array ");
+    out.add(name);
+    out.add_with(" ", length);
+    out.add("\n");
+}
+
+pub(crate) fn add_program(out: &mut Text, program: &Program) {
     for (name, info) in program.arrays.iter() {
-        write!(out, "array {name} {}\n", info.length)?;
+        add_array(out, name, info.length);
     }
-    write!(out, "scalars {}\n", program.scalars)?;
-    add_parts(&mut out, 0, &program.body)?;
-    Ok(out)
+    out.add_with("scalars ", program.scalars);
+    out.add("\n");
+    add_parts(out, 0, &program.body);
 }

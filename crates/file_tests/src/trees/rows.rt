@@ -3,64 +3,71 @@
 //! in TEXT `?` stands for the number of the time, from 0, and `$` for a line feed.
 
 use crate::tally::Tally;
+use crate::text::Text;
 use base::fault::ReadFault;
 use base::tree::Program;
 use c_read::read_program;
 use std::alloc::{AllocError, Global};
 use std::io;
 
-fn add_times(out: &mut String, count: u32, text: &str) -> Result<(), AllocError> {
+fn add_times(out: &mut Text, count: u32, text: &str) {
     for n in 0..count {
         for c in text.chars() {
             match c {
-                '?' => write!(out, "{n}")?,
-                '$' => out.push('\n')?,
-                c => out.push(c)?,
+                '?' => out.add_shown(n),
+                '$' => out.add("\n"),
+                c => out.add_shown(c),
             }
         }
     }
-    Ok(())
+}
+
+fn add_expanded(out: &mut Text, line: &str) {
+    match line.strip_prefix('@').and_then(|it| it.split_once(' ')) {
+        None => out.add(line),
+        Some((count, text)) => {
+            let count = count.parse::<u32>().unwrap_or(0);
+            add_times(out, count, text.trim_end_matches('\n'));
+        }
+    }
 }
 
 /// The source that a row stands for.
-fn expanded(alloc: Global, row: &str) -> Result<String, AllocError> {
-    let mut out = String::new(alloc);
+fn expanded(alloc: Global, row: &str) -> Result<Vec<u8>, AllocError> {
+    let mut out = Text::new(alloc);
     for line in row.split_inclusive('\n') {
-        match line.strip_prefix('@').and_then(|it| it.split_once(' ')) {
-            None => out.push_str(line)?,
-            Some((count, text)) => {
-                let count = count.parse::<u32>().unwrap_or(0);
-                add_times(&mut out, count, text.trim_end_matches('\n'))?;
-            }
-        }
+        add_expanded(&mut out, line);
     }
-    Ok(out)
+    out.end()
+}
+
+fn add_read(out: &mut Text, program: &Program) {
+    out.add_with("read: ", program.arrays.len());
+    out.add_with(" arrays, ", program.scalars);
+    out.add_with(" scalars, ", program.body.len());
+    out.add(" parts");
 }
 
 /// The refusal, or how much was read.
-fn summary_of(alloc: Global, source: &str) -> Result<String, AllocError> {
-    summary(alloc, &read_program(alloc, source.as_bytes()))
+fn summary(alloc: Global, outcome: &Result<Program, ReadFault>) -> Result<Vec<u8>, AllocError> {
+    let mut out = Text::new(alloc);
+    match outcome {
+        Ok(program) => add_read(&mut out, program),
+        Err(fault) => out.add_shown(*fault),
+    }
+    out.end()
 }
 
-fn summary(alloc: Global, outcome: &Result<Program, ReadFault>) -> Result<String, AllocError> {
-    match outcome {
-        Ok(program) => {
-            let (arrays, parts) = (program.arrays.len(), program.body.len());
-            format!(in alloc;
-                "read: {arrays} arrays, {} scalars, {parts} parts",
-                program.scalars
-            )
-        }
-        Err(fault) => format!(in alloc; "{fault}"),
-    }
+fn summary_of(alloc: Global, source: &[u8]) -> Result<Vec<u8>, AllocError> {
+    summary(alloc, &read_program(alloc, source))
 }
 
 /// Compares what the reader makes of each row. A row that differs is named by its source.
 pub(crate) fn compare_rows(alloc: Global, tally: &mut Tally, rows: &str) -> io::Result<()> {
     for row in rows.trim_end_matches('\n').split("\n== ").skip(1) {
         let (wanted, text) = row.split_once('\n').unwrap_or((row, ""));
-        let source = expanded(alloc, text)?;
-        tally.compare(text, "", &summary_of(alloc, &source)?, wanted)?;
+        let found = summary_of(alloc, &expanded(alloc, text)?)?;
+        tally.compare(text, "", &found, wanted.as_bytes());
     }
     Ok(())
 }
