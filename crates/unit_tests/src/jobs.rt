@@ -8,7 +8,6 @@ use kernel::{Done, run};
 use lower::Image;
 use machine::play;
 use std::alloc::{AllocError, Global};
-use std::process::Abort;
 use std::test::Fail;
 
 const ADDS_ITS_INPUT: &str =
@@ -30,81 +29,77 @@ fn is_stranger(outcome: Result<(), RunFault>) -> bool {
 }
 
 // Two regions that were run: what one run issued is a stranger to the other, and each takes its own once.
-fn assert_taken_once<'a>(
-    rt: &impl Abort,
+fn are_taken_once<'a>(
     left: &mut RunState<'a>,
     right: &mut RunState<'a>,
     mine: &Done<'_, '_, 'a>,
     theirs: &Done<'_, '_, 'a>,
-) {
-    assert!(rt; is_stranger(left.close(theirs)));
-    assert!(rt; is_taken(left.close(mine)));
-    assert!(rt; is_stranger(left.close(mine)));
-    assert!(rt; is_stranger(right.close(mine)));
-    assert!(rt; is_taken(right.close(theirs)));
+) -> bool {
+    is_stranger(left.close(theirs))
+        && is_taken(left.close(mine))
+        && is_stranger(left.close(mine))
+        && is_stranger(right.close(mine))
+        && is_taken(right.close(theirs))
 }
 
-// An item of both.
-fn assert_own<'a>(
-    rt: &impl Abort,
+// An item of both. False, too, where memory is wanting.
+fn are_own<'a>(
     alloc: Global,
     left: &mut RunState<'a>,
     right: &mut RunState<'a>,
     item: u32,
-) -> Result<(), Fail> {
+) -> bool {
     let Some(mine) = opened(left, item) else {
-        return Err(Fail::from(AllocError));
+        return false;
     };
     let Some(theirs) = opened(right, item) else {
-        return Err(Fail::from(AllocError));
+        return false;
     };
-    let done = run(alloc, mine.code, &mine.frame)?;
-    let other = run(alloc, theirs.code, &theirs.frame)?;
-    assert_taken_once(rt, left, right, &done, &other);
-    Ok(())
+    match (
+        run(alloc, mine.code, &mine.frame),
+        run(alloc, theirs.code, &theirs.frame),
+    ) {
+        (Ok(done), Ok(other)) => are_taken_once(left, right, &done, &other),
+        _ => false,
+    }
 }
 
-// The last item of a run, and its end, after which what was taken is a stranger.
-fn assert_end(
-    rt: &impl Abort,
-    alloc: Global,
-    state: &mut RunState<'_>,
-    item: u32,
-    printed: u64,
-) -> Result<(), Fail> {
+// What was run is taken, and is a stranger once the run is at its end.
+fn is_end<'a>(state: &mut RunState<'a>, done: &Done<'_, '_, 'a>, printed: u64) -> bool {
+    is_taken(state.close(done))
+        && state.is_enabled(Event::End)
+        && is_taken(state.end())
+        && is_stranger(state.close(done))
+        && state.output() == [printed].as_slice()
+}
+
+// The last item of a run.
+fn ends(alloc: Global, state: &mut RunState<'_>, item: u32, printed: u64) -> bool {
     let Some(job) = opened(state, item) else {
-        return Err(Fail::from(AllocError));
+        return false;
     };
-    let done = run(alloc, job.code, &job.frame)?;
-    assert!(rt; is_taken(state.close(&done)));
-    assert!(rt; state.is_enabled(Event::End));
-    assert!(rt; is_taken(state.end()));
-    assert!(rt; is_stranger(state.close(&done)));
-    assert_eq!(rt; state.output(), [printed].as_slice());
-    Ok(())
+    match run(alloc, job.code, &job.frame) {
+        Ok(done) => is_end(state, &done, printed),
+        Err(_) => false,
+    }
 }
 
 // All items of both.
-fn assert_apart<'a>(
-    rt: &impl Abort,
-    alloc: Global,
-    left: &mut RunState<'a>,
-    right: &mut RunState<'a>,
-) -> Result<(), Fail> {
-    assert_own(rt, alloc, left, right, 0)?;
-    assert_own(rt, alloc, left, right, 1)?;
-    assert_end(rt, alloc, left, 2, 6)?;
-    assert_end(rt, alloc, right, 2, 7)
+fn are_apart<'a>(alloc: Global, left: &mut RunState<'a>, right: &mut RunState<'a>) -> bool {
+    are_own(alloc, left, right, 0)
+        && are_own(alloc, left, right, 1)
+        && ends(alloc, left, 2, 6)
+        && ends(alloc, right, 2, 7)
 }
 
 struct TwoRuns;
 
 impl Look for TwoRuns {
-    fn look<R: Abort>(&self, rt: &R, alloc: Global, image: &Image<'_>) -> Result<(), Fail> {
+    fn look(&self, alloc: Global, image: &Image<'_>) -> Result<bool, Fail> {
         let inputs = ([5], [6]);
         let mut left = RunState::new(alloc, image, &inputs.0, 4).map_err(Fail::new)?;
         let mut right = RunState::new(alloc, image, &inputs.1, 4).map_err(Fail::new)?;
-        assert_apart(rt, alloc, &mut left, &mut right)
+        Ok(are_apart(alloc, &mut left, &mut right))
     }
 }
 
@@ -120,31 +115,32 @@ fn turns(alloc: Global) -> Result<Vec<Turn>, AllocError> {
 }
 
 // Seven turns are taken, and behind the last of the run none.
-fn assert_played(rt: &impl Abort, state: &mut RunState<'_>, turns: Vec<Turn>) {
-    assert!(rt; matches!(play::<RunState<'_>>(state, turns), Ok(7)));
-    assert_eq!(rt; state.output(), [6].as_slice());
-    assert_eq!(rt; state.history().last(), Some(&Event::End));
+fn are_played(state: &mut RunState<'_>, turns: Vec<Turn>) -> bool {
+    matches!(play::<RunState<'_>>(state, turns), Ok(7))
+        && state.output() == [6].as_slice()
+        && state.history().last() == Some(&Event::End)
 }
 
 // The events in turn, through the bound.
 struct Played;
 
 impl Look for Played {
-    fn look<R: Abort>(&self, rt: &R, alloc: Global, image: &Image<'_>) -> Result<(), Fail> {
+    fn look(&self, alloc: Global, image: &Image<'_>) -> Result<bool, Fail> {
         let input = [5];
         let turns = turns(alloc)?;
         let mut state = RunState::new(alloc, image, &input, 4).map_err(Fail::new)?;
-        assert_played(rt, &mut state, turns);
-        Ok(())
+        Ok(are_played(&mut state, turns))
     }
 }
 
 #[test]
 fn runs_take_their_own_jobs_once(rt: HostRuntime) -> Result<(), Fail> {
-    look_at(&rt, rt.alloc(), ADDS_ITS_INPUT, &TwoRuns)
+    assert!(rt; look_at(rt.alloc(), ADDS_ITS_INPUT, &TwoRuns)?);
+    Ok(())
 }
 
 #[test]
 fn events_are_played_in_turn(rt: HostRuntime) -> Result<(), Fail> {
-    look_at(&rt, rt.alloc(), ADDS_ITS_INPUT, &Played)
+    assert!(rt; look_at(rt.alloc(), ADDS_ITS_INPUT, &Played)?);
+    Ok(())
 }

@@ -4,6 +4,8 @@
 #[cfg(test)]
 mod commands;
 #[cfg(test)]
+mod counters_tests;
+#[cfg(test)]
 mod device_tests;
 #[cfg(test)]
 mod jobs;

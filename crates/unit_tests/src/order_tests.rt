@@ -6,7 +6,6 @@ use mapwalk::repeats;
 use order::Order;
 use outline::{Outlined, outline};
 use std::alloc::Global;
-use std::process::Abort;
 use std::test::Fail;
 
 const LONG_CHAIN: &str = "\
@@ -19,21 +18,28 @@ for (uint64_t i = 0; i < 4096; i += 1) {
 }
 ";
 
-// Each item comes behind those before it, and none behind itself.
-fn assert_chain(rt: &impl Abort, order: &Order<'_>) {
-    for item in 0..4096 {
-        assert!(rt; item == 0 || order.before(0, item));
-        assert!(rt; item == 4095 || order.before(item, 4095));
-        assert!(rt; !order.before(item, item) && !order.before(4095, item));
-        assert!(rt; !order.before(item, 4096) && !order.before(4096, item));
-    }
+// Whether an item comes behind those before it, and not behind itself.
+fn is_in_turn(order: &Order<'_>, item: u32) -> bool {
+    (item == 0 || order.before(0, item))
+        && (item == 4095 || order.before(item, 4095))
+        && !order.before(item, item)
+        && !order.before(4095, item)
+        && !order.before(item, 4096)
+        && !order.before(4096, item)
 }
 
-fn assert_ordered(rt: &impl Abort, alloc: Global, outlined: &Outlined<'_>) -> Result<(), Fail> {
-    assert_eq!(rt; outlined.items().len(), 4096);
+fn is_chain(order: &Order<'_>) -> bool {
+    for item in 0..4096 {
+        if !is_in_turn(order, item) {
+            return false;
+        }
+    }
+    true
+}
+
+fn is_ordered(alloc: Global, outlined: &Outlined<'_>) -> Result<bool, Fail> {
     footprints_of(alloc, outlined, &repeats(alloc, outlined)?)?;
-    assert_chain(rt, &order_of(alloc, outlined)?);
-    Ok(())
+    Ok(outlined.items().len() == 4096 && is_chain(&order_of(alloc, outlined)?))
 }
 
 // As many tasks as there may be items, each of which waits for the one before it.
@@ -41,5 +47,6 @@ fn assert_ordered(rt: &impl Abort, alloc: Global, outlined: &Outlined<'_>) -> Re
 fn a_long_chain_is_ordered(rt: HostRuntime) -> Result<(), Fail> {
     let program = read_program(rt.alloc(), LONG_CHAIN.as_bytes())?;
     let outlined = outline(rt.alloc(), &program)?;
-    assert_ordered(&rt, rt.alloc(), &outlined)
+    assert!(rt; is_ordered(rt.alloc(), &outlined)?);
+    Ok(())
 }

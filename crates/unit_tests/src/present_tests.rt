@@ -10,7 +10,6 @@ use base::item::{Cell, MapItem, MapKind, Section};
 use base::memory::Memory;
 use base::tree::ArrayId;
 use present::Table;
-use std::process::Abort;
 use std::test::Fail;
 
 const CREATED: u64 = 0xa5a5_a5a5_a5a5_a5a5;
@@ -106,55 +105,84 @@ fn may_enter_all(table: &Table, host: &Memory, items: &[MapItem]) -> bool
     true
 }
 
-pub(crate) fn enter(
-    rt: &impl Abort,
-    table: &mut Table,
-    item: &MapItem,
-    host: &Memory,
-) -> Result<(), RunFault> {
-    assert!(rt; is_section(&item.section));
-    assert!(rt; is_within(host, &item.section));
-    assert!(rt; may_count(table, &item.section));
-    table.enter(item, host)
+/// What an entry comes to, `OtherState` where it may not be asked for.
+pub(crate) fn enter(table: &mut Table, item: &MapItem, host: &Memory) -> Result<(), RunFault> {
+    let section = &item.section;
+    if is_section(section) && is_within(host, section) && may_count(table, section) {
+        return table.enter(item, host);
+    }
+    Err(RunFault::OtherState)
 }
 
-fn exit(
-    rt: &impl Abort,
-    table: &mut Table,
-    item: &MapItem,
-    host: &mut Memory,
-) -> Result<(), RunFault> {
-    assert!(rt; is_section(&item.section));
-    assert!(rt; is_within(host, &item.section));
-    table.exit(item, host)
+/// What an exit comes to, `OtherState` where it may not be asked for.
+fn exit(table: &mut Table, item: &MapItem, host: &mut Memory) -> Result<(), RunFault> {
+    if is_section(&item.section) && is_within(host, &item.section) {
+        return table.exit(item, host);
+    }
+    Err(RunFault::OtherState)
 }
 
-pub(crate) fn set(rt: &impl Abort, host: &mut Memory, section: &Section, numbers: &[u64]) {
-    assert!(rt; is_within(host, section));
-    assert!(rt; numbers.len() as u64 == section.length);
-    host.set_section(section, numbers);
+/// What entries of several items come to, `OtherState` where they may not be asked for.
+fn enter_all(table: &mut Table, items: &[MapItem], host: &Memory) -> Result<(), RunFault> {
+    if may_enter_all(table, host, items) {
+        return table.enter_all(items, host);
+    }
+    Err(RunFault::OtherState)
+}
+
+// Whether entries of several items need room for so many cells.
+fn need(table: &Table, items: &[MapItem], host: &Memory, cells: u64) -> bool {
+    may_enter_all(table, host, items) && table.need(items) == cells
+}
+
+/// Gives the host numbers for a section of so many cells, and answers whether it did.
+pub(crate) fn set(host: &mut Memory, section: &Section, numbers: &[u64]) -> bool {
+    let may = is_within(host, section) && numbers.len() as u64 == section.length;
+    if may {
+        host.set_section(section, numbers);
+    }
+    may
 }
 
 // Whether the host has these numbers in a section.
-fn holds(rt: &impl Abort, host: &Memory, section: &Section, numbers: &[u64]) -> bool {
-    assert!(rt; is_within(host, section));
-    host.section(section) == numbers
+fn holds(host: &Memory, section: &Section, numbers: &[u64]) -> bool {
+    is_within(host, section) && host.section(section) == numbers
+}
+
+// Whether the cell lies in that block, which counts so many.
+fn is_in(table: &Table, cell: Cell, block: Section, count: u64) -> bool {
+    table.lookup(cell) == Some((block, count))
+}
+
+fn has(table: &Table, cell: Cell, number: u64) -> bool {
+    table.load(cell) == Some(number)
+}
+
+fn is_absent(table: &Table, cell: Cell) -> bool {
+    table.lookup(cell) == None
+}
+
+// The block is entered with the cells of the host.
+fn is_entered(table: &mut Table, host: &Memory, all: Section) -> bool {
+    enter(table, &item(MapKind::To, all), host).is_ok()
+        && is_in(table, cell(0, 3), all, 1)
+        && is_absent(table, cell(0, 4))
+        && has(table, cell(0, 3), 13)
 }
 
 // Entered a second time, the block counts two and has the cells of the first time.
-fn assert_entered_again(rt: &impl Abort, table: &mut Table, host: &Memory, all: Section) {
-    assert!(rt; enter(rt, table, &item(MapKind::To, section(0, 1, 2)), host).is_ok());
-    assert_eq!(rt; table.lookup(cell(0, 0)), Some((all, 2)));
-    assert_eq!(rt; table.load(cell(0, 1)), Some(11));
+fn is_entered_again(table: &mut Table, host: &Memory, all: Section) -> bool {
+    enter(table, &item(MapKind::To, section(0, 1, 2)), host).is_ok()
+        && is_in(table, cell(0, 0), all, 2)
+        && has(table, cell(0, 1), 11)
 }
 
 // With `always`, the cells that are named are copied, and no other.
-fn assert_copied_always(rt: &impl Abort, table: &mut Table, host: &Memory, all: Section) {
-    let first = always(MapKind::To, section(0, 0, 1));
-    assert!(rt; enter(rt, table, &first, host).is_ok());
-    assert_eq!(rt; table.lookup(cell(0, 0)), Some((all, 3)));
-    assert_eq!(rt; table.load(cell(0, 0)), Some(20));
-    assert_eq!(rt; table.load(cell(0, 1)), Some(11));
+fn is_copied_always(table: &mut Table, host: &Memory, all: Section) -> bool {
+    enter(table, &always(MapKind::To, section(0, 0, 1)), host).is_ok()
+        && is_in(table, cell(0, 0), all, 3)
+        && has(table, cell(0, 0), 20)
+        && has(table, cell(0, 1), 11)
 }
 
 #[test]
@@ -162,43 +190,45 @@ fn one_table(rt: HostRuntime) -> Result<(), Fail> {
     let mut host = Memory::new(rt.alloc(), &[8, 8])?;
     let mut table = Table::new(rt.alloc(), 8);
     let all = section(0, 0, 4);
-    set(&rt, &mut host, &all, &[10, 11, 12, 13]);
-    assert!(rt; enter(&rt, &mut table, &item(MapKind::To, all), &host).is_ok());
-    assert_eq!(rt; table.lookup(cell(0, 3)), Some((all, 1)));
-    assert_eq!(rt; table.lookup(cell(0, 4)), None);
-    assert_eq!(rt; table.load(cell(0, 3)), Some(13));
-    set(&rt, &mut host, &all, &[20, 21, 22, 23]);
-    assert_entered_again(&rt, &mut table, &host, all);
-    assert_copied_always(&rt, &mut table, &host, all);
+    assert!(rt; set(&mut host, &all, &[10, 11, 12, 13]) && is_entered(&mut table, &host, all));
+    assert!(rt; set(&mut host, &all, &[20, 21, 22, 23]));
+    assert!(rt;
+        is_entered_again(&mut table, &host, all) && is_copied_always(&mut table, &host, all)
+    );
     Ok(())
 }
 
-// Entered three times, with a number stored on the device.
-fn enter_three_times(rt: &impl Abort, table: &mut Table, host: &Memory, all: Section) {
-    let to_all = item(MapKind::To, all);
-    for _ in 0..3 {
-        assert!(rt; enter(rt, table, &to_all, host).is_ok());
+fn is_entered_times(table: &mut Table, host: &Memory, item: &MapItem, times: u32) -> bool {
+    for _ in 0..times {
+        if enter(table, item, host).is_err() {
+            return false;
+        }
     }
-    assert!(rt; table.store(cell(0, 0), 7));
-    assert!(rt; !table.store(cell(1, 0), 7));
+    true
+}
+
+// Entered three times, with a number stored on the device.
+fn is_stored(table: &mut Table, host: &Memory, all: Section) -> bool {
+    is_entered_times(table, host, &item(MapKind::To, all), 3)
+        && table.store(cell(0, 0), 7)
+        && !table.store(cell(1, 0), 7)
 }
 
 // With `always`, the cells that are named are copied back, though the block stays.
-fn assert_left_always(rt: &impl Abort, table: &mut Table, host: &mut Memory, all: Section) {
-    let first = always(MapKind::From, section(0, 0, 1));
-    assert!(rt; exit(rt, table, &first, host).is_ok());
-    assert_eq!(rt; table.lookup(cell(0, 0)), Some((all, 2)));
-    assert!(rt; holds(rt, host, &all, &[7, 11, 12, 13]));
+fn is_left_always(table: &mut Table, host: &mut Memory, all: Section) -> bool {
+    exit(table, &always(MapKind::From, section(0, 0, 1)), host).is_ok()
+        && is_in(table, cell(0, 0), all, 2)
+        && holds(host, &all, &[7, 11, 12, 13])
 }
 
 // What is released copies nothing; the last that leaves copies the cells that it names, and the block is gone.
-fn assert_left(rt: &impl Abort, table: &mut Table, host: &mut Memory, all: Section) {
-    assert!(rt; exit(rt, table, &item(MapKind::Release, all), host).is_ok());
-    assert_eq!(rt; table.lookup(cell(0, 0)), Some((all, 1)));
-    assert!(rt; holds(rt, host, &all, &[20, 21, 22, 23]));
-    assert!(rt; exit(rt, table, &item(MapKind::From, section(0, 1, 2)), host).is_ok());
-    assert!(rt; holds(rt, host, &all, &[20, 11, 12, 23]));
-    assert_eq!(rt; table.lookup(cell(0, 0)), None);
+fn is_left(table: &mut Table, host: &mut Memory, all: Section) -> bool {
+    exit(table, &item(MapKind::Release, all), host).is_ok()
+        && is_in(table, cell(0, 0), all, 1)
+        && holds(host, &all, &[20, 21, 22, 23])
+        && exit(table, &item(MapKind::From, section(0, 1, 2)), host).is_ok()
+        && holds(host, &all, &[20, 11, 12, 23])
+        && is_absent(table, cell(0, 0))
 }
 
 #[test]
@@ -206,21 +236,27 @@ fn exits(rt: HostRuntime) -> Result<(), Fail> {
     let mut host = Memory::new(rt.alloc(), &[8])?;
     let mut table = Table::new(rt.alloc(), 8);
     let all = section(0, 0, 4);
-    set(&rt, &mut host, &all, &[10, 11, 12, 13]);
-    enter_three_times(&rt, &mut table, &host, all);
-    assert_left_always(&rt, &mut table, &mut host, all);
-    set(&rt, &mut host, &all, &[20, 21, 22, 23]);
-    assert_left(&rt, &mut table, &mut host, all);
+    assert!(rt; set(&mut host, &all, &[10, 11, 12, 13]) && is_stored(&mut table, &host, all));
+    assert!(rt; is_left_always(&mut table, &mut host, all));
+    assert!(rt; set(&mut host, &all, &[20, 21, 22, 23]) && is_left(&mut table, &mut host, all));
     Ok(())
 }
 
 // Cells of which some are there, and cells for which there is no room.
-fn assert_refused(rt: &impl Abort, table: &mut Table, host: &mut Memory) {
+fn is_refused(table: &mut Table, host: &mut Memory, all: Section) -> bool {
     let over = item(MapKind::To, section(0, 3, 2));
-    assert_eq!(rt; enter(rt, table, &over, host), Err(RunFault::Absent));
-    assert_eq!(rt; exit(rt, table, &over, host), Err(RunFault::Absent));
     let five = item(MapKind::Alloc, section(1, 0, 5));
-    assert_eq!(rt; enter(rt, table, &five, host), Err(RunFault::DeviceFull));
+    enter(table, &over, host) == Err(RunFault::Absent)
+        && exit(table, &over, host) == Err(RunFault::Absent)
+        && enter(table, &five, host) == Err(RunFault::DeviceFull)
+        && is_in(table, cell(0, 0), all, 1)
+        && is_absent(table, cell(1, 0))
+}
+
+// What has room is created, and holds what created storage holds.
+fn is_created(table: &mut Table, host: &Memory) -> bool {
+    enter(table, &item(MapKind::Alloc, section(1, 0, 4)), host).is_ok()
+        && has(table, cell(1, 3), CREATED)
 }
 
 #[test]
@@ -228,14 +264,16 @@ fn refusals(rt: HostRuntime) -> Result<(), Fail> {
     let mut host = Memory::new(rt.alloc(), &[8, 8])?;
     let mut table = Table::new(rt.alloc(), 8);
     let all = section(0, 0, 4);
-    assert!(rt; enter(&rt, &mut table, &item(MapKind::To, all), &host).is_ok());
-    assert_refused(&rt, &mut table, &mut host);
-    assert_eq!(rt; table.lookup(cell(0, 0)), Some((all, 1)));
-    assert_eq!(rt; table.lookup(cell(1, 0)), None);
-    let four = item(MapKind::Alloc, section(1, 0, 4));
-    assert!(rt; enter(&rt, &mut table, &four, &host).is_ok());
-    assert_eq!(rt; table.load(cell(1, 3)), Some(CREATED));
+    assert!(rt; enter(&mut table, &item(MapKind::To, all), &host).is_ok());
+    assert!(rt; is_refused(&mut table, &mut host, all) && is_created(&mut table, &host));
     Ok(())
+}
+
+// The block is gone, however often it was entered, and a further exit does nothing.
+fn is_deleted(table: &mut Table, host: &mut Memory, all: Section) -> bool {
+    exit(table, &item(MapKind::Delete, all), host).is_ok()
+        && is_absent(table, cell(0, 1))
+        && exit(table, &item(MapKind::ToFrom, all), host).is_ok()
 }
 
 #[test]
@@ -243,44 +281,41 @@ fn deletion(rt: HostRuntime) -> Result<(), Fail> {
     let mut host = Memory::new(rt.alloc(), &[2])?;
     let mut table = Table::new(rt.alloc(), 2);
     let all = section(0, 0, 2);
-    let both = item(MapKind::ToFrom, all);
-    for _ in 0..3 {
-        assert!(rt; enter(&rt, &mut table, &both, &host).is_ok());
-    }
-    assert!(rt; exit(&rt, &mut table, &item(MapKind::Delete, all), &mut host).is_ok());
-    assert_eq!(rt; table.lookup(cell(0, 1)), None);
-    assert!(rt; exit(&rt, &mut table, &both, &mut host).is_ok());
+    assert!(rt; is_entered_times(&mut table, &host, &item(MapKind::ToFrom, all), 3));
+    assert!(rt; is_deleted(&mut table, &mut host, all));
     Ok(())
 }
 
 // What has no room, or is there in part, is refused whole.
-fn assert_refused_whole(rt: &impl Abort, table: &mut Table, host: &Memory, all: Section) {
+fn is_refused_whole(table: &mut Table, host: &Memory, all: Section) -> bool {
     let over = [
         item(MapKind::To, all),
         item(MapKind::Alloc, section(1, 0, 5)),
     ];
-    assert!(rt; may_enter_all(table, host, &over));
-    assert_eq!(rt; table.enter_all(&over, host), Err(RunFault::DeviceFull));
     let part = [
         item(MapKind::To, all),
         item(MapKind::Alloc, section(0, 3, 2)),
     ];
-    assert!(rt; may_enter_all(table, host, &part));
-    assert_eq!(rt; table.need(&part), 4);
-    assert_eq!(rt; table.enter_all(&part, host), Err(RunFault::Absent));
-    assert_eq!(rt; table.lookup(cell(0, 0)), None);
+    enter_all(table, &over, host) == Err(RunFault::DeviceFull)
+        && need(table, &part, host, 4)
+        && enter_all(table, &part, host) == Err(RunFault::Absent)
+        && is_absent(table, cell(0, 0))
 }
 
 // Two blocks for three items, the last of which is in the first block.
-fn enter_both(rt: &impl Abort, table: &mut Table, host: &Memory, all: Section) {
-    let both = [
+fn are_entered(table: &mut Table, host: &Memory, all: Section) -> bool {
+    let other = section(1, 0, 4);
+    let three = [
         item(MapKind::To, all),
-        item(MapKind::Alloc, section(1, 0, 4)),
+        item(MapKind::Alloc, other),
         item(MapKind::Alloc, section(0, 1, 1)),
     ];
-    assert!(rt; may_enter_all(table, host, &both));
-    assert_eq!(rt; table.need(&both), 8);
-    assert!(rt; table.enter_all(&both, host).is_ok());
+    need(table, &three, host, 8)
+        && enter_all(table, &three, host).is_ok()
+        && is_in(table, cell(0, 0), all, 2)
+        && has(table, cell(0, 3), 13)
+        && is_in(table, cell(1, 3), other, 1)
+        && has(table, cell(1, 3), CREATED)
 }
 
 #[test]
@@ -288,12 +323,7 @@ fn several(rt: HostRuntime) -> Result<(), Fail> {
     let mut host = Memory::new(rt.alloc(), &[8, 8])?;
     let mut table = Table::new(rt.alloc(), 8);
     let all = section(0, 0, 4);
-    set(&rt, &mut host, &all, &[10, 11, 12, 13]);
-    assert_refused_whole(&rt, &mut table, &host, all);
-    enter_both(&rt, &mut table, &host, all);
-    assert_eq!(rt; table.lookup(cell(0, 0)), Some((all, 2)));
-    assert_eq!(rt; table.load(cell(0, 3)), Some(13));
-    assert_eq!(rt; table.lookup(cell(1, 3)), Some((section(1, 0, 4), 1)));
-    assert_eq!(rt; table.load(cell(1, 3)), Some(CREATED));
+    assert!(rt; set(&mut host, &all, &[10, 11, 12, 13]));
+    assert!(rt; is_refused_whole(&mut table, &host, all) && are_entered(&mut table, &host, all));
     Ok(())
 }

@@ -2,10 +2,11 @@
 
 use base::fault::{CheckFault, OrderFault, Refusal, RefusalCode};
 use base::item::Cell;
-use base::tree::ArrayId;
+use base::tree::{ArrayId, Program};
 use c_read::read_program;
-use outline::outline;
+use outline::{Outlined, outline};
 use report::{list_text, refusal_text};
+use std::alloc::Global;
 use std::io;
 use std::io::Write;
 use std::test::Fail;
@@ -49,22 +50,28 @@ impl Write for Narrow {
     }
 }
 
+fn is_full(written: io::Result<()>) -> bool {
+    matches!(written, Err(error) if error.kind() == io::ErrorKind::StorageFull)
+}
+
+// Whether the listing ends where there is no more room, and what was written till then is its beginning.
+fn ends_at(alloc: Global, outlined: &Outlined<'_>, room: usize) -> bool {
+    let mut out = Narrow {
+        room,
+        taken: Vec::new(alloc),
+    };
+    is_full(list_text(alloc, outlined, &mut out))
+        && out.taken.len() == room
+        && LIST.as_bytes().starts_with(&out.taken)
+}
+
 #[test]
 fn a_failing_writer_ends_the_listing(rt: HostRuntime) -> Result<(), Fail> {
     let alloc = rt.alloc();
     let program = read_program(alloc, SOURCE.as_bytes())?;
     let outlined = outline(alloc, &program)?;
     for room in [0, 1, 24, 25, 26, 90] {
-        let mut out = Narrow {
-            room,
-            taken: Vec::new(alloc),
-        };
-        match list_text(alloc, &outlined, &mut out) {
-            Ok(()) => assert!(rt; false),
-            Err(error) => assert!(rt; error.kind() == io::ErrorKind::StorageFull),
-        }
-        assert_eq!(rt; out.taken.len(), room);
-        assert!(rt; LIST.as_bytes().starts_with(&out.taken));
+        assert!(rt; ends_at(alloc, &outlined, room), "{room}");
     }
     Ok(())
 }
@@ -88,6 +95,21 @@ const OVERLAP: CheckFault = CheckFault::Order(OrderFault {
     other: 10,
 });
 
+fn is_line(alloc: Global, program: &Program, fault: &CheckFault, line: &str) -> bool {
+    let mut out = Vec::new(alloc);
+    refusal_text(alloc, program, fault, &mut out).is_ok() && out.as_slice() == line.as_bytes()
+}
+
+// Whether a line that ends for want of room is written as far as there is room.
+fn is_cut(alloc: Global, program: &Program, fault: &CheckFault, line: &str) -> bool {
+    let mut out = Narrow {
+        room: line.len(),
+        taken: Vec::new(alloc),
+    };
+    is_full(refusal_text(alloc, program, fault, &mut out))
+        && out.taken.as_slice() == line.as_bytes()
+}
+
 #[test]
 fn lines_of_refusals(rt: HostRuntime) -> Result<(), Fail> {
     let alloc = rt.alloc();
@@ -97,18 +119,8 @@ fn lines_of_refusals(rt: HostRuntime) -> Result<(), Fail> {
         (OVERLAP, "E505 item 12 A[7] with item 10\n"),
         (CheckFault::OutOfMemory, "F1\n"),
     ] {
-        let mut out = Vec::new(alloc);
-        refusal_text(alloc, &program, &fault, &mut out)?;
-        assert_eq!(rt; out.as_slice(), line.as_bytes());
+        assert!(rt; is_line(alloc, &program, &fault, line), "{line}");
     }
-    let mut out = Narrow {
-        room: 9,
-        taken: Vec::new(alloc),
-    };
-    match refusal_text(alloc, &program, &OVERLAP, &mut out) {
-        Ok(()) => assert!(rt; false),
-        Err(error) => assert!(rt; error.kind() == io::ErrorKind::StorageFull),
-    }
-    assert!(rt; out.taken.as_slice() == b"E505 item".as_slice());
+    assert!(rt; is_cut(alloc, &program, &OVERLAP, "E505 item"));
     Ok(())
 }

@@ -11,50 +11,34 @@ use lower::{Image, lower};
 use mapcheck::{Accepted, check};
 use outline::{Outlined, outline};
 use std::alloc::Global;
-use std::process::Abort;
 use std::sync::Wait;
 use std::test::Fail;
 use std::thread::Threads;
 
-/// What is done with the image of a source.
+/// What is looked for in the image of a source.
 pub trait Look {
-    fn look<R: Abort>(&self, rt: &R, alloc: Global, image: &Image<'_>) -> Result<(), Fail>;
+    fn look(&self, alloc: Global, image: &Image<'_>) -> Result<bool, Fail>;
 }
 
-fn look_accepted<R: Abort, L: Look>(
-    rt: &R,
-    alloc: Global,
-    accepted: &Accepted<'_>,
-    by: &L,
-) -> Result<(), Fail>
+fn look_accepted<L: Look>(alloc: Global, accepted: &Accepted<'_>, by: &L) -> Result<bool, Fail>
     requires { AreShort accepted.now }
 {
     let image = lower(alloc, accepted)?;
-    by.look(rt, alloc, &image)
+    by.look(alloc, &image)
 }
 
-fn look_outlined<R: Abort, L: Look>(
-    rt: &R,
-    alloc: Global,
-    outlined: &Outlined<'_>,
-    by: &L,
-) -> Result<(), Fail>
+fn look_outlined<L: Look>(alloc: Global, outlined: &Outlined<'_>, by: &L) -> Result<bool, Fail>
     requires { AreShort outlined.now }
 {
     let accepted = check(alloc, outlined).map_err(Fail::new)?;
-    look_accepted(rt, alloc, &accepted, by)
+    look_accepted(alloc, &accepted, by)
 }
 
-/// Reads, checks and lowers a source, and does that with its image.
-pub(crate) fn look_at<R: Abort, L: Look>(
-    rt: &R,
-    alloc: Global,
-    text: &str,
-    by: &L,
-) -> Result<(), Fail> {
+/// Reads, checks and lowers a source, and looks at its image.
+pub(crate) fn look_at<L: Look>(alloc: Global, text: &str, by: &L) -> Result<bool, Fail> {
     let program = read_program(alloc, text.as_bytes()).map_err(Fail::new)?;
     let outlined = outline(alloc, &program).map_err(Fail::new)?;
-    look_outlined(rt, alloc, &outlined, by)
+    look_outlined(alloc, &outlined, by)
 }
 
 /// Why there is no answer.

@@ -4,7 +4,6 @@ use base::item::{Depend, Item, ItemKind, LoopValues, Section};
 use base::tree::{ArrayId, DependKind};
 use smallvec::SmallVec;
 use std::alloc::{AllocError, Global};
-use std::process::Abort;
 use std::test::Fail;
 use taskgraph::Graph;
 
@@ -55,54 +54,87 @@ fn graph_of(alloc: Global, rows: &[Row<'_>]) -> Result<Graph, AllocError> {
     Graph::new(alloc, &items)
 }
 
-fn generate(rt: &impl Abort, graph: &mut Graph, item: usize) {
-    assert!(rt; graph.may_generate(item));
-    graph.generate(item);
-}
+// Each of these does what it says if that may be, and answers whether it did.
 
-fn open(rt: &impl Abort, graph: &mut Graph, item: usize) {
-    assert!(rt; graph.may_open(item));
-    graph.opened(item);
-}
-
-fn close(rt: &impl Abort, graph: &mut Graph, item: usize) {
-    assert!(rt; graph.is_open(item));
-    graph.closed(item);
-}
-
-fn pass(rt: &impl Abort, graph: &mut Graph, item: usize) {
-    assert!(rt; graph.may_pass(item));
-    graph.waited(item);
-}
-
-fn generate_all(rt: &impl Abort, graph: &mut Graph, items: usize) {
-    for item in 0..items {
-        generate(rt, graph, item);
+fn generates(graph: &mut Graph, item: usize) -> bool {
+    let may = graph.may_generate(item);
+    if may {
+        graph.generate(item);
     }
+    may
+}
+
+fn opens(graph: &mut Graph, item: usize) -> bool {
+    let may = graph.may_open(item);
+    if may {
+        graph.opened(item);
+    }
+    may
+}
+
+fn closes(graph: &mut Graph, item: usize) -> bool {
+    let may = graph.is_open(item);
+    if may {
+        graph.closed(item);
+    }
+    may
+}
+
+fn passes(graph: &mut Graph, item: usize) -> bool {
+    let may = graph.may_pass(item);
+    if may {
+        graph.waited(item);
+    }
+    may
+}
+
+fn generates_all(graph: &mut Graph, items: usize) -> bool {
+    for item in 0..items {
+        if !generates(graph, item) {
+            return false;
+        }
+    }
+    true
+}
+
+// The tasks are generated, and the writer alone is ready.
+fn are_generated(graph: &mut Graph) -> bool {
+    !graph.ready(0)
+        && generates_all(graph, 3)
+        && graph.place() == 3
+        && graph.ready(0)
+        && !graph.ready(1)
+        && !graph.ready(2)
+        && !graph.ready(3)
 }
 
 // The writer runs, and no reader before it.
-fn assert_written(rt: &impl Abort, graph: &mut Graph) {
-    assert!(rt; graph.ready(0) && !graph.ready(1) && !graph.ready(2) && !graph.ready(3));
-    open(rt, graph, 0);
-    assert!(rt; graph.is_open(0));
-    assert!(rt; !graph.ready(0) && !graph.ready(1) && !graph.ready(2));
-    close(rt, graph, 0);
-    assert!(rt; !graph.is_open(0));
-    assert!(rt; graph.ready(1) && graph.ready(2) && !graph.ready(3));
+fn is_written(graph: &mut Graph) -> bool {
+    opens(graph, 0)
+        && graph.is_open(0)
+        && !graph.ready(0)
+        && !graph.ready(1)
+        && !graph.ready(2)
+        && closes(graph, 0)
+        && !graph.is_open(0)
+        && graph.ready(1)
+        && graph.ready(2)
+        && !graph.ready(3)
 }
 
 // Both readers run, the later one first, and the wait is over behind them.
-fn assert_read(rt: &impl Abort, graph: &mut Graph) {
-    open(rt, graph, 2);
-    open(rt, graph, 1);
-    close(rt, graph, 1);
-    assert!(rt; !graph.ready(3));
-    close(rt, graph, 2);
-    assert!(rt; graph.ready(3) && !graph.may_open(3));
-    pass(rt, graph, 3);
-    assert_eq!(rt; graph.place(), 4);
-    assert!(rt; !graph.is_open(3) && !graph.ready(4));
+fn is_read(graph: &mut Graph) -> bool {
+    opens(graph, 2)
+        && opens(graph, 1)
+        && closes(graph, 1)
+        && !graph.ready(3)
+        && closes(graph, 2)
+        && graph.ready(3)
+        && !graph.may_open(3)
+        && passes(graph, 3)
+        && graph.place() == 4
+        && !graph.is_open(3)
+        && !graph.ready(4)
 }
 
 #[test]
@@ -116,12 +148,20 @@ fn readers_wait_for_the_writer(rt: HostRuntime) -> Result<(), Fail> {
         at_once(ItemKind::Wait, &[]),
     ];
     let mut graph = graph_of(rt.alloc(), &rows)?;
-    assert!(rt; !graph.ready(0));
-    generate_all(&rt, &mut graph, 3);
-    assert_eq!(rt; graph.place(), 3);
-    assert_written(&rt, &mut graph);
-    assert_read(&rt, &mut graph);
+    assert!(rt; are_generated(&mut graph) && is_written(&mut graph) && is_read(&mut graph));
     Ok(())
+}
+
+// The host does its item, and stands at the next one behind it.
+fn is_done_by_the_host(graph: &mut Graph) -> bool {
+    graph.ready(0)
+        && !graph.ready(1)
+        && !graph.may_generate(0)
+        && opens(graph, 0)
+        && graph.place() == 0
+        && closes(graph, 0)
+        && graph.place() == 1
+        && graph.ready(1)
 }
 
 #[test]
@@ -132,13 +172,19 @@ fn the_host_waits_for_itself(rt: HostRuntime) -> Result<(), Fail> {
         at_once(ItemKind::Target, &read),
     ];
     let mut graph = graph_of(rt.alloc(), &rows)?;
-    assert!(rt; graph.ready(0) && !graph.ready(1) && !graph.may_generate(0));
-    open(&rt, &mut graph, 0);
-    assert_eq!(rt; graph.place(), 0);
-    close(&rt, &mut graph, 0);
-    assert_eq!(rt; graph.place(), 1);
-    assert!(rt; graph.ready(1));
+    assert!(rt; is_done_by_the_host(&mut graph));
     Ok(())
+}
+
+// The wait is over once the first task is closed.
+fn is_waited_for(graph: &mut Graph) -> bool {
+    generates_all(graph, 2)
+        && graph.ready(0)
+        && graph.ready(1)
+        && !graph.ready(2)
+        && opens(graph, 0)
+        && closes(graph, 0)
+        && graph.ready(2)
 }
 
 #[test]
@@ -148,24 +194,31 @@ fn a_wait_with_a_clause_waits_for_what_it_names(rt: HostRuntime) -> Result<(), F
     let waited = [depend(DependKind::In, 1, 1)];
     let rows = [task(&named), task(&other), at_once(ItemKind::Wait, &waited)];
     let mut graph = graph_of(rt.alloc(), &rows)?;
-    generate_all(&rt, &mut graph, 2);
-    assert!(rt; graph.ready(0) && graph.ready(1) && !graph.ready(2));
-    open(&rt, &mut graph, 0);
-    close(&rt, &mut graph, 0);
-    assert!(rt; graph.ready(2));
+    assert!(rt; is_waited_for(&mut graph));
     Ok(())
 }
 
 // The task is the only one that may be opened, and runs.
-fn assert_next(rt: &impl Abort, graph: &mut Graph, task: usize) {
+fn is_next(graph: &mut Graph, task: usize) -> bool {
     let later = task.wrapping_add(1);
-    assert!(rt; !graph.ready(later) && !graph.may_end());
-    assert_eq!(rt; graph.next_task(0), Some(task));
-    assert!(rt; graph.next_task(later).is_none());
-    assert_eq!(rt; graph.first(), task);
-    open(rt, graph, task);
-    assert!(rt; graph.next_task(0).is_none());
-    close(rt, graph, task);
+    !graph.ready(later)
+        && !graph.may_end()
+        && graph.next_task(0) == Some(task)
+        && graph.next_task(later).is_none()
+        && graph.first() == task
+        && opens(graph, task)
+        && graph.next_task(0).is_none()
+        && closes(graph, task)
+}
+
+// So many tasks run one behind the other.
+fn run_in_order(graph: &mut Graph, tasks: usize) -> bool {
+    for task in 0..tasks {
+        if !is_next(graph, task) {
+            return false;
+        }
+    }
+    true
 }
 
 /// 4,000 tasks, each of which waits for all before it.
@@ -173,12 +226,15 @@ fn assert_next(rt: &impl Abort, graph: &mut Graph, task: usize) {
 fn a_long_chain_runs_in_order(rt: HostRuntime) -> Result<(), Fail> {
     let cell = [depend(DependKind::InOut, 0, 1)];
     let mut graph = graph_of(rt.alloc(), &[task(&cell); 4000])?;
-    generate_all(&rt, &mut graph, 4000);
-    for task in 0..4000 {
-        assert_next(&rt, &mut graph, task);
-    }
-    assert!(rt; graph.may_end());
+    assert!(rt;
+        generates_all(&mut graph, 4000) && run_in_order(&mut graph, 4000) && graph.may_end()
+    );
     Ok(())
+}
+
+// The last task comes behind the wait.
+fn is_last(graph: &mut Graph) -> bool {
+    passes(graph, 3) && graph.first() == 4 && generates(graph, 4) && graph.next_task(0) == Some(4)
 }
 
 /// A task on two cells, one on the first of them, a wait without a clause, and a task on both.
@@ -195,13 +251,6 @@ fn a_task_waits_for_all_before_the_last(rt: HostRuntime) -> Result<(), Fail> {
         task(&both),
     ];
     let mut graph = graph_of(rt.alloc(), &rows)?;
-    generate_all(&rt, &mut graph, 3);
-    for task in 0..3 {
-        assert_next(&rt, &mut graph, task);
-    }
-    pass(&rt, &mut graph, 3);
-    assert_eq!(rt; graph.first(), 4);
-    generate(&rt, &mut graph, 4);
-    assert_eq!(rt; graph.next_task(0), Some(4));
+    assert!(rt; generates_all(&mut graph, 3) && run_in_order(&mut graph, 3) && is_last(&mut graph));
     Ok(())
 }

@@ -36,6 +36,10 @@ fn wait_for(came: &AtomicU64, late: &AtomicU64, wanted: u64) {
     late.fetch_add(1, Ordering::SeqCst);
 }
 
+fn is(count: &AtomicU64, wanted: u64) -> bool {
+    count.load(Ordering::SeqCst) == wanted
+}
+
 // Holds the first four items once they are open until all four are.
 #[derive(Drop)]
 struct FourAtOnce {
@@ -59,9 +63,8 @@ fn four_kernels_are_open_at_once(rt: HostRuntime) -> Result<(), Fail> {
         late: AtomicU64::new(0),
     };
     let answer = run_source(&rt, rt.alloc(), FOUR_KERNELS, &[], 4, 4, &gate)?;
-    assert_eq!(rt; answer.out.as_slice(), b"1\n2\n3\n4\n".as_slice());
-    assert_eq!(rt; gate.late.load(Ordering::SeqCst), 0);
-    assert_eq!(rt; gate.came.load(Ordering::SeqCst), 4);
+    assert!(rt; answer.out.as_slice() == b"1\n2\n3\n4\n".as_slice());
+    assert!(rt; is(&gate.late, 0) && is(&gate.came, 4));
     Ok(())
 }
 
@@ -100,10 +103,9 @@ fn two_kernels_are_computed_at_once(rt: HostRuntime) -> Result<(), Fail> {
         passed: AtomicU64::new(0),
     };
     let answer = run_source(&rt, rt.alloc(), TWO_KERNELS, &[], 2, 16, &gate)?;
-    assert_eq!(rt; answer.out.as_slice(), b"7\n13\n".as_slice());
-    assert_eq!(rt; gate.late.load(Ordering::SeqCst), 0);
+    assert!(rt; answer.out.as_slice() == b"7\n13\n".as_slice());
     // four items, each opened, computed and closed
-    assert_eq!(rt; gate.passed.load(Ordering::SeqCst), 12);
+    assert!(rt; is(&gate.late, 0) && is(&gate.passed, 12));
     Ok(())
 }
 
@@ -157,9 +159,8 @@ fn a_worker_takes_the_lowest_item(rt: HostRuntime) -> Result<(), Fail> {
         4,
         &gate,
     )?;
-    assert_eq!(rt; answer.out.as_slice(), b"1\n2\n3\n4\n".as_slice());
-    assert_eq!(rt; gate.late.load(Ordering::SeqCst), 0);
-    assert!(rt; are_in_order(&answer.history));
+    assert!(rt; answer.out.as_slice() == b"1\n2\n3\n4\n".as_slice());
+    assert!(rt; is(&gate.late, 0) && are_in_order(&answer.history));
     Ok(())
 }
 
@@ -185,16 +186,22 @@ impl Gate for NoMemory {
     }
 }
 
+// Whether the run of so many workers stops for want of memory where that item is not computed.
+fn lacks_memory<R: Threads + Wait + Sync>(rt: &R, alloc: Global, workers: usize, item: u32) -> bool
+    requires some { 1 ≤ workers }
+    requires few { workers ≤ 16 }
+{
+    let answer = run_source(rt, alloc, TWO_KERNELS, &[], workers, 16, &NoMemory { item });
+    matches!(answer, Err(Fault::Run(RunFault::OutOfMemory)))
+}
+
+// Items of the host, of a worker, and the last one.
 #[test]
-fn a_fault_stops_all_threads(rt: HostRuntime) -> Result<(), Fail> {
+fn a_fault_stops_all_threads(rt: HostRuntime) {
     let alloc = rt.alloc();
-    let by_host = run_source(&rt, alloc, TWO_KERNELS, &[], 4, 16, &NoMemory { item: 0 });
-    assert!(rt; matches!(by_host, Err(Fault::Run(RunFault::OutOfMemory))));
-    let by_worker = run_source(&rt, alloc, TWO_KERNELS, &[], 4, 16, &NoMemory { item: 2 });
-    assert!(rt; matches!(by_worker, Err(Fault::Run(RunFault::OutOfMemory))));
-    let at_the_end = run_source(&rt, alloc, TWO_KERNELS, &[], 1, 16, &NoMemory { item: 4 });
-    assert!(rt; matches!(at_the_end, Err(Fault::Run(RunFault::OutOfMemory))));
-    Ok(())
+    assert!(rt; lacks_memory(&rt, alloc, 4, 0));
+    assert!(rt; lacks_memory(&rt, alloc, 4, 2));
+    assert!(rt; lacks_memory(&rt, alloc, 1, 4));
 }
 
 // Wants a stack for one worker that no system has.
@@ -231,12 +238,9 @@ fn lacks_worker<R: Threads + Wait + Sync>(
 }
 
 #[test]
-fn a_worker_is_not_started(rt: HostRuntime) -> Result<(), Fail> {
+fn a_worker_is_not_started(rt: HostRuntime) {
     let alloc = rt.alloc();
-    assert!(rt; lacks_worker(&rt, alloc, 1, 0));
-    assert!(rt; lacks_worker(&rt, alloc, 4, 0));
-    assert!(rt; lacks_worker(&rt, alloc, 4, 3));
-    assert!(rt; lacks_worker(&rt, alloc, 16, 7));
+    assert!(rt; lacks_worker(&rt, alloc, 1, 0) && lacks_worker(&rt, alloc, 16, 7));
+    assert!(rt; lacks_worker(&rt, alloc, 4, 0) && lacks_worker(&rt, alloc, 4, 3));
     assert!(rt; !lacks_worker(&rt, alloc, 4, 4));
-    Ok(())
 }
