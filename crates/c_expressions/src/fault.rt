@@ -3,7 +3,7 @@
 ghost use Rattle.std.specs.Prelude.{◌≡◌};
 ghost use Rattle.c_expressions.specs.declared.fault.ReadError.TheVariants.{Memory};
 
-use base::fault::{ReadFault, TextFault};
+use base::fault::TextFault;
 use std::alloc::{AllocError, AllocFailed};
 
 #[derive(Clone, Copy, Debug)]

@@ -3,7 +3,6 @@
 use crate::cursor::Cursor;
 use crate::fault::ReadError;
 use crate::scope::{Meaning, Scope};
-use crate::terminal::Terminal;
 use base::fault::ReadCode;
 use base::tree::{Divisor, ShiftCount};
 use c_tokens::Sign;

@@ -16,7 +16,7 @@ ghost use Rattle.c_statements.specs.Loops.{IsGone};
 ghost use Rattle.c_read.specs.Globals.{global_code, is_over, naming, with_cells, IsArrayNamed, IsScalarNamed};
 
 use base::fault::{ReadCode, TextFault};
-use base::tree::{ArrayId, ScalarId};
+use base::tree::ArrayId;
 use c_expressions::{Cursor, Meaning, ReadError, Scope, Terminal};
 use c_statements::new_scalar;
 use c_tokens::Sign;

@@ -24,7 +24,7 @@ use crate::wrap::{alone, block_of, loop_of};
 use base::fault::ReadCode;
 use base::tree::Part;
 use c_constructs::{Construct, Resolved, directive};
-use c_expressions::{Cursor, ReadError, Scope, Terminal, Turn};
+use c_expressions::{Cursor, ReadError, Scope, Turn};
 use c_statements::{
     begin_block, begin_loop, bounds, close_body, head_name, loops_around, open_body,
 };
