@@ -1,5 +1,5 @@
 -- Room on the device, event by event.
-use Rattle.std.proofs.Common.{◌≡◌, ◌<◌, ◌≤◌, ◌++◌, ◌⊎◌, ℕ, List, [], ◌∷◌, Some, inl, inr, length, take, refl, sym, ap, ◌∙◌, subst, arith}
+use Rattle.std.proofs.Common.{◌≡◌, ◌<◌, ◌≤◌, ◌++◌, ◌⊎◌, ℕ, List, [], ◌∷◌, inl, inr, length, take, sym, ap, ◌∙◌, subst, arith}
 use Rattle.std.proofs.Math.Seq.{take-nil}
 use Rattle.std.proofs.lemmas.Bool.{cases_lt}
 use Rattle.std.proofs.lemmas.List.{length-append, take_all, take-append-le}
@@ -7,7 +7,6 @@ use Rattle.base.specs.declared.item.Answer.{Answer}
 use Rattle.base.specs.declared.item.Event.{Event}
 use Rattle.base.specs.declared.tree.Program.{Program}
 use Rattle.base.specs.Items.{plan}
-use Rattle.base.specs.Machine.{start}
 use Rattle.base.specs.Map.{Fill, in_use}
 use Rattle.device.specs.Leading.{IsNext}
 use Rattle.device.specs.Room.{HasRoomAfter, HasStayed, IsAnswerWithin, StaysWithin}

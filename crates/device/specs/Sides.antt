@@ -1,5 +1,6 @@
 -- A run as a machine whose items run side by side.
 use Rattle.std.specs.Prelude.{◌≡◌, false, [], Option, Some, None}
+use Rattle.base.specs.declared.fault.RunFault.{RunFault}
 use Rattle.base.specs.declared.item.Event.{Event}
 use Rattle.base.specs.Items.{plan}
 use Rattle.machine.specs.Board.{Move}
@@ -10,7 +11,7 @@ use Rattle.device.specs.declared.turns.Turn.{Turn}
 use Rattle.device.specs.declared.turns.Turn.TheVariants as turn
 use Rattle.device.specs.Run.{Run, fill_in, state_of}
 use Rattle.device.specs.Running.{IsReached}
-use Rattle.device.specs.Taking.{Takes}
+use Rattle.device.specs.Taking.{IsEventFault, Takes}
 
 -- what a turn is to which item
 abbrev pub move_of : Turn → Move
@@ -31,6 +32,11 @@ two_of r = record {
 abbrev pub Steps : Run → Option Event → Run → Type 0
 Steps r None t = ⊥
 Steps r (Some e) t = Takes r e t
+
+-- why the event is not done, if it is one
+abbrev pub IsStepFault : Run → Option Event → RunFault → Type 0
+IsStepFault r None f = ⊥
+IsStepFault r (Some e) f = IsEventFault r e f
 
 -- nothing was done yet
 pub record IsBegun (r : Run) : Type 0 where

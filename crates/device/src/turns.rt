@@ -40,9 +40,10 @@ impl<'a> RunState<'a> {
 }
 
 impl<'a> Machine for RunState<'a> {
-    ghost use Rattle.std.specs.Prelude.{true};
-    ghost use Rattle.two_memories.specs.Two.{Spot};
-    ghost use Rattle.device.specs.Sides.{move_of, run_parts};
+    ghost use Rattle.std.specs.Prelude.{true, IfErr, OnErr, OnOk};
+    ghost use Rattle.base.specs.Items.{plan};
+    ghost use Rattle.two_memories.specs.Two.{Spot, event_of};
+    ghost use Rattle.device.specs.Sides.{IsStepFault, move_of, run_parts};
     ghost use Rattle.device.specs.SideLaws.{laws};
 
     type State = RunState<'a>;
@@ -63,7 +64,12 @@ impl<'a> Machine for RunState<'a> {
         state.is_enabled(state.event_of(*turn))
     }
 
-    fn step(state: &mut RunState<'a>, turn: &Turn) -> Result<(), RunFault> {
+    fn step(state: &mut RunState<'a>, turn: &Turn) -> Result<(), RunFault>
+        requires { run_parts.enabled state.old (move_of turn.now) }
+        ensures done { OnOk result (run_parts.step state.old (move_of turn.now) state.new) }
+        ensures fault { IfErr result (IsStepFault state.old (event_of (plan state.old.program) (move_of turn.now))) }
+        ensures unchanged { OnErr result (state.new ≡ state.old) }
+    {
         state.take(state.event_of(*turn))
     }
 
