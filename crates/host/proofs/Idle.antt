@@ -262,3 +262,19 @@ no_target_here p s items it alike is off w e d t =
 
 pub not_opened_here : (p : Plan) (s : State) → enabled p s (Open s.place) ≡ false → IsNoTargetHere p s
 not_opened_here p s off w e d t = off
+
+-- a target at which the host stands is for workers, if it may be opened
+pub target_turn : (p : Plan) (s : State) (items : List Item) (it : Item) → map facts_of p.items ≡ map item_facts items →
+    slice_get items s.place ≡ Some it → is_target it.kind ≡ true → enabled p s (Open s.place) ≡ true →
+    is_for_workers p (Open s.place) ≡ true
+target_turn p s items it alike is target on =
+    let f = found p s.place _ on in
+    let a = item_at p items s.place f.work alike f.is in
+    let same : ◌≡◌ {A = Option Item} (Some a.item) (Some it) = sym a.is ∙ is in
+    let same_item : a.item ≡ it = cc in
+    let kind_is : is_target f.work.kind ≡ true = ap is_target (sym a.kind ∙ ap (λ (x : Item). x.kind) same_item) ∙ target in
+    at_work p s.place (λ w. w.deferred || is_target w.kind) true f.work f.is (go f.work.deferred (is_target f.work.kind) kind_is)
+  where
+    go : (d t : Bool) → t ≡ true → (d || t) ≡ true
+    go true t h = refl
+    go false t h = h

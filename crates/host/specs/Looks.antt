@@ -64,6 +64,10 @@ IsHostLook old (look.Do job) new = is_for_workers (plan old.program) (Open job.f
 abbrev pub WantsNoWorker : Option Stop → Run → Type 0
 WantsNoWorker o r = IsOver o r ⊎ AreWorkersIdle (plan r.program) (state_of r)
 
+-- the host is wanted: the run is over, or something may happen next that is not for workers
+abbrev pub WantsTheHost : Option Stop → Run → Type 0
+WantsTheHost o r = IsOver o r ⊎ (IsHostIdle (plan r.program) (state_of r) → ⊥)
+
 -- why what was computed does not close its item
 abbrev pub IsCloseCause : Run → Region → Frame → Stop → Type 0
 IsCloseCause r region frame stop.OutOfMemory = IsIssuedDone r region frame

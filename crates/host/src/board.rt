@@ -9,7 +9,7 @@ ghost use Rattle.base.specs.Machine.{enabled};
 ghost use Rattle.device.specs.Room.{IsAnswerWithin};
 ghost use Rattle.device.specs.Run.{state_of};
 ghost use Rattle.host.specs.Idle.{AreWorkersIdle, IsHostIdle, IsNoTargetHere, is_for_workers, turn_of};
-ghost use Rattle.host.specs.Looks.{IsClosing, IsEventOf, IsForWorker, IsHostLook, IsLook, IsOpeningOf, IsWorkerLook, WantsNoWorker};
+ghost use Rattle.host.specs.Looks.{IsClosing, IsEventOf, IsForWorker, IsHostLook, IsLook, IsOpeningOf, IsWorkerLook, WantsNoWorker, WantsTheHost};
 ghost use Rattle.host.specs.Origins.{IsFrom, IsOf, one_origin, one_program};
 ghost use Rattle.host.specs.Stops.{HasCause, IsEndFault, IsOver, IsPlain, StaysStopped, fault_of, first_stop, one_cause};
 ghost use Rattle.host.specs.Threads.{IsThreadAnswer, IsThreadFault};
@@ -144,6 +144,7 @@ impl<'a, B: Origin> Board<'a, B> {
     fn is_over(&self) -> bool
         ensures over { result ≡ true → IsOver self.now.stop self.now.state }
         ensures goes { result ≡ false → self.now.stop ≡ None }
+        ensures on { result ≡ false → IsOver self.now.stop self.now.state → ⊥ }
     {
         self.stop.is_some() || self.state.has_ended()
     }
@@ -152,6 +153,7 @@ impl<'a, B: Origin> Board<'a, B> {
     fn target_here(&self) -> Option<u32>
         ensures may { IfSome result (λ item. IsTrue (enabled (plan self.now.state.program) (state_of self.now.state) (event.Open item))) }
         ensures here { IfSome result (λ item. (state_of self.now.state).place ≡ item) }
+        ensures own { IfSome result (λ item. is_for_workers (plan self.now.state.program) (event.Open item) ≡ true) }
         ensures none { IfNone result (IsNoTargetHere (plan self.now.state.program) (state_of self.now.state)) }
     {
         let place = self.state.place();
@@ -168,6 +170,7 @@ impl<'a, B: Origin> Board<'a, B> {
     fn next_for_worker(&self) -> Option<u32>
         ensures may { IfSome result (λ item. IsTrue (enabled (plan self.now.state.program) (state_of self.now.state) (event.Open item))) }
         ensures next { IfSome result (IsForWorker self.now.state) }
+        ensures own { IfSome result (λ item. is_for_workers (plan self.now.state.program) (event.Open item) ≡ true) }
         ensures none { IfNone result (AreWorkersIdle (plan self.now.state.program) (state_of self.now.state)) }
     {
         match self.state.next_task(0) {
@@ -178,14 +181,16 @@ impl<'a, B: Origin> Board<'a, B> {
 
     /// Whether a worker may open an item, in a run that is not over. Where it may not, none needs to be called.
     pub fn calls_worker(&self) -> bool
-        ensures { result ≡ false → WantsNoWorker self.now.stop self.now.state }
+        ensures idle { result ≡ false → WantsNoWorker self.now.stop self.now.state }
+        ensures wanted { result ≡ true → WantsNoWorker self.now.stop self.now.state → ⊥ }
     {
         !self.is_over() && self.next_for_worker().is_some()
     }
 
     /// Whether the host may do its next event, or the run is over. Where neither, it need not be called.
     pub fn calls_host(&self) -> bool
-        ensures { result ≡ false → IsHostIdle (plan self.now.state.program) (state_of self.now.state) }
+        ensures idle { result ≡ false → IsHostIdle (plan self.now.state.program) (state_of self.now.state) }
+        ensures wanted { result ≡ true → WantsTheHost self.now.stop self.now.state }
     {
         self.is_over() || self.next_for_host().is_some()
     }
