@@ -190,6 +190,7 @@ impl<'a, B: Origin> Board<'a, B> {
     /// Whether the host may do its next event, or the run is over. Where neither, it need not be called.
     pub fn calls_host(&self) -> bool
         ensures idle { result ≡ false → IsHostIdle (plan self.now.state.program) (state_of self.now.state) }
+        ensures goes { result ≡ false → IsOver self.now.stop self.now.state → ⊥ }
         ensures wanted { result ≡ true → WantsTheHost self.now.stop self.now.state }
     {
         self.is_over() || self.next_for_host().is_some()
