@@ -63,6 +63,7 @@ impl<'a> Standing<'a> {
         ensures capacity { IfOk result (λ now. capacity_of now.table ≡ capacity) }
         ensures number { IfOk result (λ now. now.table.fresh < 2 ^ 64) }
         ensures held { IfOk result (λ now. map issue_of now.held.items ≡ replicate (length (plan image.now).items) None) }
+        ensures entered { IfOk result (λ now. now.entered ≡ 0) }
     {
         let items = image.items();
         let host = Memory::new(alloc, image.lengths())?;
