@@ -1,7 +1,7 @@
 -- Where the host, or a worker, finds nothing to do.
 use Rattle.std.proofs.Common.{◌≡◌, ℕ, ◌<◌, ◌≤◌, Bool, true, false, length, map, List, Option, Some, None, refl, sym, ap, ap₂, subst, ◌∙◌, arith}
 use Rattle.std.specs.Prelude.{◌||◌, ◌&&◌, ◌==◌, not, slice_get, option_map, if◌then◌else◌}
-use Rattle.std.proofs.lemmas.Bool.{and_parts, eqb-true, not-true}
+use Rattle.std.proofs.lemmas.Bool.{and_parts, eqb-true, not-true, or_right}
 use Rattle.std.proofs.lemmas.Bool.Decides.{nat_tests}
 use Rattle.std.proofs.lemmas.List.{length-map}
 use Rattle.std.proofs.lemmas.Option.{slice_get-map, slice_get_within}
@@ -69,6 +69,14 @@ item_at p items i w alike e = go (slice_get items i) refl
         sym (ap (option_map item_facts) f) ∙ facts in
         let both : item_facts it ≡ facts_of w = cc in
         record { item = it; is = f; deferred = ap (λ (x : Facts). x.deferred) both; kind = ap (λ (x : Facts). x.kind) both }
+
+-- the same of the item that is known to be there
+told_of : (items : List Item) (i : ℕ) (w : Work) (it : Item) → ItemAt items i w → slice_get items i ≡ Some it →
+    (it.deferred ≡ w.deferred) × (it.kind ≡ w.kind)
+told_of items i w it a is =
+    let same : ◌≡◌ {A = Option Item} (Some a.item) (Some it) = sym a.is ∙ is in
+    let same_item : a.item ≡ it = cc in
+    subst (λ (x : Item). (x.deferred ≡ w.deferred) × (x.kind ≡ w.kind)) same_item (a.deferred, a.kind)
 
 as_many : (p : Plan) (items : List Item) → map facts_of p.items ≡ map item_facts items → length p.items ≡ length items
 as_many p items alike =
@@ -212,12 +220,9 @@ host_turn p s items e alike is = go (slice_get items s.place) refl is
         work_here : (x : Option Work) → slice_get p.items s.place ≡ x → is_for_workers p (Open s.place) ≡ false
         work_here None f = ap (λ (o : Option Work). elim o [ None ↦ false | Some v ↦ v.deferred || is_target v.kind ]) f
         work_here (Some w) f =
-            let a = item_at p items s.place w alike f in
-            let same : ◌≡◌ {A = Option Item} (Some a.item) (Some it) = sym a.is ∙ at in
-            let same_item : a.item ≡ it = cc in
-            let now : w.deferred ≡ false = sym a.deferred ∙ ap (λ (x : Item). x.deferred) same_item ∙ d in
-            let off : is_target w.kind ≡ false = ap is_target (sym a.kind ∙ ap (λ (x : Item). x.kind) same_item) ∙ t in
-            at_work p s.place (λ v. v.deferred || is_target v.kind) false w f (ap₂ ◌||◌ now off)
+            let a = told_of items s.place w it (item_at p items s.place w alike f) at in
+            at_work p s.place (λ v. v.deferred || is_target v.kind) false w f
+            (ap₂ ◌||◌ (sym a.0 ∙ d) (ap is_target (sym a.1) ∙ t))
 
     of_kind : (k : ItemKind) → (is_target k ≡ false → is_for_workers p (Open s.place) ≡ false) →
         turn_of_kind k s.place ≡ Some e → is_for_workers p e ≡ false
@@ -252,12 +257,9 @@ no_item_here p s items alike past w e d t =
 pub no_target_here : (p : Plan) (s : State) (items : List Item) (it : Item) → map facts_of p.items ≡ map item_facts items →
     slice_get items s.place ≡ Some it → (not it.deferred && is_target it.kind) ≡ false → IsNoTargetHere p s
 no_target_here p s items it alike is off w e d t =
-    let a = item_at p items s.place w alike e in
-    let same : ◌≡◌ {A = Option Item} (Some a.item) (Some it) = sym a.is ∙ is in
-    let same_item : a.item ≡ it = cc in
-    let now : it.deferred ≡ false = ap (λ (x : Item). x.deferred) (sym same_item) ∙ a.deferred ∙ d in
-    let on : is_target it.kind ≡ true = ap is_target (ap (λ (x : Item). x.kind) (sym same_item) ∙ a.kind) ∙ t in
-    let yes : (not it.deferred && is_target it.kind) ≡ true = ap₂ (λ (x y : Bool). not x && y) now on in
+    let a = told_of items s.place w it (item_at p items s.place w alike e) is in
+    let yes : (not it.deferred && is_target it.kind) ≡ true =
+    ap₂ (λ (x y : Bool). not x && y) (a.0 ∙ d) (ap is_target a.1 ∙ t) in
     absurd cc
 
 pub not_opened_here : (p : Plan) (s : State) → enabled p s (Open s.place) ≡ false → IsNoTargetHere p s
@@ -269,12 +271,6 @@ pub target_turn : (p : Plan) (s : State) (items : List Item) (it : Item) → map
     is_for_workers p (Open s.place) ≡ true
 target_turn p s items it alike is target on =
     let f = found p s.place _ on in
-    let a = item_at p items s.place f.work alike f.is in
-    let same : ◌≡◌ {A = Option Item} (Some a.item) (Some it) = sym a.is ∙ is in
-    let same_item : a.item ≡ it = cc in
-    let kind_is : is_target f.work.kind ≡ true = ap is_target (sym a.kind ∙ ap (λ (x : Item). x.kind) same_item) ∙ target in
-    at_work p s.place (λ w. w.deferred || is_target w.kind) true f.work f.is (go f.work.deferred (is_target f.work.kind) kind_is)
-  where
-    go : (d t : Bool) → t ≡ true → (d || t) ≡ true
-    go true t h = refl
-    go false t h = h
+    let a = told_of items s.place f.work it (item_at p items s.place f.work alike f.is) is in
+    at_work p s.place (λ w. w.deferred || is_target w.kind) true f.work f.is
+    (or_right f.work.deferred (is_target f.work.kind) (ap is_target (sym a.1) ∙ target))
