@@ -1,7 +1,9 @@
 #!/usr/bin/env python3
 """Tries the mutants of crates, of all that have some where none is named: the prover must refuse each.
 
-usage: mutants.py [NAME..]
+usage: mutants.py [--apply] [NAME..]
+
+With --apply it checks nothing, and only says which mutants no longer apply to the texts that they change.
 
 A mutant (crates/NAME/mutants/*.edit, written as the edits of must-fail/) is a wrong body of one function. Functions are proved by the
 contracts of what they call, so that a check of the crate judges one mutant of each function at once: a round. A function that calls one which
@@ -126,10 +128,22 @@ def check(copy, crate, texts):
     return ran.stdout
 
 
+def mutants_of(crate):
+    return [f"{crate}/mutants/{it}" for it in sorted(os.listdir(f"{crate}/mutants")) if it.endswith(".edit")]
+
+
+def applied(name):
+    """Returns how many mutants of a crate apply to its texts, and those that do not."""
+    crate = f"{TOP}/crates/{name}"
+    mutants = mutants_of(crate)
+    stale = [it for it in mutants if changed(crate, it, {})[0] is None]
+    return len(mutants) - len(stale), [f"{it}: does not apply" for it in stale]
+
+
 def tried(name):
     """Tries the mutants of a crate, and returns how many were refused, and those that were not."""
     crate = f"{TOP}/crates/{name}"
-    left = [f"{crate}/mutants/{it}" for it in sorted(os.listdir(f"{crate}/mutants")) if it.endswith(".edit")]
+    left = mutants_of(crate)
     refused, passed = 0, []
     with tempfile.TemporaryDirectory(prefix="mutants-") as room:
         copy = copy_of(room, name)
@@ -149,12 +163,14 @@ def tried(name):
     return refused, passed
 
 
-def main(names):
-    names = names or sorted(it for it in os.listdir(f"{TOP}/crates") if os.path.isdir(f"{TOP}/crates/{it}/mutants"))
+def main(words):
+    only_apply = words[:1] == ["--apply"]
+    judge, well_said = (applied, "apply") if only_apply else (tried, "refused")
+    names = words[only_apply:] or sorted(it for it in os.listdir(f"{TOP}/crates") if os.path.isdir(f"{TOP}/crates/{it}/mutants"))
     well = True
     for name in names:
-        refused, passed = tried(name)
-        print(f"{name}: {refused} refused, {len(passed)} not", flush=True)
+        good, passed = judge(name)
+        print(f"{name}: {good} {well_said}, {len(passed)} not", flush=True)
         for it in passed:
             print(f"  {os.path.relpath(it, TOP)}", flush=True)
         well = well and not passed
