@@ -1,0 +1,2 @@
+pub mod OneNext
+pub mod Examples

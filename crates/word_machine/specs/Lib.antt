@@ -1,0 +1,4 @@
+pub mod Left
+pub mod Action
+pub mod Machine
+pub mod Headline
