@@ -8,8 +8,8 @@ use Rattle.base.specs.declared.tree.Region.{Region}
 use Rattle.base.specs.Memory.{View, Scalars}
 use Rattle.base.specs.Meaning.{run_region}
 use Rattle.base.specs.Items.{Work}
-use Rattle.base.specs.Map.{Memories, Device, leave, in_turn}
-use Rattle.base.specs.Machine.{State, Condition, Untouched, Generated, Opened, Closed, Passed, closing, kernel_done, host_done, store_device}
+use Rattle.base.specs.Map.{Memories, memories_at}
+use Rattle.base.specs.Machine.{State, Condition, Untouched, Generated, Opened, Closed, Passed, closing, kernel_done, kernel_memories, host_done, with_memories}
 
 -- what an open item of that kind and region does when it is closed
 abbrev pub closed_as : Work → Scalars → View → State → ItemKind → Option Region → Option State
@@ -52,12 +52,8 @@ closed_keeps w captured snapshot s t kind.Host (Some r) e =
     some_map s t (host_done s) (λ a. (refl, refl)) (run_region r w.loops snapshot captured s.input) e
 closed_keeps w captured snapshot s t kind.Target (Some r) e =
     some_then s t (kernel_done w s)
-    (λ a k. some_then s t
-    (λ (d : Device). option_map (λ (m : Memories). record s { memories = m })
-    (in_turn leave w.maps (record (s.memories) { device = d })))
-    (λ d g. some_map s t (λ (m : Memories). record s { memories = m }) (λ m. (refl, refl))
-    (in_turn leave w.maps (record (s.memories) { device = d })) g)
-    (store_device a.stores s.memories.device) k)
+    (λ a k. some_map s t (λ (m : Memories). with_memories w.device m s) (λ m. (refl, refl))
+    (kernel_memories w a.stores (memories_at w.device s.memories)) k)
     (run_region r w.loops snapshot captured []) e
 closed_keeps w captured snapshot s t kind.Host None e = kept_itself s t e
 closed_keeps w captured snapshot s t kind.Target None e = kept_itself s t e

@@ -10,3 +10,4 @@ pub mod Blocks
 pub mod Moves
 pub mod StmtRows
 pub mod LoopTurns
+pub mod Devices

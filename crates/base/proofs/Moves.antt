@@ -48,8 +48,15 @@ raised_move item b blocks = record {
 
 pub entry_absent : (item : MapItem) (blocks : List Block) →
     presence blocks item.section ≡ Absent →
+    item.present ≡ false →
     entry item blocks ≡ Some (created_move item blocks)
-entry_absent item blocks e = rw (e, entry) refl
+entry_absent item blocks e p = rw (e, p, entry) refl
+
+pub entry_missing : (item : MapItem) (blocks : List Block) →
+    presence blocks item.section ≡ Absent →
+    item.present ≡ true →
+    entry item blocks ≡ None
+entry_missing item blocks e p = rw (e, p, entry) refl
 
 pub entry_there : (item : MapItem) (blocks : List Block) (b : Block) →
     presence blocks item.section ≡ Inside b →
@@ -92,7 +99,7 @@ exit_part item blocks e = rw (e, exit) refl
 
 -- the memories after an update
 abbrev pub update_at : MapItem → Memories → Presence → Option Memories
-update_at item m Absent = Some m
+update_at item m Absent = if item.present then None else Some m
 update_at item m (Inside b) =
     Some (when (copies_from item.kind) (copy_out item.section) (when (copies_to item.kind) (copy_in item.section) m))
 update_at item m InPart = None
@@ -111,9 +118,17 @@ update_acts_of item blocks (Inside b) = record {
   blocks = blocks;
 }
 
-pub update_absent : (item : MapItem) (m : Memories) → presence m.device.blocks item.section ≡ Absent →
+pub update_absent : (item : MapItem) (m : Memories) →
+    presence m.device.blocks item.section ≡ Absent →
+    item.present ≡ false →
     update item m ≡ Some m
-update_absent item m e = rw (e, update) refl
+update_absent item m e p = rw (e, p, update) refl
+
+pub update_missing : (item : MapItem) (m : Memories) →
+    presence m.device.blocks item.section ≡ Absent →
+    item.present ≡ true →
+    update item m ≡ None
+update_missing item m e p = rw (e, p, update) refl
 
 pub update_part : (item : MapItem) (m : Memories) → presence m.device.blocks item.section ≡ InPart →
     update item m ≡ None

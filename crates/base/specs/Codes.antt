@@ -1,11 +1,11 @@
 -- The codes of refusals as they are printed.
 use Rattle.std.specs.Prelude.{ℕ, List, codes}
 use Rattle.base.specs.declared.fault.ReadCode.{ReadCode}
-use Rattle.base.specs.declared.fault.ReadCode.TheVariants.{UnknownByte, Unexpected, Undeclared, AlreadyDeclared, BadNumber, BadLength, LoopNameAssigned, BadOperand, TooDeep, TooMany, UnknownDirective, UnknownClause, ClauseCount, BadMapType, BadBound, ArrayTwice, DirectiveInTarget, OuterAssigned, HostOnly, NoBody, DirectiveUnderIf}
+use Rattle.base.specs.declared.fault.ReadCode.TheVariants.{UnknownByte, Unexpected, Undeclared, AlreadyDeclared, BadNumber, BadLength, LoopNameAssigned, BadOperand, TooDeep, TooMany, UnknownDirective, UnknownClause, ClauseCount, BadMapType, BadBound, ArrayTwice, DirectiveInTarget, OuterAssigned, HostOnly, NoBody, DirectiveUnderIf, BadDevice}
 use Rattle.base.specs.declared.fault.RangeCode.{RangeCode}
 use Rattle.base.specs.declared.fault.RangeCode.TheVariants.{SectionOutside, TooManyTurns, SubscriptOutside}
 use Rattle.base.specs.declared.fault.RefusalCode.{RefusalCode}
-use Rattle.base.specs.declared.fault.RefusalCode.TheVariants.{OverlapsInPart, ExitOfAbsent, UpdateOfAbsent, Unmapped, HostNotCurrent, DeviceNotCurrent, Conflict}
+use Rattle.base.specs.declared.fault.RefusalCode.TheVariants.{OverlapsInPart, ExitOfAbsent, UpdateOfAbsent, NotPresent, Unmapped, HostNotCurrent, DeviceNotCurrent, Conflict}
 
 abbrev pub read_code : ReadCode → List ℕ
 read_code UnknownByte = codes "E101"
@@ -29,6 +29,7 @@ read_code OuterAssigned = codes "E208"
 read_code HostOnly = codes "E209"
 read_code NoBody = codes "E210"
 read_code DirectiveUnderIf = codes "E211"
+read_code BadDevice = codes "E212"
 
 abbrev pub range_code : RangeCode → List ℕ
 range_code SectionOutside = codes "E302"
@@ -39,6 +40,7 @@ abbrev pub refusal_code : RefusalCode → List ℕ
 refusal_code OverlapsInPart = codes "E501"
 refusal_code ExitOfAbsent = codes "E502"
 refusal_code UpdateOfAbsent = codes "E503"
+refusal_code NotPresent = codes "E509"
 refusal_code Unmapped = codes "E504"
 refusal_code HostNotCurrent = codes "E506"
 refusal_code DeviceNotCurrent = codes "E507"

@@ -5,7 +5,7 @@ use Rattle.base.specs.Meaning.{lengths_of}
 
 -- the longest list of items
 abbrev pub most_items : ℕ
-most_items = 4096
+most_items = 65536
 
 -- no array has more than 65,536 cells
 abbrev pub AreShort : Program → Type 0

@@ -47,6 +47,8 @@ pub enum ReadCode {
     /// A directive that needs a block or loop, and none follows.
     NoBody,
     DirectiveUnderIf,
+    /// A device that is no literal from 0 to 3.
+    BadDevice,
 }
 
 impl ReadCode {
@@ -76,6 +78,7 @@ impl ReadCode {
             ReadCode::HostOnly => "E209",
             ReadCode::NoBody => "E210",
             ReadCode::DirectiveUnderIf => "E211",
+            ReadCode::BadDevice => "E212",
         }
     }
 }
@@ -168,18 +171,20 @@ pub struct OrderFault {
     pub other: u32,
 }
 
-/// Why an item is refused, in ascending order.
+/// Why an item is refused, in the order in which it is looked for.
 #[derive(Clone, Copy, Debug)]
 pub enum RefusalCode {
     /// A mapped or updated section overlaps a present block without lying inside it.
     OverlapsInPart,
     ExitOfAbsent,
     UpdateOfAbsent,
+    /// An entry or update with `present` of a section that has no cell present.
+    NotPresent,
     /// A kernel reads or writes a cell in none of its target's map items.
     Unmapped,
     /// A host item has an exposed read of a cell that is not current on the host.
     HostNotCurrent,
-    /// A kernel has an exposed read of a cell that is not current on the device.
+    /// A kernel has an exposed read of a cell that is not current on its device.
     DeviceNotCurrent,
     /// Two items conflict, and neither is before the other.
     Conflict,
@@ -194,6 +199,7 @@ impl RefusalCode {
             RefusalCode::OverlapsInPart => "E501",
             RefusalCode::ExitOfAbsent => "E502",
             RefusalCode::UpdateOfAbsent => "E503",
+            RefusalCode::NotPresent => "E509",
             RefusalCode::Unmapped => "E504",
             RefusalCode::HostNotCurrent => "E506",
             RefusalCode::DeviceNotCurrent => "E507",
@@ -241,7 +247,7 @@ pub enum RunFault {
     /// What was computed is not what was asked for.
     #[error("F3")]
     Stranger,
-    /// A cell without device storage, or a section that overlaps a block in part.
+    /// A cell without device storage, a section that overlaps a block in part, or one that is to be present and is not.
     #[error("F4")]
     Absent,
     #[error("F5")]

@@ -1,6 +1,6 @@
 // What `main` is turned into: items, and the events that they have.
 
-use crate::tree::{ArrayId, DependKind};
+use crate::tree::{ArrayId, DependKind, DeviceId};
 use smallvec::SmallVec;
 
 /// A cell of an array.
@@ -34,6 +34,7 @@ pub enum MapKind {
 pub struct MapItem {
     pub kind: MapKind,
     pub always: bool,
+    pub present: bool,
     pub section: Section,
     pub line: usize,
     pub column: usize,
@@ -69,6 +70,7 @@ pub struct LoopValues {
 pub struct Item {
     pub kind: ItemKind,
     pub deferred: bool,
+    pub device: DeviceId,
     pub maps: SmallVec<MapItem, 2>,
     pub depends: SmallVec<Depend, 2>,
     pub region: Option<u32>,
@@ -84,12 +86,12 @@ pub enum Event {
     End,
 }
 
-/// Where an item touches a cell: on the host, on the device, or its block's entry of the table.
+/// Where an item touches a cell: on the host, on a device, or its block's entry of that device's table.
 #[derive(Clone, Copy)]
 pub enum Loc {
     Host,
-    Dev,
-    Tab,
+    Dev(u8),
+    Tab(u8),
 }
 
 /// What a run ends with.

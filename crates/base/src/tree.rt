@@ -1,7 +1,7 @@
 // A program as it is read. Names are resolved: an array and a scalar by its number in order of declaration,
 // the name of a loop by how many loops stand around that loop.
 
-ghost use Rattle.std.specs.Prelude.{◌+◌, ◌<◌, ◌≤◌, ◌^◌};
+ghost use Rattle.std.specs.Prelude.{◌≡◌, ◌+◌, ◌<◌, ◌≤◌, ◌^◌};
 
 use indexmap::IndexMap;
 use smallvec::SmallVec;
@@ -189,17 +189,34 @@ pub enum DependKind {
     InOut,
 }
 
+/// The device on which a directive works.
+#[derive(Clone, Copy)]
+pub struct DeviceId {
+    pub number: u8,
+    ghost in_range: { number < 4 },
+}
+
+impl Default for DeviceId {
+    fn default() -> DeviceId
+        ensures { result.number ≡ 0 }
+    {
+        DeviceId { number: 0 }
+    }
+}
+
 /// A map item as it is written.
 #[derive(Drop, Default)]
 pub struct MapText<K> {
     pub kind: K,
     pub always: bool,
+    pub present: bool,
     pub section: SectionText,
 }
 
 #[derive(Drop, Default)]
 pub struct UpdateText {
     pub kind: UpdateKind,
+    pub present: bool,
     pub section: SectionText,
 }
 
@@ -214,6 +231,7 @@ pub struct DependText {
 pub struct Tasking {
     pub nowait: bool,
     pub depends: SmallVec<DependText, 2>,
+    pub device: DeviceId,
 }
 
 /// The clauses of a `target`.
@@ -239,7 +257,7 @@ pub enum Part {
     Block(Vec<Part>),
     Loop(Bounds, Vec<Part>),
     Target(Target, Region),
-    Data(SmallVec<MapText<RegionKind>, 2>, Vec<Part>),
+    Data(SmallVec<MapText<RegionKind>, 2>, DeviceId, Vec<Part>),
     Alone(Directive),
 }
 

@@ -17,7 +17,8 @@ use Rattle.base.specs.Items.{Work, Plan, plan}
 use Rattle.base.specs.Map.{Memories, enter, in_turn}
 use Rattle.base.specs.Machine.{State, Condition, Untouched, Generated, Opened, Closed, Passed, captured_by, is_waiting, opening, worked_on}
 use Rattle.base.specs.Footprint.{touches_of}
-use Rattle.base.specs.Accepted.{is_host, is_target, touches_in}
+use Rattle.base.specs.Accepted.{is_host, is_target}
+use Rattle.base.specs.Actions.{touches_in}
 use Rattle.frames.specs.Laws.{AreSmall, IsFine}
 use Rattle.ranges.specs.Reach.{is_touched}
 use Rattle.frames.specs.Reach.{HasTouched, in_reach}

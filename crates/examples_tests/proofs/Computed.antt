@@ -5,7 +5,7 @@ use Rattle.std.specs.Cmp.Lexicographic.{pointwise}
 use Rattle.std.specs.List.{list_any, list_all, range_with_len}
 use Rattle.base.specs.declared.item.Cell.{Cell}
 use Rattle.base.specs.declared.fault.RefusalCode.{RefusalCode}
-use Rattle.base.specs.declared.fault.RefusalCode.TheVariants.{OverlapsInPart, ExitOfAbsent, UpdateOfAbsent, Unmapped, HostNotCurrent, DeviceNotCurrent}
+use Rattle.base.specs.declared.fault.RefusalCode.TheVariants.{OverlapsInPart, ExitOfAbsent, UpdateOfAbsent, NotPresent, Unmapped, HostNotCurrent, DeviceNotCurrent}
 use Rattle.base.specs.Actions.{conflict}
 use Rattle.base.specs.Current.{Current, at_start, after_stages}
 use Rattle.base.specs.declared.item.Section.{Section}
@@ -31,6 +31,7 @@ use Rattle.base.specs.declared.tree.Part.{Part}
 use Rattle.base.specs.declared.tree.Part.TheVariants as part
 use Rattle.base.specs.declared.tree.Region.{Region}
 use Rattle.base.specs.declared.tree.Directive.TheVariants as directive
+use Rattle.base.specs.declared.tree.DeviceId.{DeviceId}
 use Rattle.base.specs.declared.tree.Tasking.{Tasking}
 use Rattle.base.specs.declared.tree.Target.{Target}
 use Rattle.base.specs.declared.tree.UpdateText.{UpdateText}
@@ -60,7 +61,8 @@ cells_of lengths =
     (range_with_len 0 (length lengths))
 
 abbrev codes_in_order : List RefusalCode
-codes_in_order = OverlapsInPart ∷ ExitOfAbsent ∷ UpdateOfAbsent ∷ Unmapped ∷ HostNotCurrent ∷ DeviceNotCurrent ∷ []
+codes_in_order =
+    OverlapsInPart ∷ ExitOfAbsent ∷ UpdateOfAbsent ∷ NotPresent ∷ Unmapped ∷ HostNotCurrent ∷ DeviceNotCurrent ∷ []
 
 record Found : Type 0 where
   item : ℕ
@@ -153,10 +155,14 @@ module _ (v : Vec (Unit {0}) Global) (p : Box (Unit {0}) Global) where
   whole b = record { array = b; bounds = None; place = here }
 
   abbrev map_item : {K : Type 0} → K → SectionText → MapText K
-  map_item kind s = record { kind = kind; always = false; section = s }
+  map_item kind s = record { kind = kind; always = false; present = false; section = s }
+
+  abbrev first_device : DeviceId
+  first_device = record { number = 0; in_range = lit< tt }
 
   abbrev tasking : Bool → Tasking
-  tasking nowait = record { nowait = nowait; depends = record { items = []; capacity = 2 } }
+  tasking nowait =
+      record { nowait = nowait; device = first_device; depends = record { items = []; capacity = 2 } }
 
   abbrev target : Bool → List (MapText RegionKind) → Target
   target nowait maps = record { maps = record { items = maps; capacity = 2 }; tasking = tasking nowait }
@@ -167,7 +173,7 @@ module _ (v : Vec (Unit {0}) Global) (p : Box (Unit {0}) Global) where
 
   abbrev update_from : SectionText → Part
   update_from s =
-      let u : UpdateText = record { kind = updated.From; section = s } in
+      let u : UpdateText = record { kind = updated.From; present = false; section = s } in
       part.Alone (directive.Update (record { items = u ∷ []; capacity = 2 }) (tasking false))
 
   abbrev wait_all : Part
@@ -220,7 +226,7 @@ module _ (v : Vec (Unit {0}) Global) (p : Box (Unit {0}) Global) where
 
   -- data with alloc, a target with an implicit map, an update of two cells, and a print of cell k
   abbrev kept_on_device : ℕ → List Part
-  kept_on_device k = part_data v (record { items = map_item mapped.Alloc (section a 0 4) ∷ []; capacity = 2 }) (
+  kept_on_device k = part_data v (record { items = map_item mapped.Alloc (section a 0 4) ∷ []; capacity = 2 }) first_device (
       part.Target (target false [])
       (region (loop v (upto 4 (lit< tt)) (Store a here i (Value (Binary' Add p i p (Number 5))) ∷ []) (lit< tt) ∷ [])
       (lit< tt))
@@ -376,7 +382,7 @@ module _ (v : Vec (Unit {0}) Global) (p : Box (Unit {0}) Global) where
 
   abbrev host_store_after_entry : Bool → List Part
   host_store_after_entry always =
-      let m : MapText RegionKind = record { kind = mapped.To; always = always; section = whole a } in
+      let m : MapText RegionKind = record { kind = mapped.To; always = always; present = false; section = whole a } in
       enter_whole a
       ∷ part.Host (region (Store a here (Number 0) (Value (Number 5)) ∷ []) (lit< tt))
       ∷ part.Target (target false (m ∷ map_item mapped.From (whole b) ∷ []))
@@ -402,7 +408,7 @@ module _ (v : Vec (Unit {0}) Global) (p : Box (Unit {0}) Global) where
 
   -- a block that is deleted inside its data construct
   deleted_inside_data_refused :
-      causes (plan_of (2 ∷ []) (part_data v (record { items = map_item mapped.To (whole a) ∷ []; capacity = 2 })
+      causes (plan_of (2 ∷ []) (part_data v (record { items = map_item mapped.To (whole a) ∷ []; capacity = 2 }) first_device
       (part.Alone (directive.Exit (record { items = map_item left.Delete (whole a) ∷ []; capacity = 2 })
       (tasking false)) ∷ []) (lit< tt)
       ∷ []))

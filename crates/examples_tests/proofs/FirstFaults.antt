@@ -7,12 +7,12 @@ use Rattle.std.proofs.lemmas.Option.{slice_get_within}
 use Rattle.base.specs.declared.item.Cell.{Cell}
 use Rattle.base.specs.declared.fault.Refusal.{Refusal}
 use Rattle.base.specs.declared.fault.RefusalCode.{RefusalCode}
-use Rattle.base.specs.declared.fault.RefusalCode.TheVariants.{OverlapsInPart, ExitOfAbsent, UpdateOfAbsent, Unmapped, HostNotCurrent, DeviceNotCurrent, Conflict}
+use Rattle.base.specs.declared.fault.RefusalCode.TheVariants.{OverlapsInPart, ExitOfAbsent, UpdateOfAbsent, NotPresent, Unmapped, HostNotCurrent, DeviceNotCurrent, Conflict}
 use Rattle.base.specs.Items.{Work, Plan}
 use Rattle.base.specs.Machine.{on_item, precedes, is_predecessor, is_empty}
-use Rattle.base.specs.Actions.{Stage, stages, conflict}
+use Rattle.base.specs.Actions.{Stage, stages, conflict, touches_in}
 use Rattle.base.specs.Order.{Before, in_line, after_predecessor, through}
-use Rattle.base.specs.Accepted.{cause, current_before, on_stage, touches_in, Conflicts, Fault, Range, Order, Refused, IsFault, IsRefusal, fault_key, key_less, range_faults}
+use Rattle.base.specs.Accepted.{cause, current_before, on_stage, Conflicts, Fault, Range, Order, Refused, IsFault, IsRefusal, fault_key, key_less, range_faults}
 use Rattle.examples_tests.specs.Decide.{every_cell, every_pair, action_stays, section_stays, touches_stay, stage_stays, linked, chained, pair_clear}
 use Rattle.examples_tests.specs.FirstFault.{every_code, refusal, not_sooner, stage_later, alone_later, stages_later, pair_later, is_closed_under, refusal_holds, is_conflict, names_other, same_test, FirstFaultByTest}
 use Rattle.examples_tests.proofs.Cells.{not_true, at_pair, at_cell}
@@ -28,17 +28,19 @@ all_at p (y ∷ xs) h (suc j) x e = all_at p xs (and_parts (p y) (list_all p xs)
 
 -- what holds of every code
 codes : (p : RefusalCode → Bool) → every_code p ≡ true →
-    (p OverlapsInPart ≡ true) × (p ExitOfAbsent ≡ true) × (p UpdateOfAbsent ≡ true) × (p Unmapped ≡ true) ×
-    (p HostNotCurrent ≡ true) × (p DeviceNotCurrent ≡ true)
+    (p OverlapsInPart ≡ true) × (p ExitOfAbsent ≡ true) × (p UpdateOfAbsent ≡ true) × (p NotPresent ≡ true) ×
+    (p Unmapped ≡ true) × (p HostNotCurrent ≡ true) × (p DeviceNotCurrent ≡ true)
 codes p h =
     let a = and_parts (p OverlapsInPart)
-    (p ExitOfAbsent && (p UpdateOfAbsent && (p Unmapped && (p HostNotCurrent && p DeviceNotCurrent)))) h in
+    (p ExitOfAbsent && (p UpdateOfAbsent && (p NotPresent && (p Unmapped && (p HostNotCurrent && p DeviceNotCurrent))))) h
+    in
     let b = and_parts (p ExitOfAbsent)
-    (p UpdateOfAbsent && (p Unmapped && (p HostNotCurrent && p DeviceNotCurrent))) a.1 in
-    let d = and_parts (p UpdateOfAbsent) (p Unmapped && (p HostNotCurrent && p DeviceNotCurrent)) b.1 in
-    let e = and_parts (p Unmapped) (p HostNotCurrent && p DeviceNotCurrent) d.1 in
+    (p UpdateOfAbsent && (p NotPresent && (p Unmapped && (p HostNotCurrent && p DeviceNotCurrent)))) a.1 in
+    let d = and_parts (p UpdateOfAbsent) (p NotPresent && (p Unmapped && (p HostNotCurrent && p DeviceNotCurrent))) b.1 in
+    let g = and_parts (p NotPresent) (p Unmapped && (p HostNotCurrent && p DeviceNotCurrent)) d.1 in
+    let e = and_parts (p Unmapped) (p HostNotCurrent && p DeviceNotCurrent) g.1 in
     let f = and_parts (p HostNotCurrent) (p DeviceNotCurrent) e.1 in
-    (a.0, b.0, d.0, e.0, f.0, f.1)
+    (a.0, b.0, d.0, g.0, e.0, f.0, f.1)
 
 -- where one holds, the other does not
 then_later : (a b : Bool) → (not a || not b) ≡ true → a ≡ true → b ≡ false
@@ -195,6 +197,7 @@ holds_alone : (n : ℕ) (plan : Plan) (code : RefusalCode) (j : ℕ) (c : Cell) 
 holds_alone n plan OverlapsInPart j c f e = e
 holds_alone n plan ExitOfAbsent j c f e = e
 holds_alone n plan UpdateOfAbsent j c f e = e
+holds_alone n plan NotPresent j c f e = e
 holds_alone n plan Unmapped j c f e = e
 holds_alone n plan HostNotCurrent j c f e = e
 holds_alone n plan DeviceNotCurrent j c f e = e
@@ -223,6 +226,7 @@ holds_either n plan Conflict j c (Some i) f e = holds_pair n plan (refusal Confl
 holds_either n plan OverlapsInPart j c (Some i) f e = absurd (false≢true f)
 holds_either n plan ExitOfAbsent j c (Some i) f e = absurd (false≢true f)
 holds_either n plan UpdateOfAbsent j c (Some i) f e = absurd (false≢true f)
+holds_either n plan NotPresent j c (Some i) f e = absurd (false≢true f)
 holds_either n plan Unmapped j c (Some i) f e = absurd (false≢true f)
 holds_either n plan HostNotCurrent j c (Some i) f e = absurd (false≢true f)
 holds_either n plan DeviceNotCurrent j c (Some i) f e = absurd (false≢true f)
@@ -238,16 +242,18 @@ module _ (n : ℕ) (plan : Plan) (key : List ℕ) (stay : list_all (stage_stays 
   refused_later OverlapsInPart j c (Some i) e = absurd e
   refused_later ExitOfAbsent j c (Some i) e = absurd e
   refused_later UpdateOfAbsent j c (Some i) e = absurd e
+  refused_later NotPresent j c (Some i) e = absurd e
   refused_later Unmapped j c (Some i) e = absurd e
   refused_later HostNotCurrent j c (Some i) e = absurd e
   refused_later DeviceNotCurrent j c (Some i) e = absurd e
   refused_later OverlapsInPart j c None e = alone_off n plan key stay alone OverlapsInPart (λ p h. (codes p h).0) j c e
   refused_later ExitOfAbsent j c None e = alone_off n plan key stay alone ExitOfAbsent (λ p h. (codes p h).1) j c e
   refused_later UpdateOfAbsent j c None e = alone_off n plan key stay alone UpdateOfAbsent (λ p h. (codes p h).2) j c e
-  refused_later Unmapped j c None e = alone_off n plan key stay alone Unmapped (λ p h. (codes p h).3) j c e
-  refused_later HostNotCurrent j c None e = alone_off n plan key stay alone HostNotCurrent (λ p h. (codes p h).4) j c e
+  refused_later NotPresent j c None e = alone_off n plan key stay alone NotPresent (λ p h. (codes p h).3) j c e
+  refused_later Unmapped j c None e = alone_off n plan key stay alone Unmapped (λ p h. (codes p h).4) j c e
+  refused_later HostNotCurrent j c None e = alone_off n plan key stay alone HostNotCurrent (λ p h. (codes p h).5) j c e
   refused_later DeviceNotCurrent j c None e = alone_off n plan key stay alone DeviceNotCurrent
-      (λ p h. (codes p h).5) j c e
+      (λ p h. (codes p h).6) j c e
 
 -- the refusal that passes the test is the first fault
 pub first_fault_by : FirstFaultByTest

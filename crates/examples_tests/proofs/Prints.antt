@@ -8,7 +8,7 @@ use Rattle.base.specs.Items.{plan_of}
 use Rattle.headline.proofs.Headline.{headline}
 use Rattle.examples_tests.specs.Decide.{accepts}
 use Rattle.examples_tests.specs.Smallest.{smallest}
-use Rattle.examples_tests.specs.More.{two_halves, one_after_other, in_data, copied_again}
+use Rattle.examples_tests.specs.More.{two_halves, one_after_other, in_data, copied_again, two_devices}
 use Rattle.examples_tests.specs.EveryOrder.{PrintsAlways, NoOrderShows}
 use Rattle.examples_tests.proofs.Smallest.{all_accepted}
 
@@ -37,4 +37,5 @@ no_order_shows v p = record {
   one_after_other_prints = prints_always 1 (4 ∷ []) (one_after_other v p) (2 ∷ 4 ∷ 6 ∷ 8 ∷ []) refl refl;
   in_data_prints = prints_always 0 (4 ∷ []) (in_data v p) (6 ∷ []) refl refl;
   copied_again_prints = prints_always 0 (4 ∷ 4 ∷ []) (copied_again v p) (6 ∷ 6 ∷ 6 ∷ 6 ∷ []) refl refl;
+  two_devices_prints = prints_always 1 (4 ∷ 8 ∷ []) (two_devices v p) (1 ∷ 2 ∷ 3 ∷ 4 ∷ 30 ∷ 30 ∷ 30 ∷ 30 ∷ []) refl refl;
 }

@@ -1,13 +1,13 @@
 -- The refused programs, each by one computation.
 use Rattle.std.proofs.Common.{◌≡◌, ℕ, List, ◌∷◌, [], true, refl, sym, ap₂, subst, Option, Some, None}
 use Rattle.base.specs.declared.fault.RefusalCode.{RefusalCode}
-use Rattle.base.specs.declared.fault.RefusalCode.TheVariants.{ExitOfAbsent, HostNotCurrent, DeviceNotCurrent, Conflict}
+use Rattle.base.specs.declared.fault.RefusalCode.TheVariants.{ExitOfAbsent, NotPresent, HostNotCurrent, DeviceNotCurrent, Conflict}
 use Rattle.base.specs.declared.tree.Part.{Part}
 use Rattle.base.specs.Items.{Plan, plan_of}
 use Rattle.base.specs.Accepted.{IsFirstFault, Refused}
 use Rattle.examples_tests.specs.Pieces.{a}
 use Rattle.examples_tests.specs.FirstFault.{refusal, refused_first}
-use Rattle.examples_tests.specs.Refused.{FirstRefusal, not_copied_back, deleted_inside_data, exit_too_early, stale_on_device, TheyAreRefused}
+use Rattle.examples_tests.specs.Refused.{FirstRefusal, not_copied_back, deleted_inside_data, exit_too_early, stale_on_device, stale_on_another, present_elsewhere, TheyAreRefused}
 use Rattle.examples_tests.proofs.FirstFaults.{first_fault_by}
 
 -- one computation serves every program with these arrays and parts
@@ -25,4 +25,6 @@ they_are_refused v p = record {
   deleted_inside_data_refused = first_refusal 0 (2 ∷ []) (deleted_inside_data v p) ExitOfAbsent 2 None refl;
   exit_too_early_refused = first_refusal 1 (8 ∷ []) (exit_too_early v p) Conflict 3 (Some 1) refl;
   stale_on_device_refused = first_refusal 0 (4 ∷ 4 ∷ []) (stale_on_device v p) DeviceNotCurrent 2 None refl;
+  stale_on_another_refused = first_refusal 0 (4 ∷ 4 ∷ []) (stale_on_another v p) DeviceNotCurrent 2 None refl;
+  present_elsewhere_refused = first_refusal 0 (4 ∷ []) (present_elsewhere v p) NotPresent 1 None refl;
 }

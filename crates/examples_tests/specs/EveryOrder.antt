@@ -10,7 +10,7 @@ use Rattle.base.specs.Map.{Fill}
 use Rattle.base.specs.Machine.{State, RunFrom, HasEnded}
 use Rattle.base.specs.Headline.{IsFill}
 use Rattle.examples_tests.specs.Smallest.{smallest}
-use Rattle.examples_tests.specs.More.{two_halves, one_after_other, in_data, copied_again}
+use Rattle.examples_tests.specs.More.{two_halves, one_after_other, in_data, copied_again, two_devices}
 
 -- every run that ends has printed these numbers, whatever created storage holds: of each program with arrays of these
 -- lengths and with these parts, with no input
@@ -26,6 +26,7 @@ pub record OrdersShowNothing (v : Vec (Unit {0}) Global) (p : Box (Unit {0}) Glo
   pub one_after_other_prints : PrintsAlways (4 ∷ []) (one_after_other v p) (2 ∷ 4 ∷ 6 ∷ 8 ∷ [])
   pub in_data_prints : PrintsAlways (4 ∷ []) (in_data v p) (6 ∷ [])
   pub copied_again_prints : PrintsAlways (4 ∷ 4 ∷ []) (copied_again v p) (6 ∷ 6 ∷ 6 ∷ 6 ∷ [])
+  pub two_devices_prints : PrintsAlways (4 ∷ 8 ∷ []) (two_devices v p) (1 ∷ 2 ∷ 3 ∷ 4 ∷ 30 ∷ 30 ∷ 30 ∷ 30 ∷ [])
 
 abbrev pub NoOrderShows : Type 0
 NoOrderShows = (v : Vec (Unit {0}) Global) (p : Box (Unit {0}) Global) → OrdersShowNothing v p

@@ -1,10 +1,10 @@
 -- Programs that are refused: a copy back that was forgotten, storage that is gone, an exit that is not ordered, a stale
--- device.
+-- device, and storage that is on another device.
 use Rattle.std.specs.Prelude.{ℕ, ◌≡◌, false, true, List, [], ◌∷◌, Option, Some, None, Vec, Box}
 use Rattle.std.proofs.Common.{lit<}
 use Rattle.std.specs.declared.alloc.Global.{Global}
 use Rattle.base.specs.declared.fault.RefusalCode.{RefusalCode}
-use Rattle.base.specs.declared.fault.RefusalCode.TheVariants.{ExitOfAbsent, HostNotCurrent, DeviceNotCurrent, Conflict}
+use Rattle.base.specs.declared.fault.RefusalCode.TheVariants.{ExitOfAbsent, NotPresent, HostNotCurrent, DeviceNotCurrent, Conflict}
 use Rattle.base.specs.declared.tree.ArrayId.{ArrayId}
 use Rattle.base.specs.declared.tree.Expr.TheVariants.{Number}
 use Rattle.base.specs.declared.tree.Source.TheVariants.{Value}
@@ -20,7 +20,7 @@ use Rattle.base.specs.Meaning.{lengths_of}
 use Rattle.base.specs.Items.{plan}
 use Rattle.base.specs.Accepted.{IsFirstFault, Refused}
 use Rattle.base.proofs.Trees.{part_data}
-use Rattle.examples_tests.specs.Pieces.{a, b, i, here, to_four, four_to_eight, to_eight, section, whole, map_item, target, tasking, enter_to, update_from, wait_all, cell, plus, times, region, looped}
+use Rattle.examples_tests.specs.Pieces.{a, b, i, here, to_four, four_to_eight, to_eight, section, whole, map_item, first_device, second_device, target, target_on, tasking, enter_to, update_from, wait_all, cell, plus, times, region, looped}
 use Rattle.examples_tests.specs.FirstFault.{refusal}
 
 -- of a program with arrays of these lengths and with these parts the refusal is the first fault
@@ -44,7 +44,7 @@ module _ (v : Vec (Unit {0}) Global) (p : Box (Unit {0}) Global) where
 
   -- the storage of A is deleted inside the data construct that ends with an exit of it
   abbrev pub deleted_inside_data : List Part
-  deleted_inside_data = part_data v (record { items = map_item To (whole a) ∷ []; capacity = 2 })
+  deleted_inside_data = part_data v (record { items = map_item To (whole a) ∷ []; capacity = 2 }) first_device
       (exit_of left.Delete a ∷ []) (lit< tt) ∷ []
 
   -- two deferred targets, and an exit of A that waits for neither
@@ -69,11 +69,31 @@ module _ (v : Vec (Unit {0}) Global) (p : Box (Unit {0}) Global) where
       (looped v p to_four (Store b here i (Value (plus v p (cell v p a i) 1))))
       ∷ part.Host (region v p (Print (cell v p b (Number 0)) ∷ []) (lit< tt)) ∷ []
 
+  -- a target on one device changes A, which was copied to another one before, and a target there reads it
+  abbrev pub stale_on_another : List Part
+  stale_on_another =
+      enter_to a
+      ∷ part.Target (target_on second_device false [] (map_item ToFrom (whole a) ∷ []))
+      (looped v p to_four (Store a here i (Value (plus v p i 1))))
+      ∷ part.Target (target false [] (map_item To (whole a) ∷ map_item From (whole b) ∷ []))
+      (looped v p to_four (Store b here i (Value (plus v p (cell v p a i) 1))))
+      ∷ part.Host (region v p (Print (cell v p b (Number 0)) ∷ []) (lit< tt)) ∷ []
+
+  -- A is on one device, and a target on another one wants it to be present there
+  abbrev pub present_elsewhere : List Part
+  present_elsewhere =
+      enter_to a
+      ∷ part.Target (target_on second_device false []
+      (record { kind = To; always = false; present = true; section = whole a } ∷ []))
+      (looped v p to_four (Store a here i (Value (plus v p i 1)))) ∷ []
+
 pub record ExamplesAreRefused (v : Vec (Unit {0}) Global) (p : Box (Unit {0}) Global) : Type 0 where
   pub not_copied_back_refused : FirstRefusal (4 ∷ []) (not_copied_back v p) HostNotCurrent 2 None
   pub deleted_inside_data_refused : FirstRefusal (2 ∷ []) (deleted_inside_data v p) ExitOfAbsent 2 None
   pub exit_too_early_refused : FirstRefusal (8 ∷ []) (exit_too_early v p) Conflict 3 (Some 1)
   pub stale_on_device_refused : FirstRefusal (4 ∷ 4 ∷ []) (stale_on_device v p) DeviceNotCurrent 2 None
+  pub stale_on_another_refused : FirstRefusal (4 ∷ 4 ∷ []) (stale_on_another v p) DeviceNotCurrent 2 None
+  pub present_elsewhere_refused : FirstRefusal (4 ∷ []) (present_elsewhere v p) NotPresent 1 None
 
 abbrev pub TheyAreRefused : Type 0
 TheyAreRefused = (v : Vec (Unit {0}) Global) (p : Box (Unit {0}) Global) → ExamplesAreRefused v p

@@ -9,10 +9,10 @@ use Rattle.base.specs.Memory.{is_in}
 use Rattle.base.specs.Meaning.{lengths_of}
 use Rattle.base.specs.Items.{Work, plan}
 use Rattle.base.specs.Map.{Block}
-use Rattle.base.specs.Actions.{acts_of}
-use Rattle.base.specs.Current.{Current, after_actions, at_start}
-use Rattle.base.specs.Accepted.{is_target, region_faults, section_faults, touches_in}
-use Rattle.headline.proofs.AcceptedItems.{AllClean, NoFault, accepted_clean}
+use Rattle.base.specs.Actions.{touches_in}
+use Rattle.base.specs.Current.{AllCurrent, after_stage, at_start}
+use Rattle.base.specs.Accepted.{is_target, region_faults, section_faults}
+use Rattle.headline.proofs.AcceptedItems.{AllClean, NoFault, stage_in, tables_after, accepted_clean}
 use Rattle.headline.proofs.PlainWorks.{list_sensible}
 use Rattle.regions.proofs.StatementsDone.{list_small}
 use Rattle.ranges.specs.Reach.{is_touched}
@@ -22,17 +22,21 @@ use Rattle.headline.proofs.NeverStuck.{sensible_at}
 -- an item of which nothing is refused
 record IsClean (lengths : List ℕ) (w : Work) : Type 0 where
   blocks : List Block
-  current : Current
+  current : AllCurrent
   clean : NoFault lengths w blocks current
 
-clean_at : (lengths : List ℕ) (items : List Work) (blocks : List Block) (k : Current) →
-    AllClean lengths items blocks k → (i : ℕ) (w : Work) → slice_get items i ≡ Some w → IsClean lengths w
-clean_at lengths [] blocks k h i w e = absurd (cc e)
-clean_at lengths (x ∷ rest) blocks k h zero w e =
+clean_at : (lengths : List ℕ) (items : List Work) (tables : ℕ → List Block) (k : AllCurrent) →
+    AllClean lengths items tables k → (i : ℕ) (w : Work) → slice_get items i ≡ Some w → IsClean lengths w
+clean_at lengths [] tables k h i w e = absurd (cc e)
+clean_at lengths (x ∷ rest) tables k h zero w e =
     let is : x ≡ w = cc e in
-    record { blocks = blocks; current = k; clean = subst (λ y. NoFault lengths y blocks k) is h.0 }
-clean_at lengths (x ∷ rest) blocks k h (suc i) w e =
-    clean_at lengths rest (acts_of x blocks).blocks (after_actions (acts_of x blocks).actions k) h.1 i w e
+    record {
+      blocks = tables x.device;
+      current = k;
+      clean = subst (λ y. NoFault lengths y (tables x.device) k) is h.0;
+    }
+clean_at lengths (x ∷ rest) tables k h (suc i) w e =
+    clean_at lengths rest (tables_after x tables) (after_stage (stage_in x (tables x.device)) k) h.1 i w e
 
 -- a touched cell in no section would be refused
 all_mapped : (t u v : Bool) → t ≡ true → u ≡ true → (t && (u && not v)) ≡ false → v ≡ true
@@ -43,7 +47,7 @@ all_mapped false u v a b c = absurd (cc a)
 
 pub accepted_items_are_fine : AcceptedItemsAreFine
 accepted_items_are_fine p a i w e =
-    let c = clean_at (lengths_of p) (plan p).items [] at_start (accepted_clean (plan p) a) i w e in
+    let c = clean_at (lengths_of p) (plan p).items (λ d. []) at_start (accepted_clean (plan p) a) i w e in
     let s = sensible_at (plan p).items (list_sensible (lengths_of p) p.body.items) i w e in
     let parts = nil_parts (section_faults (lengths_of p) w.maps w.depends)
     (region_faults (lengths_of p) w.loops w.region) c.clean.ranges in

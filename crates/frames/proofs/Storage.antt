@@ -15,7 +15,7 @@ use Rattle.base.specs.Blocks.{holder}
 use Rattle.present.specs.Table.{Shows, with_created}
 use Rattle.base.proofs.Blocks.{holder_counted, holder_inside, holder_none, holder_some}
 use Rattle.present.proofs.Finds.{find_yes, find_no}
-use Rattle.base.proofs.Moves.{copied_blocks, created_move, raised_move, entry_absent, entry_there, entry_part}
+use Rattle.base.proofs.Moves.{copied_blocks, created_move, raised_move, entry_absent, entry_missing, entry_there, entry_part}
 use Rattle.present.proofs.Orders.{Stored, parts, stored_parts}
 use Rattle.present.proofs.Rules.{enters}
 use Rattle.present.proofs.Shown.{stored_has}
@@ -75,11 +75,15 @@ entry_holds item blocks move h = go (presence blocks item.section) refl
         subst (λ (m : Move). Holds item.section blocks m.blocks) same k
 
     go : (p : Presence) → presence blocks item.section ≡ p → Holds item.section blocks move.blocks
-    go Absent e =
-        is (created_move item blocks) (entry_absent item blocks e) (record {
-          old = λ c k. pushed_old blocks (record { section = item.section; count = 1 }) c k;
-          new = λ c i. pushed_new blocks (record { section = item.section; count = 1 }) c i;
-        })
+    go Absent e = by item.present refl
+      where
+        by : (q : Bool) → item.present ≡ q → Holds item.section blocks move.blocks
+        by true q = absurd (cc (sym (entry_missing item blocks e q) ∙ h))
+        by false q =
+            is (created_move item blocks) (entry_absent item blocks e q) (record {
+              old = λ c k. pushed_old blocks (record { section = item.section; count = 1 }) c k;
+              new = λ c i. pushed_new blocks (record { section = item.section; count = 1 }) c i;
+            })
     go (Inside b) e =
         let f = found blocks item.section b e in
         is (raised_move item b blocks) (entry_there item blocks b e) (record {

@@ -12,7 +12,8 @@ use Rattle.base.specs.Items.{Work, plan}
 use Rattle.base.specs.Map.{Device, Fill, Memories, enter, in_turn}
 use Rattle.base.specs.Machine.{store_device}
 use Rattle.base.specs.Footprint.{touches_of}
-use Rattle.base.specs.Accepted.{IsAccepted, is_target, region_faults, section_faults, touches_in}
+use Rattle.base.specs.Accepted.{IsAccepted, is_target, region_faults, section_faults}
+use Rattle.base.specs.Actions.{touches_in}
 use Rattle.kernel.specs.Kept.{IsKept, Kept}
 use Rattle.present.specs.declared.Table.{Table}
 use Rattle.present.specs.Rows.{over, with_numbers}

@@ -6,7 +6,8 @@ use Rattle.base.specs.declared.item.Section.{Section}
 use Rattle.base.specs.declared.tree.Program.{Program}
 use Rattle.base.specs.declared.tree.Region.{Region}
 use Rattle.base.specs.Footprint.{Touch, touches_of}
-use Rattle.base.specs.Accepted.{IsAccepted, touches_in}
+use Rattle.base.specs.Accepted.{IsAccepted}
+use Rattle.base.specs.Actions.{touches_in}
 use Rattle.base.specs.Items.{Work, plan}
 use Rattle.base.specs.Meaning.{lengths_of}
 use Rattle.ranges.specs.Reach.{cell_of, is_touched}

@@ -1,4 +1,5 @@
 -- The reaches of the first items of a plan.
+use Rattle.base.specs.Actions.{touches_in}
 use Rattle.std.proofs.Common.{◌≡◌, ℕ, ◌+◌, ◌<◌, Bool, false, List, [], ◌∷◌, ◌++◌, length, get_or, Option, Some, None, Result, Ok, Err, Vec, Global, sym, ap, ◌∙◌, subst, arith, ⊎_elim, length-append}
 use Rattle.std.specs.Prelude.{◌||◌, slice_get, IfOk}
 use Rattle.std.specs.declared.alloc.AllocError.{AllocError}
@@ -10,7 +11,6 @@ use Rattle.base.specs.declared.item.Section.{Section}
 use Rattle.base.specs.declared.tree.Region.{Region}
 use Rattle.base.specs.Items.{Plan, Work}
 use Rattle.base.specs.Footprint.{Touch}
-use Rattle.base.specs.Accepted.{touches_in}
 use Rattle.ranges.specs.declared.cells.Footprint.{Footprint}
 use Rattle.ranges.specs.Reach.{AreLeastRuns, is_touched, touched_by}
 use Rattle.mapwalk.specs.Regions.{AreTouches}

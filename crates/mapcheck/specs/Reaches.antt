@@ -1,10 +1,10 @@
 -- The cells that the regions of items may touch, as runs of cells of the arrays.
+use Rattle.base.specs.Actions.{touches_in}
 use Rattle.std.specs.Prelude.{ℕ, ◌≡◌, List, Some, Vec, length, slice_get}
 use Rattle.std.specs.declared.alloc.Global.{Global}
 use Rattle.base.specs.declared.item.Section.{Section}
 use Rattle.base.specs.declared.tree.ArrayId.{ArrayId}
 use Rattle.base.specs.Items.{Plan, Work}
-use Rattle.base.specs.Accepted.{touches_in}
 use Rattle.ranges.specs.Reach.{AreLeastRuns, is_touched}
 use Rattle.mapcheck.specs.Third.{IsPassed}
 

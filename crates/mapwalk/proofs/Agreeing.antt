@@ -9,9 +9,9 @@ use Rattle.base.specs.Memory.{is_cell, is_in}
 use Rattle.base.specs.Items.{Work}
 use Rattle.base.specs.Map.{Block}
 use Rattle.base.specs.Footprint.{exposes, surely_writes, writes}
-use Rattle.base.specs.Actions.{Action, Counts, Creates, CopiesIn, CopiesOut, HostRegion, Kernel, Removes}
+use Rattle.base.specs.Actions.{Action, Counts, Creates, CopiesIn, CopiesOut, HostRegion, Kernel, Removes, touches_in}
 use Rattle.base.specs.Current.{Current, after_action, after_actions}
-use Rattle.base.specs.Accepted.{cause, is_host, is_target, range_faults, touches_in}
+use Rattle.base.specs.Accepted.{cause, is_host, is_target, range_faults}
 use Rattle.mapwalk.specs.declared.rows.Acts.{Acts}
 use Rattle.mapwalk.specs.Sides.{act_if, after_act, after_acts}
 use Rattle.mapwalk.specs.Kinds.{before_region}

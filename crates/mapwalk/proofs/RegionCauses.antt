@@ -12,7 +12,8 @@ use Rattle.base.specs.Memory.{is_in}
 use Rattle.base.specs.Items.{Work}
 use Rattle.base.specs.Footprint.{exposes, reads, writes}
 use Rattle.base.specs.Current.{Current}
-use Rattle.base.specs.Accepted.{is_host, is_target, touches_in}
+use Rattle.base.specs.Accepted.{is_host, is_target}
+use Rattle.base.specs.Actions.{touches_in}
 use Rattle.base.specs.Least.{IsLeast}
 use Rattle.ranges.specs.declared.cells.Footprint.{Footprint}
 use Rattle.ranges.specs.Cells.{has}

@@ -8,9 +8,8 @@ use Rattle.base.specs.declared.tree.Region.{Region}
 use Rattle.base.specs.Items.{Work}
 use Rattle.base.specs.Map.{Block}
 use Rattle.base.specs.Footprint.{Touch, touches_of}
-use Rattle.base.specs.Actions.{Action, HostRegion, Kernel, region_acts}
+use Rattle.base.specs.Actions.{Action, HostRegion, Kernel, region_acts, touches_in}
 use Rattle.base.specs.Current.{Current, after_actions, other_side, own_side}
-use Rattle.base.specs.Accepted.{touches_in}
 use Rattle.ranges.specs.declared.cells.Footprint.{Footprint}
 use Rattle.ranges.specs.Cells.{has}
 use Rattle.mapwalk.specs.Current.{with_added, with_cut}

@@ -11,7 +11,8 @@ use Rattle.base.specs.declared.tree.Region.{Region}
 use Rattle.base.specs.Memory.{is_cell}
 use Rattle.base.specs.Items.{Work}
 use Rattle.base.specs.Footprint.{Touch, exposes, has_cell, is_sure, leaves_array, reads, surely_writes, touches_of, writes}
-use Rattle.base.specs.Accepted.{range_faults, region_faults, subscript_fault, touches_in}
+use Rattle.base.specs.Accepted.{range_faults, region_faults, subscript_fault}
+use Rattle.base.specs.Actions.{touches_in}
 use Rattle.outline.specs.declared.RegionEntry.{RegionEntry}
 use Rattle.outline.specs.Regions.{Entry, entry_of}
 use Rattle.outline.specs.Shown.{shown, work_with}

@@ -14,9 +14,9 @@ use Rattle.base.specs.declared.tree.Region.{Region}
 use Rattle.base.specs.Items.{Work}
 use Rattle.base.specs.Map.{Block}
 use Rattle.base.specs.Footprint.{exposes, touches_of}
-use Rattle.base.specs.Actions.{Acted, Action, Kernel, acts_of, always_works, each_acts, entry_acts, exit_acts, rests}
+use Rattle.base.specs.Actions.{Acted, Action, Kernel, acts_of, always_works, each_acts, entry_acts, exit_acts, rests, touches_in}
 use Rattle.base.specs.Current.{Current, after_actions}
-use Rattle.base.specs.Accepted.{cause, is_exit, is_host, is_target, is_update, reads_stale, touches_in}
+use Rattle.base.specs.Accepted.{cause, is_exit, is_host, is_target, is_update, reads_stale}
 use Rattle.mapwalk.specs.Acts.{acts_row, entries_after, entry_row, exit_row, exits_after}
 use Rattle.mapwalk.specs.Kinds.{after_maps, after_region, before_region, joined_by, met_by}
 use Rattle.mapwalk.specs.Seen.{entry_mets, exit_mets}

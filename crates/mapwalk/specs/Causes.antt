@@ -9,9 +9,9 @@ use Rattle.base.specs.declared.fault.RefusalCode.TheVariants.{OverlapsInPart, Ex
 use Rattle.base.specs.Memory.{is_in, same_cell}
 use Rattle.base.specs.Items.{Work}
 use Rattle.base.specs.Footprint.{exposes, reads, writes}
-use Rattle.base.specs.Actions.{Met}
+use Rattle.base.specs.Actions.{Met, touches_in}
 use Rattle.base.specs.Current.{Current}
-use Rattle.base.specs.Accepted.{first_cell, in_part, is_absent, is_exit, is_host, is_target, is_update, met_at, refusal_rank, touches_in}
+use Rattle.base.specs.Accepted.{first_cell, in_part, is_absent, is_exit, is_host, is_target, is_update, met_at, refusal_rank}
 use Rattle.mapwalk.specs.declared.causes.Cause.{Cause}
 use Rattle.base.specs.Least.{is_less as is_before}
 

@@ -8,8 +8,8 @@ use Rattle.base.specs.declared.tree.Program.{Program}
 use Rattle.base.specs.Meaning.{lengths_of}
 use Rattle.base.specs.Items.{Work}
 use Rattle.base.specs.Footprint.{exposes, reads, surely_writes, writes}
-use Rattle.base.specs.Actions.{Action, HostRegion, Kernel, region_acts}
-use Rattle.base.specs.Accepted.{range_faults, touches_in}
+use Rattle.base.specs.Actions.{Action, HostRegion, Kernel, region_acts, touches_in}
+use Rattle.base.specs.Accepted.{range_faults}
 use Rattle.outline.specs.Regions.{entries_of}
 use Rattle.outline.specs.Shown.{shown}
 use Rattle.ranges.specs.declared.cells.Footprint.{Footprint}

@@ -1,7 +1,8 @@
 -- Items whose regions touch what the region of an earlier item touches.
 use Rattle.std.specs.Prelude.{ℕ, ◌≡◌, ◌<◌, List, Option, Some, slice_get, length}
 use Rattle.base.specs.Items.{Plan, Work}
-use Rattle.base.specs.Accepted.{region_faults, touches_in}
+use Rattle.base.specs.Accepted.{region_faults}
+use Rattle.base.specs.Actions.{touches_in}
 
 -- two items have the same region, it touches the same cells in both, and it has the same faults of range in both
 pub record TouchAlike (lengths : List ℕ) (v w : Work) : Type 0 where

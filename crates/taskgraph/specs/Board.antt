@@ -33,6 +33,7 @@ abbrev pub work_of : Facts → Work
 work_of f = record {
   kind = f.kind;
   deferred = f.deferred;
+  device = 0;
   maps = [];
   depends = f.depends;
   region = None;

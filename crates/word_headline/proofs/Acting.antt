@@ -8,7 +8,7 @@ use Rattle.base.specs.declared.item.MapItem.{MapItem}
 use Rattle.base.specs.Memory.{View, same_cell, is_cell, within, is_in, is_inside}
 use Rattle.base.specs.Map.{Block, Memories, Fill, Move, Presence, Absent, Inside, InPart, presence, entry, exit_count, counted, without, when, with_blocks, with_cells}
 use Rattle.base.proofs.Blocks.{meets, judge, presence_is, holder_absent, counted_apart, more_apart, fewer_apart}
-use Rattle.base.proofs.Moves.{created_move, raised_move, entry_absent, entry_there, entry_part}
+use Rattle.base.proofs.Moves.{created_move, raised_move, entry_absent, entry_missing, entry_there, entry_part}
 use Rattle.base.specs.Blocks.{AreApart, holder}
 use Rattle.word_machine.specs.Left.{Request, Load, Store, Enter, Leave, Remove, CopyIn, CopyOut, OnHost, OnDevice, Answer}
 use Rattle.word_machine.specs.Action.{act, on_cell, loaded, decided, with_host, with_device, lowered, removed}
@@ -105,16 +105,20 @@ enter_kept lengths fill item m f size k = go (lies m.device.blocks item.section)
         )) o)
 
     go : Lies m.device.blocks item.section → Done (entry item m.device.blocks)
-    go (nowhere e free) =
-        subst Done (sym (entry_absent item m.device.blocks e)) (
-          no_number,
-          record {
-            bounded =
-                celled (λ c. Some (fill c)) item.section (with_blocks (created_move item m.device.blocks).blocks m) f
-                (blocked (created_move item m.device.blocks).blocks m k.bounded);
-            blocks = more_apart m.device.blocks (record { section = item.section; count = 1 }) k.blocks size free;
-          },
-        )
+    go (nowhere e free) = by item.present refl
+      where
+        by : (b : Bool) → item.present ≡ b → Done (entry item m.device.blocks)
+        by true q = subst Done (sym (entry_missing item m.device.blocks e q)) tt
+        by false q =
+            subst Done (sym (entry_absent item m.device.blocks e q)) (
+              no_number,
+              record {
+                bounded =
+                    celled (λ c. Some (fill c)) item.section (with_blocks (created_move item m.device.blocks).blocks m)
+                    f (blocked (created_move item m.device.blocks).blocks m k.bounded);
+                blocks = more_apart m.device.blocks (record { section = item.section; count = 1 }) k.blocks size free;
+              },
+            )
     go (inside b e _ _) =
         subst Done (sym (entry_there item m.device.blocks b e)) (
           no_number,

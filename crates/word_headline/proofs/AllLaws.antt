@@ -17,6 +17,7 @@ use Rattle.two_memories.proofs.RestingLooks.{resting_looks}
 use Rattle.two_memories.proofs.WalkBlocks.{walks_blocks}
 use Rattle.word_headline.specs.Words.{Words, parts}
 use Rattle.word_headline.proofs.StepLaws.{step_laws}
+use Rattle.word_headline.proofs.WordSpots.{own_memories}
 use Rattle.word_headline.proofs.Quietly.{at_start, Lawful_at}
 use Rattle.word_headline.proofs.Events.{gen_lawful, wait_lawful, close_lawful, open_lawful}
 use Rattle.word_headline.proofs.CellSteps.{cell_lawful}
@@ -34,14 +35,14 @@ module _ (start : Words) (a a' : State) (b b' : Bool) (m m' : ℕ → List MapIt
       Does parts (at_start start a b m) (Step i) s' → Does parts (at_start start a' b' m') (Step i) t' →
       t'.failed ≡ false →
       (r : Request) (k : Answer → Left) → a'.condition i ≡ Opened (Asks r k) → Walked start.fixed.plan i r
-      (m' i) a'.memories.device.blocks → LawfulAt (Step i)
+      (m' i) (own_memories start.fixed.plan i a').device.blocks → LawfulAt (Step i)
   action_lawful i o d d' sound r k is h = go r is h
     where
       looks : RestingLooks start.fixed.plan
       looks = resting_looks start.fixed.plan o.starts.lawful (walks_blocks start.fixed.plan o.starts.lawful)
 
       go : (r : Request) → a'.condition i ≡ Opened (Asks r k) →
-          Walked start.fixed.plan i r (m' i) a'.memories.device.blocks → LawfulAt (Step i)
+          Walked start.fixed.plan i r (m' i) (own_memories start.fixed.plan i a').device.blocks → LawfulAt (Step i)
       go (Load side c) is h = cell_lawful start a a' b b' m m' s' t' i (Load side c) k is h o d d' sound
       go (Store side c n) is h = cell_lawful start a a' b b' m m' s' t' i (Store side c n) k is h o d d' sound
       go (CopyIn c) is h = cell_lawful start a a' b b' m m' s' t' i (CopyIn c) k is h o d d' sound
@@ -59,14 +60,14 @@ module _ (start : Words) (a a' : State) (b b' : Bool) (m m' : ℕ → List MapIt
           LawfulAt (Step i)
       by r =
           go (a'.condition i) refl r.2 (turn_walk start o.starts i (at_start start a' b' m') o.turn d'.enabled.sound
-          (slice_get_within start.fixed.plan.items i r.0 r.1) r.0 r.1)
+          (slice_get_within start.fixed.plan.items i r.0 r.1) r.0 r.1).own
         where
           go : (c : Condition) → a'.condition i ≡ c → has_step c ≡ true →
-              TurnAt start.fixed.plan (start.fixed.fill i) i r.0 (a'.condition i) a'.memories.device.blocks (m' i) →
+              TurnAt start.fixed.plan (start.fixed.fill i) i r.0 (a'.condition i) (own_memories start.fixed.plan i a').device.blocks (m' i) →
               LawfulAt (Step i)
           go (Opened (Asks q k)) e h walked =
               action_lawful i o d d' sound q k e (subst (λ c. TurnAt start.fixed.plan (start.fixed.fill i) i r.0 c
-              a'.memories.device.blocks (m' i)) e walked).1.0
+              (own_memories start.fixed.plan i a').device.blocks (m' i)) e walked).1.0
           go (Opened (Finished t)) e h walked = absurd (false≢true h)
           go Untouched e h walked = absurd (false≢true h)
           go (Generated captured) e h walked = absurd (false≢true h)

@@ -1,5 +1,6 @@
 -- What is left of an item that is opened stores numbers below 2^64.
 use Rattle.std.proofs.Common.{◌≡◌, ℕ, zero, suc, ◌+◌, ◌≤◌, Bool, true, false, List, [], ◌∷◌, Option, Some, None, refl}
+use Rattle.std.proofs.lemmas.Bool.{cond_both}
 use Rattle.base.specs.declared.tree.ArrayId.{ArrayId}
 use Rattle.base.specs.declared.tree.Region.{Region}
 use Rattle.base.specs.declared.item.Cell.{Cell}
@@ -97,7 +98,7 @@ present_sized blocks (item ∷ rest) are = go (presence blocks item.section) ref
   where
     go : (p : Presence) → presence blocks item.section ≡ p → sized_or_none (present_of blocks rest) →
         sized_or_none (present_of blocks (item ∷ rest))
-    go Absent e h = rw (e, present_of) h
+    go Absent e h = rw (e, present_of) (cond_both item.present None (present_of blocks rest) sized_or_none (λ _. tt) (λ _. h))
     go (Inside b) e h =
         rw (e, present_of) (there_map AreSized AreSized (λ xs. item ∷ xs) (present_of blocks rest)
         (λ xs more. record { size = are.size; rest = more }) h)

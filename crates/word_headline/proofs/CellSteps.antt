@@ -4,8 +4,7 @@ use Rattle.std.specs.Prelude.{option_map}
 use mathlib.Core.Path.{fun_ext}
 use Rattle.std.proofs.lemmas.Bool.{false≢true, cases_eq, eq-eqb, ne_eqb, cond-true, cond-false}
 use Rattle.base.specs.declared.item.Cell.{Cell}
-use Rattle.base.specs.declared.item.Loc.{Loc}
-use Rattle.base.specs.declared.item.Loc.TheVariants.{Host, Dev, Tab}
+use Rattle.base.specs.Actions.{Side, Host, Dev, Tab}
 use Rattle.base.specs.declared.item.MapItem.{MapItem}
 use Rattle.base.specs.Items.{Plan}
 use Rattle.base.specs.Map.{Memories}
@@ -13,12 +12,16 @@ use Rattle.base.specs.Machine.{on_item}
 use Rattle.base.specs.Blocks.{holder}
 use Rattle.word_machine.specs.Left.{Left, Asks, Request, Load, Store, Enter, Leave, Remove, CopyIn, CopyOut, Answer}
 use Rattle.word_machine.specs.Action.{act}
-use Rattle.word_machine.specs.Machine.{State, Condition, Untouched, Generated, Opened, Closed, Passed, has_step, with_condition, as_whole, step_item}
+use Rattle.word_machine.specs.Machine.{State, Condition, Untouched, Generated, Opened, Closed, Passed, has_step, with_condition, with_memories, as_whole, step_item}
 use Rattle.word_machine.specs.Machine as by_word
 use Rattle.machine.specs.Board.{touches, Moves}
 use Rattle.machine.specs.Board.Move.{Step}
 use Rattle.machine.specs.Machine.{Does, InOrder}
-use Rattle.two_memories.specs.Two.{Holding, Number, Entry, Spot, items_of, less}
+use Rattle.two_memories.specs.Two.{Holding, Number, Entry, Spot, device_of, items_of, less}
+use Rattle.two_memories.proofs.LikeMemories.{touched}
+use Rattle.two_memories.proofs.AdjustedCounts.{access_of}
+use Rattle.two_memories.proofs.Spots.{spot_on, touched_at}
+use Rattle.word_headline.proofs.WordSpots.{own_memories, value_of, value_is, value_put, touched_values, unwritten_values, else_put}
 use Rattle.two_memories.proofs.PlanItems.{at_item, on_true}
 use Rattle.word_headline.specs.Words.{Words, Own, board_of, own_of, value_at, resting_in, entered_by, entered_after, is_resting, result_of, next_move, parts}
 use Rattle.word_headline.proofs.StepLaws.{step_laws}
@@ -38,26 +41,27 @@ entered_same resting (Leave item) k ms plan i h = absurd h
 
 module _ (start : Words) (a a' : State) (b b' : Bool) (m m' : ℕ → List MapItem) (s' t' : Words) (i : ℕ) where
   same_host : ((l : Spot) → touches (items_of start.fixed.plan) i l ≡ true → value_at start.fixed.plan a m l ≡ value_at
-      start.fixed.plan a' m' l) → (c : Cell) → touches (items_of start.fixed.plan) i
-      (record { loc = Host; cell = c }) ≡ true → a.memories.host c ≡ a'.memories.host c
-  same_host h c k = go (h (record { loc = Host; cell = c }) k)
+      start.fixed.plan a' m' l) → (c : Cell) → touched (access_of start.fixed.plan i) Host c ≡ true →
+      a.memories.host c ≡ a'.memories.host c
+  same_host h c k = go (h (spot_on start.fixed.plan i Host c) (touched_at start.fixed.plan i Host c k))
     where
       go : ◌≡◌ {A = Holding} (Number (Some (a.memories.host c))) (Number (Some (a'.memories.host c))) →
           a.memories.host c ≡ a'.memories.host c
       go e = cc e
 
   same_device : ((l : Spot) → touches (items_of start.fixed.plan) i l ≡ true → value_at start.fixed.plan a m
-      l ≡ value_at start.fixed.plan a' m' l) → (c : Cell) → touches (items_of start.fixed.plan) i
-      (record { loc = Dev; cell = c }) ≡ true → a.memories.device.cells c ≡ a'.memories.device.cells c
-  same_device h c k = go (h (record { loc = Dev; cell = c }) k)
+      l ≡ value_at start.fixed.plan a' m' l) → (c : Cell) → touched (access_of start.fixed.plan i) Dev c ≡ true →
+      (own_memories start.fixed.plan i a).device.cells c ≡ (own_memories start.fixed.plan i a').device.cells c
+  same_device h c k = go (h (spot_on start.fixed.plan i Dev c) (touched_at start.fixed.plan i Dev c k))
     where
-      go : ◌≡◌ {A = Holding} (Number (a.memories.device.cells c)) (Number (a'.memories.device.cells c)) →
-          a.memories.device.cells c ≡ a'.memories.device.cells c
+      go : ◌≡◌ {A = Holding} (Number ((own_memories start.fixed.plan i a).device.cells c))
+          (Number ((own_memories start.fixed.plan i a').device.cells c)) →
+          (own_memories start.fixed.plan i a).device.cells c ≡ (own_memories start.fixed.plan i a').device.cells c
       go e = cc e
 
   -- the state after an action
   abbrev pub acted : State → (Answer → Left) → Answer → Memories → State
-  acted u k answer n = with_condition i (Opened (k answer)) (record u { memories = n })
+  acted u k answer n = with_condition i (Opened (k answer)) (with_memories (device_of start.fixed.plan i) n u)
 
   entered_is : (u : State) (n : ℕ → List MapItem) (r : Request) (k : Answer → Left) → IsAllowed start.fixed.plan i r →
       u.condition i ≡ Opened (Asks r k) → entered_after start.fixed.plan u n (by_word.Step i) ≡ n
@@ -73,17 +77,17 @@ module _ (start : Words) (a a' : State) (b b' : Bool) (m m' : ℕ → List MapIt
 
   pub next_is : (u : State) (c : Bool) (n : ℕ → List MapItem) (r : Request) (k : Answer → Left)
       (x : Option (Answer × Memories)) → u.condition i ≡ Opened (Asks r k) → act start.fixed.plan.lengths
-      (start.fixed.fill i) r u.memories ≡ x →
+      (start.fixed.fill i) r (own_memories start.fixed.plan i u) ≡ x →
       next_move (at_start start u c n) (Step i) ≡ result_of (at_start start u c n) (by_word.Step i)
-      (option_map (λ p. with_condition i (Opened (k p.0)) (record u { memories = p.1 })) x)
+      (option_map (λ p. with_condition i (Opened (k p.0)) (with_memories (device_of start.fixed.plan i) p.1 u)) x)
   next_is u c n r k x e f =
       ap (result_of (at_start start u c n) (by_word.Step i))
       (ap (λ d. step_item start.fixed.plan (start.fixed.fill i) i d u) e ∙ ap
-      (option_map (λ p. with_condition i (Opened (k p.0)) (record u { memories = p.1 }))) f)
+      (option_map (λ p. with_condition i (Opened (k p.0)) (with_memories (device_of start.fixed.plan i) p.1 u))) f)
 
   next_some : (u : State) (c : Bool) (n : ℕ → List MapItem) (r : Request) (k : Answer → Left) (answer : Answer)
       (after : Memories) → IsAllowed start.fixed.plan i r → u.condition i ≡ Opened
-      (Asks r k) → act start.fixed.plan.lengths (start.fixed.fill i) r u.memories ≡ Some (answer, after) →
+      (Asks r k) → act start.fixed.plan.lengths (start.fixed.fill i) r (own_memories start.fixed.plan i u) ≡ Some (answer, after) →
       next_move (at_start start u c n) (Step i) ≡ at_start start (acted u k answer after) c n
   next_some u c n r k answer after h e f =
       next_is u c n r k (Some (answer, after)) e f
@@ -107,7 +111,8 @@ module _ (start : Words) (a a' : State) (b b' : Bool) (m m' : ℕ → List MapIt
   framed_lawful : (r : Request) (k : Answer → Left) →
       InOrder parts start (Step i) (at_start start a b m) (at_start start a' b' m') →
       (p : Does parts (at_start start a b m) (Step i) s') (q : Does parts (at_start start a' b' m') (Step i) t') →
-      (hosts : _) (cells : _) (w : BothAct start.fixed.plan i a.memories a'.memories hosts cells
+      (hosts : _) (cells : _) (w : BothAct start.fixed.plan i (own_memories start.fixed.plan i a)
+      (own_memories start.fixed.plan i a') hosts cells
       start.fixed.plan.lengths (start.fixed.fill i) r) →
       s' ≡ at_start start (acted a k w.answer w.after) b m → t' ≡ at_start start
       (acted a' k w.answer w.after') b' m' → Lawful_at start (at_start start a b m) (at_start start a' b' m') s' t'
@@ -136,14 +141,14 @@ module _ (start : Words) (a a' : State) (b b' : Bool) (m m' : ℕ → List MapIt
       own_same j ne =
           ap₂ (λ f g. record { phase = f; condition = g; entered = m j }) (moves.others j ne)
           (ap (λ c. on_item start.fixed.plan j Untouched (λ w. c))
-          (condition_there j (Opened (k w.answer)) (record a { memories = w.after }) ne))
+          (condition_there j (Opened (k w.answer)) (with_memories (device_of start.fixed.plan i) w.after a) ne))
 
       own_both : own_of start.fixed.plan x m i ≡ own_of start.fixed.plan x' m' i
       own_both =
           ap₂ (λ f g. record { phase = f; condition = g; entered = m i }) (moves.item ∙ sym moves'.item)
           (ap (λ c. on_item start.fixed.plan i Untouched (λ w. c))
-          (condition_here (Opened (k w.answer)) (record a { memories = w.after }) ∙ sym
-          (condition_here (Opened (k w.answer)) (record a' { memories = w.after' }))))
+          (condition_here (Opened (k w.answer)) (with_memories (device_of start.fixed.plan i) w.after a) ∙ sym
+          (condition_here (Opened (k w.answer)) (with_memories (device_of start.fixed.plan i) w.after' a'))))
           ∙ ap (λ ms. record {
             phase = (board_of start.fixed.plan x').condition i;
             condition =
@@ -153,36 +158,60 @@ module _ (start : Words) (a a' : State) (b b' : Bool) (m m' : ℕ → List MapIt
           (ap (λ (p : Own). p.entered) o.alike.own)
 
       table : (u : State) (n : Memories) (ms : ℕ → List MapItem) (c : Cell) →
-          n.device.blocks ≡ u.memories.device.blocks →
-          ◌≡◌ {A = Holding} (Entry (option_map (less (resting_in start.fixed.plan ms)) (holder n.device.blocks c)))
-          (Entry (option_map (less (resting_in start.fixed.plan ms)) (holder u.memories.device.blocks c)))
-      table u n ms c e = ap (λ bs. Entry (option_map (less (resting_in start.fixed.plan ms)) (holder bs c))) e
+          n.device.blocks ≡ (own_memories start.fixed.plan i u).device.blocks →
+          value_of start.fixed.plan ms i n Tab c
+          ≡ value_of start.fixed.plan ms i (own_memories start.fixed.plan i u) Tab c
+      table u n ms c e =
+          ap (λ bs. Entry (option_map (less (resting_in start.fixed.plan ms (device_of start.fixed.plan i))) (holder bs c)))
+          e
 
-      changed : (loc : Loc) (c : Cell) → (items_of start.fixed.plan).writes i (record { loc = loc; cell = c }) ≡ false →
-          value_at start.fixed.plan x m (record { loc = loc; cell = c }) ≡ value_at start.fixed.plan a m
-          (record { loc = loc; cell = c })
-      changed Host c h = ap (λ n. Number (Some n)) (w.framed.host c h)
-      changed Dev c h = ap Number (w.framed.device c h)
-      changed Tab c h = table a w.after m c w.framed.blocks
+      now : (side : Side) (c : Cell) →
+          value_at start.fixed.plan x m (spot_on start.fixed.plan i side c) ≡ value_of start.fixed.plan m i w.after side c
+      now side c = value_put start.fixed.plan i x w.after a.memories m side c refl
 
-      alike : (loc : Loc) (c : Cell) → touches (items_of start.fixed.plan) i (record { loc = loc; cell = c }) ≡ true →
-          value_at start.fixed.plan x m (record { loc = loc; cell = c }) ≡ value_at start.fixed.plan x' m'
-          (record { loc = loc; cell = c })
-      alike Host c h = ap (λ n. Number (Some n)) (w.framed.same_host c h)
-      alike Dev c h = ap Number (w.framed.same_device c h)
-      alike Tab c h =
-          table a w.after m c w.framed.blocks ∙ (o.alike.values (record { loc = Tab; cell = c }) h ∙ sym
+      now' : (side : Side) (c : Cell) →
+          value_at start.fixed.plan x' m' (spot_on start.fixed.plan i side c)
+          ≡ value_of start.fixed.plan m' i w.after' side c
+      now' side c = value_put start.fixed.plan i x' w.after' a'.memories m' side c refl
+
+      framed : (side : Side) (c : Cell) → (access_of start.fixed.plan i).writes side c ≡ false →
+          value_of start.fixed.plan m i w.after side c
+          ≡ value_of start.fixed.plan m i (own_memories start.fixed.plan i a) side c
+      framed Host c h = ap (λ n. Number (Some n)) (w.framed.host c h)
+      framed Dev c h = ap Number (w.framed.device c h)
+      framed Tab c h = table a w.after m c w.framed.blocks
+
+      changed : (l : Spot) → (items_of start.fixed.plan).writes i l ≡ false →
+          value_at start.fixed.plan x m l ≡ value_at start.fixed.plan a m l
+      changed l h =
+          unwritten_values start.fixed.plan i a x m m l (else_put (device_of start.fixed.plan i) w.after a.memories)
+          (λ j _. refl)
+          (λ side f. now side l.cell ∙ (framed side l.cell f ∙ sym (value_is start.fixed.plan i a m side l.cell))) h
+
+      same : (side : Side) (c : Cell) → touched (access_of start.fixed.plan i) side c ≡ true →
+          value_of start.fixed.plan m i w.after side c ≡ value_of start.fixed.plan m' i w.after' side c
+      same Host c h = ap (λ n. Number (Some n)) (w.framed.same_host c h)
+      same Dev c h = ap Number (w.framed.same_device c h)
+      same Tab c h =
+          table a w.after m c w.framed.blocks
+          ∙ (o.alike.values (spot_on start.fixed.plan i Tab c) (touched_at start.fixed.plan i Tab c h) ∙ sym
           (table a' w.after' m' c w.framed.blocks'))
+
+      alike : (l : Spot) → touches (items_of start.fixed.plan) i l ≡ true →
+          value_at start.fixed.plan x m l ≡ value_at start.fixed.plan x' m' l
+      alike l h =
+          touched_values start.fixed.plan i x x' m m' l
+          (λ side t. now side l.cell ∙ (same side l.cell t ∙ sym (now' side l.cell))) h
 
       both : Lawful_at start (at_start start a b m) (at_start start a' b' m') (at_start start x b m)
           (at_start start x' b' m') (Step i)
       both = record {
-        changes = record { own = λ j ne. own_same j ne; host = λ e. refl; values = λ l h. changed l.loc l.cell h };
+        changes = record { own = λ j ne. own_same j ne; host = λ e. refl; values = λ l h. changed l h };
         follows =
             record {
               own = own_both;
               host = λ e. o.alike.host e;
-              values = λ l h. alike l.loc l.cell h;
+              values = λ l h. alike l h;
               failed =
                   o.alike.failed;
             };
@@ -194,7 +223,7 @@ module _ (start : Words) (a a' : State) (b b' : Bool) (m m' : ℕ → List MapIt
       Does parts (at_start start a b m) (Step i) s' → Does parts (at_start start a' b' m')
       (Step i) t' → t'.failed ≡ false → Lawful_at start (at_start start a b m) (at_start start a' b' m') s' t' (Step i)
   cell_lawful r k is h o d d' sound =
-      go (both_act start.fixed.plan i a.memories a'.memories (same_host o.alike.values)
+      go (both_act start.fixed.plan i (own_memories start.fixed.plan i a) (own_memories start.fixed.plan i a') (same_host o.alike.values)
       (same_device o.alike.values) start.fixed.plan.lengths (start.fixed.fill i) r h)
     where
       same : a.condition i ≡ Opened (Asks r k)
@@ -204,8 +233,8 @@ module _ (start : Words) (a a' : State) (b b' : Bool) (m m' : ℕ → List MapIt
           (ap (λ (x : Own). x.condition) o.alike.own ∙
           (at_item start.fixed.plan i f.0 f.1 Untouched (λ w. a'.condition i) ∙ is))
 
-      go : (act start.fixed.plan.lengths (start.fixed.fill i) r a'.memories ≡ None) ⊎ BothAct start.fixed.plan i
-          a.memories a'.memories (same_host o.alike.values) (same_device o.alike.values) start.fixed.plan.lengths
+      go : (act start.fixed.plan.lengths (start.fixed.fill i) r (own_memories start.fixed.plan i a') ≡ None) ⊎ BothAct
+          start.fixed.plan i (own_memories start.fixed.plan i a) (own_memories start.fixed.plan i a') (same_host o.alike.values) (same_device o.alike.values) start.fixed.plan.lengths
           (start.fixed.fill i) r →
           Lawful_at start (at_start start a b m) (at_start start a' b' m') s' t' (Step i)
       go (inl none) =

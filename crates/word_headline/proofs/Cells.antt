@@ -3,21 +3,20 @@ use Rattle.std.proofs.Common.{◌≡◌, ◌⊎◌, ℕ, ◌==◌, Bool, true, f
 use Rattle.std.specs.Prelude.{if◌then◌else◌, option_map}
 use Rattle.std.proofs.lemmas.Bool.{cases_Bool, eqb-true, and_parts, or_right, cond-false}
 use Rattle.base.specs.declared.item.Cell.{Cell}
-use Rattle.base.specs.declared.item.Loc.{Loc}
-use Rattle.base.specs.declared.item.Loc.TheVariants.{Host, Dev}
+use Rattle.base.specs.Actions.{Side, Host, Dev}
 use Rattle.base.specs.Memory.{same_cell, is_cell}
 use Rattle.base.specs.Items.{Plan}
 use Rattle.base.specs.Map.{Memories, Fill}
 use Rattle.word_machine.specs.Left.{Request, Load, Store, Enter, Leave, Remove, CopyIn, CopyOut, OnHost, OnDevice, Answer}
 use Rattle.word_machine.specs.Action.{loaded, act, on_cell, with_host, with_device}
-use Rattle.machine.specs.Board.{touches}
-use Rattle.two_memories.specs.Two.{items_of}
+use Rattle.two_memories.proofs.LikeMemories.{touched}
+use Rattle.two_memories.proofs.AdjustedCounts.{access_of}
 
-abbrev Touches : Plan → ℕ → Loc → Cell → Type 0
-Touches plan i loc c = touches (items_of plan) i (record { loc = loc; cell = c }) ≡ true
+abbrev Touches : Plan → ℕ → Side → Cell → Type 0
+Touches plan i side c = touched (access_of plan i) side c ≡ true
 
-abbrev Writes : Plan → ℕ → Loc → Cell → Type 0
-Writes plan i loc c = (items_of plan).writes i (record { loc = loc; cell = c }) ≡ true
+abbrev Writes : Plan → ℕ → Side → Cell → Type 0
+Writes plan i side c = (access_of plan i).writes side c ≡ true
 
 -- an action on a cell that the item may do
 abbrev pub IsAllowed : Plan → ℕ → Request → Type 0
@@ -50,8 +49,8 @@ module _ (plan : Plan) (i : ℕ) (u u' : Memories) (hosts : (c : Cell) → Touch
     (cells : (c : Cell) → Touches plan i Dev c → u.device.cells c ≡ u'.device.cells c) where
   -- what an action on a cell makes of both memories
   pub record IsFramed (n n' : Memories) : Type 0 where
-    pub host : (c : Cell) → (items_of plan).writes i (record { loc = Host; cell = c }) ≡ false → n.host c ≡ u.host c
-    pub device : (c : Cell) → (items_of plan).writes i (record { loc = Dev; cell = c }) ≡ false →
+    pub host : (c : Cell) → (access_of plan i).writes Host c ≡ false → n.host c ≡ u.host c
+    pub device : (c : Cell) → (access_of plan i).writes Dev c ≡ false →
         n.device.cells c ≡ u.device.cells c
     pub blocks : n.device.blocks ≡ u.device.blocks
     pub blocks' : n'.device.blocks ≡ u'.device.blocks
@@ -80,7 +79,7 @@ module _ (plan : Plan) (i : ℕ) (u u' : Memories) (hosts : (c : Cell) → Touch
 
   host_written : (c : Cell) (n : ℕ) → Writes plan i Host c → IsFramed (with_host c n u) (with_host c n u')
   host_written c n w = record {
-    host = λ d k. put_elsewhere (λ x. (items_of plan).writes i (record { loc = Host; cell = x })) c d n (u.host d) w k;
+    host = λ d k. put_elsewhere (λ x. (access_of plan i).writes Host x) c d n (u.host d) w k;
     device = λ d k. refl;
     blocks = refl;
     blocks' = refl;
@@ -93,7 +92,7 @@ module _ (plan : Plan) (i : ℕ) (u u' : Memories) (hosts : (c : Cell) → Touch
   device_written c n n' e w = record {
     host = λ d k. refl;
     device =
-        λ d k. put_elsewhere (λ x. (items_of plan).writes i (record { loc = Dev; cell = x })) c d (Some n)
+        λ d k. put_elsewhere (λ x. (access_of plan i).writes Dev x) c d (Some n)
         (u.device.cells d) w k;
     blocks = refl;
     blocks' = refl;
@@ -101,10 +100,8 @@ module _ (plan : Plan) (i : ℕ) (u u' : Memories) (hosts : (c : Cell) → Touch
     same_device = λ d k. ap₂ (λ v o. if same_cell c d then Some v else o) e (cells d k);
   }
 
-  written_touched : (loc : Loc) (c : Cell) → Writes plan i loc c → Touches plan i loc c
-  written_touched loc c w =
-      or_right ((items_of plan).reads i (record { loc = loc; cell = c }))
-      ((items_of plan).writes i (record { loc = loc; cell = c })) w
+  written_touched : (side : Side) (c : Cell) → Writes plan i side c → Touches plan i side c
+  written_touched side c w = or_right ((access_of plan i).reads side c) ((access_of plan i).writes side c) w
 
   pub both_act : (lengths : List ℕ) (fill : Fill) (r : Request) → IsAllowed plan i r →
       (act lengths fill r u' ≡ None) ⊎ BothAct lengths fill r

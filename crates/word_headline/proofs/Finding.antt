@@ -1,12 +1,12 @@
 -- An update that is opened in order finds the sections that it finds in program order.
 use Rattle.std.proofs.Common.{◌≡◌, ◌⊎◌, ℕ, ◌<◌, ◌≤◌, Bool, true, false, List, [], ◌∷◌, ◌++◌, Option, Some, None, refl, sym, ◌∙◌, ap, inl, inr, subst}
 use Rattle.std.specs.Prelude.{option_map, find, slice_get}
-use Rattle.std.proofs.lemmas.Bool.{false≢true, cases_Bool, or_left}
+use Rattle.std.proofs.lemmas.Bool.{false≢true, cases_Bool, cond-true, cond-false, false_from_ne_true, or_left}
 use Rattle.std.proofs.lemmas.Option.{slice_get_within}
 use Rattle.base.specs.declared.item.Section.{Section}
 use Rattle.base.specs.declared.item.MapItem.{MapItem}
 use Rattle.base.specs.declared.item.ItemKind.TheVariants as kind
-use Rattle.base.specs.declared.item.Loc.TheVariants.{Tab}
+use Rattle.base.specs.Actions.{Tab}
 use Rattle.base.specs.Memory.{is_inside}
 use Rattle.base.specs.Items.{Work, Plan}
 use Rattle.base.specs.Map.{Block, Absent, Inside, InPart, presence, copies_to, copies_from}
@@ -30,6 +30,8 @@ use Rattle.two_memories.proofs.ByKind.{acts_update}
 use Rattle.two_memories.proofs.RestingLooks.{resting_looks}
 use Rattle.two_memories.proofs.WalkBlocks.{walks_blocks}
 use Rattle.word_headline.specs.Words.{Words, result_of, parts}
+use Rattle.two_memories.proofs.OwnDevice.{device_at}
+use Rattle.word_headline.proofs.WordSpots.{own_memories}
 use Rattle.word_headline.proofs.Quietly.{at_start}
 use Rattle.word_headline.proofs.LeftByKind.{left_update}
 use Rattle.word_headline.proofs.Tables.{TableLike, LiesIn, found_too, absent_too}
@@ -44,8 +46,12 @@ update_absent : (item : MapItem) (bs : List Block) → presence bs item.section 
 update_absent item bs e = rw (e, update_acts) refl
 
 pub absent_is : (bs : List Block) (item : MapItem) (rest : List MapItem) → presence bs item.section ≡ Absent →
-    present_of bs (item ∷ rest) ≡ present_of bs rest
-absent_is bs item rest f = rw (f, present_of) refl
+    item.present ≡ false → present_of bs (item ∷ rest) ≡ present_of bs rest
+absent_is bs item rest f unwanted = rw (f, present_of) (cond-false item.present None (present_of bs rest) unwanted)
+
+pub wanted_is : (bs : List Block) (item : MapItem) (rest : List MapItem) → presence bs item.section ≡ Absent →
+    item.present ≡ true → present_of bs (item ∷ rest) ≡ None
+wanted_is bs item rest f wanted = rw (f, present_of) (cond-true item.present None (present_of bs rest) wanted)
 
 pub inside_is : (bs : List Block) (item : MapItem) (rest : List MapItem) (b : Block) →
     presence bs item.section ≡ Inside b →
@@ -84,8 +90,9 @@ present_same d a xs ys like apart apart' (item ∷ rest) sizes covers some =
         is_absent xs item.section (absent_too d a xs ys like apart apart' item.section sizes.size e
         (λ c j. or_left _ _ (reads_head (Counts item.section true) [] a
         (subst (λ acts. Covers acts a) (update_absent item ys gone) first) Tab c j))) in
-        absent_is xs item rest gone' ∙ (again (λ n. some (absent_is ys item rest gone ∙ n)) ∙ sym
-        (absent_is ys item rest gone))
+        let unwanted : item.present ≡ false = false_from_ne_true _ (λ p. some (wanted_is ys item rest gone p)) in
+        absent_is xs item rest gone' unwanted
+        ∙ (again (λ n. some (absent_is ys item rest gone unwanted ∙ n)) ∙ sym (absent_is ys item rest gone unwanted))
 
     present : (b : Block) → find (meets item.section) ys ≡ Some b → is_inside item.section b.section ≡ true →
         ((present_of ys rest ≡ None → ⊥) → present_of xs rest ≡ present_of ys rest) →
@@ -127,25 +134,29 @@ pub updates_find : (start : Words) (a a' : State) (b b' : Bool) (m m' : ℕ → 
     InOrder parts start (Open i) (at_start start a b m) (at_start start a' b' m') →
     Does parts (at_start start a' b' m') (Open i) t' → t'.failed ≡ false →
     (w : Work) → slice_get start.fixed.plan.items i ≡ Some w → w.kind ≡ kind.Update → present_of
-    a.memories.device.blocks w.maps ≡ present_of a'.memories.device.blocks w.maps
+    (a.memories.devices w.device).blocks w.maps ≡ present_of (a'.memories.devices w.device).blocks w.maps
 updates_find start a a' b b' m m' t' i o d sound w at is =
-    present_same (others plan m i) (access_of plan i) a.memories.device.blocks a'.memories.device.blocks h.tables
+    subst (λ d. present_of (a.memories.devices d).blocks w.maps ≡ present_of (a'.memories.devices d).blocks w.maps)
+    (device_at plan i w at)
+    (present_same (others plan m i) (access_of plan i) (own_memories plan i a).device.blocks
+    (own_memories plan i a').device.blocks h.tables
     h.apart h.apart' w.maps (sized w.maps (o.starts.lawful i w at).not_empty)
     (subst (λ bs. Covers (each_acts update_acts w.maps bs).actions (access_of plan i)) (sym at_turn.0)
     (subst (λ (x : Acted). Covers x.actions (access_of plan i)) (acts_update w (blocks_before plan i) is)
     (covers_item plan i w at)))
-    (λ n. absurd (false≢true (sym sound ∙ failing n)))
+    (λ n. absurd (false≢true (sym sound ∙ failing (sym (ap (λ d. present_of (a'.memories.devices d).blocks w.maps)
+    (device_at plan i w at)) ∙ n)))))
   where
     plan : Plan
     plan = start.fixed.plan
 
     -- how the item stands before its opening
-    at_turn : (a'.memories.device.blocks ≡ blocks_before start.fixed.plan i) × (m' i ≡ [])
+    at_turn : ((own_memories start.fixed.plan i a').device.blocks ≡ blocks_before start.fixed.plan i) × (m' i ≡ [])
     at_turn =
         waiting_at start o.starts i (at_start start a' b' m') o.turn o.turn_valid d
         (slice_get_within plan.items i w at) w at
 
-    stands : Stands start.fixed.plan i (m' i) a'.memories.device.blocks
+    stands : Stands start.fixed.plan i (m' i) (own_memories start.fixed.plan i a').device.blocks
     stands c x e =
         let ok = walks_blocks plan o.starts.lawful i in
         let lt : 1 ≤ x.count = is_entered (blocks_before plan i) c x ok.1
@@ -158,11 +169,11 @@ updates_find start a a' b b' m m' t' i o d sound w at is =
         (resting_looks plan o.starts.lawful (walks_blocks plan o.starts.lawful)) (λ l. refl)
         (slice_get_within plan.items i w at) o stands
 
-    failing : present_of a'.memories.device.blocks w.maps ≡ None → t'.failed ≡ true
+    failing : present_of (a'.memories.devices w.device).blocks w.maps ≡ None → t'.failed ≡ true
     failing n =
         ap (λ (x : Words). x.failed)
         (d.step ∙ ap (result_of (at_start start a' b' m') (by_word.Open i))
         (at_item plan i w at None (λ w. open_item i w a')
         ∙ ap (option_map (λ left. with_condition i (Opened left) a'))
-        (left_update w a'.memories.device.blocks (begun w (a'.condition i) a') is ∙ ap
+        (left_update w (a'.memories.devices w.device).blocks (begun w (a'.condition i) a') is ∙ ap
         (option_map (λ present. each_left update_left present (λ u. Finished (begun w (a'.condition i) a')))) n)))

@@ -6,14 +6,16 @@ use Rattle.std.proofs.lemmas.Option.{none-some}
 use Rattle.base.specs.declared.item.MapItem.{MapItem}
 use Rattle.base.specs.Meaning.{Run}
 use Rattle.base.specs.Items.{Work}
-use Rattle.base.specs.Map.{Memories, Fill, in_turn}
+use Rattle.base.specs.Map.{Memories, with_memories_at, Fill, in_turn}
+use Rattle.base.proofs.Devices.{memories_back}
+use Rattle.word_headline.proofs.WordSpots.{own_memories, put_itself, put_again}
 use Rattle.word_machine.specs.Left.{Left, Finished, each_left}
 use Rattle.word_machine.specs.Action.{act}
-use Rattle.word_machine.specs.Machine.{State, Opened, with_condition, has_step, is_finished, step_item, close_item}
+use Rattle.word_machine.specs.Machine.{State, Opened, with_condition, with_memories, has_step, is_finished, step_item, close_item}
 use Rattle.word_machine.specs.Machine as by_word
 use Rattle.machine.specs.Board.Move.{Step}
 use Rattle.machine.specs.Machine.{Does, Finishes}
-use Rattle.two_memories.specs.Two.{Fixed}
+use Rattle.two_memories.specs.Two.{Fixed, device_of}
 use Rattle.two_memories.proofs.PlanItems.{at_item}
 use Rattle.two_memories.proofs.MapLists.{AreSized}
 use Rattle.word_headline.specs.Words.{Words, entered_after, result_of, parts}
@@ -51,7 +53,7 @@ module _ (f : Fixed) (i : ℕ) (w : Work) (at : slice_get f.plan.items i ≡ Som
     pub scalars : v.scalars ≡ u.scalars
     pub input : v.input ≡ u.input
     pub output : v.output ≡ u.output
-    pub memories : v.memories ≡ m
+    pub memories : v.memories ≡ with_memories_at (device_of f.plan i) m u.memories
     pub others : (j : ℕ) → (j ≡ i → ⊥) → v.condition j ≡ u.condition j
 
   pub record Ended (u : State) (entered : ℕ → List MapItem) (t : Run) (m : Memories) : Type 0 where
@@ -63,12 +65,19 @@ module _ (f : Fixed) (i : ℕ) (w : Work) (at : slice_get f.plan.items i ≡ Som
         (record { fixed = f; state = closed_by i w t before; failed = false; entered = left_in })
 
   close_now : (u : State) (entered : ℕ → List MapItem) (t : Run) → u.condition i ≡ Opened (Finished t) →
-      Ended u entered t u.memories
+      Ended u entered t (own_memories f.plan i u)
   close_now u entered t e = record {
     steps = zero;
     before = u;
     left_in = entered;
-    went = record { place = refl; scalars = refl; input = refl; output = refl; memories = refl; others = λ j ne. refl };
+    went = record {
+      place = refl;
+      scalars = refl;
+      input = refl;
+      output = refl;
+      memories = sym (put_itself (device_of f.plan i) u.memories);
+      others = λ j ne. refl;
+    };
     finishes = record {
       enabled =
           record {
@@ -84,13 +93,14 @@ module _ (f : Fixed) (i : ℕ) (w : Work) (at : slice_get f.plan.items i ≡ Som
 
   pub finish : (l : Left) (m : Memories) (l' : Left) (m' : Memories) → Reaches f.plan.lengths (f.fill i) l m l' m' →
       (t : Run) → l' ≡ Finished t → (u : State) (entered : ℕ → List MapItem) → u.condition i ≡ Opened l →
-      u.memories ≡ m → Ended u entered t m'
+      own_memories f.plan i u ≡ m → Ended u entered t m'
   finish _ _ _ _ (there l m) t is u entered e same =
       subst (Ended u entered t) same (close_now u entered t (e ∙ ap Opened is))
   finish _ _ _ _ (next r k answer m n l o done more) t is u entered e same =
-      let v : State = with_condition i (Opened (k answer)) (record u { memories = n }) in
+      let v : State = with_condition i (Opened (k answer)) (with_memories (device_of f.plan i) n u) in
       let x = finish (k answer) n l o more t is v (entered_after f.plan u entered (by_word.Step i))
-      (cond-true (i == i) (Opened (k answer)) (u.condition i) (eq-eqb i i refl)) refl in
+      (cond-true (i == i) (Opened (k answer)) (u.condition i) (eq-eqb i i refl))
+      (memories_back (device_of f.plan i) n u.memories) in
       record {
         steps = suc x.steps;
         before = x.before;
@@ -100,18 +110,18 @@ module _ (f : Fixed) (i : ℕ) (w : Work) (at : slice_get f.plan.items i ≡ Som
           scalars = x.went.scalars;
           input = x.went.input;
           output = x.went.output;
-          memories = x.went.memories;
+          memories = x.went.memories ∙ put_again (device_of f.plan i) n _ u.memories;
           others = λ j ne. x.went.others j ne ∙ cond-false (j == i) (Opened (k answer)) (u.condition j) (ne_eqb j i ne);
         };
         finishes = (words (entered_after f.plan u entered (by_word.Step i)) v, steps, x.finishes);
       }
     where
-      acts : act f.plan.lengths (f.fill i) r u.memories ≡ Some (answer, n)
+      acts : act f.plan.lengths (f.fill i) r (own_memories f.plan i u) ≡ Some (answer, n)
       acts = ap (act f.plan.lengths (f.fill i) r) same ∙ done
 
       steps : Does parts (words entered u) (Step i)
           (words (entered_after f.plan u entered (by_word.Step i))
-          (with_condition i (Opened (k answer)) (record u { memories = n })))
+          (with_condition i (Opened (k answer)) (with_memories (device_of f.plan i) n u)))
       steps = record {
         enabled =
             record {
@@ -122,5 +132,5 @@ module _ (f : Fixed) (i : ℕ) (w : Work) (at : slice_get f.plan.items i ≡ Som
         step =
             sym (ap (result_of (words entered u) (by_word.Step i))
             (ap (λ c. step_item f.plan (f.fill i) i c u) e ∙ ap
-            (option_map (λ p. with_condition i (Opened (k p.0)) (record u { memories = p.1 }))) acts));
+            (option_map (λ p. with_condition i (Opened (k p.0)) (with_memories (device_of f.plan i) p.1 u))) acts));
       }

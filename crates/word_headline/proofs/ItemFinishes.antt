@@ -3,7 +3,7 @@
 -- with the same memories and the same host's part.
 use Rattle.std.proofs.Common.{◌≡◌, ℕ, ◌≤◌, Bool, true, false, List, [], ◌∷◌, ◌++◌, Option, Some, None, refl, sym, ◌∙◌, ap, ap₂, subst, append-nil}
 use Rattle.std.specs.Prelude.{option_map}
-use Rattle.std.proofs.lemmas.Bool.{false≢true}
+use Rattle.std.proofs.lemmas.Bool.{false≢true, false_from_ne_true}
 use Rattle.std.proofs.lemmas.Option.{same_Some, none-some}
 use Rattle.base.specs.declared.item.MapItem.{MapItem}
 use Rattle.base.specs.declared.item.ItemKind.{ItemKind}
@@ -12,12 +12,14 @@ use Rattle.base.specs.declared.tree.Region.{Region}
 use Rattle.base.specs.Memory.{Scalars, view_of}
 use Rattle.base.specs.Meaning.{Run, run_region}
 use Rattle.base.specs.Items.{Work, Plan}
-use Rattle.base.specs.Map.{Block, Device, Memories, Fill, Presence, Absent, Inside, InPart, presence, enter, leave, update, in_turn, when, copy_in, copy_out, copies_to, copies_from}
-use Rattle.base.specs.Machine.{State as Whole, opening, closing, worked_on, kernel_done, store_device}
+use Rattle.base.specs.Map.{Block, Device, Memories, memories_at, with_memories_at, Fill, Presence, Absent, Inside, InPart, presence, enter, leave, update, in_turn, when, copy_in, copy_out, copies_to, copies_from}
+use Rattle.base.specs.Machine.{State as Whole, opening, closing, worked_on, kernel_done, kernel_memories, store_device}
+use Rattle.base.proofs.Devices.{memories_back}
+use Rattle.word_headline.proofs.WordSpots.{put_again}
 use Rattle.base.specs.Machine as two
 use Rattle.base.specs.Machine.Condition.{Opened as opened}
 use Rattle.base.specs.Accepted.{is_target, is_host}
-use Rattle.base.proofs.Moves.{update_absent, update_part}
+use Rattle.base.proofs.Moves.{update_absent, update_missing, update_part}
 use Rattle.word_machine.specs.Left.{Left, Finished, OnHost, OnDevice, each_left, entry_left, exit_left, update_left, region_left, present_of, item_left}
 use Rattle.word_machine.specs.Machine.{State, Condition, Untouched, Generated, Opened, Closed, Passed, as_whole, whole_condition, captured_by, input_of, begun, host_done}
 use Rattle.two_memories.specs.Two.{IsLawful}
@@ -99,10 +101,13 @@ module _ (lengths : List ℕ) (fill : Fill) where
           UpdatesReach (item ∷ rest) m m' k
       go InPart q again = absurd (none-some m' (sym (turn_is update item rest m None (update_part item m q)) ∙ e))
       go Absent q again =
-          let all = again m h (sym (turn_is update item rest m (Some m) (update_absent item m q)) ∙ e) in
+          let unwanted : item.present ≡ false =
+          false_from_ne_true _ (λ p. none-some m' (sym (turn_is update item rest m None (update_missing item m q p)) ∙ e))
+          in
+          let all = again m h (sym (turn_is update item rest m (Some m) (update_absent item m q unwanted)) ∙ e) in
           record {
             present = all.present;
-            is = absent_is m.device.blocks item rest q ∙ all.is;
+            is = absent_is m.device.blocks item rest q unwanted ∙ all.is;
             reaches = all.reaches;
             stored = all.stored;
           }
@@ -140,7 +145,7 @@ pub record SameHost (x : State) (s : Whole) : Type 0 where
   pub output : x.output ≡ s.output
 
 module _ (plan : Plan) (fill : Fill) (i : ℕ) (w : Work) (lawful : IsLawful w) (t : State)
-    (h : AreStored t.memories) where
+    (h : AreStored (memories_at w.device t.memories)) where
   abbrev captured : Scalars
   captured = two.captured_by (whole_condition (t.condition i)) t.scalars
 
@@ -148,15 +153,15 @@ module _ (plan : Plan) (fill : Fill) (i : ℕ) (w : Work) (lawful : IsLawful w) 
   abbrev pub opened_whole : Memories → Whole
   opened_whole m =
       two.with_condition i (opened (two.captured_by (whole_condition (t.condition i)) t.scalars)
-      (worked_on plan.lengths w.kind m)) (record (as_whole t) { memories = m })
+      (worked_on plan.lengths w.kind m)) (two.with_memories w.device m (as_whole t))
 
   pub record ItemDone (s : Whole) : Type 0 where
     pub left : Left
-    pub is_left : item_left w t.memories.device.blocks (begun w (t.condition i) t) ≡ Some left
+    pub is_left : item_left w (t.memories.devices w.device).blocks (begun w (t.condition i) t) ≡ Some left
     pub run : Run
     pub end : Memories
-    pub reaches : Reaches plan.lengths fill left t.memories (Finished run) end
-    pub memories : s.memories ≡ end
+    pub reaches : Reaches plan.lengths fill left (memories_at w.device t.memories) (Finished run) end
+    pub memories : s.memories ≡ with_memories_at w.device end t.memories
     pub stored : AreStored end
     pub host : (x : State) → x.scalars ≡ t.scalars → x.input ≡ t.input → x.output ≡ t.output →
         SameHost (host_done w.kind run x) s
@@ -193,8 +198,8 @@ module _ (plan : Plan) (fill : Fill) (i : ℕ) (w : Work) (lawful : IsLawful w) 
       (opened_whole m) ≡ Some (opened_whole m) →
       closing w (opened (two.captured_by (whole_condition (t.condition i)) t.scalars) (worked_on plan.lengths w.kind m))
       (opened_whole m) ≡ Some s →
-      (left : Left) → item_left w t.memories.device.blocks
-      (begun w (t.condition i) t) ≡ Some left → Reaches plan.lengths fill left t.memories
+      (left : Left) → item_left w (t.memories.devices w.device).blocks
+      (begun w (t.condition i) t) ≡ Some left → Reaches plan.lengths fill left (memories_at w.device t.memories)
       (Finished (begun w (t.condition i) t)) m → AreStored m → ItemDone s
   plain k e same m s does closes left is reaches stored =
       let q : opened_whole m ≡ s = same_Some (opened_whole m) s (sym does ∙ closes) in
@@ -214,41 +219,41 @@ module _ (plan : Plan) (fill : Fill) (i : ℕ) (w : Work) (lawful : IsLawful w) 
       closing w (opened (two.captured_by (whole_condition (t.condition i)) t.scalars) (worked_on plan.lengths w.kind m))
       (opened_whole m) ≡ Some (opened_whole m) →
       closing w (opened (two.captured_by (whole_condition (t.condition i)) t.scalars) (worked_on plan.lengths w.kind m))
-      (opened_whole m) ≡ Some s → item_left w t.memories.device.blocks (begun w (t.condition i) t) ≡ Some
+      (opened_whole m) ≡ Some s → item_left w (t.memories.devices w.device).blocks (begun w (t.condition i) t) ≡ Some
       (each_left entry_left w.maps (λ u. Finished (begun w (t.condition i) t))) → in_turn
-      (enter fill) w.maps t.memories ≡ Some m → ItemDone s
+      (enter fill) w.maps (memories_at w.device t.memories) ≡ Some m → ItemDone s
   entered k e same m s does closes is opens =
       plain k e same m s does closes (each_left entry_left w.maps (λ u. Finished (begun w (t.condition i) t))) is
-      (entries_reach plan.lengths fill w.maps t.memories m (λ u. Finished (begun w (t.condition i) t)) are h opens)
-      (each_stored (enter fill) (λ item m m' size h e. enter_stored fill item m m' size h e) w.maps t.memories m are h
+      (entries_reach plan.lengths fill w.maps (memories_at w.device t.memories) m (λ u. Finished (begun w (t.condition i) t)) are h opens)
+      (each_stored (enter fill) (λ item m m' size h e. enter_stored fill item m m' size h e) w.maps (memories_at w.device t.memories) m are h
       opens)
 
   exited : (k : ItemKind) → w.kind ≡ k → ((r : Run) (x : State) → host_done k r x ≡ x) → (m : Memories) (s : Whole) →
       closing w (opened (two.captured_by (whole_condition (t.condition i)) t.scalars) (worked_on plan.lengths w.kind m))
       (opened_whole m) ≡ Some (opened_whole m) →
       closing w (opened (two.captured_by (whole_condition (t.condition i)) t.scalars) (worked_on plan.lengths w.kind m))
-      (opened_whole m) ≡ Some s → item_left w t.memories.device.blocks (begun w (t.condition i) t) ≡ Some
-      (each_left exit_left w.maps (λ u. Finished (begun w (t.condition i) t))) → in_turn leave w.maps t.memories ≡ Some
+      (opened_whole m) ≡ Some s → item_left w (t.memories.devices w.device).blocks (begun w (t.condition i) t) ≡ Some
+      (each_left exit_left w.maps (λ u. Finished (begun w (t.condition i) t))) → in_turn leave w.maps (memories_at w.device t.memories) ≡ Some
       m → ItemDone s
   exited k e same m s does closes is opens =
       plain k e same m s does closes (each_left exit_left w.maps (λ u. Finished (begun w (t.condition i) t))) is
-      (exits_reach plan.lengths fill w.maps t.memories m (λ u. Finished (begun w (t.condition i) t)) are h opens)
-      (each_stored leave (λ item m m' size h e. leave_stored item m m' size h e) w.maps t.memories m are h opens)
+      (exits_reach plan.lengths fill w.maps (memories_at w.device t.memories) m (λ u. Finished (begun w (t.condition i) t)) are h opens)
+      (each_stored leave (λ item m m' size h e. leave_stored item m m' size h e) w.maps (memories_at w.device t.memories) m are h opens)
 
   updated : w.kind ≡ kind.Update → (m : Memories) (s : Whole) →
       closing w (opened (two.captured_by (whole_condition (t.condition i)) t.scalars) (worked_on plan.lengths w.kind m))
-      (opened_whole m) ≡ Some s → in_turn update w.maps t.memories ≡ Some m → ItemDone s
+      (opened_whole m) ≡ Some s → in_turn update w.maps (memories_at w.device t.memories) ≡ Some m → ItemDone s
   updated e m s closes opens =
-      let u = updates_reach plan.lengths fill w.maps t.memories m (λ u. Finished (begun w (t.condition i) t)) h opens in
+      let u = updates_reach plan.lengths fill w.maps (memories_at w.device t.memories) m (λ u. Finished (begun w (t.condition i) t)) h opens in
       plain kind.Update e (λ r x. refl) m s (closing_update w captured (worked_on plan.lengths w.kind m)
       (opened_whole m) e) closes (each_left update_left u.present (λ u. Finished (begun w (t.condition i) t)))
-      (left_update w t.memories.device.blocks (begun w (t.condition i) t) e ∙ ap
+      (left_update w (t.memories.devices w.device).blocks (begun w (t.condition i) t) e ∙ ap
       (option_map (λ present. each_left update_left present (λ u. Finished (begun w (t.condition i) t)))) u.is)
       u.reaches u.stored
 
   -- a host region
   hosted : w.kind ≡ kind.Host → two.is_waiting w.deferred (whole_condition (t.condition i)) ≡ true →
-      (o : Option Region) → w.region ≡ o → (m : Memories) → t.memories ≡ m → (s : Whole) →
+      (o : Option Region) → w.region ≡ o → (m : Memories) → memories_at w.device t.memories ≡ m → (s : Whole) →
       closing w (opened (two.captured_by (whole_condition (t.condition i)) t.scalars) (worked_on plan.lengths w.kind m))
       (opened_whole m) ≡ Some s → ItemDone s
   hosted e waits None has m same s closes =
@@ -258,12 +263,12 @@ module _ (plan : Plan) (fill : Fill) (i : ℕ) (w : Work) (lawful : IsLawful w) 
       (record {
         left = Finished (begun w (t.condition i) t);
         is_left =
-            left_host w t.memories.device.blocks (begun w (t.condition i) t) e ∙ ap
+            left_host w (t.memories.devices w.device).blocks (begun w (t.condition i) t) e ∙ ap
             (λ o. Some (region_left o OnHost w.loops (begun w (t.condition i) t) Finished)) has;
         run = begun w (t.condition i) t;
-        end = t.memories;
-        reaches = there (Finished (begun w (t.condition i) t)) t.memories;
-        memories = sym same;
+        end = (memories_at w.device t.memories);
+        reaches = there (Finished (begun w (t.condition i) t)) (memories_at w.device t.memories);
+        memories = ap (λ n. with_memories_at w.device n t.memories) (sym same);
         stored = h;
         host = λ x p q r. subst (λ k. SameHost (host_done k (begun w (t.condition i) t) x) (opened_whole m)) (sym e)
             (record {
@@ -293,15 +298,15 @@ module _ (plan : Plan) (fill : Fill) (i : ℕ) (w : Work) (lawful : IsLawful w) 
       (record {
         left = region_left (Some r) OnHost w.loops (begin kind.Host) Finished;
         is_left =
-            left_host w t.memories.device.blocks (begun w (t.condition i) t) e
+            left_host w (t.memories.devices w.device).blocks (begun w (t.condition i) t) e
             ∙ ap₂ (λ o b. Some (region_left o OnHost w.loops b Finished)) has (begins kind.Host e);
         run = bare d.0;
-        end = stored_on_host t.memories d.0.stores;
+        end = stored_on_host (memories_at w.device t.memories) d.0.stores;
         reaches =
-            host_reaches plan.lengths fill t.memories r w.loops captured t.input d.0 Finished
+            host_reaches plan.lengths fill (memories_at w.device t.memories) r w.loops captured t.input d.0 Finished
             (ap (λ v. run_region r w.loops v captured t.input)
             (ap (λ n. view_of plan.lengths n.host) same ∙ sym (worked_host plan.lengths w.kind m e)) ∙ d.1);
-        memories = ap (λ n. stored_on_host n d.0.stores) (sym same);
+        memories = ap (λ n. with_memories_at w.device (stored_on_host n d.0.stores) t.memories) (sym same);
         stored = record { apart = h.apart; storage = h.storage };
         host =
             λ x p q o. subst (λ k. SameHost (host_done k (bare d.0) x) (two.host_done (opened_whole m) d.0)) (sym e)
@@ -310,7 +315,7 @@ module _ (plan : Plan) (fill : Fill) (i : ℕ) (w : Work) (lawful : IsLawful w) 
 
   -- a kernel
   targeted : w.kind ≡ kind.Target → (o : Option Region) → w.region ≡ o → (m : Memories) →
-      in_turn (enter fill) w.maps t.memories ≡ Some m → (s : Whole) →
+      in_turn (enter fill) w.maps (memories_at w.device t.memories) ≡ Some m → (s : Whole) →
       closing w (opened (two.captured_by (whole_condition (t.condition i)) t.scalars) (worked_on plan.lengths w.kind m))
       (opened_whole m) ≡ Some s → ItemDone s
   targeted e None has m opens s closes = absurd (lawful.has_region (ap is_target e) has)
@@ -318,16 +323,20 @@ module _ (plan : Plan) (fill : Fill) (i : ℕ) (w : Work) (lawful : IsLawful w) 
       let d = then_parts (kernel_done w (opened_whole m))
       (run_region r w.loops (worked_on plan.lengths w.kind m) captured []) s
       (sym (closing_target w captured (worked_on plan.lengths w.kind m) (opened_whole m) r e has) ∙ closes) in
-      let x = then_parts (λ (v : Device). option_map (λ (n : Memories). record (opened_whole m) { memories = n })
-      (in_turn leave w.maps (record m { device = v }))) (store_device d.0.stores m.device) s d.2 in
-      let y = map_parts (λ (n : Memories). record (opened_whole m) { memories = n })
-      (in_turn leave w.maps (record m { device = x.0 })) s x.2 in
+      let y =
+      map_parts (λ (n : Memories). two.with_memories w.device n (opened_whole m))
+      (kernel_memories w d.0.stores (memories_at w.device (opened_whole m).memories)) s d.2 in
+      let done : kernel_memories w d.0.stores m ≡ Some y.0 =
+      ap (kernel_memories w d.0.stores) (sym (memories_back w.device m t.memories)) ∙ y.1 in
+      let x =
+      then_parts (λ (v : Device). in_turn leave w.maps (record m { device = v })) (store_device d.0.stores m.device) y.0
+      done in
       let ran : Memories = stored_on_device m d.0.stores in
       let same : record m { device = x.0 } ≡ ran = ap (λ (v : Device). record m { device = v })
       (device_stores d.0.stores m.device x.0 x.1) in
-      let left_all : in_turn leave w.maps ran ≡ Some y.0 = ap (in_turn leave w.maps) (sym same) ∙ y.1 in
+      let left_all : in_turn leave w.maps ran ≡ Some y.0 = ap (in_turn leave w.maps) (sym same) ∙ x.2 in
       let stored : AreStored m = each_stored (enter fill)
-      (λ item m m' size h e. enter_stored fill item m m' size h e) w.maps t.memories m are h opens in
+      (λ item m m' size h e. enter_stored fill item m m' size h e) w.maps (memories_at w.device t.memories) m are h opens in
       let after : AreStored ran = kernel_stored d.0.stores m stored in
       let later : Rest = (λ u. region_left (Some r) OnDevice w.loops (begin kind.Target)
       (λ t. each_left exit_left w.maps (λ u. Finished t))) in
@@ -335,55 +344,55 @@ module _ (plan : Plan) (fill : Fill) (i : ℕ) (w : Work) (lawful : IsLawful w) 
       (record {
         left = each_left entry_left w.maps later;
         is_left =
-            left_target w t.memories.device.blocks (begun w (t.condition i) t) e
+            left_target w (t.memories.devices w.device).blocks (begun w (t.condition i) t) e
             ∙ ap₂ (λ o b. Some (each_left entry_left w.maps
             (λ u. region_left o OnDevice w.loops b (λ t. each_left exit_left w.maps (λ u. Finished t))))) has
             (begins kind.Target e);
         run = bare d.0;
         end = y.0;
         reaches =
-            on_from plan.lengths fill (each_left entry_left w.maps later) t.memories (later tt) m
+            on_from plan.lengths fill (each_left entry_left w.maps later) (memories_at w.device t.memories) (later tt) m
             (Finished (bare d.0)) y.0
-            (entries_reach plan.lengths fill w.maps t.memories m later are h opens)
+            (entries_reach plan.lengths fill w.maps (memories_at w.device t.memories) m later are h opens)
             (on_from plan.lengths fill (later tt) m (each_left exit_left w.maps (λ u. Finished (bare d.0))) ran
             (Finished (bare d.0)) y.0
             (kernel_reaches plan.lengths fill m r w.loops captured d.0
             (λ t. each_left exit_left w.maps (λ u. Finished t))
             (ap (λ v. run_region r w.loops v captured []) (sym (worked_target plan.lengths w.kind m e)) ∙ d.1))
             (exits_reach plan.lengths fill w.maps ran y.0 (λ u. Finished (bare d.0)) are after left_all));
-        memories = refl;
+        memories = put_again w.device m y.0 t.memories;
         stored =
             each_stored leave (λ item m m' size h e. leave_stored item m m' size h e) w.maps ran y.0 are after left_all;
-        host = alone kind.Target e (λ r x. refl) (bare d.0) (record (opened_whole m) { memories = y.0 }) refl refl refl;
+        host = alone kind.Target e (λ r x. refl) (bare d.0) (two.with_memories w.device y.0 (opened_whole m)) refl refl refl;
       })
 
   -- an item that is opened and closed whole
   pub item_done : two.is_wait w.kind ≡ false → two.is_waiting w.deferred (whole_condition (t.condition i)) ≡ true →
-      (m : Memories) → opening fill w t.memories ≡ Some m → (s : Whole) →
+      (m : Memories) → opening fill w (memories_at w.device t.memories) ≡ Some m → (s : Whole) →
       closing w (opened (two.captured_by (whole_condition (t.condition i)) t.scalars) (worked_on plan.lengths w.kind m))
       (opened_whole m) ≡ Some s → ItemDone s
   item_done other waits m opens s closes = go w.kind refl
     where
       go : (k : ItemKind) → w.kind ≡ k → ItemDone s
       go kind.Host e =
-          hosted e waits w.region refl m (same_Some t.memories m (sym (opening_host fill w t.memories e) ∙ opens)) s
+          hosted e waits w.region refl m (same_Some (memories_at w.device t.memories) m (sym (opening_host fill w (memories_at w.device t.memories) e) ∙ opens)) s
           closes
-      go kind.Target e = targeted e w.region refl m (sym (opening_target fill w t.memories e) ∙ opens) s closes
+      go kind.Target e = targeted e w.region refl m (sym (opening_target fill w (memories_at w.device t.memories) e) ∙ opens) s closes
       go kind.Begin e =
           entered kind.Begin e (λ r x. refl) m s (closing_begin w captured (worked_on plan.lengths w.kind m)
-          (opened_whole m) e) closes (left_begin w t.memories.device.blocks (begun w (t.condition i) t) e)
-          (sym (opening_begin fill w t.memories e) ∙ opens)
+          (opened_whole m) e) closes (left_begin w (t.memories.devices w.device).blocks (begun w (t.condition i) t) e)
+          (sym (opening_begin fill w (memories_at w.device t.memories) e) ∙ opens)
       go kind.Enter e =
           entered kind.Enter e (λ r x. refl) m s (closing_enter w captured (worked_on plan.lengths w.kind m)
-          (opened_whole m) e) closes (left_enter w t.memories.device.blocks (begun w (t.condition i) t) e)
-          (sym (opening_enter fill w t.memories e) ∙ opens)
+          (opened_whole m) e) closes (left_enter w (t.memories.devices w.device).blocks (begun w (t.condition i) t) e)
+          (sym (opening_enter fill w (memories_at w.device t.memories) e) ∙ opens)
       go kind.End e =
           exited kind.End e (λ r x. refl) m s (closing_end w captured (worked_on plan.lengths w.kind m)
-          (opened_whole m) e) closes (left_end w t.memories.device.blocks (begun w (t.condition i) t) e)
-          (sym (opening_end fill w t.memories e) ∙ opens)
+          (opened_whole m) e) closes (left_end w (t.memories.devices w.device).blocks (begun w (t.condition i) t) e)
+          (sym (opening_end fill w (memories_at w.device t.memories) e) ∙ opens)
       go kind.Exit e =
           exited kind.Exit e (λ r x. refl) m s (closing_exit w captured (worked_on plan.lengths w.kind m)
-          (opened_whole m) e) closes (left_exit w t.memories.device.blocks (begun w (t.condition i) t) e)
-          (sym (opening_exit fill w t.memories e) ∙ opens)
-      go kind.Update e = updated e m s closes (sym (opening_update fill w t.memories e) ∙ opens)
+          (opened_whole m) e) closes (left_exit w (t.memories.devices w.device).blocks (begun w (t.condition i) t) e)
+          (sym (opening_exit fill w (memories_at w.device t.memories) e) ∙ opens)
+      go kind.Update e = updated e m s closes (sym (opening_update fill w (memories_at w.device t.memories) e) ∙ opens)
       go kind.Wait e = absurd (false≢true (sym other ∙ ap two.is_wait e))

@@ -3,10 +3,11 @@ use Rattle.std.proofs.Common.{◌≡◌, ℕ, true, false, List, [], ◌∷◌, 
 use Rattle.std.specs.Prelude.{option_map, filter, slice_get}
 use mathlib.Core.Path.{fun_ext}
 use Rattle.std.proofs.lemmas.Option.{same_Some, none-some}
+use Rattle.std.proofs.lemmas.Bool.{cond-true, cond-false, false_from_ne_true}
 use Rattle.base.specs.declared.item.MapItem.{MapItem}
 use Rattle.base.specs.declared.item.ItemKind.{ItemKind}
 use Rattle.base.specs.declared.item.ItemKind.TheVariants as kind
-use Rattle.base.specs.declared.item.Loc.TheVariants.{Host, Dev}
+use Rattle.base.specs.Actions.{Host, Dev}
 use Rattle.base.specs.declared.tree.Region.{Region}
 use Rattle.base.specs.Meaning.{Run}
 use Rattle.base.specs.Items.{Work, Plan}
@@ -91,8 +92,12 @@ module _ (plan : Plan) (fill : Fill) (i : ℕ) (w : Work) (at : slice_get plan.i
           (covers_right (update_acts item bs).actions (each_acts update_acts rest (update_acts item bs).blocks).actions
           (access_of plan i) covers)
 
-      absent_is : presence bs item.section ≡ Absent → present_of bs (item ∷ rest) ≡ present_of bs rest
-      absent_is f = rw (f, present_of) refl
+      absent_is : presence bs item.section ≡ Absent → item.present ≡ false →
+          present_of bs (item ∷ rest) ≡ present_of bs rest
+      absent_is f unwanted = rw (f, present_of) (cond-false item.present None (present_of bs rest) unwanted)
+
+      wanted_is : presence bs item.section ≡ Absent → item.present ≡ true → present_of bs (item ∷ rest) ≡ None
+      wanted_is f wanted = rw (f, present_of) (cond-true item.present None (present_of bs rest) wanted)
 
       inside_is : (b : Block) → presence bs item.section ≡ Inside b →
           present_of bs (item ∷ rest) ≡ option_map (λ xs. item ∷ xs) (present_of bs rest)
@@ -104,7 +109,9 @@ module _ (plan : Plan) (fill : Fill) (i : ℕ) (w : Work) (at : slice_get plan.i
       go : (p : Presence) → presence bs item.section ≡ p → present_of bs (item ∷ rest) ≡ Some present →
           ((xs : List MapItem) → present_of bs rest ≡ Some xs → InWalk plan fill i after [] bs
           (each_left update_left xs k)) → InWalk plan fill i after [] bs (each_left update_left present k)
-      go Absent f e again = again present (sym (absent_is f) ∙ e)
+      go Absent f e again =
+          again present
+          (sym (absent_is f (false_from_ne_true _ (λ p. none-some present (sym (wanted_is f p) ∙ e)))) ∙ e)
       go (Inside b) f e again =
           let p = of_map (λ xs. item ∷ xs) (present_of bs rest) present (sym (inside_is b f) ∙ e) in
           subst (λ xs. InWalk plan fill i after [] bs (each_left update_left xs k)) p.2

@@ -7,6 +7,7 @@ pub mod Stepping
 pub mod StepLaws
 pub mod NeverStuck
 pub mod FromLaws
+pub mod WordSpots
 pub mod Quietly
 pub mod Tables
 pub mod Resting

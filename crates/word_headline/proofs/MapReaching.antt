@@ -12,7 +12,7 @@ use Rattle.base.proofs.Moves.{created_move, raised_move, lowered_move, ignored_m
 use Rattle.base.proofs.Sections.{same_parts}
 use Rattle.word_machine.specs.Left.{Left, Asks, Enter, Leave, Remove, CopyIn, CopyOut, left_if, section_left, entry_left, exit_left, update_left}
 use Rattle.word_machine.specs.Action.{decided, loaded, lowered, removed}
-use Rattle.two_memories.proofs.MapMoves.{within_yes}
+use Rattle.two_memories.proofs.MapMoves.{within_yes, entered_free}
 use Rattle.word_headline.proofs.Acting.{Lies, lies}
 use Rattle.word_headline.proofs.Acting.Lies.{nowhere, inside, in_part}
 use Rattle.word_headline.proofs.Reaching.{Reaches, there, next, on_from}
@@ -59,7 +59,7 @@ module _ (lengths : List ℕ) (fill : Fill) where
 
       go : Lies m.device.blocks item.section → Reaches lengths fill (entry_left item k) m (k tt) m'
       go (nowhere e free) =
-          by (created_move item m.device.blocks) (entry_absent item m.device.blocks e)
+          by (created_move item m.device.blocks) (entry_absent item m.device.blocks e (entered_free fill item m m' e h))
           (λ c i. (fill c, within_yes item.section (λ c. Some (fill c)) m.device.cells c i))
       go (inside b e _ _) = by (raised_move item b m.device.blocks) (entry_there item m.device.blocks b e) (covered b e)
       go (in_part e) =

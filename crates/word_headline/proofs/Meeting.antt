@@ -4,14 +4,16 @@ use Rattle.std.specs.Prelude.{option_map}
 use Rattle.base.specs.declared.item.Cell.{Cell}
 use Rattle.base.specs.declared.item.Section.{Section}
 use Rattle.base.specs.declared.item.MapItem.{MapItem}
-use Rattle.base.specs.declared.item.Loc.TheVariants.{Host, Dev, Tab}
+use Rattle.base.specs.Actions.{Host, Dev, Tab}
 use Rattle.base.specs.Items.{Plan}
 use Rattle.base.specs.Map.{Block}
 use Rattle.base.specs.Blocks.{AreApart, holder}
 use Rattle.word_machine.specs.Machine.{State}
 use Rattle.machine.specs.Board.{Move, item_of, touches}
 use Rattle.machine.specs.Machine.{InOrder, event_touches}
-use Rattle.two_memories.specs.Two.{Spot, Holding, Number, Entry, items_of, less, number_inside}
+use Rattle.two_memories.specs.Two.{Spot, Holding, Number, device_of, items_of, less, number_inside}
+use Rattle.two_memories.proofs.Spots.{spot_on, touched_at}
+use Rattle.word_headline.proofs.WordSpots.{own_memories, value_of}
 use Rattle.two_memories.proofs.LikeMemories.{touched, Quiet}
 use Rattle.two_memories.proofs.AdjustedCounts.{access_of}
 use Rattle.two_memories.proofs.RestingAlone.{RestingLooks}
@@ -22,13 +24,14 @@ use Rattle.word_headline.proofs.Resting.{others, resting_split, none_open, quiet
 use Rattle.word_headline.proofs.Walking.{IsStanding, Stands}
 
 pub record Meets (plan : Plan) (i : ℕ) (a a' : State) (m m' : ℕ → List MapItem) : Type 0 where
-  pub tables : TableLike (others plan m i) (access_of plan i) a.memories.device.blocks a'.memories.device.blocks
+  pub tables : TableLike (others plan m i) (access_of plan i) (own_memories plan i a).device.blocks
+      (own_memories plan i a').device.blocks
   pub quiet : Quiet (others plan m i) (access_of plan i)
-  pub apart : AreApart a.memories.device.blocks
-  pub apart' : AreApart a'.memories.device.blocks
+  pub apart : AreApart (own_memories plan i a).device.blocks
+  pub apart' : AreApart (own_memories plan i a').device.blocks
   pub hosts : (c : Cell) → touched (access_of plan i) Host c ≡ true → a.memories.host c ≡ a'.memories.host c
   pub cells : (c : Cell) → touched (access_of plan i) Dev c ≡ true →
-      a.memories.device.cells c ≡ a'.memories.device.cells c
+      (own_memories plan i a).device.cells c ≡ (own_memories plan i a').device.cells c
   pub same : m i ≡ m' i
   pub none : (section : Section) → others plan m' i section ≡ 0
 
@@ -37,17 +40,18 @@ pub meets : (start : Words) (a a' : State) (b b' : Bool) (m m' : ℕ → List Ma
     ((l : Spot) → event_touches (items_of start.fixed.plan) e l ≡ touches (items_of start.fixed.plan) (item_of e) l) →
     item_of e < length start.fixed.plan.items → InOrder parts start e (at_start start a b m)
     (at_start start a' b' m') → Stands start.fixed.plan (item_of e)
-    (m' (item_of e)) a'.memories.device.blocks → Meets start.fixed.plan (item_of e) a a' m m'
+    (m' (item_of e)) (own_memories start.fixed.plan (item_of e) a').device.blocks → Meets start.fixed.plan (item_of e) a a' m m'
 meets start a a' b b' m m' e looks all lt o stands = record {
   tables =
-      λ c t. stood (resting_in plan m) (resting_in plan m') (others plan m i) (λ s. number_inside (m' i) s)
-      (holder a.memories.device.blocks c) (holder a'.memories.device.blocks c) split only (λ x at. above c x at)
-      (entry c (o.alike.values (record { loc = Tab; cell = c }) (all (record { loc = Tab; cell = c }) ∙ t)));
+      λ c t. stood (resting_in plan m d) (resting_in plan m' d) (others plan m i) (λ s. number_inside (m' i) s)
+      (holder (own_memories plan i a).device.blocks c) (holder (own_memories plan i a').device.blocks c) split only
+      (λ x at. above c x at)
+      (entry c (o.alike.values (spot_on plan i Tab c) (all (spot_on plan i Tab c) ∙ touched_at plan i Tab c t)));
   quiet = quiet;
-  apart = o.valid.blocks;
-  apart' = o.turn_valid.blocks;
-  hosts = λ c t. host c (o.alike.values (record { loc = Host; cell = c }) (all (record { loc = Host; cell = c }) ∙ t));
-  cells = λ c t. cell c (o.alike.values (record { loc = Dev; cell = c }) (all (record { loc = Dev; cell = c }) ∙ t));
+  apart = o.valid.blocks d;
+  apart' = o.turn_valid.blocks d;
+  hosts = λ c t. host c (o.alike.values (spot_on plan i Host c) (all (spot_on plan i Host c) ∙ touched_at plan i Host c t));
+  cells = λ c t. cell c (o.alike.values (spot_on plan i Dev c) (all (spot_on plan i Dev c) ∙ touched_at plan i Dev c t));
   same = same;
   none = none;
 }
@@ -57,6 +61,9 @@ meets start a a' b b' m m' e looks all lt o stands = record {
 
     i : ℕ
     i = item_of e
+
+    d : ℕ
+    d = device_of start.fixed.plan (item_of e)
 
     same : m (item_of e) ≡ m' (item_of e)
     same = ap (λ (p : Own). p.entered) o.alike.own
@@ -68,13 +75,13 @@ meets start a a' b b' m m' e looks all lt o stands = record {
     none = none_open plan a' m' i o.turn_valid.settled o.turn_only
 
     split : (s : Section) →
-        resting_in start.fixed.plan m s ≡ others start.fixed.plan m (item_of e) s + number_inside (m' (item_of e)) s
+        resting_in start.fixed.plan m (device_of start.fixed.plan (item_of e)) s ≡ others start.fixed.plan m (item_of e) s + number_inside (m' (item_of e)) s
     split s = resting_split plan m i s lt ∙ ap (λ ms. others plan m i s + number_inside ms s) same
 
-    only : (s : Section) → resting_in start.fixed.plan m' s ≡ number_inside (m' (item_of e)) s
+    only : (s : Section) → resting_in start.fixed.plan m' (device_of start.fixed.plan (item_of e)) s ≡ number_inside (m' (item_of e)) s
     only s = let x = resting_split plan m' i s lt in let y = none s in omega arith
 
-    above : (c : Cell) (x : Block) → holder a'.memories.device.blocks c ≡ Some x →
+    above : (c : Cell) (x : Block) → holder (own_memories start.fixed.plan (item_of e) a').device.blocks c ≡ Some x →
         (number_inside (m' (item_of e)) x.section < x.count)
         ⊎ ((number_inside (m' (item_of e)) x.section ≡ 0) × (others start.fixed.plan m (item_of e) x.section ≡ 0))
     above c x at = go (stands c x at)
@@ -89,14 +96,17 @@ meets start a a' b b' m m' e looks all lt o stands = record {
         a.memories.host c ≡ a'.memories.host c
     host c e = cc e
 
-    cell : (c : Cell) → ◌≡◌ {A = Holding} (Number (a.memories.device.cells c)) (Number (a'.memories.device.cells c)) →
-        a.memories.device.cells c ≡ a'.memories.device.cells c
+    cell : (c : Cell) → ◌≡◌ {A = Holding} (Number ((own_memories start.fixed.plan (item_of e) a).device.cells c))
+        (Number ((own_memories start.fixed.plan (item_of e) a').device.cells c)) →
+        (own_memories start.fixed.plan (item_of e) a).device.cells c
+        ≡ (own_memories start.fixed.plan (item_of e) a').device.cells c
     cell c e = cc e
 
     entry : (c : Cell) →
-        ◌≡◌ {A = Holding}
-        (Entry (option_map (less (resting_in start.fixed.plan m)) (holder a.memories.device.blocks c)))
-        (Entry (option_map (less (resting_in start.fixed.plan m')) (holder a'.memories.device.blocks c))) →
-        option_map (less (resting_in start.fixed.plan m)) (holder a.memories.device.blocks c) ≡ option_map
-        (less (resting_in start.fixed.plan m')) (holder a'.memories.device.blocks c)
+        ◌≡◌ {A = Holding} (value_of start.fixed.plan m (item_of e) (own_memories start.fixed.plan (item_of e) a) Tab c)
+        (value_of start.fixed.plan m' (item_of e) (own_memories start.fixed.plan (item_of e) a') Tab c) →
+        option_map (less (resting_in start.fixed.plan m (device_of start.fixed.plan (item_of e))))
+        (holder (own_memories start.fixed.plan (item_of e) a).device.blocks c)
+        ≡ option_map (less (resting_in start.fixed.plan m' (device_of start.fixed.plan (item_of e))))
+        (holder (own_memories start.fixed.plan (item_of e) a').device.blocks c)
     entry c e = cc e

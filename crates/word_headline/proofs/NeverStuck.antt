@@ -14,9 +14,10 @@ use Rattle.base.specs.Map.{Memories, Fill}
 use Rattle.base.specs.Machine.{Condition as Whole_condition, on_item, deferred_closed}
 use Rattle.base.specs.Machine as two
 use Rattle.base.specs.Machine.Condition.{Generated as generated, Opened as opened, Closed as closed, Passed as passed}
+use Rattle.word_headline.proofs.WordSpots.{own_memories}
 use Rattle.word_machine.specs.Left.{Left, Asks, Finished, Answer, item_left}
 use Rattle.word_machine.specs.Action.{act}
-use Rattle.word_machine.specs.Machine.{State, Condition, Untouched, Generated, Opened, Closed, Passed, Event, Gen, Open, Step, Close, Wait, End, as_whole, whole_condition, with_condition, moves_on, has_step, is_finished, enabled, step, begun, open_item, step_item, close_item, host_done, Run, RunFrom, HasEnded, start}
+use Rattle.word_machine.specs.Machine.{State, Condition, Untouched, Generated, Opened, Closed, Passed, Event, Gen, Open, Step, Close, Wait, End, as_whole, whole_condition, device_of, with_condition, with_memories, moves_on, has_step, is_finished, enabled, step, begun, open_item, step_item, close_item, host_done, Run, RunFrom, HasEnded, start}
 use Rattle.two_memories.proofs.PlanItems.{at_item, on_true}
 use Rattle.headline.proofs.PlainWorks.{Sensible, list_sensible}
 use Rattle.headline.proofs.SoundConditions.{ItemOk, Sound, is_untouched, is_done, build_same, build_next, advance, done_ok, passed_ok, start_sound}
@@ -122,9 +123,9 @@ module _ (pl : Plan) (fill : ℕ → Fill) (sensible : (j : ℕ) (w : Work) → 
 
     -- an open item's next action
     step_fair : (s : State) → Fair s → (i : ℕ) (left before : Left) (m : Memories) → s.condition i ≡ Opened before →
-        Fair (with_condition i (Opened left) (record s { memories = m }))
+        Fair (with_condition i (Opened left) (with_memories (device_of pl i) m s))
     step_fair s ok i left before m is =
-        same_place s ok i (Opened left) (with_condition i (Opened left) (record s { memories = m })) refl (λ j. refl)
+        same_place s ok i (Opened left) (with_condition i (Opened left) (with_memories (device_of pl i) m s)) refl (λ j. refl)
         (λ w e. subst (ItemOk w.deferred i s.place) (ap whole_condition is) (ok.items i w e))
 
     open_of : (c : Condition) → is_finished c ≡ true →
@@ -186,7 +187,7 @@ module _ (pl : Plan) (fill : ℕ → Fill) (sensible : (j : ℕ) (w : Work) → 
     step_keeps s ok End en t is = subst Fair (same_Some (moves_on false s) t is) (end_fair s ok en)
     step_keeps s ok (Open i) en t is =
         let f = on_true pl i (opens s i) en in
-        go (item_left f.0 s.memories.device.blocks (begun f.0 (s.condition i) s))
+        go (item_left f.0 (s.memories.devices f.0.device).blocks (begun f.0 (s.condition i) s))
         (sym (at_item pl i f.0 f.1 None (λ w. open_item i w s)) ∙ is)
       where
         go : (o : Option Left) → option_map (λ left. with_condition i (Opened left) s) o ≡ Some t → Fair t
@@ -195,14 +196,14 @@ module _ (pl : Plan) (fill : ℕ → Fill) (sensible : (j : ℕ) (w : Work) → 
     step_keeps s ok (Step i) en t is = go (s.condition i) refl is
       where
         by : (r : _) (k : Answer → Left) → s.condition i ≡ Opened (Asks r k) → (o : Option (Answer × Memories)) →
-            option_map (λ p. with_condition i (Opened (k p.0)) (record s { memories = p.1 })) o ≡ Some t → Fair t
+            option_map (λ p. with_condition i (Opened (k p.0)) (with_memories (device_of pl i) p.1 s)) o ≡ Some t → Fair t
         by r k c None h = absurd (cc h)
         by r k c (Some p) h =
-            subst Fair (same_Some (with_condition i (Opened (k p.0)) (record s { memories = p.1 })) t h)
+            subst Fair (same_Some (with_condition i (Opened (k p.0)) (with_memories (device_of pl i) p.1 s)) t h)
             (step_fair s ok i (k p.0) (Asks r k) p.1 c)
 
         go : (c : Condition) → s.condition i ≡ c → step_item pl (fill i) i c s ≡ Some t → Fair t
-        go (Opened (Asks r k)) e h = by r k e (act pl.lengths (fill i) r s.memories) h
+        go (Opened (Asks r k)) e h = by r k e (act pl.lengths (fill i) r (own_memories pl i s)) h
         go (Opened (Finished x)) e h = absurd (cc h)
         go Untouched e h = absurd (cc h)
         go (Generated a) e h = absurd (cc h)

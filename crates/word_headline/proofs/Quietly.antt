@@ -3,14 +3,14 @@ use Rattle.std.proofs.Common.{◌≡◌, ℕ, ◌+◌, ◌++◌, ◌==◌, Bool,
 use Rattle.std.specs.Prelude.{not, slice_get, option_map}
 use Rattle.std.proofs.lemmas.Bool.{false≢true, eq-eqb, ne_eqb, cond-true, cond-false}
 use Rattle.base.specs.declared.item.Loc.{Loc}
-use Rattle.base.specs.declared.item.Loc.TheVariants.{Host, Dev, Tab}
+use Rattle.base.specs.declared.item.Loc.TheVariants as at
 use Rattle.base.specs.declared.item.MapItem.{MapItem}
 use Rattle.base.specs.declared.item.ItemKind.{ItemKind}
 use Rattle.base.specs.declared.item.ItemKind.TheVariants as kind
 use Rattle.base.specs.Memory.{Scalars}
 use Rattle.base.specs.Meaning.{Run}
 use Rattle.base.specs.Items.{Work, Plan}
-use Rattle.base.specs.Map.{Block, Memories}
+use Rattle.base.specs.Map.{Block, AllMemories}
 use Rattle.base.specs.Accepted.{is_host}
 use Rattle.base.specs.Machine.{on_item}
 use Rattle.base.specs.Machine as two
@@ -39,9 +39,10 @@ same_values plan s x m e l = go l.loc
     go : (loc : Loc) →
         value_at plan x m (record { loc = loc; cell = l.cell }) ≡ value_at plan s m
         (record { loc = loc; cell = l.cell })
-    go Host = ap (λ (n : Memories). Number (Some (n.host l.cell))) e
-    go Dev = ap (λ (n : Memories). Number (n.device.cells l.cell)) e
-    go Tab = ap (λ (n : Memories). Entry (option_map (less (resting_in plan m)) (holder n.device.blocks l.cell))) e
+    go at.Host = ap (λ (n : AllMemories). Number (Some (n.host l.cell))) e
+    go (at.Dev d) = ap (λ (n : AllMemories). Number ((n.devices d).cells l.cell)) e
+    go (at.Tab d) =
+        ap (λ (n : AllMemories). Entry (option_map (less (resting_in plan m d)) (holder (n.devices d).blocks l.cell))) e
 
 -- what an event does that changes neither memory
 pub record IsQuiet (plan : Plan) (e : Move) (a a' x x' : State) : Type 0 where
@@ -193,7 +194,7 @@ moved_condition false s = refl
 pub close_quiet : (plan : Plan) (i : ℕ) (w : Work) (t : Run) (a a' : State) → slice_get plan.items i ≡ Some w →
     IsLawful w → (is_of_host (items_of plan) (Close i) ≡ true → hosted (as_whole a) ≡ hosted (as_whole a')) →
     IsQuiet plan (Close i) a a' (closed_by i w t a) (closed_by i w t a')
-close_quiet plan i w t a a' at lawful h = record {
+close_quiet plan i w t a a' item lawful h = record {
   memories =
       moved_memories w.deferred (with_condition i Closed (host_done w.kind t a)) ∙ (alone_done w.kind t a).memories;
   memories' =
@@ -214,7 +215,7 @@ close_quiet plan i w t a a' at lawful h = record {
         ∙ condition_here i Closed (host_done w.kind t s)
 
     host_is : is_of_host (items_of plan) (Close i) ≡ not w.deferred
-    host_is = ap not (at_item plan i w at false (λ w. w.deferred))
+    host_is = ap not (at_item plan i w item false (λ w. w.deferred))
 
     not_of_host : (d : Bool) → w.deferred ≡ d → is_of_host (items_of plan) (Close i) ≡ false →
         hosted (as_whole (closed_by i w t a)) ≡ hosted (as_whole a)

@@ -4,8 +4,7 @@ use Rattle.std.specs.Prelude.{not, ◌&&◌, slice_get}
 use Rattle.std.proofs.lemmas.Bool.{and_from, or_left, or_right}
 use Rattle.base.specs.declared.item.Cell.{Cell}
 use Rattle.base.specs.declared.item.ItemKind.TheVariants as kind
-use Rattle.base.specs.declared.item.Loc.{Loc}
-use Rattle.base.specs.declared.item.Loc.TheVariants.{Host, Dev}
+use Rattle.base.specs.Actions.{Side as On, Host, Dev}
 use Rattle.base.specs.declared.tree.Region.{Region}
 use Rattle.base.specs.Meaning.{Run}
 use Rattle.base.specs.Items.{Work, Plan}
@@ -13,11 +12,10 @@ use Rattle.base.specs.Map.{Block}
 use Rattle.base.specs.Footprint.{Touch, has_cell, reads, writes, touches_of}
 use Rattle.base.specs.Actions.{HostRegion, Kernel, Acted, each_acts, entry_acts, exit_acts, region_acts, then_acts, rests}
 use Rattle.word_machine.specs.Left.{Side, OnHost, OnDevice, Left, Asks, Request, Answer, Load, Store, region_left}
-use Rattle.machine.specs.Board.{touches}
 use Rattle.regions.proofs.Needs.{Every}
 use Rattle.regions.proofs.StatementsDone.{AllSmall, Fine}
-use Rattle.two_memories.specs.Two.{items_of, blocks_before}
-use Rattle.two_memories.proofs.LikeMemories.{Covers, covers_left, covers_right, reads_head, writes_head}
+use Rattle.two_memories.specs.Two.{blocks_before}
+use Rattle.two_memories.proofs.LikeMemories.{touched, Covers, covers_left, covers_right, reads_head, writes_head}
 use Rattle.two_memories.proofs.AdjustedCounts.{access_of, covers_item}
 use Rattle.two_memories.proofs.ByKind.{acts_host, acts_target, acts_some}
 use Rattle.word_headline.proofs.Regional.{Allowed, list_all}
@@ -40,36 +38,36 @@ touches_allowed readable writable (t ∷ rest) h k = (
       (λ c i. k c (or_right (t.is_write && has_cell c t) (writes rest c) i)),
 )
 
-abbrev loc_of : Side → Loc
-loc_of OnHost = Host
-loc_of OnDevice = Dev
+abbrev side_of : Side → On
+side_of OnHost = Host
+side_of OnDevice = Dev
 
 module _ (plan : Plan) (i : ℕ) where
-  may_load : (side : Side) (c : Cell) → touches (items_of plan) i (record { loc = loc_of side; cell = c }) ≡ true →
+  may_load : (side : Side) (c : Cell) → touched (access_of plan i) (side_of side) c ≡ true →
       IsAllowed plan i (Load side c)
   may_load OnHost c h = h
   may_load OnDevice c h = h
 
   may_store : (side : Side) (c : Cell) (n : ℕ) →
-      (items_of plan).writes i (record { loc = loc_of side; cell = c }) ≡ true → IsAllowed plan i (Store side c n)
+      (access_of plan i).writes (side_of side) c ≡ true → IsAllowed plan i (Store side c n)
   may_store OnHost c n h = h
   may_store OnDevice c n h = h
 
   -- a predicate that allowed actions on cells keep holds of what is left of the region
   region_allowed : (side : Side) (r : Region) (loops : List ℕ) →
-      ((c : Cell) → reads (touches_of r loops) c ≡ true → (access_of plan i).reads (loc_of side) c ≡ true) →
-      ((c : Cell) → writes (touches_of r loops) c ≡ true → (access_of plan i).writes (loc_of side) c ≡ true) →
+      ((c : Cell) → reads (touches_of r loops) c ≡ true → (access_of plan i).reads (side_of side) c ≡ true) →
+      ((c : Cell) → writes (touches_of r loops) c ≡ true → (access_of plan i).writes (side_of side) c ≡ true) →
       (K : Left → Type 0) → ((q : Request) (k : Answer → Left) → IsAllowed plan i q →
       ((a : Answer) → a.number < 2 ^ 64 → K (k a)) → K (Asks q k)) →
       (s : Run) (k : Run → Left) → AllSmall loops → Fine s → ((t : Run) → Fine t → K (k t)) → K
       (region_left (Some r) side loops s k)
   region_allowed side r loops h w K keeps s k l f next =
-      list_all (λ c. touches (items_of plan) i (record { loc = loc_of side; cell = c }) ≡ true)
-      (λ c. (items_of plan).writes i (record { loc = loc_of side; cell = c }) ≡ true) side K
+      list_all (λ c. touched (access_of plan i) (side_of side) c ≡ true)
+      (λ c. (access_of plan i).writes (side_of side) c ≡ true) side K
       (λ c k h n. keeps (Load side c) k (may_load side c h) n)
       (λ c n k h small m. keeps (Store side c n) k (may_store side c n h) (λ a _. m a)) r.body.items loops l
-      (touches_allowed (λ c. touches (items_of plan) i (record { loc = loc_of side; cell = c }) ≡ true)
-      (λ c. (items_of plan).writes i (record { loc = loc_of side; cell = c }) ≡ true) (touches_of r loops)
+      (touches_allowed (λ c. touched (access_of plan i) (side_of side) c ≡ true)
+      (λ c. (access_of plan i).writes (side_of side) c ≡ true) (touches_of r loops)
       (λ c e. or_left _ _ (h c e)) w) s k f next
 
   module _ (w : Work) (r : Region) (at : slice_get plan.items i ≡ Some w) (has : w.region ≡ Some r) where

@@ -11,15 +11,15 @@ use Rattle.base.specs.declared.item.Event.TheVariants as whole
 use Rattle.base.specs.Memory.{Scalars}
 use Rattle.base.specs.Meaning.{Run}
 use Rattle.base.specs.Items.{Work, Plan}
-use Rattle.base.specs.Map.{Memories}
+use Rattle.base.specs.Map.{Device, AllMemories}
 use Rattle.base.specs.Blocks.{AreApart}
 use Rattle.base.specs.Machine.{on_item}
 use Rattle.base.specs.Machine as two
 use Rattle.word_machine.specs.Left.{Asks, Finished, item_left}
 use Rattle.word_machine.specs.Action.{act}
-use Rattle.word_machine.specs.Machine.{State, Condition, Untouched, Generated, Opened, Closed, Passed, Event, as_whole, whole_condition, with_condition, moves_on, has_step, is_finished, start, begun, captured_by, input_of, open_item, step_item, close_item, host_done}
+use Rattle.word_machine.specs.Machine.{State, Condition, Untouched, Generated, Opened, Closed, Passed, Event, as_whole, whole_condition, with_condition, with_memories, moves_on, has_step, is_finished, start, begun, captured_by, input_of, open_item, step_item, close_item, host_done}
 use Rattle.word_machine.specs.Machine as by_word
-use Rattle.regions.specs.Footprints.{BoundedScalars}
+use Rattle.regions.specs.Footprints.{BoundedScalars, BoundedView}
 use Rattle.regions.proofs.StatementsDone.{AllSmall, Fine}
 use Rattle.regions.proofs.ValueBounds.{IfThere, there_map}
 use Rattle.regions.proofs.StatementsDone.{small_list}
@@ -27,13 +27,14 @@ use Rattle.machine.specs.Board.{Move, Allows, Moves, IsUnderWay, IsFresh}
 use Rattle.machine.specs.Board.Move.{Gen, Open, Step, Close, Wait}
 use Rattle.machine.specs.Board.Condition.{Untouched as untouched, Opened as is_opened}
 use Rattle.machine.specs.Machine.{Does, StepLaws}
-use Rattle.two_memories.specs.Two.{Two, Fixed, items_of, own_part, own_of as whole_own}
+use Rattle.two_memories.specs.Two.{Two, Fixed, items_of, device_of, own_part, own_of as whole_own}
 use Rattle.two_memories.specs.Two as parts_of
 use Rattle.two_memories.proofs.PlanItems.{at_item, on_true, own_at, part_open}
 use Rattle.two_memories.proofs.AllowedEvents.{allows as whole_allows}
 use Rattle.two_memories.proofs.Starts.{fresh_phase}
 use Rattle.two_memories.proofs.Starts.{is_plan}
 use Rattle.word_headline.specs.Words.{Words, Own, board_of, own_of, failing, result_of, next, next_move, is_resting, entered_now, entered_by, entered_after, nothing_left, LeavesAll, IsSettled, AreSettled, MayDo, BoundedCondition, BoundedLeft, IsBounded, IsValid, IsStart, parts}
+use Rattle.word_headline.proofs.WordSpots.{own_memories}
 use Rattle.word_headline.proofs.BoundedLefts.{item_bounded}
 use Rattle.word_headline.proofs.LeavingAll.{item_leaves}
 use Rattle.word_headline.proofs.Settling.{settled_with, settled_stepped, still_resting, wait_empty}
@@ -43,7 +44,7 @@ use Rattle.word_headline.proofs.Stepping.{Ready, IsMarked, gen_marked, wait_mark
 -- a state that an event makes
 record IsGood (s : Words) (e : Move) (m : ℕ → List MapItem) (x : State) : Type 0 where
   bounded : IsBounded x
-  blocks : AreApart x.memories.device.blocks
+  blocks : (d : ℕ) → AreApart (x.memories.devices d).blocks
   marked : IsMarked s.fixed.plan e s.state x
   settled : AreSettled s.fixed.plan m x.condition
 
@@ -59,7 +60,7 @@ ready s v =
 bounded_with : (i : ℕ) (c : Condition) (s : State) → BoundedCondition c → IsBounded s → IsBounded (with_condition i c s)
 bounded_with i c s b h = record {
   host = h.host;
-  device = h.device;
+  devices = h.devices;
   scalars = h.scalars;
   input = h.input;
   condition = λ k. cond_both (k == i) c (s.condition k) BoundedCondition (λ _. b) (λ _. h.condition k);
@@ -68,7 +69,7 @@ bounded_with i c s b h = record {
 bounded_moved : (d : Bool) (s : State) → IsBounded s → IsBounded (moves_on d s)
 bounded_moved true s h = h
 bounded_moved false s h =
-    record { host = h.host; device = h.device; scalars = h.scalars; input = h.input; condition = h.condition }
+    record { host = h.host; devices = h.devices; scalars = h.scalars; input = h.input; condition = h.condition }
 
 pub moved_memories : (d : Bool) (s : State) → (moves_on d s).memories ≡ s.memories
 moved_memories true s = refl
@@ -95,7 +96,7 @@ done kind.Host t s b h =
     record {
       bounded = record {
         host = h.host;
-        device = h.device;
+        devices = h.devices;
         scalars = b.scalars;
         input = b.input;
         condition =
@@ -187,7 +188,7 @@ module _ (s : Words) (v : IsValid s) where
           subst (IfThere (IsGood s (Open i) s.entered)) (sym (at_item plan i w r.1 None (λ w. open_item i w s.state)))
           (there_map (λ left. BoundedLeft left × LeavesAll plan i [] left) (IsGood s (Open i) s.entered)
           (λ left. with_condition i (Opened left) s.state)
-          (item_left w s.state.memories.device.blocks (begun w c s.state))
+          (item_left w (s.state.memories.devices w.device).blocks (begun w c s.state))
           (λ left b. record {
             bounded = bounded_with i (Opened left) s.state b.0 v.bounded;
             blocks = v.blocks;
@@ -196,42 +197,50 @@ module _ (s : Words) (v : IsValid s) where
                 settled_with plan i s.entered s.state.condition v.settled (Opened left)
                 (subst (λ ms. LeavesAll plan i ms left) (sym (none_waiting i w.deferred (waits i w r.2))) b.1);
           })
-          (there_both BoundedLeft (LeavesAll plan i []) (item_left w s.state.memories.device.blocks (begun w c s.state))
-          (item_bounded w s.state.memories.device.blocks (begun w c s.state) (v.lawful i w r.1)
+          (there_both BoundedLeft (LeavesAll plan i []) (item_left w (s.state.memories.devices w.device).blocks (begun w c s.state))
+          (item_bounded w (s.state.memories.devices w.device).blocks (begun w c s.state) (v.lawful i w r.1)
           (begun_fine w c s.state (v.bounded.condition i) v.bounded))
-          (item_leaves plan i w r.1 s.state.memories.device.blocks (begun w c s.state) (v.lawful i w r.1)
+          (item_leaves plan i w r.1 (s.state.memories.devices w.device).blocks (begun w c s.state) (v.lawful i w r.1)
           (begun_fine w c s.state (v.bounded.condition i) v.bounded))))
 
-  pub kept_memories : IsKept s.state.memories
-  kept_memories = record { bounded = record { host = v.bounded.host; device = v.bounded.device }; blocks = v.blocks }
+  pub kept_memories : (i : ℕ) → IsKept (own_memories plan i s.state)
+  kept_memories i =
+      let d = device_of plan i in
+      record { bounded = record { host = v.bounded.host; device = v.bounded.devices d }; blocks = v.blocks d }
 
   step_good : (i : ℕ) → by_word.enabled plan s.state (by_word.Step i) ≡ true →
       IfThere (IsGood s (Step i) (entered_after plan s.state s.entered (by_word.Step i)))
       (by_word.step plan s.fixed.fill s.state (by_word.Step i))
   step_good i en = go (s.state.condition i) refl (v.bounded.condition i) (v.settled.settled i)
     where
+      d : ℕ
+      d = device_of plan i
+
       go : (c : Condition) → s.state.condition i ≡ c → BoundedCondition c → IsSettled plan i (s.entered i) c →
           IfThere (IsGood s (Step i) (entered_after plan s.state s.entered (by_word.Step i)))
           (step_item plan (s.fixed.fill i) i c s.state)
       go (Opened (Asks r k)) e b l =
           there_map IsActed (IsGood s (Step i) (entered_after plan s.state s.entered (by_word.Step i)))
-          (λ p. with_condition i (Opened (k p.0)) (record (s.state) { memories = p.1 }))
-          (act plan.lengths (s.fixed.fill i) r s.state.memories)
+          (λ p. with_condition i (Opened (k p.0)) (with_memories d p.1 s.state))
+          (act plan.lengths (s.fixed.fill i) r (own_memories plan i s.state))
           (λ p h. record {
             bounded =
-                bounded_with i (Opened (k p.0)) (record (s.state) { memories = p.1 }) (b.1 p.0 h.0)
+                bounded_with i (Opened (k p.0)) (with_memories d p.1 s.state) (b.1 p.0 h.0)
                 (record {
                   host = h.1.bounded.host;
-                  device = h.1.bounded.device;
+                  devices =
+                      λ e. cond_both (e == d) p.1.device (s.state.memories.devices e)
+                      (λ (x : Device). BoundedView x.cells) (λ _. h.1.bounded.device) (λ _. v.bounded.devices e);
                   scalars = v.bounded.scalars;
-                  input =
-                      v.bounded.input;
+                  input = v.bounded.input;
                   condition = v.bounded.condition;
                 });
-            blocks = h.1.blocks;
+            blocks =
+                λ e. cond_both (e == d) p.1.device (s.state.memories.devices e) (λ (x : Device). AreApart x.blocks)
+                (λ _. h.1.blocks) (λ _. v.blocks e);
             marked =
                 step_marked plan s.state (ready s v) i
-                (with_condition i (Opened (k p.0)) (record (s.state) { memories = p.1 })) en refl
+                (with_condition i (Opened (k p.0)) (with_memories d p.1 s.state)) en refl
                 (step_conditions i (k p.0) (Asks r k) s.state e);
             settled =
                 subst (λ ms. AreSettled plan (λ j. if j == i then ms else s.entered j)
@@ -241,7 +250,7 @@ module _ (s : Words) (v : IsValid s) where
                 (entered_now (is_resting plan i) r (s.entered i)) (Opened (k p.0))
                 (still_resting plan i r (s.entered i) l.0 (v.settled.resting i)) (l.1 p.0 h.0));
           })
-          (act_kept plan.lengths (s.fixed.fill i) r s.state.memories (v.fill i) b.0 kept_memories)
+          (act_kept plan.lengths (s.fixed.fill i) r (own_memories plan i s.state) (v.fill i) b.0 (kept_memories i))
       go (Opened (Finished t)) e b l = tt
       go Untouched e b l = tt
       go (Generated captured) e b l = tt
@@ -271,8 +280,8 @@ module _ (s : Words) (v : IsValid s) where
               record {
                 bounded = bounded_moved w.deferred (with_condition i Closed y) (bounded_with i Closed y tt d.bounded);
                 blocks =
-                    subst (λ (m : Memories). AreApart m.device.blocks)
-                    (sym (moved_memories w.deferred (with_condition i Closed y) ∙ d.memories)) v.blocks;
+                    λ e. subst (λ (m : AllMemories). AreApart (m.devices e).blocks)
+                    (sym (moved_memories w.deferred (with_condition i Closed y) ∙ d.memories)) (v.blocks e);
                 marked = close_marked plan s.state (ready s v) i x en
                     (moved_place w.deferred (with_condition i Closed y) (with_condition i Closed s.state) d.place ∙ ap
                     (λ b. (moves_on b (with_condition i Closed s.state)).place)
@@ -309,8 +318,8 @@ module _ (s : Words) (v : IsValid s) where
       record {
         bounded = bounded_moved d (with_condition i Closed s.state) (bounded_with i Closed s.state tt v.bounded);
         blocks =
-            subst (λ (m : Memories). AreApart m.device.blocks)
-            (sym (moved_memories d (with_condition i Closed s.state))) v.blocks;
+            λ e. subst (λ (m : AllMemories). AreApart (m.devices e).blocks)
+            (sym (moved_memories d (with_condition i Closed s.state))) (v.blocks e);
         marked =
             close_marked plan s.state (ready s v) i (moves_on d (with_condition i Closed s.state)) en refl
             (moved_condition d (with_condition i Closed s.state));
@@ -376,7 +385,7 @@ module _ (s : Words) (v : IsValid s) where
   of_result e ev None h k = is_next e (failing plan s.state ev) true s.entered k
   of_result e ev (Some x) h k = is_next e x s.failed (entered_after plan s.state s.entered ev) h
 
-  passed : (x : State) (e : Move) → IsBounded x → AreApart x.memories.device.blocks → IsMarked plan e s.state x →
+  passed : (x : State) (e : Move) → IsBounded x → ((d : ℕ) → AreApart (x.memories.devices d).blocks) → IsMarked plan e s.state x →
       AreSettled plan s.entered x.condition → IsGood s e s.entered x
   passed x e b k m l = record { bounded = b; blocks = k; marked = m; settled = l }
 
@@ -512,7 +521,7 @@ start_bounded : (input : List ℕ) → All (λ n. n < 2 ^ 64) input → IsBounde
 start_bounded input h =
     record {
       host = λ c. omega arith;
-      device = λ c n e. absurd (none-some n e);
+      devices = λ d c n e. absurd (none-some n e);
       scalars = λ x. omega arith;
       input = h;
       condition = λ i. tt;
@@ -527,7 +536,7 @@ starts_valid s h = record {
       λ i d o. absurd (not_open (sym (ap (λ x. (board_of s.fixed.plan x).condition i) h.state ∙ fresh_phase s.fixed.plan
       h.input i) ∙ o));
   ahead = λ i d p. ap (λ (x : State). whole_condition (x.condition i)) h.state;
-  blocks = subst (λ (x : State). AreApart x.memories.device.blocks) (sym h.state) tt;
+  blocks = λ d. subst (λ (x : State). AreApart (x.memories.devices d).blocks) (sym h.state) tt;
   settled =
       subst (λ m. AreSettled s.fixed.plan m s.state.condition) (sym h.entered)
       (subst (λ (x : State). AreSettled s.fixed.plan (λ i. []) x.condition) (sym h.state)

@@ -32,7 +32,7 @@ abbrev bare : ℕ → Scalars → (ℕ → Whole_condition) → Whole
 bare place scalars condition =
     record {
       place = place;
-      memories = record { host = zeros; device = record { blocks = []; cells = λ c. None } };
+      memories = record { host = zeros; devices = λ d. record { blocks = []; cells = λ c. None } };
       scalars = scalars;
       input = [];
       output = [];
@@ -56,12 +56,12 @@ bare_kept : (s : State) → BoundedScalars s.scalars → ((i : ℕ) → BoundedC
 bare_kept s h k = record {
   bounded = record {
     host = λ c. omega arith;
-    device = λ c n e. absurd (none-some n e);
+    devices = λ d c n e. absurd (none-some n e);
     scalars = h;
     input = All-nil (λ n. n < 2 ^ 64);
     condition = λ i. whole_bounded (s.condition i) (k i);
   };
-  blocks = (tt, tt);
+  blocks = λ d. (tt, tt);
 }
 
 -- what is known of the board before an event

@@ -8,17 +8,27 @@ use Rattle.base.specs.declared.item.Section.{Section}
 use Rattle.base.specs.declared.item.MapItem.{MapItem}
 use Rattle.base.specs.Memory.{Stores, is_in, is_inside, last_stored}
 use Rattle.base.specs.Meaning.{seen}
-use Rattle.base.specs.Map.{Block, Memories, Fill, Move, Inside, presence, counted, without, when, with_blocks, with_cells, copy_in, copy_out, copies_to, copies_from, entry, entry_copies, exit, exit_count, exit_copies, enter, leave}
+use Rattle.base.specs.Map.{Device, Block, Memories, Fill, Move, Inside, presence, counted, without, when, with_blocks, with_cells, copy_in, copy_out, copies_to, copies_from, entry, entry_copies, exit, exit_count, exit_copies, enter, leave}
 use Rattle.base.specs.Blocks.{AreApart, holder}
 use Rattle.base.proofs.Blocks.{meets, holder_absent, holder_inside, Holds, holds, holder_counted, holder_none, holder_outside, holder_removed, find_no, has, counted_apart, more_apart, fewer_apart}
 use Rattle.base.proofs.Sections.{first_in, same_self}
 use Rattle.base.proofs.Moves.{is_absent, is_there, is_part, created_move, raised_move, entry_absent, entry_there, entry_part, ignored_move, lowered_move, exit_absent, exit_there, exit_part}
-use Rattle.two_memories.proofs.MapMoves.{within_yes, within_no, after_entry, after_exit}
+use Rattle.two_memories.proofs.MapMoves.{within_yes, within_no, entered_free, after_entry, after_exit}
 use Rattle.word_headline.proofs.Copying.{HasStorage}
 
 pub record AreStored (m : Memories) : Type 0 where
   pub apart : AreApart m.device.blocks
   pub storage : (c : Cell) (b : Block) → holder m.device.blocks c ≡ Some b → (n : ℕ) × (m.device.cells c ≡ Some n)
+
+-- it is said of the device alone
+pub stored_on : (m n : Memories) → n.device ≡ m.device → AreStored m → AreStored n
+stored_on m n e h = record {
+  apart = subst (λ (d : Device). AreApart d.blocks) (sym e) h.apart;
+  storage =
+      subst
+      (λ (d : Device). (c : Cell) (b : Block) → holder d.blocks c ≡ Some b → (k : ℕ) × (d.cells c ≡ Some k))
+      (sym e) h.storage;
+}
 
 -- a section that lies in a block has storage
 pub stored_inside : (m : Memories) (s : Section) → AreStored m → (b : Block) → presence m.device.blocks s ≡ Inside b →
@@ -126,7 +136,8 @@ enter_stored fill item m n size h done = go (find (meets item.section) m.device.
     go : (o : Option Block) → find (meets item.section) m.device.blocks ≡ o → AreStored n
     go None f =
         subst AreStored (is_after (created_move item m.device.blocks)
-        (entry_absent item m.device.blocks (is_absent m.device.blocks item.section f)))
+        (entry_absent item m.device.blocks (is_absent m.device.blocks item.section f)
+        (entered_free fill item m n (is_absent m.device.blocks item.section f) done)))
         (copied_in (entry_copies item 1) item.section _ (created_stored fill item.section m size f h))
     go (Some b) f = by (cases_Bool (is_inside item.section b.section))
       where

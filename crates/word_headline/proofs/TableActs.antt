@@ -5,14 +5,14 @@ use Rattle.std.proofs.lemmas.Bool.{cases_Bool, cond-true, cond-false, false_from
 use Rattle.base.specs.declared.item.Cell.{Cell}
 use Rattle.base.specs.declared.item.Section.{Section}
 use Rattle.base.specs.declared.item.MapItem.{MapItem}
-use Rattle.base.specs.declared.item.Loc.TheVariants.{Dev, Tab}
+use Rattle.base.specs.Actions.{Dev, Tab}
 use Rattle.base.specs.Memory.{View, is_in, is_inside, within}
 use Rattle.base.specs.Items.{Plan}
 use Rattle.base.specs.Map.{Block, Memories, Fill, Move, Absent, Inside, InPart, presence, counted, without, when, with_blocks, with_cells, entry, entry_copies, exit, exit_count, exit_copies}
 use Rattle.base.specs.Blocks.{AreApart, holder}
 use Rattle.base.proofs.Blocks.{meets, holder_inside, holder_outside}
 use Rattle.base.proofs.Sections.{first_in}
-use Rattle.base.proofs.Moves.{is_absent, is_there, is_part, created_move, raised_move, entry_absent, entry_there, entry_part, ignored_move, lowered_move, exit_absent, exit_there}
+use Rattle.base.proofs.Moves.{is_absent, is_there, is_part, created_move, raised_move, entry_absent, entry_missing, entry_there, entry_part, ignored_move, lowered_move, exit_absent, exit_there}
 use Rattle.word_machine.specs.Left.{Request, Enter, Leave, Remove, Answer}
 use Rattle.word_machine.specs.Action.{act, loaded, decided, lowered, removed}
 use Rattle.two_memories.specs.Two.{less, one_inside, number_inside}
@@ -103,15 +103,15 @@ module _ (plan : Plan) (i : ℕ) (lengths : List ℕ) (fill : Fill) (u u' : Memo
     enter_is bs m move same e =
         ap (λ (o : Option Move). option_map (λ move. after_enter move m) o) (ap (entry item) same ∙ e)
 
-    created : find (meets item.section) ys ≡ None → BothMove (Enter item)
-    created none = record {
+    created : find (meets item.section) ys ≡ None → item.present ≡ false → BothMove (Enter item)
+    created none unwanted = record {
       answer = decided (entry_copies item 1) false;
       after = with_cells (λ c. Some (fill c)) item.section (with_blocks (created_move item xs).blocks u);
       after' = with_cells (λ c. Some (fill c)) item.section (with_blocks (created_move item ys).blocks u');
       is =
           enter_is xs u (created_move item xs) refl
           (entry_absent item xs (is_absent xs item.section
-          (absent_too d (access_of plan i) xs ys like apart apart' item.section h.size none table)));
+          (absent_too d (access_of plan i) xs ys like apart apart' item.section h.size none table)) unwanted);
       is' = enter_is ys u' (created_move item ys) refl makes;
       moved = record {
         host = refl;
@@ -134,7 +134,7 @@ module _ (plan : Plan) (i : ℕ) (lengths : List ℕ) (fill : Fill) (u u' : Memo
     }
       where
         makes : entry item ys ≡ Some (created_move item ys)
-        makes = entry_absent item ys (is_absent ys item.section none)
+        makes = entry_absent item ys (is_absent ys item.section none) unwanted
 
         works : is_resting plan i item ≡ false
         works = false_from_ne_true _ (λ r. h.there r (is_absent ys item.section none))
@@ -242,7 +242,13 @@ module _ (plan : Plan) (i : ℕ) (lengths : List ℕ) (fill : Fill) (u u' : Memo
 
         go : (o : Option Block) → find (meets item.section) ys ≡ o →
             (act lengths fill (Enter item) u' ≡ None) ⊎ BothMove (Enter item)
-        go None e = inr (created e)
+        go None e = by item.present refl
+          where
+            by : (b : Bool) → item.present ≡ b → (act lengths fill (Enter item) u' ≡ None) ⊎ BothMove (Enter item)
+            by false f = inr (created e f)
+            by true f =
+                inl (ap (λ (o : Option Move). option_map (λ move. after_enter move u') o)
+                (entry_missing item ys (is_absent ys item.section e) f))
         go (Some b) e = present b e (cases_Bool (is_inside item.section b.section))
 
   -- An exit.

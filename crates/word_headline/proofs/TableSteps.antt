@@ -4,8 +4,7 @@ use Rattle.std.specs.Prelude.{slice_get, if◌then◌else◌}
 use Rattle.std.proofs.lemmas.Bool.{false≢true, eq-eqb, ne_eqb, cond-true, cond-false}
 use Rattle.base.specs.declared.item.Cell.{Cell}
 use Rattle.base.specs.declared.item.Section.{Section}
-use Rattle.base.specs.declared.item.Loc.{Loc}
-use Rattle.base.specs.declared.item.Loc.TheVariants.{Host, Dev, Tab}
+use Rattle.base.specs.Actions.{Side, Host, Dev, Tab}
 use Rattle.base.specs.declared.item.MapItem.{MapItem}
 use Rattle.base.specs.Items.{Work, Plan}
 use Rattle.base.specs.Map.{Block, Memories}
@@ -13,13 +12,16 @@ use Rattle.base.specs.Blocks.{holder}
 use Rattle.base.specs.Machine.{on_item}
 use Rattle.word_machine.specs.Left.{Left, Asks, Request, Load, Store, Enter, Leave, Remove, CopyIn, CopyOut, Answer}
 use Rattle.word_machine.specs.Action.{act}
-use Rattle.word_machine.specs.Machine.{State, Untouched, Opened, has_step}
+use Rattle.word_machine.specs.Machine.{State, Untouched, Opened, has_step, with_memories}
 use Rattle.machine.specs.Board.{touches, Moves}
 use Rattle.machine.specs.Board.Move.{Step}
 use Rattle.machine.specs.Machine.{Does, InOrder}
-use Rattle.two_memories.specs.Two.{Number, Entry, items_of, number_inside}
+use Rattle.two_memories.specs.Two.{Spot, Number, Entry, device_of, items_of, number_inside}
+use Rattle.two_memories.proofs.LikeMemories.{touched}
+use Rattle.two_memories.proofs.Spots.{spot_on}
+use Rattle.word_headline.proofs.WordSpots.{own_memories, value_of, value_is, value_put, touched_values, unwritten_values, else_put}
 use Rattle.two_memories.proofs.PlanItems.{at_item, on_true}
-use Rattle.two_memories.proofs.AdjustedCounts.{to_less}
+use Rattle.two_memories.proofs.AdjustedCounts.{to_less, access_of}
 use Rattle.two_memories.proofs.RestingAlone.{RestingLooks}
 use Rattle.std.proofs.lemmas.Option.{slice_get_within}
 use Rattle.word_headline.specs.Words.{Words, Own, board_of, own_of, value_at, resting_in, entered_by, entered_now, is_resting, next_move, parts}
@@ -54,7 +56,7 @@ module _ (start : Words) (a a' : State) (b b' : Bool) (m m' : ℕ → List MapIt
 
   next_some : (u : State) (c : Bool) (n : ℕ → List MapItem) (r : Request) (k : Answer → Left) (answer : Answer)
       (after : Memories) → u.condition i ≡ Opened (Asks r k) → act start.fixed.plan.lengths
-      (start.fixed.fill i) r u.memories ≡ Some (answer, after) →
+      (start.fixed.fill i) r (own_memories start.fixed.plan i u) ≡ Some (answer, after) →
       next_move (at_start start u c n) (Step i) ≡ at_start start (acted start a a' b b' m m' s' t' i u k answer after) c
       (stepped n r)
   next_some u c n r k answer after e f =
@@ -66,7 +68,8 @@ module _ (start : Words) (a a' : State) (b b' : Bool) (m m' : ℕ → List MapIt
       InOrder parts start (Step i) (at_start start a b m) (at_start start a' b' m') →
       (p : Does parts (at_start start a b m) (Step i) s') (q : Does parts (at_start start a' b' m') (Step i) t') →
       (h : Meets start.fixed.plan i a a' m m') →
-      (w : BothMove start.fixed.plan i start.fixed.plan.lengths (start.fixed.fill i) a.memories a'.memories
+      (w : BothMove start.fixed.plan i start.fixed.plan.lengths (start.fixed.fill i) (own_memories start.fixed.plan i a)
+      (own_memories start.fixed.plan i a')
       (others start.fixed.plan m i) (m' i) h.tables h.quiet h.apart h.apart' h.cells r) →
       s' ≡ at_start start (acted start a a' b b' m m' s' t' i a k w.answer w.after) b
       (stepped m r) → t' ≡ at_start start (acted start a a' b b' m m' s' t' i a' k w.answer w.after') b'
@@ -103,7 +106,7 @@ module _ (start : Words) (a a' : State) (b b' : Bool) (m m' : ℕ → List MapIt
       own_same j ne =
           ap₂ (λ f g. record { phase = f; condition = g; entered = stepped m r j }) (moves.others j ne)
           (ap (λ c. on_item start.fixed.plan j Untouched (λ w. c))
-          (condition_there start a a' b b' m m' s' t' i j (Opened (k w.answer)) (record a { memories = w.after }) ne))
+          (condition_there start a a' b b' m m' s' t' i j (Opened (k w.answer)) (with_memories (device_of start.fixed.plan i) w.after a) ne))
           ∙ ap (λ ms. record {
             phase = (board_of start.fixed.plan a).condition j;
             condition =
@@ -115,8 +118,8 @@ module _ (start : Words) (a a' : State) (b b' : Bool) (m m' : ℕ → List MapIt
       own_both =
           ap₂ (λ f g. record { phase = f; condition = g; entered = stepped m r i }) (moves.item ∙ sym moves'.item)
           (ap (λ c. on_item start.fixed.plan i Untouched (λ w. c))
-          (condition_here start a a' b b' m m' s' t' i (Opened (k w.answer)) (record a { memories = w.after }) ∙ sym
-          (condition_here start a a' b b' m m' s' t' i (Opened (k w.answer)) (record a' { memories = w.after' }))))
+          (condition_here start a a' b b' m m' s' t' i (Opened (k w.answer)) (with_memories (device_of start.fixed.plan i) w.after a) ∙ sym
+          (condition_here start a a' b b' m m' s' t' i (Opened (k w.answer)) (with_memories (device_of start.fixed.plan i) w.after' a'))))
           ∙ ap (λ ms. record {
             phase = (board_of start.fixed.plan x').condition i;
             condition =
@@ -126,12 +129,12 @@ module _ (start : Words) (a a' : State) (b b' : Bool) (m m' : ℕ → List MapIt
           (now_here m ∙ (ap (entered_now (is_resting start.fixed.plan i) r) h.same ∙ sym (now_here m')))
 
       old_split : (s : Section) →
-          resting_in start.fixed.plan m s ≡ others start.fixed.plan m i s + number_inside (m' i) s
+          resting_in start.fixed.plan m (device_of start.fixed.plan i) s ≡ others start.fixed.plan m i s + number_inside (m' i) s
       old_split s =
           resting_split start.fixed.plan m i s lt ∙ ap (λ ms. others start.fixed.plan m i s + number_inside ms s) h.same
 
       now_split : (s : Section) →
-          resting_in start.fixed.plan (stepped m r) s ≡ others start.fixed.plan m i s + number_inside
+          resting_in start.fixed.plan (stepped m r) (device_of start.fixed.plan i) s ≡ others start.fixed.plan m i s + number_inside
           (entered_now (is_resting start.fixed.plan i) r (m' i)) s
       now_split s =
           stepped_split start.fixed.plan m i (entered_now (is_resting start.fixed.plan i) r (m i)) s lt ∙ ap
@@ -139,42 +142,66 @@ module _ (start : Words) (a a' : State) (b b' : Bool) (m m' : ℕ → List MapIt
           h.same
 
       turn_split : (s : Section) →
-          resting_in start.fixed.plan (stepped m' r) s ≡ number_inside
+          resting_in start.fixed.plan (stepped m' r) (device_of start.fixed.plan i) s ≡ number_inside
           (entered_now (is_resting start.fixed.plan i) r (m' i)) s
       turn_split s =
           let x = stepped_split start.fixed.plan m' i
           (entered_now (is_resting start.fixed.plan i) r (m' i)) s lt in let y = h.none s in omega arith
 
-      changed : (loc : Loc) (c : Cell) → (items_of start.fixed.plan).writes i (record { loc = loc; cell = c }) ≡ false →
-          value_at start.fixed.plan x (stepped m r) (record { loc = loc; cell = c }) ≡ value_at start.fixed.plan a m
-          (record { loc = loc; cell = c })
-      changed Host c e = ap (λ (f : Cell → ℕ). Number (Some (f c))) w.moved.host
-      changed Dev c e = ap Number (w.moved.cells c e)
-      changed Tab c e =
-          ap Entry (w.moved.kept c e (resting_in start.fixed.plan m)
-          (resting_in start.fixed.plan (stepped m r)) old_split now_split)
+      now : (side : Side) (c : Cell) →
+          value_at start.fixed.plan x (stepped m r) (spot_on start.fixed.plan i side c)
+          ≡ value_of start.fixed.plan (stepped m r) i w.after side c
+      now side c = value_put start.fixed.plan i x w.after a.memories (stepped m r) side c refl
 
-      alike : (loc : Loc) (c : Cell) → touches (items_of start.fixed.plan) i (record { loc = loc; cell = c }) ≡ true →
-          value_at start.fixed.plan x (stepped m r) (record { loc = loc; cell = c }) ≡ value_at start.fixed.plan x'
-          (stepped m' r) (record { loc = loc; cell = c })
-      alike Host c e =
+      now' : (side : Side) (c : Cell) →
+          value_at start.fixed.plan x' (stepped m' r) (spot_on start.fixed.plan i side c)
+          ≡ value_of start.fixed.plan (stepped m' r) i w.after' side c
+      now' side c = value_put start.fixed.plan i x' w.after' a'.memories (stepped m' r) side c refl
+
+      framed : (side : Side) (c : Cell) → (access_of start.fixed.plan i).writes side c ≡ false →
+          value_of start.fixed.plan (stepped m r) i w.after side c
+          ≡ value_of start.fixed.plan m i (own_memories start.fixed.plan i a) side c
+      framed Host c e = ap (λ (f : Cell → ℕ). Number (Some (f c))) w.moved.host
+      framed Dev c e = ap Number (w.moved.cells c e)
+      framed Tab c e =
+          ap Entry (w.moved.kept c e (resting_in start.fixed.plan m (device_of start.fixed.plan i))
+          (resting_in start.fixed.plan (stepped m r) (device_of start.fixed.plan i)) old_split now_split)
+
+      changed : (l : Spot) → (items_of start.fixed.plan).writes i l ≡ false →
+          value_at start.fixed.plan x (stepped m r) l ≡ value_at start.fixed.plan a m l
+      changed l e =
+          unwritten_values start.fixed.plan i a x m (stepped m r) l
+          (else_put (device_of start.fixed.plan i) w.after a.memories) (now_there m)
+          (λ side f. now side l.cell ∙ (framed side l.cell f ∙ sym (value_is start.fixed.plan i a m side l.cell))) e
+
+      same : (side : Side) (c : Cell) → touched (access_of start.fixed.plan i) side c ≡ true →
+          value_of start.fixed.plan (stepped m r) i w.after side c
+          ≡ value_of start.fixed.plan (stepped m' r) i w.after' side c
+      same Host c e =
           ap (λ (f : Cell → ℕ). Number (Some (f c))) w.moved.host ∙
           (ap (λ n. Number (Some n)) (h.hosts c e) ∙ sym (ap (λ (f : Cell → ℕ). Number (Some (f c))) w.moved.host'))
-      alike Dev c e = ap Number (w.moved.same_cells c e)
-      alike Tab c e =
-          ap Entry (to_less (resting_in start.fixed.plan (stepped m r)) (resting_in start.fixed.plan (stepped m' r))
+      same Dev c e = ap Number (w.moved.same_cells c e)
+      same Tab c e =
+          ap Entry (to_less (resting_in start.fixed.plan (stepped m r) (device_of start.fixed.plan i))
+          (resting_in start.fixed.plan (stepped m' r) (device_of start.fixed.plan i))
           (others start.fixed.plan m i) (λ s. number_inside (entered_now (is_resting start.fixed.plan i) r (m' i)) s)
           (holder w.after.device.blocks c) (holder w.after'.device.blocks c) now_split turn_split (w.moved.tables c e))
+
+      alike : (l : Spot) → touches (items_of start.fixed.plan) i l ≡ true →
+          value_at start.fixed.plan x (stepped m r) l ≡ value_at start.fixed.plan x' (stepped m' r) l
+      alike l e =
+          touched_values start.fixed.plan i x x' (stepped m r) (stepped m' r) l
+          (λ side t. now side l.cell ∙ (same side l.cell t ∙ sym (now' side l.cell))) e
 
       both : Lawful_at start (at_start start a b m) (at_start start a' b' m') (at_start start x b (stepped m r))
           (at_start start x' b' (stepped m' r)) (Step i)
       both = record {
-        changes = record { own = λ j ne. own_same j ne; host = λ e. refl; values = λ l e. changed l.loc l.cell e };
+        changes = record { own = λ j ne. own_same j ne; host = λ e. refl; values = λ l e. changed l e };
         follows =
             record {
               own = own_both;
               host = λ e. o.alike.host e;
-              values = λ l e. alike l.loc l.cell e;
+              values = λ l e. alike l e;
               failed =
                   o.alike.failed;
             };
@@ -182,7 +209,7 @@ module _ (start : Words) (a a' : State) (b b' : Bool) (m m' : ℕ → List MapIt
 
   -- where program order's next action is one on the table that the walk knows
   pub table_lawful : RestingLooks start.fixed.plan → (r : Request) (k : Answer → Left) → IsTable r →
-      a'.condition i ≡ Opened (Asks r k) → Walked start.fixed.plan i r (m' i) a'.memories.device.blocks →
+      a'.condition i ≡ Opened (Asks r k) → Walked start.fixed.plan i r (m' i) (own_memories start.fixed.plan i a').device.blocks →
       InOrder parts start (Step i) (at_start start a b m) (at_start start a' b' m') →
       Does parts (at_start start a b m) (Step i) s' → Does parts (at_start start a' b' m')
       (Step i) t' → t'.failed ≡ false → Lawful_at start (at_start start a b m) (at_start start a' b' m') s' t' (Step i)
@@ -203,10 +230,11 @@ module _ (start : Words) (a a' : State) (b b' : Bool) (m m' : ℕ → List MapIt
       h : Meets start.fixed.plan i a a' m m'
       h =
           meets start a a' b b' m m' (Step i) looks (λ l. refl) lt o
-          (stands_at start.fixed.plan i r (m' i) a'.memories.device.blocks table walked)
+          (stands_at start.fixed.plan i r (m' i) (own_memories start.fixed.plan i a').device.blocks table walked)
 
-      next_lawful : (act start.fixed.plan.lengths (start.fixed.fill i) r a'.memories ≡ None) ⊎ BothMove start.fixed.plan
-          i start.fixed.plan.lengths (start.fixed.fill i) a.memories a'.memories (others start.fixed.plan m i)
+      next_lawful : (act start.fixed.plan.lengths (start.fixed.fill i) r (own_memories start.fixed.plan i a') ≡ None) ⊎ BothMove start.fixed.plan
+          i start.fixed.plan.lengths (start.fixed.fill i) (own_memories start.fixed.plan i a)
+          (own_memories start.fixed.plan i a') (others start.fixed.plan m i)
           (m' i) h.tables h.quiet h.apart h.apart' h.cells r →
           Lawful_at start (at_start start a b m) (at_start start a' b' m') s' t' (Step i)
       next_lawful (inl none) =
@@ -216,29 +244,36 @@ module _ (start : Words) (a a' : State) (b b' : Bool) (m m' : ℕ → List MapIt
           moved_lawful r k lt o d d' h w (d.step ∙ next_some a b m r k w.answer w.after same w.is)
           (d'.step ∙ next_some a' b' m' r k w.answer w.after' is w.is')
 
-      go : (q : Request) → r ≡ q → IsTable q → Walked start.fixed.plan i q (m' i) a'.memories.device.blocks →
-          ((act start.fixed.plan.lengths (start.fixed.fill i) r a'.memories ≡ None) ⊎ BothMove start.fixed.plan i
-          start.fixed.plan.lengths (start.fixed.fill i) a.memories a'.memories (others start.fixed.plan m i)
+      go : (q : Request) → r ≡ q → IsTable q → Walked start.fixed.plan i q (m' i) (own_memories start.fixed.plan i a').device.blocks →
+          ((act start.fixed.plan.lengths (start.fixed.fill i) r (own_memories start.fixed.plan i a') ≡ None) ⊎ BothMove start.fixed.plan i
+          start.fixed.plan.lengths (start.fixed.fill i) (own_memories start.fixed.plan i a)
+          (own_memories start.fixed.plan i a') (others start.fixed.plan m i)
           (m' i) h.tables h.quiet h.apart h.apart' h.cells r → Lawful_at start (at_start start a b m)
           (at_start start a' b' m') s' t' (Step i)) →
           Lawful_at start (at_start start a b m) (at_start start a' b' m') s' t' (Step i)
       go (Enter item) e table walked next =
-          next (subst (λ q. (act start.fixed.plan.lengths (start.fixed.fill i) q a'.memories ≡ None) ⊎ BothMove
-          start.fixed.plan i start.fixed.plan.lengths (start.fixed.fill i) a.memories a'.memories
+          next (subst (λ q. (act start.fixed.plan.lengths (start.fixed.fill i) q (own_memories start.fixed.plan i a') ≡ None) ⊎ BothMove
+          start.fixed.plan i start.fixed.plan.lengths (start.fixed.fill i) (own_memories start.fixed.plan i a)
+          (own_memories start.fixed.plan i a')
           (others start.fixed.plan m i) (m' i) h.tables h.quiet h.apart h.apart' h.cells q) (sym e)
-          (both_enter start.fixed.plan i start.fixed.plan.lengths (start.fixed.fill i) a.memories a'.memories
+          (both_enter start.fixed.plan i start.fixed.plan.lengths (start.fixed.fill i) (own_memories start.fixed.plan i a)
+          (own_memories start.fixed.plan i a')
           (others start.fixed.plan m i) (m' i) h.tables h.quiet h.apart h.apart' h.cells item walked))
       go (Leave item) e table walked next =
-          next (subst (λ q. (act start.fixed.plan.lengths (start.fixed.fill i) q a'.memories ≡ None) ⊎ BothMove
-          start.fixed.plan i start.fixed.plan.lengths (start.fixed.fill i) a.memories a'.memories
+          next (subst (λ q. (act start.fixed.plan.lengths (start.fixed.fill i) q (own_memories start.fixed.plan i a') ≡ None) ⊎ BothMove
+          start.fixed.plan i start.fixed.plan.lengths (start.fixed.fill i) (own_memories start.fixed.plan i a)
+          (own_memories start.fixed.plan i a')
           (others start.fixed.plan m i) (m' i) h.tables h.quiet h.apart h.apart' h.cells q) (sym e)
-          (both_leave start.fixed.plan i start.fixed.plan.lengths (start.fixed.fill i) a.memories a'.memories
+          (both_leave start.fixed.plan i start.fixed.plan.lengths (start.fixed.fill i) (own_memories start.fixed.plan i a)
+          (own_memories start.fixed.plan i a')
           (others start.fixed.plan m i) (m' i) h.tables h.quiet h.apart h.apart' h.cells item walked))
       go (Remove s) e table walked next =
-          next (subst (λ q. (act start.fixed.plan.lengths (start.fixed.fill i) q a'.memories ≡ None) ⊎ BothMove
-          start.fixed.plan i start.fixed.plan.lengths (start.fixed.fill i) a.memories a'.memories
+          next (subst (λ q. (act start.fixed.plan.lengths (start.fixed.fill i) q (own_memories start.fixed.plan i a') ≡ None) ⊎ BothMove
+          start.fixed.plan i start.fixed.plan.lengths (start.fixed.fill i) (own_memories start.fixed.plan i a)
+          (own_memories start.fixed.plan i a')
           (others start.fixed.plan m i) (m' i) h.tables h.quiet h.apart h.apart' h.cells q) (sym e)
-          (inr (both_remove start.fixed.plan i start.fixed.plan.lengths (start.fixed.fill i) a.memories a'.memories
+          (inr (both_remove start.fixed.plan i start.fixed.plan.lengths (start.fixed.fill i) (own_memories start.fixed.plan i a)
+          (own_memories start.fixed.plan i a')
           (others start.fixed.plan m i) (m' i) h.tables h.quiet h.apart h.apart' h.cells s walked)))
       go (Load side c) e table walked next = absurd table
       go (Store side c n) e table walked next = absurd table

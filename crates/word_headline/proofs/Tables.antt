@@ -6,7 +6,7 @@ use Rattle.std.proofs.lemmas.Bool.{cases_Bool, cond-true, cond-false, false_from
 use Rattle.base.specs.declared.item.Cell.{Cell}
 use Rattle.base.specs.declared.item.Section.{Section}
 use Rattle.base.specs.declared.item.MapItem.{MapItem}
-use Rattle.base.specs.declared.item.Loc.TheVariants.{Tab}
+use Rattle.base.specs.Actions.{Tab}
 use Rattle.base.specs.Memory.{is_in, is_inside, same_section}
 use Rattle.base.specs.Map.{Block, counted, without}
 use Rattle.base.specs.Blocks.{AreApart, holder}

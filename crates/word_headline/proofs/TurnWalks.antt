@@ -2,19 +2,23 @@
 use Rattle.std.proofs.Common.{◌≡◌, ◌⊎◌, ℕ, zero, suc, ◌+◌, ◌<◌, ◌≤◌, ◌==◌, Bool, true, false, List, [], ◌∷◌, length, Option, Some, None, refl, sym, ◌∙◌, ap, inl, inr, arith, subst, true≢false}
 use Rattle.std.specs.Prelude.{not, ◌&&◌, ◌||◌, slice_get, option_map, if◌then◌else◌}
 use Rattle.std.specs.List.{AllByRecursion}
-use Rattle.std.proofs.lemmas.Bool.{false≢true, cases_Bool, cases_lt, and_parts, eqb-true, eq-eqb, ne_eqb, cond-true, false_from_ne_true}
+use Rattle.std.proofs.lemmas.Bool.{false≢true, cases_Bool, cases_eq, cases_lt, and_parts, eqb-true, eq-eqb, ne_eqb, cond-true, false_from_ne_true}
 use Rattle.std.proofs.lemmas.Option.{slice_get_within}
 use Rattle.base.specs.declared.item.MapItem.{MapItem}
 use Rattle.base.specs.declared.item.ItemKind.{ItemKind}
 use Rattle.base.specs.declared.item.ItemKind.TheVariants as kind
 use Rattle.base.specs.Items.{Work, Plan}
-use Rattle.base.specs.Map.{Block, Memories, Fill}
+use Rattle.base.specs.Map.{Block, Device, Memories, AllMemories, Fill}
+use Rattle.base.specs.Memory.{changed}
+use Rattle.base.proofs.Devices.{changed_same, changed_other, memories_back}
+use Rattle.two_memories.proofs.OwnDevice.{device_at}
+use Rattle.word_headline.proofs.WordSpots.{own_memories, else_put}
 use Rattle.base.specs.Machine.{on_item}
 use Rattle.base.specs.Machine as two
 use Rattle.base.specs.Actions.{Acted, acts_of}
 use Rattle.word_machine.specs.Left.{Left, Finished, Asks, Answer, item_left}
 use Rattle.word_machine.specs.Action.{act}
-use Rattle.word_machine.specs.Machine.{State, Condition, Untouched, Generated, Opened, Closed, Passed, Event, as_whole, whole_condition, with_condition, moves_on, has_step, is_finished, begun, open_item, step_item, close_item, host_done}
+use Rattle.word_machine.specs.Machine.{State, Condition, Untouched, Generated, Opened, Closed, Passed, Event, as_whole, whole_condition, with_condition, with_memories, moves_on, has_step, is_finished, begun, open_item, step_item, close_item, host_done}
 use Rattle.word_machine.specs.Machine as by_word
 use Rattle.regions.proofs.ValueBounds.{there_at}
 use Rattle.machine.specs.Board.{Move, item_of, Condition as Phase}
@@ -23,7 +27,7 @@ use Rattle.machine.specs.Board.Condition.{Untouched as untouched, Closed as clos
 use Rattle.machine.specs.Machine.{Does, Runs, Finishes, DoesItem, InOwnTurn}
 use Rattle.machine.proofs.TurnStates.{IsKnown, known_next}
 use Rattle.machine.proofs.TurnBoards.{reached, turn_known}
-use Rattle.two_memories.specs.Two.{Fixed, items_of, own_part, blocks_before}
+use Rattle.two_memories.specs.Two.{Fixed, device_of, items_of, own_part, tables_before, blocks_before}
 use Rattle.two_memories.proofs.PlanItems.{Which, which, own_at, at_item}
 use Rattle.two_memories.proofs.PlanItems.Which.{item, past}
 use Rattle.two_memories.proofs.ByKind.{acts_wait}
@@ -45,8 +49,10 @@ TurnAt plan fill i w (Opened left) bs ms =
 TurnAt plan fill i w Closed bs ms = bs ≡ (acts_of w (blocks_before plan i)).blocks
 TurnAt plan fill i w Passed bs ms = bs ≡ (acts_of w (blocks_before plan i)).blocks
 
-abbrev pub TurnAtState : Fixed → ℕ → Work → State → (ℕ → List MapItem) → Type 0
-TurnAtState f i w s m = TurnAt f.plan (f.fill i) i w (s.condition i) s.memories.device.blocks (m i)
+-- and the other devices beside it
+pub record TurnAtState (f : Fixed) (i : ℕ) (w : Work) (s : State) (m : ℕ → List MapItem) : Type 0 where
+  pub own : TurnAt f.plan (f.fill i) i w (s.condition i) (own_memories f.plan i s).device.blocks (m i)
+  pub others : (e : ℕ) → (e ≡ device_of f.plan i → ⊥) → (s.memories.devices e).blocks ≡ tables_before f.plan i e
 
 waiting_before : (plan : Plan) (fill : Fill) (i : ℕ) (w : Work) (d : Bool) (c : Condition) (bs : List Block)
     (ms : List MapItem) → two.is_waiting d (whole_condition c) ≡ true → TurnAt plan fill i w c bs ms →
@@ -94,9 +100,13 @@ module _ (u v : Words) (i : ℕ) (w : Work) (at : slice_get u.fixed.plan.items i
   gen_walk : Does parts u (Gen i) v → Stood → Stands v
   gen_walk d h =
       subst Stands (sym d.step)
-      (subst (λ c. TurnAt u.fixed.plan (u.fixed.fill i) i w c u.state.memories.device.blocks (u.entered i))
-      (sym (condition_here i (Generated u.state.scalars) u.state))
-      (go (u.state.condition i) (valid.ahead i tests.1 (omega (arith, place))) h))
+      (record {
+        own =
+            subst (λ c. TurnAt u.fixed.plan (u.fixed.fill i) i w c (own_memories u.fixed.plan i u.state).device.blocks (u.entered i))
+            (sym (condition_here i (Generated u.state.scalars) u.state))
+            (go (u.state.condition i) (valid.ahead i tests.1 (omega (arith, place))) h.own);
+        others = h.others;
+      })
     where
       tests : (u.state.place == i ≡ true) × (on_item u.fixed.plan i false (λ w. w.deferred) ≡ true)
       tests = and_parts (u.state.place == i) (on_item u.fixed.plan i false (λ w. w.deferred)) d.enabled.enabled
@@ -105,8 +115,8 @@ module _ (u v : Words) (i : ℕ) (w : Work) (at : slice_get u.fixed.plan.items i
       place = eqb-true u.state.place i tests.0
 
       go : (c : Condition) → whole_condition c ≡ whole_condition Untouched →
-          TurnAt u.fixed.plan (u.fixed.fill i) i w c u.state.memories.device.blocks (u.entered i) →
-          u.state.memories.device.blocks ≡ blocks_before u.fixed.plan i
+          TurnAt u.fixed.plan (u.fixed.fill i) i w c (own_memories u.fixed.plan i u.state).device.blocks (u.entered i) →
+          (own_memories u.fixed.plan i u.state).device.blocks ≡ blocks_before u.fixed.plan i
       go Untouched e h = h
       go (Generated a) e h = h
       go (Opened left) e h = absurd (cc e)
@@ -114,7 +124,7 @@ module _ (u v : Words) (i : ℕ) (w : Work) (at : slice_get u.fixed.plan.items i
       go Passed e h = absurd (cc e)
 
   open_walk : Does parts u (Open i) v → Stood → Stands v
-  open_walk d h = go (item_left w u.state.memories.device.blocks (begun w (u.state.condition i) u.state)) refl
+  open_walk d h = go (item_left w (u.state.memories.devices w.device).blocks (begun w (u.state.condition i) u.state)) refl
     where
       test : not (two.is_wait w.kind) && ((w.deferred || (u.state.place == i)) && (two.is_waiting w.deferred
           (whole_condition (u.state.condition i)) && two.is_ready u.fixed.plan (as_whole u.state) i)) ≡ true
@@ -133,40 +143,47 @@ module _ (u v : Words) (i : ℕ) (w : Work) (at : slice_get u.fixed.plan.items i
           (and_parts (two.is_waiting w.deferred (whole_condition (u.state.condition i))) _
           (and_parts (w.deferred || (u.state.place == i)) _ parts_of.1).1).0
 
-      same : u.state.memories.device.blocks ≡ blocks_before u.fixed.plan i
+      same : (own_memories u.fixed.plan i u.state).device.blocks ≡ blocks_before u.fixed.plan i
       same =
           waiting_before u.fixed.plan (u.fixed.fill i) i w w.deferred
-          (u.state.condition i) u.state.memories.device.blocks (u.entered i) waits h
+          (u.state.condition i) (own_memories u.fixed.plan i u.state).device.blocks (u.entered i) waits h.own
+
+      here : (u.state.memories.devices w.device).blocks ≡ blocks_before u.fixed.plan i
+      here =
+          ap (λ d. (u.state.memories.devices d).blocks) (sym (device_at u.fixed.plan i w at)) ∙ same
 
       stepped : (q : Option Left) →
-          item_left w u.state.memories.device.blocks (begun w (u.state.condition i) u.state) ≡ q →
+          item_left w (u.state.memories.devices w.device).blocks (begun w (u.state.condition i) u.state) ≡ q →
           v ≡ result_of u (by_word.Open i) (option_map (λ left. with_condition i (Opened left) u.state) q)
       stepped q e =
           d.step ∙ ap (result_of u (by_word.Open i))
           (at_item u.fixed.plan i w at None (λ w. open_item i w u.state) ∙ ap
           (option_map (λ left. with_condition i (Opened left) u.state)) e)
 
-      go : (q : Option Left) → item_left w u.state.memories.device.blocks (begun w (u.state.condition i) u.state) ≡ q →
+      go : (q : Option Left) → item_left w (u.state.memories.devices w.device).blocks (begun w (u.state.condition i) u.state) ≡ q →
           Stands v
       go None e = absurd (true≢false (sym (ap (λ (x : Words). x.failed) (stepped None e)) ∙ sound))
       go (Some left) e =
           subst Stands (sym (stepped (Some left) e))
-          (subst (λ c. TurnAt u.fixed.plan (u.fixed.fill i) i w c u.state.memories.device.blocks (u.entered i))
-          (sym (condition_here i (Opened left) u.state)) (
-            false_from_ne_true (two.is_wait w.kind) (λ e. true≢false (sym parts_of.0 ∙ ap not e)),
-            subst (λ ms. InWalk u.fixed.plan (u.fixed.fill i) i
-                (acts_of w (blocks_before u.fixed.plan i)).blocks ms u.state.memories.device.blocks left)
-                (sym (none_waiting u valid i w.deferred waits))
-                (subst (λ bs. InWalk u.fixed.plan (u.fixed.fill i) i
-                (acts_of w (blocks_before u.fixed.plan i)).blocks [] bs left) (sym same)
-                (there_at (InWalk u.fixed.plan (u.fixed.fill i) i (acts_of w (blocks_before u.fixed.plan i)).blocks []
-                (blocks_before u.fixed.plan i)) (item_left w (blocks_before u.fixed.plan i)
-                (begun w (u.state.condition i) u.state)) left
-                (item_walks u.fixed.plan (u.fixed.fill i) i w (begun w (u.state.condition i) u.state) at (valid.lawful i w at)
-                (walks_blocks u.fixed.plan valid.lawful i)
-                (begun_fine w (u.state.condition i) u.state (valid.bounded.condition i) valid.bounded))
-                (ap (λ bs. item_left w bs (begun w (u.state.condition i) u.state)) (sym same) ∙ e))),
-          ))
+          (record {
+            others = h.others;
+            own = subst (λ c. TurnAt u.fixed.plan (u.fixed.fill i) i w c (own_memories u.fixed.plan i u.state).device.blocks (u.entered i))
+                (sym (condition_here i (Opened left) u.state)) (
+                  false_from_ne_true (two.is_wait w.kind) (λ e. true≢false (sym parts_of.0 ∙ ap not e)),
+                  subst (λ ms. InWalk u.fixed.plan (u.fixed.fill i) i
+                      (acts_of w (blocks_before u.fixed.plan i)).blocks ms (own_memories u.fixed.plan i u.state).device.blocks left)
+                      (sym (none_waiting u valid i w.deferred waits))
+                      (subst (λ bs. InWalk u.fixed.plan (u.fixed.fill i) i
+                      (acts_of w (blocks_before u.fixed.plan i)).blocks [] bs left) (sym same)
+                      (there_at (InWalk u.fixed.plan (u.fixed.fill i) i (acts_of w (blocks_before u.fixed.plan i)).blocks []
+                      (blocks_before u.fixed.plan i)) (item_left w (blocks_before u.fixed.plan i)
+                      (begun w (u.state.condition i) u.state)) left
+                      (item_walks u.fixed.plan (u.fixed.fill i) i w (begun w (u.state.condition i) u.state) at (valid.lawful i w at)
+                      (walks_blocks u.fixed.plan valid.lawful i)
+                      (begun_fine w (u.state.condition i) u.state (valid.bounded.condition i) valid.bounded))
+                      (ap (λ bs. item_left w bs (begun w (u.state.condition i) u.state)) (sym here) ∙ e))),
+                );
+          })
 
   step_walk : Does parts u (Step i) v → Stood → Stands v
   step_walk d h =
@@ -179,43 +196,53 @@ module _ (u v : Words) (i : ℕ) (w : Work) (at : slice_get u.fixed.plan.items i
       go (Generated captured) e s = absurd (false≢true s)
       go Closed e s = absurd (false≢true s)
       go Passed e s = absurd (false≢true s)
-      go (Opened (Asks r k)) e s = by (act u.fixed.plan.lengths (u.fixed.fill i) r u.state.memories) refl
+      go (Opened (Asks r k)) e s = by (act u.fixed.plan.lengths (u.fixed.fill i) r (own_memories u.fixed.plan i u.state)) refl
         where
           walked : (two.is_wait w.kind ≡ false) × InWalk u.fixed.plan (u.fixed.fill i) i
-              (acts_of w (blocks_before u.fixed.plan i)).blocks (u.entered i) u.state.memories.device.blocks (Asks r k)
+              (acts_of w (blocks_before u.fixed.plan i)).blocks (u.entered i) (own_memories u.fixed.plan i u.state).device.blocks (Asks r k)
           walked =
-              subst (λ c. TurnAt u.fixed.plan (u.fixed.fill i) i w c u.state.memories.device.blocks (u.entered i)) e h
+              subst (λ c. TurnAt u.fixed.plan (u.fixed.fill i) i w c (own_memories u.fixed.plan i u.state).device.blocks (u.entered i)) e h.own
 
           bounded : BoundedCondition (Opened (Asks r k))
           bounded = subst BoundedCondition e (valid.bounded.condition i)
 
           stepped : (q : Option (Answer × Memories)) →
-              act u.fixed.plan.lengths (u.fixed.fill i) r u.state.memories ≡ q →
+              act u.fixed.plan.lengths (u.fixed.fill i) r (own_memories u.fixed.plan i u.state) ≡ q →
               v ≡ result_of u (by_word.Step i) (option_map
-              (λ p. with_condition i (Opened (k p.0)) (record (u.state) { memories = p.1 })) q)
+              (λ p. with_condition i (Opened (k p.0)) (with_memories (device_of u.fixed.plan i) p.1 u.state)) q)
           stepped q f =
               d.step
               ∙ ap (result_of u (by_word.Step i)) (ap (λ c. step_item u.fixed.plan (u.fixed.fill i) i c u.state) e ∙ ap
-              (option_map (λ p. with_condition i (Opened (k p.0)) (record (u.state) { memories = p.1 }))) f)
+              (option_map (λ p. with_condition i (Opened (k p.0)) (with_memories (device_of u.fixed.plan i) p.1 u.state))) f)
 
-          by : (q : Option (Answer × Memories)) → act u.fixed.plan.lengths (u.fixed.fill i) r u.state.memories ≡ q →
+          by : (q : Option (Answer × Memories)) → act u.fixed.plan.lengths (u.fixed.fill i) r (own_memories u.fixed.plan i u.state) ≡ q →
               Stands v
           by None f = absurd (true≢false (sym (ap (λ (x : Words). x.failed) (stepped None f)) ∙ sound))
           by (Some (x, n)) f =
               subst Stands (sym (stepped (Some (x, n)) f))
-              (subst (λ c. TurnAt u.fixed.plan (u.fixed.fill i) i w c n.device.blocks
-              (entered_after u.fixed.plan u.state u.entered (by_word.Step i) i))
-              (sym (condition_here i (Opened (k x)) (record (u.state) { memories = n }))) (
-                walked.0,
-                subst (λ ms. InWalk u.fixed.plan (u.fixed.fill i) i
-                    (acts_of w (blocks_before u.fixed.plan i)).blocks ms n.device.blocks (k x))
-                    (sym (cond-true (i == i) (entered_by (is_resting u.fixed.plan i) (u.state.condition i) (u.entered i))
-                    (u.entered i) (eq-eqb i i refl) ∙ ap (λ c. entered_by (is_resting u.fixed.plan i) c (u.entered i)) e))
-                    (walked.1.1 x u.state.memories n refl
-                    (there_at IsActed (act u.fixed.plan.lengths (u.fixed.fill i) r u.state.memories) (x, n)
-                    (act_kept u.fixed.plan.lengths (u.fixed.fill i) r u.state.memories (valid.fill i) bounded.0
-                    (kept_memories u valid)) f).0 f),
-              ))
+              (record {
+                others =
+                    λ j ne. ap (λ (y : Device). y.blocks) (else_put (device_of u.fixed.plan i) n u.state.memories j ne)
+                    ∙ h.others j ne;
+                own =
+                    subst (λ (y : Memories). TurnAt u.fixed.plan (u.fixed.fill i) i w
+                    ((with_condition i (Opened (k x)) (with_memories (device_of u.fixed.plan i) n u.state)).condition i)
+                    y.device.blocks (entered_after u.fixed.plan u.state u.entered (by_word.Step i) i))
+                    (sym (memories_back (device_of u.fixed.plan i) n u.state.memories))
+                    (subst (λ c. TurnAt u.fixed.plan (u.fixed.fill i) i w c n.device.blocks
+                    (entered_after u.fixed.plan u.state u.entered (by_word.Step i) i))
+                    (sym (condition_here i (Opened (k x)) (with_memories (device_of u.fixed.plan i) n u.state))) (
+                      walked.0,
+                      subst (λ ms. InWalk u.fixed.plan (u.fixed.fill i) i
+                          (acts_of w (blocks_before u.fixed.plan i)).blocks ms n.device.blocks (k x))
+                          (sym (cond-true (i == i) (entered_by (is_resting u.fixed.plan i) (u.state.condition i) (u.entered i))
+                          (u.entered i) (eq-eqb i i refl) ∙ ap (λ c. entered_by (is_resting u.fixed.plan i) c (u.entered i)) e))
+                          (walked.1.1 x (own_memories u.fixed.plan i u.state) n refl
+                          (there_at IsActed (act u.fixed.plan.lengths (u.fixed.fill i) r (own_memories u.fixed.plan i u.state)) (x, n)
+                          (act_kept u.fixed.plan.lengths (u.fixed.fill i) r (own_memories u.fixed.plan i u.state) (valid.fill i) bounded.0
+                          (kept_memories u valid i)) f).0 f),
+                    ));
+              })
 
   close_walk : Does parts u (Close i) v → Stood → Stands v
   close_walk d h =
@@ -232,15 +259,22 @@ module _ (u v : Words) (i : ℕ) (w : Work) (at : slice_get u.fixed.plan.items i
           subst Stands (sym (d.step ∙ ap (result_of u (by_word.Close i))
           (at_item u.fixed.plan i w at None (λ w. close_item i w (u.state.condition i) u.state) ∙ ap
           (λ c. close_item i w c u.state) e)))
-          (subst (λ c. TurnAt u.fixed.plan (u.fixed.fill i) i w c (closed_by i w t u.state).memories.device.blocks
-          (u.entered i))
-          (sym (ap (λ (f : ℕ → Condition). f i) (moved_condition w.deferred
-          (with_condition i Closed (host_done w.kind t u.state))) ∙ condition_here i Closed
-          (host_done w.kind t u.state)))
-          (ap (λ (m : Memories). m.device.blocks)
-          (moved_memories w.deferred (with_condition i Closed (host_done w.kind t u.state)) ∙ done_memories w.kind)
-          ∙ (subst (λ c. TurnAt u.fixed.plan (u.fixed.fill i) i w c u.state.memories.device.blocks (u.entered i)) e
-          h).1))
+          (record {
+            others =
+                λ j ne. ap (λ (m : AllMemories). (m.devices j).blocks)
+                (moved_memories w.deferred (with_condition i Closed (host_done w.kind t u.state)) ∙ done_memories w.kind)
+                ∙ h.others j ne;
+            own =
+                subst (λ c. TurnAt u.fixed.plan (u.fixed.fill i) i w c (own_memories u.fixed.plan i (closed_by i w t u.state)).device.blocks
+                (u.entered i))
+                (sym (ap (λ (f : ℕ → Condition). f i) (moved_condition w.deferred
+                (with_condition i Closed (host_done w.kind t u.state))) ∙ condition_here i Closed
+                (host_done w.kind t u.state)))
+                (ap (λ (m : AllMemories). (m.devices (device_of u.fixed.plan i)).blocks)
+                (moved_memories w.deferred (with_condition i Closed (host_done w.kind t u.state)) ∙ done_memories w.kind)
+                ∙ (subst (λ c. TurnAt u.fixed.plan (u.fixed.fill i) i w c (own_memories u.fixed.plan i u.state).device.blocks (u.entered i)) e
+                h.own).1);
+          })
         where
           done_memories : (k : ItemKind) → (host_done k t u.state).memories ≡ u.state.memories
           done_memories kind.Host = refl
@@ -255,10 +289,14 @@ module _ (u v : Words) (i : ℕ) (w : Work) (at : slice_get u.fixed.plan.items i
   wait_walk : Does parts u (Wait i) v → Stood → Stands v
   wait_walk d h =
       subst Stands (sym (d.step ∙ ap (λ q. next u (if q then by_word.End else by_word.Wait i)) off))
-      (subst (λ c. TurnAt u.fixed.plan (u.fixed.fill i) i w c u.state.memories.device.blocks (u.entered i))
-      (sym (condition_here i Passed u.state))
-      (wait_after u.fixed.plan (u.fixed.fill i) i w (u.state.condition i) u.state.memories.device.blocks
-      (u.entered i) is h))
+      (record {
+        own =
+            subst (λ c. TurnAt u.fixed.plan (u.fixed.fill i) i w c (own_memories u.fixed.plan i u.state).device.blocks (u.entered i))
+            (sym (condition_here i Passed u.state))
+            (wait_after u.fixed.plan (u.fixed.fill i) i w (u.state.condition i) (own_memories u.fixed.plan i u.state).device.blocks
+            (u.entered i) is h.own);
+        others = h.others;
+      })
     where
       off : (i == length u.fixed.plan.items) ≡ false
       off =
@@ -388,8 +426,10 @@ module _ (start : Words) (is_start : IsStart start) where
       run_walk i w es r.0 t at (known_next parts step_laws start is_start s e r.0 k r.1) own.1 r.2 sound
       (one_walk i w s r.0 e at k own.0 r.1 (runs_sound es r.0 t r.2 sound) h)
 
-  first_blocks : start.state.memories.device.blocks ≡ blocks_before start.fixed.plan 0
-  first_blocks = ap (λ (s : State). s.memories.device.blocks) is_start.state ∙ sym (from_none start.fixed.plan.items [])
+  first_blocks : (d : ℕ) → (start.state.memories.devices d).blocks ≡ tables_before start.fixed.plan 0 d
+  first_blocks d =
+      ap (λ (s : State). (s.memories.devices d).blocks) is_start.state
+      ∙ ap (λ (f : ℕ → List Block). f d) (sym (from_none start.fixed.plan.items (λ d. [])))
 
   phase_at : (s : Words) (i : ℕ) (w : Work) → IsKnown parts start s → slice_get start.fixed.plan.items i ≡ Some w →
       (p : Phase) → (board_of s.fixed.plan s.state).condition i ≡ p →
@@ -409,12 +449,28 @@ module _ (start : Words) (is_start : IsStart start) where
             let e : i ≡ n = omega arith in subst (λ k. (x.after k).failed ≡ false) e
             (runs_sound x.so_far (x.after i) t x.run sound)
 
-    walked_before : (n : ℕ) → n ≤ i → (x.after n).state.memories.device.blocks ≡ blocks_before start.fixed.plan n
-    walked_before zero le = ap (λ (s : Words). s.state.memories.device.blocks) x.begins ∙ first_blocks
-    walked_before (suc n) le = by (which start.fixed.plan n) (walked_before n (omega arith))
+    -- an item that is not begun stands before the blocks of the walk
+    stands_before : (n : ℕ) (w : Work) → slice_get start.fixed.plan.items n ≡ Some w → n ≤ i →
+        ((d : ℕ) → ((x.after n).state.memories.devices d).blocks ≡ tables_before start.fixed.plan n d) →
+        AtStart n w (x.after n)
+    stands_before n w at le same =
+        let here = reached parts step_laws start is_start i n t x le in
+        record {
+          own =
+              untouched_before start.fixed.plan (start.fixed.fill n) n w ((x.after n).state.condition n)
+              (own_memories start.fixed.plan n (x.after n).state).device.blocks ((x.after n).entered n)
+              (phase_at (x.after n) n w here.known at untouched here.turn.item) (same (device_of start.fixed.plan n));
+          others = λ e _. same e;
+        }
+
+    walked_before : (n : ℕ) → n ≤ i →
+        (d : ℕ) → ((x.after n).state.memories.devices d).blocks ≡ tables_before start.fixed.plan n d
+    walked_before zero le d = ap (λ (s : Words). (s.state.memories.devices d).blocks) x.begins ∙ first_blocks d
+    walked_before (suc n) le d = by (which start.fixed.plan n) (walked_before n (omega arith))
       where
-        by : Which start.fixed.plan n → (x.after n).state.memories.device.blocks ≡ blocks_before start.fixed.plan n →
-            (x.after (suc n)).state.memories.device.blocks ≡ blocks_before start.fixed.plan (suc n)
+        by : Which start.fixed.plan n →
+            ((d : ℕ) → ((x.after n).state.memories.devices d).blocks ≡ tables_before start.fixed.plan n d) →
+            ((x.after (suc n)).state.memories.devices d).blocks ≡ tables_before start.fixed.plan (suc n) d
         by (past _ ge) same = absurd (omega arith)
         by (item w at _) same =
             let lt : n < i = omega arith in
@@ -424,16 +480,42 @@ module _ (start : Words) (is_start : IsStart start) where
             let here = reached parts step_laws start is_start i n t x (omega arith) in
             let there = reached parts step_laws start is_start i (n + 1) t x le' in
             let r = as_run start.fixed.plan n (x.after n) (x.after (n + 1)) (x.each n lt) in
-            let stood = untouched_before start.fixed.plan (start.fixed.fill n) n w ((x.after n).state.condition n)
-            (x.after n).state.memories.device.blocks ((x.after n).entered n)
-            (phase_at (x.after n) n w here.known at untouched here.turn.item) same in
             let stands = run_walk n w r.events (x.after n) (x.after (n + 1)) at here.known r.own r.run
-            (sound_before (n + 1) le') stood in
-            subst (λ k. (x.after k).state.memories.device.blocks ≡ blocks_before start.fixed.plan (suc n)) up
-            (closed_after start.fixed.plan (start.fixed.fill n) n w ((x.after (n + 1)).state.condition n)
-            (x.after (n + 1)).state.memories.device.blocks ((x.after (n + 1)).entered n)
-            (phase_at (x.after (n + 1)) n w there.known at closed (there.turn.before n below)) stands
-            ∙ sym (before_next start.fixed.plan n w at))
+            (sound_before (n + 1) le') (stands_before n w at (omega arith) same) in
+            let closes =
+            closed_after start.fixed.plan (start.fixed.fill n) n w ((x.after (n + 1)).state.condition n)
+            (own_memories start.fixed.plan n (x.after (n + 1)).state).device.blocks ((x.after (n + 1)).entered n)
+            (phase_at (x.after (n + 1)) n w there.known at closed (there.turn.before n below)) stands.own in
+            subst (λ k. ((x.after k).state.memories.devices d).blocks ≡ tables_before start.fixed.plan (suc n) d) up
+            (on w
+            (subst
+            (λ e. ((x.after (n + 1)).state.memories.devices e).blocks
+            ≡ (acts_of w (tables_before start.fixed.plan n e)).blocks)
+            (device_at start.fixed.plan n w at) closes)
+            (λ e ne. stands.others e (λ q. ne (q ∙ device_at start.fixed.plan n w at))) (cases_eq d w.device)
+            ∙ ap (λ (f : ℕ → List Block). f d) (sym (before_next start.fixed.plan n w at)))
+          where
+            on : (w : Work) →
+                ((x.after (n + 1)).state.memories.devices w.device).blocks
+                ≡ (acts_of w (tables_before start.fixed.plan n w.device)).blocks →
+                ((e : ℕ) → (e ≡ w.device → ⊥) →
+                ((x.after (n + 1)).state.memories.devices e).blocks ≡ tables_before start.fixed.plan n e) →
+                (d ≡ w.device) ⊎ (d ≡ w.device → ⊥) →
+                ((x.after (n + 1)).state.memories.devices d).blocks
+                ≡ changed w.device (acts_of w (tables_before start.fixed.plan n w.device)).blocks
+                (tables_before start.fixed.plan n) d
+            on w closes others (inl e) =
+                subst
+                (λ k. ((x.after (n + 1)).state.memories.devices k).blocks
+                ≡ changed w.device (acts_of w (tables_before start.fixed.plan n w.device)).blocks
+                (tables_before start.fixed.plan n) k)
+                (sym e)
+                (closes ∙ sym (changed_same w.device (acts_of w (tables_before start.fixed.plan n w.device)).blocks
+                (tables_before start.fixed.plan n)))
+            on w closes others (inr ne) =
+                others d ne
+                ∙ sym (changed_other w.device d (acts_of w (tables_before start.fixed.plan n w.device)).blocks
+                (tables_before start.fixed.plan n) (ne_eqb d w.device ne))
 
     -- how the item stands in its turn
     pub turn_walk : (w : Work) → slice_get start.fixed.plan.items i ≡ Some w →
@@ -441,19 +523,17 @@ module _ (start : Words) (is_start : IsStart start) where
     turn_walk w at =
         let here = reached parts step_laws start is_start i i t x (omega arith) in
         run_walk i w x.so_far (x.after i) t at here.known x.own x.run sound
-        (untouched_before start.fixed.plan (start.fixed.fill i) i w ((x.after i).state.condition i)
-        (x.after i).state.memories.device.blocks ((x.after i).entered i)
-        (phase_at (x.after i) i w here.known at untouched here.turn.item) (walked_before i (omega arith)))
+        (stands_before i w at (omega arith) (walked_before i (omega arith)))
 
 -- before its opening an item has the blocks of the walk, and has entered nothing
 pub waiting_at : (start : Words) → IsStart start → (i : ℕ) (t : Words) → InOwnTurn parts start i t → IsValid t →
     {t' : Words} → Does parts t (Open i) t' → i < length start.fixed.plan.items → (w : Work) →
     slice_get start.fixed.plan.items i ≡ Some w →
-    (t.state.memories.device.blocks ≡ blocks_before start.fixed.plan i) × (t.entered i ≡ [])
+    ((own_memories start.fixed.plan i t.state).device.blocks ≡ blocks_before start.fixed.plan i) × (t.entered i ≡ [])
 waiting_at start is_start i t x valid d within w at = (
   waiting_before start.fixed.plan (start.fixed.fill i) i w w.deferred
-      (t.state.condition i) t.state.memories.device.blocks (t.entered i) waits
-      (turn_walk start is_start i t x d.enabled.sound within w at),
+      (t.state.condition i) (own_memories start.fixed.plan i t.state).device.blocks (t.entered i) waits
+      (turn_walk start is_start i t x d.enabled.sound within w at).own,
   none_waiting t valid i w.deferred waits,
 )
   where

@@ -6,7 +6,7 @@ use Rattle.base.specs.declared.item.Cell.{Cell}
 use Rattle.base.specs.declared.item.Section.{Section}
 use Rattle.base.specs.declared.item.MapItem.{MapItem}
 use Rattle.base.specs.declared.item.MapKind.TheVariants.{Delete}
-use Rattle.base.specs.declared.item.Loc.TheVariants.{Dev, Tab}
+use Rattle.base.specs.Actions.{Dev, Tab}
 use Rattle.base.specs.Memory.{is_in, is_inside}
 use Rattle.base.specs.Items.{Plan}
 use Rattle.base.specs.Map.{Block, Memories, Fill}

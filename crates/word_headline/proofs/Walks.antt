@@ -8,7 +8,7 @@ use Rattle.base.specs.declared.item.Cell.{Cell}
 use Rattle.base.specs.declared.item.Section.{Section}
 use Rattle.base.specs.declared.item.MapItem.{MapItem}
 use Rattle.base.specs.declared.item.MapKind.TheVariants.{Delete}
-use Rattle.base.specs.declared.item.Loc.TheVariants.{Host, Dev}
+use Rattle.base.specs.Actions.{Host, Dev}
 use Rattle.base.specs.Memory.{is_in, is_inside, same_section}
 use Rattle.base.specs.Items.{Work, Plan}
 use Rattle.base.specs.Map.{Block, Memories, Fill, Move, Absent, Inside, InPart, presence, counted, without, when, with_blocks, with_cells, entry, exit, exit_count, exit_copies, enter, leave}

@@ -14,7 +14,10 @@ use Rattle.base.specs.declared.item.ItemKind.TheVariants as kind
 use Rattle.base.specs.Memory.{Scalars}
 use Rattle.base.specs.Meaning.{Run as Region_run}
 use Rattle.base.specs.Items.{Work, Plan, plan}
-use Rattle.base.specs.Map.{Memories, Fill}
+use Rattle.base.specs.Map.{Memories, AllMemories, memories_at, with_memories_at, Fill}
+use Rattle.base.proofs.Devices.{changed_same}
+use Rattle.two_memories.proofs.OwnDevice.{device_at}
+use Rattle.word_headline.proofs.WordSpots.{else_put}
 use Rattle.base.specs.Machine.{State as Whole, Condition as Whole_condition, opening, closing, worked_on, moved_on}
 use Rattle.base.specs.Machine as two
 use Rattle.base.specs.Machine.Condition.{Opened as opened, Closed as closed, Generated as generated, Passed as passed}
@@ -39,10 +42,10 @@ use Rattle.word_headline.proofs.Stepping.{with_whole}
 use Rattle.word_headline.proofs.Quietly.{closed_by}
 use Rattle.word_headline.proofs.Reaching.{map_parts}
 use Rattle.word_headline.proofs.Finishing.{Ended, finish}
-use Rattle.word_headline.proofs.Storing.{AreStored}
+use Rattle.word_headline.proofs.Storing.{AreStored, stored_on}
 use Rattle.word_headline.proofs.ItemFinishes.{SameHost, ItemDone, opened_whole, item_done}
 
-abbrev whole_of : ℕ → Memories → Scalars → List ℕ → List ℕ → (ℕ → Whole_condition) → Whole
+abbrev whole_of : ℕ → AllMemories → Scalars → List ℕ → List ℕ → (ℕ → Whole_condition) → Whole
 whole_of place memories scalars input output condition =
     record {
       place = place;
@@ -63,6 +66,10 @@ whole_same a b p m s i o c =
     ∙ (ap (λ x. whole_of b.place b.memories b.scalars x a.output a.condition) i
     ∙ (ap (λ x. whole_of b.place b.memories b.scalars b.input x a.condition) o
     ∙ ap (λ x. whole_of b.place b.memories b.scalars b.input b.output x) c))))
+
+-- where a block lies on a device there is storage
+abbrev AllStored : State → Type 0
+AllStored t = (d : ℕ) → AreStored (memories_at d t.memories)
 
 -- marking an item is the same in both machines
 marked_whole : (i : ℕ) (c : Condition) (s : State) →
@@ -96,11 +103,11 @@ module _ (plan : Plan) (fill : ℕ → Fill) (i : ℕ) (w : Work) (at : slice_ge
     entered : ℕ → List MapItem
     opens : OpensAndFinishes parts i (words plan fill m t) (words plan fill entered state)
     same : as_whole state ≡ s
-    stored : AreStored state.memories
+    stored : AllStored state
 
-  opens_closes : (t : State) (m : ℕ → List MapItem) (s : Whole) → AreStored t.memories → two.is_wait w.kind ≡ false →
+  opens_closes : (t : State) (m : ℕ → List MapItem) (s : Whole) → AllStored t → two.is_wait w.kind ≡ false →
       two.Run plan fill (Some (as_whole t)) (whole.Open i ∷ whole.Close i ∷ []) (Some s) → OpensCloses t m s
-  opens_closes t m s h other r = go (opening (fill i) w t.memories) refl
+  opens_closes t m s h other r = go (opening (fill i) w (memories_at w.device t.memories)) refl
     where
       waits : two.is_waiting w.deferred (whole_condition (t.condition i)) ≡ true
       waits =
@@ -110,34 +117,34 @@ module _ (plan : Plan) (fill : ℕ → Fill) (i : ℕ) (w : Work) (at : slice_ge
           i)) && (two.is_waiting w.deferred (whole_condition (t.condition i)) && two.is_ready plan (as_whole t) i))))
           ∙ r.0)).1).1).0
 
-      after_open : (o : Option Memories) → opening (fill i) w t.memories ≡ o →
-          two.Run plan fill (option_map (opened_whole plan (fill i) i w lawful t h) o) (whole.Close i ∷ []) (Some s)
+      after_open : (o : Option Memories) → opening (fill i) w (memories_at w.device t.memories) ≡ o →
+          two.Run plan fill (option_map (opened_whole plan (fill i) i w lawful t (h w.device)) o) (whole.Close i ∷ []) (Some s)
       after_open o e =
           subst (λ x. two.Run plan fill x (whole.Close i ∷ []) (Some s))
           (at_item plan i w at None (λ w. two.open_item plan (fill i) i w (as_whole t)) ∙ ap
-          (option_map (opened_whole plan (fill i) i w lawful t h)) e) r.1
+          (option_map (opened_whole plan (fill i) i w lawful t (h w.device))) e) r.1
 
       -- from the two memories after the opening
-      closes : (m1 : Memories) → opening (fill i) w t.memories ≡ Some m1 → OpensCloses t m s
+      closes : (m1 : Memories) → opening (fill i) w (memories_at w.device t.memories) ≡ Some m1 → OpensCloses t m s
       closes m1 e = record {
         state = closed_by i w d.run f.before;
         entered = f.left_in;
         opens = (words plan fill m u, f.steps, does, f.finishes);
         same = ended;
-        stored = subst AreStored (sym memories_now) d.stored;
+        stored = λ e. stored_at e (cases_eq e w.device);
       }
         where
           s1 : Whole
-          s1 = opened_whole plan (fill i) i w lawful t h m1
+          s1 = opened_whole plan (fill i) i w lawful t (h w.device) m1
 
-          open_here : (opened_whole plan (fill i) i w lawful t h m1).condition i ≡ opened
+          open_here : (opened_whole plan (fill i) i w lawful t (h w.device) m1).condition i ≡ opened
               (two.captured_by (whole_condition (t.condition i)) t.scalars) (worked_on plan.lengths w.kind m1)
           open_here =
               cond-true (i == i) (opened (two.captured_by (whole_condition (t.condition i)) t.scalars)
               (worked_on plan.lengths w.kind m1)) (whole_condition (t.condition i)) (eq-eqb i i refl)
 
           parts_of : (s2 : Whole) × (closing w (opened (two.captured_by (whole_condition (t.condition i)) t.scalars)
-              (worked_on plan.lengths w.kind m1)) (opened_whole plan (fill i) i w lawful t h m1) ≡ Some s2)
+              (worked_on plan.lengths w.kind m1)) (opened_whole plan (fill i) i w lawful t (h w.device) m1) ≡ Some s2)
               × (moved_on w.deferred (two.with_condition i closed s2) ≡ s)
           parts_of =
               map_parts (λ x. moved_on w.deferred (two.with_condition i closed x))
@@ -152,13 +159,13 @@ module _ (plan : Plan) (fill : ℕ → Fill) (i : ℕ) (w : Work) (at : slice_ge
           s2 = parts_of.0
 
           kept : (parts_of.0.place ≡ t.place) × (parts_of.0.condition ≡ (opened_whole plan
-              (fill i) i w lawful t h m1).condition)
+              (fill i) i w lawful t (h w.device) m1).condition)
           kept =
               closing_keeps w (opened (two.captured_by (whole_condition (t.condition i)) t.scalars)
               (worked_on plan.lengths w.kind m1)) s1 s2 parts_of.1
 
-          d : ItemDone plan (fill i) i w lawful t h parts_of.0
-          d = item_done plan (fill i) i w lawful t h other waits m1 e s2 parts_of.1
+          d : ItemDone plan (fill i) i w lawful t (h w.device) parts_of.0
+          d = item_done plan (fill i) i w lawful t (h w.device) other waits m1 e s2 parts_of.1
 
           u : State
           u = with_condition i (Opened d.left) t
@@ -176,8 +183,9 @@ module _ (plan : Plan) (fill : ℕ → Fill) (i : ℕ) (w : Work) (at : slice_ge
 
           f : Ended (record { plan = plan; fill = fill }) i w at u m d.run d.end
           f =
-              finish (record { plan = plan; fill = fill }) i w at d.left t.memories
-              (Finished d.run) d.end d.reaches d.run refl u m here refl
+              finish (record { plan = plan; fill = fill }) i w at d.left (memories_at w.device t.memories)
+              (Finished d.run) d.end d.reaches d.run refl u m here
+              (ap (λ e. memories_at e t.memories) (device_at plan i w at))
 
           y : State
           y = host_done w.kind d.run f.before
@@ -189,8 +197,23 @@ module _ (plan : Plan) (fill : ℕ → Fill) (i : ℕ) (w : Work) (at : slice_ge
           moved_memories true x = refl
           moved_memories false x = refl
 
-          memories_now : (closed_by i w d.run f.before).memories ≡ d.end
-          memories_now = moved_memories w.deferred (with_condition i Closed y) ∙ (done.memories ∙ f.went.memories)
+          went_memories : f.before.memories ≡ with_memories_at w.device d.end t.memories
+          went_memories =
+              f.went.memories ∙ ap (λ e. with_memories_at e d.end t.memories) (device_at plan i w at)
+
+          memories_now : (closed_by i w d.run f.before).memories ≡ with_memories_at w.device d.end t.memories
+          memories_now = moved_memories w.deferred (with_condition i Closed y) ∙ (done.memories ∙ went_memories)
+
+          stored_at : (e : ℕ) → (e ≡ w.device) ⊎ (e ≡ w.device → ⊥) →
+              AreStored (memories_at e (closed_by i w d.run f.before).memories)
+          stored_at e (inl q) =
+              subst (λ x. AreStored (memories_at x (closed_by i w d.run f.before).memories)) (sym q)
+              (stored_on d.end (memories_at w.device (closed_by i w d.run f.before).memories)
+              (ap (λ (x : AllMemories). x.devices w.device) memories_now
+              ∙ changed_same w.device d.end.device t.memories.devices) d.stored)
+          stored_at e (inr n) =
+              stored_on (memories_at e t.memories) (memories_at e (closed_by i w d.run f.before).memories)
+              (ap (λ (x : AllMemories). x.devices e) memories_now ∙ else_put w.device d.end t.memories e n) (h e)
 
           same_host : SameHost (host_done w.kind d.run f.before) parts_of.0
           same_host = d.host f.before f.went.scalars f.went.input f.went.output
@@ -220,11 +243,11 @@ module _ (plan : Plan) (fill : ℕ → Fill) (i : ℕ) (w : Work) (at : slice_ge
               ∙ (ap (moved_on w.deferred) (marked_whole i Closed y
               ∙ whole_same (two.with_condition i closed (as_whole y)) (two.with_condition i closed s2)
               (done.place ∙ (f.went.place ∙ sym kept.0))
-              (done.memories ∙ (f.went.memories ∙ sym d.memories)) same_host.scalars same_host.input same_host.output
+              (done.memories ∙ (went_memories ∙ sym d.memories)) same_host.scalars same_host.input same_host.output
               (fun_ext conditions))
               ∙ parts_of.2)
 
-      go : (o : Option Memories) → opening (fill i) w t.memories ≡ o → OpensCloses t m s
+      go : (o : Option Memories) → opening (fill i) w (memories_at w.device t.memories) ≡ o → OpensCloses t m s
       go None e = absurd (after_open None e)
       go (Some m1) e = closes m1 e
 
@@ -234,9 +257,9 @@ module _ (plan : Plan) (fill : ℕ → Fill) (i : ℕ) (w : Work) (at : slice_ge
     pub entered : ℕ → List MapItem
     pub does : DoesItem parts (items_of plan) i (words plan fill m t) (words plan fill entered state)
     pub same : as_whole state ≡ s
-    pub stored : AreStored state.memories
+    pub stored : AllStored state
 
-  pub item_after : (t : State) (m : ℕ → List MapItem) (s : Whole) → AreStored t.memories →
+  pub item_after : (t : State) (m : ℕ → List MapItem) (s : Whole) → AllStored t →
       two.Run plan fill (Some (as_whole t)) (item_events (two.is_wait w.kind) w.deferred i) (Some s) → ItemAfter t m s
   item_after t m s h r = go (two.is_wait w.kind) refl w.deferred refl
     where
@@ -269,7 +292,7 @@ module _ (plan : Plan) (fill : ℕ → Fill) (i : ℕ) (w : Work) (at : slice_ge
             same =
                 ap (moved_on false) (marked_whole i Passed t) ∙ sym
                 (same_Some s (moved_on false (two.with_condition i passed (as_whole t))) k.1);
-            stored = record { apart = h.apart; storage = h.storage };
+            stored = h;
           }
       go false p false q =
           let o = opens_closes t m s h p (run_as false false p q) in
@@ -287,7 +310,7 @@ module _ (plan : Plan) (fill : ℕ → Fill) (i : ℕ) (w : Work) (at : slice_ge
       go false p true q =
           let k = run_as false true p q in
           let g : State = moves_on false (with_condition i (Generated t.scalars) t) in
-          let o = opens_closes g m s (record { apart = h.apart; storage = h.storage }) p
+          let o = opens_closes g m s h p
           (subst (λ x. two.Run plan fill (Some x) (whole.Open i ∷ whole.Close i ∷ []) (Some s))
           (sym (ap (moved_on false) (marked_whole i (Generated t.scalars) t))) k.1) in
           record {
@@ -307,7 +330,7 @@ module _ (p : Program) (accepted : IsAccepted (plan p)) (lawful : AllLawful (pla
   -- a state of program order after k items, beside the run that does items whole
   record IsAfter (k : ℕ) (t : State) : Type 0 where
     same : as_whole t ≡ state_at p accepted input fill numbers k
-    stored : AreStored t.memories
+    stored : AllStored t
 
   record After (k : ℕ) : Type 0 where
     entered : ℕ → List MapItem
@@ -345,7 +368,7 @@ module _ (p : Program) (accepted : IsAccepted (plan p)) (lawful : AllLawful (pla
       same =
           sym (same_Some (state_at p accepted input fill numbers 0) (two.start input)
           (first_run p accepted input fill numbers 0));
-      stored = record { apart = tt; storage = λ c b e. absurd (none-some b e) };
+      stored = λ d. record { apart = tt; storage = λ c b e. absurd (none-some b e) };
     };
   }
   after (suc k) = next_after k (after k) (which (plan p) k)

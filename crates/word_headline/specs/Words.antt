@@ -4,7 +4,7 @@ use Rattle.base.specs.declared.item.Cell.{Cell}
 use Rattle.base.specs.declared.item.Section.{Section}
 use Rattle.base.specs.declared.item.MapItem.{MapItem}
 use Rattle.base.specs.declared.item.Loc.{Loc}
-use Rattle.base.specs.declared.item.Loc.TheVariants.{Host, Dev, Tab}
+use Rattle.base.specs.declared.item.Loc.TheVariants as at
 use Rattle.base.specs.declared.tree.Program.{Program}
 use Rattle.base.specs.Items.{Plan, plan}
 use Rattle.base.specs.Map.{Fill}
@@ -20,7 +20,7 @@ use Rattle.machine.specs.Board.{Move, Board, Condition as Phase}
 use Rattle.machine.specs.Board.Condition.{Opened as opened}
 use Rattle.machine.specs.Board.Move.{Gen, Open, Step, Close, Wait}
 use Rattle.machine.specs.Machine.{Parts}
-use Rattle.two_memories.specs.Two.{Spot, Holding, Number, Entry, Fixed, Hosted, hosted, items_of, blocks_before, resting_maps, number_inside, sum_below, less, AllLawful, BoundedFill}
+use Rattle.two_memories.specs.Two.{Spot, Holding, Number, Entry, Fixed, Hosted, hosted, items_of, device_of, blocks_before, resting_maps, number_inside, sum_below, less, AllLawful, BoundedFill}
 use Rattle.two_memories.specs.Two as two
 
 -- a state, or one that a failure left, with the resting map items that each item has entered and not yet left
@@ -50,17 +50,21 @@ own_of plan s entered i =
 
 -- The table.
 
--- how often resting items have entered a section and not yet left it
-abbrev pub resting_in : Plan → (ℕ → List MapItem) → Section → ℕ
-resting_in plan entered section = sum_below (length plan.items) (λ i. number_inside (entered i) section)
+-- how often an item has entered a section on device d, where it rests, and not yet left it
+abbrev pub entered_on : Plan → (ℕ → List MapItem) → ℕ → Section → ℕ → ℕ
+entered_on plan entered d section i = if device_of plan i == d then number_inside (entered i) section else 0
+
+abbrev pub resting_in : Plan → (ℕ → List MapItem) → ℕ → Section → ℕ
+resting_in plan entered d section = sum_below (length plan.items) (entered_on plan entered d section)
 
 abbrev pub value_at : Plan → State → (ℕ → List MapItem) → Spot → Holding
-value_at plan s entered l = at l.loc
+value_at plan s entered l = of l.loc
   where
-    at : Loc → Holding
-    at Host = Number (Some (s.memories.host l.cell))
-    at Dev = Number (s.memories.device.cells l.cell)
-    at Tab = Entry (option_map (less (resting_in plan entered)) (holder s.memories.device.blocks l.cell))
+    of : Loc → Holding
+    of at.Host = Number (Some (s.memories.host l.cell))
+    of (at.Dev d) = Number ((s.memories.devices d).cells l.cell)
+    of (at.Tab d) =
+        Entry (option_map (less (resting_in plan entered d)) (holder (s.memories.devices d).blocks l.cell))
 
 -- a map item of item i that rests
 abbrev pub is_resting : Plan → ℕ → MapItem → Bool
@@ -144,7 +148,7 @@ BoundedCondition _ = Unit {0}
 
 pub record IsBounded (s : State) : Type 0 where
   pub host : (c : Cell) → s.memories.host c < 2 ^ 64
-  pub device : BoundedView s.memories.device.cells
+  pub devices : (d : ℕ) → BoundedView (s.memories.devices d).cells
   pub scalars : BoundedScalars s.scalars
   pub input : All (λ n. n < 2 ^ 64) s.input
   pub condition : (i : ℕ) → BoundedCondition (s.condition i)
@@ -185,7 +189,7 @@ pub record IsValid (s : Words) : Type 0 where
   pub ahead : (i : ℕ) → on_item s.fixed.plan i false (λ w. w.deferred) ≡ true → s.state.place ≤ i →
       (as_whole s.state).condition i ≡ whole_condition Untouched
   -- a count can be 0 until the block is removed
-  pub blocks : AreApart s.state.memories.device.blocks
+  pub blocks : (d : ℕ) → AreApart (s.state.memories.devices d).blocks
   pub settled : AreSettled s.fixed.plan s.entered s.state.condition
 
 pub record IsStart (s : Words) : Type 0 where

@@ -18,6 +18,7 @@ use Rattle.base.specs.declared.tree.Part.{Part}
 use Rattle.base.specs.declared.tree.Part.TheVariants as part
 use Rattle.base.specs.declared.tree.Region.{Region}
 use Rattle.base.specs.declared.tree.Directive.TheVariants as directive
+use Rattle.base.specs.declared.tree.DeviceId.{DeviceId}
 use Rattle.base.specs.declared.tree.Tasking.{Tasking}
 use Rattle.base.specs.declared.tree.Target.{Target}
 use Rattle.base.specs.declared.tree.UpdateText.{UpdateText}
@@ -62,10 +63,20 @@ module _ (v : Vec (Unit {0}) Global) (p : Box (Unit {0}) Global) where
   whole b = record { array = b; bounds = None; place = here }
 
   abbrev map_item : {K : Type 0} → K → SectionText → MapText K
-  map_item kind s = record { kind = kind; always = false; section = s }
+  map_item kind s = record { kind = kind; always = false; present = false; section = s }
+
+  abbrev first_device : DeviceId
+  first_device = record { number = 0; in_range = lit< tt }
+
+  abbrev second_device : DeviceId
+  second_device = record { number = 1; in_range = lit< tt }
+
+  abbrev tasking_on : DeviceId → Bool → Tasking
+  tasking_on device nowait =
+      record { nowait = nowait; device = device; depends = record { items = []; capacity = 2 } }
 
   abbrev tasking : Bool → Tasking
-  tasking nowait = record { nowait = nowait; depends = record { items = []; capacity = 2 } }
+  tasking nowait = tasking_on first_device nowait
 
   abbrev target : Bool → List (MapText RegionKind) → Target
   target nowait maps = record { maps = record { items = maps; capacity = 2 }; tasking = tasking nowait }
@@ -76,7 +87,7 @@ module _ (v : Vec (Unit {0}) Global) (p : Box (Unit {0}) Global) where
 
   abbrev update_from : SectionText → Part
   update_from s =
-      let u : UpdateText = record { kind = updated.From; section = s } in part.Alone
+      let u : UpdateText = record { kind = updated.From; present = false; section = s } in part.Alone
       (directive.Update (record { items = u ∷ []; capacity = 2 }) (tasking false))
 
   abbrev wait_all : Part
@@ -114,6 +125,43 @@ module _ (v : Vec (Unit {0}) Global) (p : Box (Unit {0}) Global) where
       1 ∷ Step 1 ∷ Close 1 ∷ Step 2 ∷ Step 2 ∷ Close 2
       ∷ Wait 3 ∷ Open 4 ∷ Step 4 ∷ Close 4 ∷ Open 5 ∷ Step 5 ∷ Close 5 ∷ End ∷ []
   its_history = refl
+
+  -- the same on two devices: each has an array of its own, and one is brought back
+  abbrev entered_on : DeviceId → Part
+  entered_on d =
+      part.Alone (directive.Enter (record { items = map_item entered.To (whole a) ∷ []; capacity = 2 })
+      (tasking_on d false))
+
+  abbrev added_on : DeviceId → Part
+  added_on d =
+      part.Target (record {
+        maps = record { items = map_item mapped.Alloc (whole a) ∷ []; capacity = 2 };
+        tasking = tasking_on d true;
+      })
+      (region (Store a here (Number 0) (Value (Binary' Add p (at_a (Number 0)) p (Number 1))) ∷ []) (lit< tt))
+
+  -- an update from a device on which the array is to be present
+  abbrev back_from : DeviceId → Part
+  back_from d =
+      let u : UpdateText = record { kind = updated.From; present = true; section = whole a } in part.Alone
+      (directive.Update (record { items = u ∷ []; capacity = 2 }) (tasking_on d false))
+
+  abbrev each_adds : Plan
+  each_adds =
+      plan_of (1 ∷ []) (entered_on first_device ∷ entered_on second_device ∷ added_on first_device ∷
+      added_on second_device ∷ wait_all ∷ back_from second_device ∷ part.Host
+      (region (Print (at_a (Number 0)) ∷ []) (lit< tt)) ∷ [])
+
+  each_by_itself : output (played each_adds [] []) ≡ Some (1 ∷ [])
+  each_by_itself = refl
+
+  each_between_the_other :
+      output (played each_adds [] (0 ∷ 0 ∷ 0 ∷ 0 ∷ 0 ∷ 0 ∷ 0 ∷ 0 ∷ 0 ∷ 0 ∷ 1 ∷ 1 ∷ 0 ∷ 0 ∷ 1 ∷ 1 ∷ [])) ≡ Some (1 ∷ [])
+  each_between_the_other = refl
+
+  not_on_the_other : output (played (plan_of (1 ∷ []) (entered_on first_device ∷ back_from second_device ∷ [])) [] [])
+      ≡ None
+  not_on_the_other = refl
 
   -- an array is filled, doubled on the device with nothing copied back, and printed
   abbrev not_copied_back : Plan

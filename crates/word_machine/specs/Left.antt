@@ -1,6 +1,6 @@
 -- What is left of an open item, word by word: each load, each store, each copied cell and each action on the table
 -- comes by itself.
-use Rattle.std.specs.Prelude.{ℕ, zero, suc, ◌+◌, ◌%◌, Bool, true, false, not, List, [], ◌∷◌, ◌++◌, Option, Some, None, slice_index, option_map}
+use Rattle.std.specs.Prelude.{ℕ, zero, suc, ◌+◌, ◌%◌, Bool, true, false, not, List, [], ◌∷◌, ◌++◌, Option, Some, None, slice_index, if◌then◌else◌, option_map}
 use Rattle.base.specs.declared.tree.ArrayId.{ArrayId}
 use Rattle.base.specs.declared.tree.Expr.{Expr}
 use Rattle.base.specs.declared.tree.Expr.TheVariants.{Number, Scalar, LoopName, Cell', Unary', Binary', And', Or', Shift', Divide'}
@@ -141,13 +141,13 @@ abbrev pub each_left : (MapItem → (Unit {0} → Left) → Left) → List MapIt
 each_left f [] k = k tt
 each_left f (item ∷ rest) k = f item (λ u. each_left f rest k)
 
--- the sections of an update that have storage, or none where one overlaps a block in part
+-- the sections of an update that have storage, or none where one overlaps a block in part, or is absent and to be present
 abbrev pub present_of : List Block → List MapItem → Option (List MapItem)
 present_of blocks [] = Some []
 present_of blocks (item ∷ rest) = at (presence blocks item.section) (present_of blocks rest)
   where
     at : Presence → Option (List MapItem) → Option (List MapItem)
-    at Absent o = o
+    at Absent o = if item.present then None else o
     at (Inside b) o = option_map (λ xs. item ∷ xs) o
     at InPart o = None
 

@@ -7,7 +7,7 @@ use Rattle.base.specs.declared.item.Event.TheVariants as whole
 use Rattle.base.specs.Memory.{Scalars, zeros}
 use Rattle.base.specs.Meaning.{Run as Region_run}
 use Rattle.base.specs.Items.{Work, Plan}
-use Rattle.base.specs.Map.{Memories, Fill}
+use Rattle.base.specs.Map.{Memories, AllMemories, memories_at, with_memories_at, Fill}
 use Rattle.base.specs.Machine.{State as Whole, Condition as Whole_condition, on_item, first_or_zero, rest_of}
 use Rattle.base.specs.Machine as two
 use Rattle.base.specs.Machine.Condition.{Untouched as untouched, Generated as generated, Opened as opened, Closed as closed, Passed as passed}
@@ -33,7 +33,7 @@ pub data Condition : Type 0 where
 pub record State : Type 0 where
   -- where the host stands: an item, past the last, or one further where `End` was done
   pub place : ℕ
-  pub memories : Memories
+  pub memories : AllMemories
   pub scalars : Scalars
   pub input : List ℕ
   pub output : List ℕ
@@ -42,7 +42,7 @@ pub record State : Type 0 where
 abbrev pub start : List ℕ → State
 start input = record {
   place = 0;
-  memories = record { host = zeros; device = record { blocks = []; cells = λ c. None } };
+  memories = record { host = zeros; devices = λ d. record { blocks = []; cells = λ c. None } };
   scalars = λ x. 0;
   input = input;
   output = [];
@@ -126,13 +126,22 @@ begun w c s = record { scalars = captured_by c s.scalars; stores = []; input = i
 abbrev pub open_item : ℕ → Work → State → Option State
 open_item i w s =
     option_map (λ left. with_condition i (Opened left) s)
-    (item_left w s.memories.device.blocks (begun w (s.condition i) s))
+    (item_left w (s.memories.devices w.device).blocks (begun w (s.condition i) s))
 
--- the next action of an open item
+-- the device on which an item works
+abbrev pub device_of : Plan → ℕ → ℕ
+device_of plan i = on_item plan i 0 (λ w. w.device)
+
+-- the two memories of device d became these
+abbrev pub with_memories : ℕ → Memories → State → State
+with_memories d m s = record s { memories = with_memories_at d m s.memories }
+
+-- the next action of an open item, on the host memory and the storage of its device
 abbrev pub step_item : Plan → Fill → ℕ → Condition → State → Option State
 step_item plan fill i (Opened (Asks r k)) s =
-    option_map (λ p. with_condition i (Opened (k p.0)) (record s { memories = p.1 }))
-    (act plan.lengths fill r s.memories)
+    let d = device_of plan i in
+    option_map (λ p. with_condition i (Opened (k p.0)) (with_memories d p.1 s))
+    (act plan.lengths fill r (memories_at d s.memories))
 step_item plan fill i (Opened (Finished t)) s = None
 step_item plan fill i Untouched s = None
 step_item plan fill i (Generated captured) s = None
