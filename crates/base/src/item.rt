@@ -1,6 +1,6 @@
 // What `main` is turned into: items, and the events that they have.
 
-use crate::tree::{ArrayId, DependKind, DeviceId};
+use crate::tree::{ArrayId, DependKind, DeviceId, Place};
 use smallvec::SmallVec;
 
 /// A cell of an array.
@@ -69,6 +69,8 @@ pub struct LoopValues {
 #[derive(Drop)]
 pub struct Item {
     pub kind: ItemKind,
+    /// Where its directive begins; of a host item, where its first statement does.
+    pub place: Place,
     pub deferred: bool,
     pub device: DeviceId,
     pub maps: SmallVec<MapItem, 2>,
@@ -77,10 +79,13 @@ pub struct Item {
     pub loops: LoopValues,
 }
 
+/// What happens in a run. Steps are of the fine-grained machine alone: a load, a store, a copied cell or an action on a
+/// table, of an open item.
 #[derive(Clone, Copy, PartialEq, Eq, Debug)]
 pub enum Event {
     Gen(u32),
     Open(u32),
+    Step(u32),
     Close(u32),
     Wait(u32),
     End,

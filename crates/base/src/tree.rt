@@ -234,11 +234,20 @@ pub struct Tasking {
     pub device: DeviceId,
 }
 
-/// The clauses of a `target`.
+/// A `target`: the place of its `#`, and its clauses.
 #[derive(Drop)]
 pub struct Target {
+    pub place: Place,
     pub maps: SmallVec<MapText<RegionKind>, 2>,
     pub tasking: Tasking,
+}
+
+/// A `target data`: the place of its `#`, and its clauses.
+#[derive(Drop)]
+pub struct Data {
+    pub place: Place,
+    pub maps: SmallVec<MapText<RegionKind>, 2>,
+    pub device: DeviceId,
 }
 
 /// A directive that stands alone.
@@ -257,8 +266,9 @@ pub enum Part {
     Block(Vec<Part>),
     Loop(Bounds, Vec<Part>),
     Target(Target, Region),
-    Data(SmallVec<MapText<RegionKind>, 2>, DeviceId, Vec<Part>),
-    Alone(Directive),
+    Data(Data, Vec<Part>),
+    /// With the place of its `#`.
+    Alone(Place, Directive),
 }
 
 #[derive(Drop)]
