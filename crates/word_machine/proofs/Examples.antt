@@ -79,19 +79,19 @@ module _ (v : Vec (Unit {0}) Global) (p : Box (Unit {0}) Global) where
   tasking nowait = tasking_on first_device nowait
 
   abbrev target : Bool → List (MapText RegionKind) → Target
-  target nowait maps = record { maps = record { items = maps; capacity = 2 }; tasking = tasking nowait }
+  target nowait maps = record { place = here; maps = record { items = maps; capacity = 2 }; tasking = tasking nowait }
 
   abbrev enter_whole : ArrayId → Part
   enter_whole b =
-      part.Alone (directive.Enter (record { items = map_item entered.To (whole b) ∷ []; capacity = 2 }) (tasking false))
+      part.Alone here (directive.Enter (record { items = map_item entered.To (whole b) ∷ []; capacity = 2 }) (tasking false))
 
   abbrev update_from : SectionText → Part
   update_from s =
-      let u : UpdateText = record { kind = updated.From; present = false; section = s } in part.Alone
+      let u : UpdateText = record { kind = updated.From; present = false; section = s } in part.Alone here
       (directive.Update (record { items = u ∷ []; capacity = 2 }) (tasking false))
 
   abbrev wait_all : Part
-  wait_all = part.Alone (directive.Wait (record { items = []; capacity = 2 }))
+  wait_all = part.Alone here (directive.Wait (record { items = []; capacity = 2 }))
 
   abbrev played : Plan → List ℕ → List ℕ → Played
   played plan input choices = run_by_choices plan (λ k c. 11936128518282651045) 1000 input choices
@@ -129,12 +129,13 @@ module _ (v : Vec (Unit {0}) Global) (p : Box (Unit {0}) Global) where
   -- the same on two devices: each has an array of its own, and one is brought back
   abbrev entered_on : DeviceId → Part
   entered_on d =
-      part.Alone (directive.Enter (record { items = map_item entered.To (whole a) ∷ []; capacity = 2 })
+      part.Alone here (directive.Enter (record { items = map_item entered.To (whole a) ∷ []; capacity = 2 })
       (tasking_on d false))
 
   abbrev added_on : DeviceId → Part
   added_on d =
       part.Target (record {
+        place = here;
         maps = record { items = map_item mapped.Alloc (whole a) ∷ []; capacity = 2 };
         tasking = tasking_on d true;
       })
@@ -143,7 +144,7 @@ module _ (v : Vec (Unit {0}) Global) (p : Box (Unit {0}) Global) where
   -- an update from a device on which the array is to be present
   abbrev back_from : DeviceId → Part
   back_from d =
-      let u : UpdateText = record { kind = updated.From; present = true; section = whole a } in part.Alone
+      let u : UpdateText = record { kind = updated.From; present = true; section = whole a } in part.Alone here
       (directive.Update (record { items = u ∷ []; capacity = 2 }) (tasking_on d false))
 
   abbrev each_adds : Plan
