@@ -12,7 +12,7 @@ use Rattle.base.specs.declared.item.ItemKind.TheVariants as kind
 use Rattle.base.specs.Map.{Block}
 use Rattle.base.specs.Items.{Work, plan}
 use Rattle.base.specs.Actions.{Action, Counts, Creates, CopiesIn, CopiesOut, HostRegion, Kernel, Removes, Met, Stage, acts_of, only_if, region_acts, rests, stages}
-use Rattle.base.specs.Current.{Current}
+use Rattle.base.specs.Current.{AllCurrent}
 use Rattle.base.specs.Accepted.{cause, in_part, met_at}
 use Rattle.mapwalk.specs.declared.rows.Acts.{Acts}
 use Rattle.mapwalk.specs.Acts.{acts_row, acts_rows, entries_after, entry_row, exit_row}
@@ -93,6 +93,6 @@ TargetsKeepBlocks =
 -- what an item of a program does is spelled out of its row, where it is not refused for an overlap in part
 abbrev pub StagesAreSpelled : Type 0
 StagesAreSpelled =
-    (p : Program) (i : ℕ) (s : Stage) (row : List Acts) (k : Current) → HasNoRangeFault (plan p) →
-    slice_get (stages (plan p)) i ≡ Some s → slice_get (acts_rows (plan p).items []) i ≡ Some row →
+    (p : Program) (i : ℕ) (s : Stage) (row : List Acts) (k : AllCurrent) → HasNoRangeFault (plan p) →
+    slice_get (stages (plan p)) i ≡ Some s → slice_get (acts_rows (plan p).items (λ d. [])) i ≡ Some row →
     ((c : Cell) → cause OverlapsInPart s k c ≡ false) → s.actions ≡ actions_of s.work row

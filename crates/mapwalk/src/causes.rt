@@ -9,7 +9,7 @@ ghost use Rattle.bits.specs.Sets as bits;
 ghost use Rattle.mapwalk.specs.Current.{AreInside, marks_in, row_lengths};
 ghost use Rattle.bits.specs.Sets.{IsFirstAt};
 ghost use Rattle.base.specs.Least.{IsLeast};
-ghost use Rattle.mapwalk.specs.Causes.{AreBelow, IsFirstOf, met_causes};
+ghost use Rattle.mapwalk.specs.Causes.{AreBelow, IsFirstOf, cause_at, met_causes};
 ghost use Rattle.mapwalk.specs.Seen.{nothing, seen_all};
 
 use crate::blocks::end;
@@ -17,6 +17,7 @@ use crate::marks::Marks;
 use crate::seen::Seen;
 use base::fault::RefusalCode;
 use base::item::{Cell, ItemKind, MapItem, Section};
+use base::least::lesser;
 use base::tree::ArrayId;
 use bits::BitSet;
 use ranges::{CellSet, Footprint};
@@ -115,6 +116,16 @@ pub fn least_unmapped(f: &Footprint, maps: &[MapItem], arrays: usize) -> Option<
     None
 }
 
+// The cause of this code, where there is a cell for it.
+fn caused(code: RefusalCode, cell: Option<Cell>) -> Option<Cause>
+    ensures { result ≡ cause_at code cell }
+{
+    match cell {
+        None => None,
+        Some(cell) => Some(Cause { code, cell }),
+    }
+}
+
 /// Why an item is refused for what its map items meet.
 pub fn met_cause(kind: ItemKind, seen: &Seen) -> Option<Cause>
     ensures { (mets : List Met) → seen.now ≡ seen_all mets nothing → IsFirstOf (met_causes kind mets) result }
@@ -125,19 +136,18 @@ pub fn met_cause(kind: ItemKind, seen: &Seen) -> Option<Cause>
             cell,
         });
     }
-    let Some(cell) = seen.absent else {
-        return None;
-    };
     match kind {
-        ItemKind::End | ItemKind::Exit => Some(Cause {
-            code: RefusalCode::ExitOfAbsent,
-            cell,
-        }),
-        ItemKind::Update => Some(Cause {
-            code: RefusalCode::UpdateOfAbsent,
-            cell,
-        }),
-        ItemKind::Host | ItemKind::Target | ItemKind::Begin | ItemKind::Enter | ItemKind::Wait =>
-            None,
+        ItemKind::End | ItemKind::Exit => {
+            caused(RefusalCode::ExitOfAbsent, lesser(seen.absent, seen.missing))
+        }
+        ItemKind::Update if seen.absent.is_some() => {
+            caused(RefusalCode::UpdateOfAbsent, seen.absent)
+        }
+        ItemKind::Update
+        | ItemKind::Host
+        | ItemKind::Target
+        | ItemKind::Begin
+        | ItemKind::Enter
+        | ItemKind::Wait => caused(RefusalCode::NotPresent, seen.missing),
     }
 }

@@ -13,7 +13,8 @@ pub use crate::alike::repeats;
 use crate::causes::Cause;
 pub use crate::footprints::{footprint_of, next_footprint};
 pub use crate::rows::Acts;
-use crate::steps::{State, Step};
+use crate::state::State;
+use crate::steps::Step;
 use base::fault::Refusal;
 use base::tree::ArrayId;
 use outline::Outlined;
@@ -30,6 +31,7 @@ mod marks;
 mod region;
 mod rows;
 mod seen;
+mod state;
 mod steps;
 mod table;
 

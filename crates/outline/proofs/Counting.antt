@@ -4,10 +4,8 @@ use Rattle.std.proofs.Math.Nat.{zero-mul, suc-mul}
 use Rattle.std.proofs.lemmas.Bool.{cases_lt}
 use Rattle.std.proofs.lemmas.List.Sums.{sum_by-cons}
 use mathlib.Core.Former.{Count}
-use Rattle.smallvec.specs.declared.SmallVec.{SmallVec}
 use Rattle.base.specs.declared.tree.Bounds.{Bounds}
-use Rattle.base.specs.declared.tree.MapText.{MapText}
-use Rattle.base.specs.declared.tree.RegionKind.{RegionKind}
+use Rattle.base.specs.declared.tree.Data.{Data as DataText}
 use Rattle.base.specs.declared.tree.Part.{Part, Block, Loop, Data, Row_of-Part, end_of-Part, more_of-Part, items-the_row-Part, items_hidden-the_row-Part-0}
 use Rattle.base.specs.Meaning.{turns_of}
 use Rattle.outline.specs.Counts.{part_count, row_count, list_count}
@@ -56,18 +54,18 @@ counted_Loop p b all xs t n r m is xs_is t_is n_is r_is =
     ∙ ap (λ ys. min (turns_of b * list_count ys) m) xs_is
     ∙ ap (λ k. min k m) (sym (count_Loop b all) ∙ ap (λ q. part_count q) (sym is))
 
-pub count_Data : (maps : SmallVec (MapText RegionKind) 2 Global) (all : Vec Part Global) →
-    part_count (Data maps all) ≡ list_count all.items + 2
-count_Data maps all = ap (λ n. n + 2) (count_row (part_row (Data maps all)) all.items (items_hidden-the_row-Part-0 all))
+pub count_Data : (d : DataText) (all : Vec Part Global) →
+    part_count (Data d all) ≡ list_count all.items + 2
+count_Data d all = ap (λ n. n + 2) (count_row (part_row (Data d all)) all.items (items_hidden-the_row-Part-0 all))
 
-pub counted_Data : (p : Part) (maps : SmallVec (MapText RegionKind) 2 Global) (all : Vec Part Global) (xs : List Part)
-    (n r m : ℕ) → p ≡ Data maps all → xs ≡ all.items → n ≡ min (list_count xs) m → r ≡ min (n + 2) m →
+pub counted_Data : (p : Part) (d : DataText) (all : Vec Part Global) (xs : List Part)
+    (n r m : ℕ) → p ≡ Data d all → xs ≡ all.items → n ≡ min (list_count xs) m → r ≡ min (n + 2) m →
     r ≡ min (part_count p) m
-counted_Data p maps all xs n r m is xs_is n_is r_is =
+counted_Data p d all xs n r m is xs_is n_is r_is =
     r_is ∙ ap (λ k. min (k + 2) m) n_is
     ∙ least_two (list_count xs) m
     ∙ ap (λ ys. min (list_count ys + 2) m) xs_is
-    ∙ ap (λ k. min k m) (sym (count_Data maps all) ∙ ap (λ q. part_count q) (sym is))
+    ∙ ap (λ k. min k m) (sym (count_Data d all) ∙ ap (λ q. part_count q) (sym is))
   where
     least_two : (a m : ℕ) → min (min a m + 2) m ≡ min (a + 2) m
     least_two a m = omega arith

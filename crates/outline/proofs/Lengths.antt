@@ -28,11 +28,11 @@ mutual
       turned_length (turns_of b) b.first b.step (row_count all) (λ v. row_items all lengths (loops ++ v ∷ []))
       (λ v. row_length all lengths (loops ++ v ∷ []))
   part_length (part.Target t r) lengths loops = refl
-  part_length (part.Data' maps shape all) lengths loops =
+  part_length (part.Data' d shape all) lengths loops =
       let inner = row_length all lengths loops in
-      let both = length-append (row_items all lengths loops) (data_work End lengths maps.items loops ∷ []) in
+      let both = length-append (row_items all lengths loops) (data_work End lengths d loops ∷ []) in
       omega (arith, inner, both)
-  part_length (part.Alone d) lengths loops = refl
+  part_length (part.Alone place d) lengths loops = refl
 
   row_length : {m : _} (row : Row_of-Part m) (lengths loops : List ℕ) → length (row_items row lengths loops)
       ≡ row_count row

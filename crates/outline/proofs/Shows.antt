@@ -5,6 +5,7 @@ use Rattle.base.specs.declared.item.Depend.{Depend}
 use Rattle.base.specs.declared.item.MapItem.{MapItem}
 use Rattle.base.specs.declared.item.ItemKind.{ItemKind}
 use Rattle.base.specs.declared.item.ItemKind.TheVariants.{Host, Target}
+use Rattle.base.specs.declared.tree.Place.{Place}
 use Rattle.base.specs.declared.tree.Region.{Region}
 use Rattle.base.specs.declared.tree.ArrayId.{ArrayId}
 use Rattle.base.specs.declared.tree.DependText.{DependText}
@@ -16,15 +17,27 @@ use Rattle.outline.specs.Walk.{implicit_of}
 use Rattle.outline.proofs.Implicit.{implicit_is}
 
 -- a work without its region
-abbrev work_at : ItemKind → Bool → List MapItem → List Depend → List ℕ → Region → Work
-work_at kind deferred ms ds ls r =
-    record { kind = kind; deferred = deferred; maps = ms; depends = ds; region = Some r; loops = ls }
+abbrev work_at : ItemKind → Place → Bool → ℕ → List MapItem → List Depend → List ℕ → Region → Work
+work_at kind place deferred device ms ds ls r =
+    record {
+      kind = kind;
+      place = place;
+      deferred = deferred;
+      device = device;
+      maps = ms;
+      depends = ds;
+      region = Some r;
+      loops = ls;
+    }
 
-pub host_shown : (es : List Entry) (k : ℕ) (e : Entry) (ms : List MapItem) (ds : List Depend) (ls loops : List ℕ) →
-    slice_get es k ≡ Some e → ms ≡ [] → ds ≡ [] → ls ≡ loops →
-    option_map (λ (e : Entry). work_at Host false ms ds ls e.region) (slice_get es k) ≡ Some (host_work e.region loops)
-host_shown es k e ms ds ls loops here ms_is ds_is ls_is =
-    (λ i. option_map (λ (e : Entry). work_at Host false (ms_is i) (ds_is i) (ls_is i) e.region) (here i))
+pub host_shown : (es : List Entry) (k : ℕ) (e : Entry) (device : ℕ) (ms : List MapItem) (ds : List Depend)
+    (ls loops : List ℕ) →
+    slice_get es k ≡ Some e → device ≡ 0 → ms ≡ [] → ds ≡ [] → ls ≡ loops →
+    option_map (λ (f : Entry). work_at Host e.region.place false device ms ds ls f.region) (slice_get es k)
+    ≡ Some (host_work e.region loops)
+host_shown es k e device ms ds ls loops here device_is ms_is ds_is ls_is =
+    (λ i. option_map (λ (f : Entry). work_at Host e.region.place false (device_is i) (ms_is i) (ds_is i) (ls_is i)
+    f.region) (here i))
 
 pub target_shown : (es : List Entry) (k : ℕ) (e : Entry) (lengths loops : List ℕ) (t : TargetText)
     (depends : List DependText) (arrays : List ArrayId) (n : ℕ) (ms : List MapItem) (ds : List Depend) (ls : List ℕ) →
@@ -33,10 +46,13 @@ pub target_shown : (es : List Entry) (k : ℕ) (e : Entry) (lengths loops : List
     ms ≡ map (map_of region_kind lengths loops) t.maps.items
     ++ implicit_of lengths e.region.place t.maps.items arrays →
     ds ≡ depends_of lengths loops depends → ls ≡ loops →
-    option_map (λ (e : Entry). work_at Target t.tasking.nowait ms ds ls e.region) (slice_get es k)
+    option_map
+    (λ (e : Entry). work_at Target t.place t.tasking.nowait t.tasking.device.number ms ds ls e.region) (slice_get es k)
     ≡ Some (target_work lengths t e.region loops)
 target_shown es k e lengths loops t depends arrays n ms ds ls here n_is arrays_is depends_is ms_is ds_is ls_is =
-    (λ i. option_map (λ (e : Entry). work_at Target t.tasking.nowait (maps i) (waits i) (ls_is i) e.region) (here i))
+    (λ i. option_map
+    (λ (e : Entry). work_at Target t.place t.tasking.nowait t.tasking.device.number (maps i) (waits i) (ls_is i) e.region)
+    (here i))
   where
     waits : ds ≡ depends_of lengths loops t.tasking.depends.items
     waits = ds_is ∙ ap (λ xs. depends_of lengths loops xs) depends_is

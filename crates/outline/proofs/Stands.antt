@@ -46,8 +46,8 @@ mutual
   entries_length s a (part.Block' shape all) = row_length s a all
   entries_length s a (part.Loop' b shape all) = row_length s a all
   entries_length s a (part.Target t r) = refl
-  entries_length s a (part.Data' maps shape all) = row_length s a all
-  entries_length s a (part.Alone d) = refl
+  entries_length s a (part.Data' d shape all) = row_length s a all
+  entries_length s a (part.Alone place d) = refl
 
   row_length : {m : _} (s a : ℕ) (row : Row_of-Part m) → length (row_entries s a row) ≡ row_regions row
   row_length s a end_of-Part = refl

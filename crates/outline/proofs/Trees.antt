@@ -2,10 +2,8 @@
 use Rattle.std.proofs.Common.{◌≡◌, ℕ, ◌+◌, List, ◌++◌, map, refl, sym, ap, ◌∙◌, Vec, Global}
 use Rattle.std.proofs.lemmas.List.Sums.{sum_by-cons}
 use mathlib.Core.Former.{Count}
-use Rattle.smallvec.specs.declared.SmallVec.{SmallVec}
 use Rattle.base.specs.declared.tree.Bounds.{Bounds}
-use Rattle.base.specs.declared.tree.MapText.{MapText}
-use Rattle.base.specs.declared.tree.RegionKind.{RegionKind}
+use Rattle.base.specs.declared.tree.Data.{Data as DataText}
 use Rattle.base.specs.declared.tree.Part.{Part, Block, Loop, Data, Row_of-Part, end_of-Part, more_of-Part, items-the_row-Part, items_hidden-the_row-Part-0}
 use Rattle.outline.specs.Regions.{Entry, StandAt, part_entries, row_entries, list_entries}
 use Rattle.outline.specs.Walk.{part_regions, row_regions, list_regions}
@@ -28,9 +26,9 @@ pub entries_Loop : (s a : ℕ) (b : Bounds) (all : Vec Part Global) → part_ent
     ≡ list_entries s a all.items
 entries_Loop s a b all = entries_row s a (part_row (Loop b all)) all.items (items_hidden-the_row-Part-0 all)
 
-pub entries_Data : (s a : ℕ) (maps : SmallVec (MapText RegionKind) 2 Global) (all : Vec Part Global) →
-    part_entries s a (Data maps all) ≡ list_entries s a all.items
-entries_Data s a maps all = entries_row s a (part_row (Data maps all)) all.items (items_hidden-the_row-Part-0 all)
+pub entries_Data : (s a : ℕ) (d : DataText) (all : Vec Part Global) →
+    part_entries s a (Data d all) ≡ list_entries s a all.items
+entries_Data s a d all = entries_row s a (part_row (Data d all)) all.items (items_hidden-the_row-Part-0 all)
 
 -- a part's regions were added
 pub added_Loop : {E : Type 0} (f : E → Entry) (s a : ℕ) (p : Part) (b : Bounds) (all : Vec Part Global) (xs : List Part)
@@ -41,13 +39,13 @@ added_Loop f s a p b all xs old new is xs_is added =
     ∙ ap (λ ys. map f old ++ list_entries s a ys) xs_is
     ∙ ap (λ es. map f old ++ es) (sym (entries_Loop s a b all) ∙ ap (λ q. part_entries s a q) (sym is))
 
-pub added_Data : {E : Type 0} (f : E → Entry) (s a : ℕ) (p : Part) (maps : SmallVec (MapText RegionKind) 2 Global)
-    (all : Vec Part Global) (xs : List Part) (old new : List E) → p ≡ Data maps all → xs ≡ all.items →
+pub added_Data : {E : Type 0} (f : E → Entry) (s a : ℕ) (p : Part) (d : DataText)
+    (all : Vec Part Global) (xs : List Part) (old new : List E) → p ≡ Data d all → xs ≡ all.items →
     map f new ≡ map f old ++ list_entries s a xs → map f new ≡ map f old ++ part_entries s a p
-added_Data f s a p maps all xs old new is xs_is added =
+added_Data f s a p d all xs old new is xs_is added =
     added
     ∙ ap (λ ys. map f old ++ list_entries s a ys) xs_is
-    ∙ ap (λ es. map f old ++ es) (sym (entries_Data s a maps all) ∙ ap (λ q. part_entries s a q) (sym is))
+    ∙ ap (λ es. map f old ++ es) (sym (entries_Data s a d all) ∙ ap (λ q. part_entries s a q) (sym is))
 
 -- how many regions
 
@@ -67,9 +65,9 @@ regions_Block all = regions_row (part_row (Block all)) all.items (items_hidden-t
 pub regions_Loop : (b : Bounds) (all : Vec Part Global) → part_regions (Loop b all) ≡ list_regions all.items
 regions_Loop b all = regions_row (part_row (Loop b all)) all.items (items_hidden-the_row-Part-0 all)
 
-pub regions_Data : (maps : SmallVec (MapText RegionKind) 2 Global) (all : Vec Part Global) →
-    part_regions (Data maps all) ≡ list_regions all.items
-regions_Data maps all = regions_row (part_row (Data maps all)) all.items (items_hidden-the_row-Part-0 all)
+pub regions_Data : (d : DataText) (all : Vec Part Global) →
+    part_regions (Data d all) ≡ list_regions all.items
+regions_Data d all = regions_row (part_row (Data d all)) all.items (items_hidden-the_row-Part-0 all)
 
 -- A part's regions stand where those of its parts stand.
 
@@ -85,9 +83,9 @@ stands_Loop es k s a p b all xs is xs_is =
     stand_is es k _ _
     (ap (λ q. part_entries s a q) is ∙ entries_Loop s a b all ∙ ap (λ ys. list_entries s a ys) (sym xs_is))
 
-pub stands_Data : (es : List Entry) (k s a : ℕ) (p : Part) (maps : SmallVec (MapText RegionKind) 2 Global)
-    (all : Vec Part Global) (xs : List Part) → p ≡ Data maps all → xs ≡ all.items →
+pub stands_Data : (es : List Entry) (k s a : ℕ) (p : Part) (d : DataText)
+    (all : Vec Part Global) (xs : List Part) → p ≡ Data d all → xs ≡ all.items →
     StandAt es k (part_entries s a p) → StandAt es k (list_entries s a xs)
-stands_Data es k s a p maps all xs is xs_is =
+stands_Data es k s a p d all xs is xs_is =
     stand_is es k _ _
-    (ap (λ q. part_entries s a q) is ∙ entries_Data s a maps all ∙ ap (λ ys. list_entries s a ys) (sym xs_is))
+    (ap (λ q. part_entries s a q) is ∙ entries_Data s a d all ∙ ap (λ ys. list_entries s a ys) (sym xs_is))

@@ -4,12 +4,10 @@ use Rattle.std.proofs.lemmas.List.{map-append, take_more}
 use Rattle.std.proofs.lemmas.Grind.{flat_map-append}
 use mathlib.Core.Former.{Count}
 use mathlib.Core.Path.{fun_ext}
-use Rattle.smallvec.specs.declared.SmallVec.{SmallVec}
 use Rattle.base.specs.declared.item.Item.{Item}
 use Rattle.base.specs.declared.item.ItemKind.TheVariants.{Begin, End}
 use Rattle.base.specs.declared.tree.Bounds.{Bounds}
-use Rattle.base.specs.declared.tree.MapText.{MapText}
-use Rattle.base.specs.declared.tree.RegionKind.{RegionKind}
+use Rattle.base.specs.declared.tree.Data.{Data as DataText}
 use Rattle.base.specs.declared.tree.Part.{Part, Block, Loop, Data, Row_of-Part, end_of-Part, more_of-Part, items-the_row-Part, items_hidden-the_row-Part-0}
 use Rattle.base.specs.Meaning.{turns_of}
 use Rattle.base.specs.Items.{Work, items_of, row_items, turned_out, data_work}
@@ -42,13 +40,13 @@ items_Loop b all lengths loops =
     (fun_ext (λ v. items_row lengths (loops ++ v ∷ [])
     (part_row (Loop b all)) all.items (items_hidden-the_row-Part-0 all)))
 
-items_Data : (maps : SmallVec (MapText RegionKind) 2 Global) (all : Vec Part Global) (lengths loops : List ℕ) →
-    items_of (Data maps all) lengths loops
-    ≡ data_work Begin lengths maps.items loops ∷ (parts_items all.items lengths loops
-    ++ data_work End lengths maps.items loops ∷ [])
-items_Data maps all lengths loops =
-    ap (λ ws. data_work Begin lengths maps.items loops ∷ (ws ++ data_work End lengths maps.items loops ∷ []))
-    (items_row lengths loops (part_row (Data maps all)) all.items (items_hidden-the_row-Part-0 all))
+items_Data : (d : DataText) (all : Vec Part Global) (lengths loops : List ℕ) →
+    items_of (Data d all) lengths loops
+    ≡ data_work Begin lengths d loops ∷ (parts_items all.items lengths loops
+    ++ data_work End lengths d loops ∷ [])
+items_Data d all lengths loops =
+    ap (λ ws. data_work Begin lengths d loops ∷ (ws ++ data_work End lengths d loops ∷ []))
+    (items_row lengths loops (part_row (Data d all)) all.items (items_hidden-the_row-Part-0 all))
 
 -- Adding one after another.
 
@@ -88,24 +86,23 @@ added_Loop es old new p b all xs lengths loops is xs_is =
     (ap (λ ys. turns_items b.first b ys lengths loops) xs_is ∙ sym (items_Loop b all lengths loops)
     ∙ ap (λ q. items_of q lengths loops) (sym is))
 
-pub added_Data : (es : List Entry) (old opened mid new : List Item) (p : Part)
-    (maps : SmallVec (MapText RegionKind) 2 Global) (all : Vec Part Global) (xs : List Part)
-    (ms ns : List (MapText RegionKind)) (i j : Item) (lengths loops held left : List ℕ) →
-    p ≡ Data maps all → xs ≡ all.items → ms ≡ maps.items → ns ≡ maps.items → held ≡ loops → left ≡ loops →
-    opened ≡ old ++ i ∷ [] → shown es i ≡ Some (data_work Begin lengths ms held) →
+pub added_Data : (es : List Entry) (old opened mid new : List Item) (p : Part) (d : DataText) (all : Vec Part Global)
+    (xs : List Part) (i j : Item) (lengths loops held left : List ℕ) →
+    p ≡ Data d all → xs ≡ all.items → held ≡ loops → left ≡ loops →
+    opened ≡ old ++ i ∷ [] → shown es i ≡ Some (data_work Begin lengths d held) →
     Added es opened mid (parts_items xs lengths loops) →
-    new ≡ mid ++ j ∷ [] → shown es j ≡ Some (data_work End lengths ns left) →
+    new ≡ mid ++ j ∷ [] → shown es j ≡ Some (data_work End lengths d left) →
     Added es old new (items_of p lengths loops)
-added_Data es old opened mid new p maps all xs ms ns i j lengths loops held left is xs_is ms_is ns_is held_is left_is opened_is i_is mid_is
+added_Data es old opened mid new p d all xs i j lengths loops held left is xs_is held_is left_is opened_is i_is mid_is
     new_is j_is =
     added_is es old new _ _
-    ((λ t. data_work Begin lengths (ms_is t) (held_is t) ∷ (parts_items (xs_is t) lengths loops
-    ++ data_work End lengths (ns_is t) (left_is t) ∷ []))
-    ∙ sym (items_Data maps all lengths loops) ∙ ap (λ q. items_of q lengths loops) (sym is))
-    (added_then es old opened new (data_work Begin lengths ms held ∷ []) (parts_items xs lengths loops
-    ++ data_work End lengths ns left ∷ [])
+    ((λ t. data_work Begin lengths d (held_is t) ∷ (parts_items (xs_is t) lengths loops
+    ++ data_work End lengths d (left_is t) ∷ []))
+    ∙ sym (items_Data d all lengths loops) ∙ ap (λ q. items_of q lengths loops) (sym is))
+    (added_then es old opened new (data_work Begin lengths d held ∷ []) (parts_items xs lengths loops
+    ++ data_work End lengths d left ∷ [])
     (added_one es old opened i _ opened_is i_is)
-    (added_then es opened mid new (parts_items xs lengths loops) (data_work End lengths ns left ∷ []) mid_is
+    (added_then es opened mid new (parts_items xs lengths loops) (data_work End lengths d left ∷ []) mid_is
     (added_one es mid new j _ new_is j_is)))
 
 -- the next part was added

@@ -10,8 +10,8 @@ abbrev mutual
   part_count (part.Block' shape all) = row_count all
   part_count (part.Loop' b shape all) = turns_of b * row_count all
   part_count (part.Target t r) = 1
-  part_count (part.Data' maps shape all) = row_count all + 2
-  part_count (part.Alone d) = 1
+  part_count (part.Data' d shape all) = row_count all + 2
+  part_count (part.Alone place d) = 1
 
   pub row_count : {m : _} → Row_of-Part m → ℕ
   row_count end_of-Part = 0

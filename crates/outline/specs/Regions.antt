@@ -30,8 +30,8 @@ abbrev mutual
   part_entries scalars arrays (part.Block' shape all) = row_entries scalars arrays all
   part_entries scalars arrays (part.Loop' b shape all) = row_entries scalars arrays all
   part_entries scalars arrays (part.Target t r) = entry scalars arrays true r ∷ []
-  part_entries scalars arrays (part.Data' maps shape all) = row_entries scalars arrays all
-  part_entries scalars arrays (part.Alone d) = []
+  part_entries scalars arrays (part.Data' d shape all) = row_entries scalars arrays all
+  part_entries scalars arrays (part.Alone place d) = []
 
   pub row_entries : {m : _} → ℕ → ℕ → Row_of-Part m → List Entry
   row_entries scalars arrays end_of-Part = []

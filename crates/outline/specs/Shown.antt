@@ -9,7 +9,9 @@ abbrev pub work_with : Item → Option Region → Work
 work_with i r =
     record {
       kind = i.kind;
+      place = i.place;
       deferred = i.deferred;
+      device = i.device.number;
       maps = i.maps.items;
       depends = i.depends.items;
       region = r;

@@ -39,8 +39,8 @@ abbrev mutual
   part_regions (part.Block' shape all) = row_regions all
   part_regions (part.Loop' b shape all) = row_regions all
   part_regions (part.Target t r) = 1
-  part_regions (part.Data' maps shape all) = row_regions all
-  part_regions (part.Alone d) = 0
+  part_regions (part.Data' d shape all) = row_regions all
+  part_regions (part.Alone place d) = 0
 
   pub row_regions : {m : _} → Row_of-Part m → ℕ
   row_regions end_of-Part = 0

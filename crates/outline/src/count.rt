@@ -12,7 +12,7 @@ pub fn count(part: &Part) -> u64
     ensures { result ≡ min (part_count part.now) (2 ^ 64 - 1) }
 {
     match part {
-        Part::Host(_) | Part::Target(_, _) | Part::Alone(_) => 1,
+        Part::Host(_) | Part::Target(_, _) | Part::Alone(_, _) => 1,
         Part::Block(all) => count_all(all),
         Part::Loop(bounds, body) => bounds.turns().saturating_mul(count_all(body)),
         Part::Data(_, body) => count_all(body).saturating_add(2),

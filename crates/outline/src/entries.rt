@@ -63,7 +63,7 @@ fn add_part<'p>(
         Part::Block(all) => add_all(alloc, all, counts, regions),
         Part::Loop(_, body) => add_all(alloc, body, counts, regions),
         Part::Data(_, body) => add_all(alloc, body, counts, regions),
-        Part::Alone(_) => Ok(()),
+        Part::Alone(_, _) => Ok(()),
     }
 }
 

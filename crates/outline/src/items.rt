@@ -2,14 +2,17 @@
 
 ghost use Rattle.std.specs.Prelude.{◌≡◌, ◌++◌, false, true, map, IfOk, OnOk, Some};
 ghost use Rattle.base.specs.Items.{alone_work, data_work, depends_of, host_work, map_of, region_kind, target_work};
-ghost use Rattle.outline.specs.Bare.{bare_work};
+ghost use Rattle.outline.specs.Bare.{bare_work, tasked_work, wait_work};
 ghost use Rattle.outline.specs.Shown.{shown};
 ghost use Rattle.outline.specs.Walk.{RegionIsAt, entries_in, implicit_of, is_named};
 
 use crate::known::Known;
 use crate::maps::{depend_items, enter_maps, exit_maps, region_maps, update_maps};
 use base::item::{Item, ItemKind, LoopValues, MapItem, MapKind, Section};
-use base::tree::{ArrayId, DependText, Directive, MapText, Place, Region, RegionKind, Target};
+use base::tree::{
+    ArrayId, Data, DependText, DeviceId, Directive, MapText, Place, Region, RegionKind, Target,
+    Tasking,
+};
 use smallvec::SmallVec;
 use std::alloc::{AllocError, Global};
 
@@ -22,12 +25,20 @@ fn loop_values(alloc: Global, loops: &[u64]) -> Result<LoopValues, AllocError>
 }
 
 /// A run of statements on the host: the region of that number.
-pub fn host_item(known: &Known<'_, '_>, number: u32, loops: &[u64]) -> Result<Item, AllocError>
-    ensures { IfOk result (λ i. (r : Region) → RegionIsAt known.now number false r → shown (entries_in known.now) i ≡ Some (host_work r loops.now)) }
+pub fn host_item(
+    known: &Known<'_, '_>,
+    region: &Region,
+    number: u32,
+    loops: &[u64],
+) -> Result<Item, AllocError>
+    requires { RegionIsAt known.now number false region.now }
+    ensures { IfOk result (λ i. shown (entries_in known.now) i ≡ Some (host_work region.now loops.now)) }
 {
     Ok(Item {
         kind: ItemKind::Host,
+        place: region.place,
         deferred: false,
+        device: DeviceId::default(),
         maps: SmallVec::new(known.alloc),
         depends: SmallVec::new(known.alloc),
         region: Some(number),
@@ -52,6 +63,7 @@ fn implicit_map(lengths: &[u32], place: Place, array: ArrayId) -> MapItem
     MapItem {
         kind: MapKind::ToFrom,
         always: false,
+        present: false,
         section: Section {
             array,
             first: 0,
@@ -109,7 +121,9 @@ pub fn target_item(
     let arrays = &known.regions[number as usize].arrays;
     Ok(Item {
         kind: ItemKind::Target,
+        place: target.place,
         deferred: target.tasking.nowait,
+        device: target.tasking.device,
         maps: target_maps(known, target, region.place, arrays, loops)?,
         depends: depend_items(known.alloc, &target.tasking.depends, known.lengths, loops)?,
         region: Some(number),
@@ -117,20 +131,30 @@ pub fn target_item(
     })
 }
 
+/// What an item is, without the items of its clauses.
+#[derive(Clone, Copy)]
+struct Head {
+    kind: ItemKind,
+    place: Place,
+    deferred: bool,
+    device: DeviceId,
+}
+
 // An item that has no region.
 fn bare_item(
     known: &Known<'_, '_>,
-    kind: ItemKind,
-    deferred: bool,
+    head: Head,
     maps: SmallVec<MapItem, 2>,
     depends: &[DependText],
     loops: &[u64],
 ) -> Result<Item, AllocError>
-    ensures { IfOk result (λ i. shown (entries_in known.now) i ≡ Some (bare_work kind deferred maps.items (depends_of known.now.lengths.now loops.now depends.now) loops.now)) }
+    ensures { IfOk result (λ i. shown (entries_in known.now) i ≡ Some (bare_work head maps.items (depends_of known.now.lengths.now loops.now depends.now) loops.now)) }
 {
     Ok(Item {
-        kind,
-        deferred,
+        kind: head.kind,
+        place: head.place,
+        deferred: head.deferred,
+        device: head.device,
         maps,
         depends: depend_items(known.alloc, depends, known.lengths, loops)?,
         region: None,
@@ -142,73 +166,82 @@ fn bare_item(
 pub fn data_item(
     known: &Known<'_, '_>,
     kind: ItemKind,
-    maps: &[MapText<RegionKind>],
+    data: &Data,
     loops: &[u64],
 ) -> Result<Item, AllocError>
-    ensures { IfOk result (λ i. shown (entries_in known.now) i ≡ Some (data_work kind known.now.lengths.now maps.now loops.now)) }
+    ensures { IfOk result (λ i. shown (entries_in known.now) i ≡ Some (data_work kind known.now.lengths.now data.now loops.now)) }
 {
-    Ok(Item {
+    let head = Head {
         kind,
+        place: data.place,
         deferred: false,
-        maps: region_maps(known.alloc, maps, known.lengths, loops)?,
-        depends: SmallVec::new(known.alloc),
-        region: None,
-        loops: loop_values(known.alloc, loops)?,
-    })
+        device: data.device,
+    };
+    let maps = region_maps(known.alloc, &data.maps, known.lengths, loops)?;
+    bare_item(known, head, maps, &[], loops)
+}
+
+// A directive that stands alone and may be deferred.
+fn tasked_item(
+    known: &Known<'_, '_>,
+    kind: ItemKind,
+    place: Place,
+    maps: SmallVec<MapItem, 2>,
+    tasking: &Tasking,
+    loops: &[u64],
+) -> Result<Item, AllocError>
+    ensures { IfOk result (λ i. shown (entries_in known.now) i ≡ Some (tasked_work kind place known.now.lengths.now maps.items tasking.now loops.now)) }
+{
+    let head = Head {
+        kind,
+        place,
+        deferred: tasking.nowait,
+        device: tasking.device,
+    };
+    bare_item(known, head, maps, &tasking.depends, loops)
+}
+
+// A `taskwait`.
+fn wait_item(
+    known: &Known<'_, '_>,
+    place: Place,
+    depends: &[DependText],
+    loops: &[u64],
+) -> Result<Item, AllocError>
+    ensures { IfOk result (λ i. shown (entries_in known.now) i ≡ Some (wait_work place known.now.lengths.now depends.now loops.now)) }
+{
+    let head = Head {
+        kind: ItemKind::Wait,
+        place,
+        deferred: false,
+        device: DeviceId::default(),
+    };
+    bare_item(known, head, SmallVec::new(known.alloc), depends, loops)
 }
 
 /// A directive that stands alone.
 pub fn alone_item(
     known: &Known<'_, '_>,
+    place: Place,
     directive: &Directive,
     loops: &[u64],
 ) -> Result<Item, AllocError>
-    ensures { IfOk result (λ i. shown (entries_in known.now) i ≡ Some (alone_work known.now.lengths.now directive.now loops.now)) }
+    ensures { IfOk result (λ i. shown (entries_in known.now) i ≡ Some (alone_work known.now.lengths.now place directive.now loops.now)) }
 {
     let (alloc, lengths) = (known.alloc, known.lengths);
     match directive {
         Directive::Enter(maps, tasking) => {
             let maps = enter_maps(alloc, maps, lengths, loops)?;
-            bare_item(
-                known,
-                ItemKind::Enter,
-                tasking.nowait,
-                maps,
-                &tasking.depends,
-                loops,
-            )
+            tasked_item(known, ItemKind::Enter, place, maps, tasking, loops)
         }
         Directive::Exit(maps, tasking) => {
             let maps = exit_maps(alloc, maps, lengths, loops)?;
-            bare_item(
-                known,
-                ItemKind::Exit,
-                tasking.nowait,
-                maps,
-                &tasking.depends,
-                loops,
-            )
+            tasked_item(known, ItemKind::Exit, place, maps, tasking, loops)
         }
         Directive::Update(sections, tasking) => {
             let maps = update_maps(alloc, sections, lengths, loops)?;
-            bare_item(
-                known,
-                ItemKind::Update,
-                tasking.nowait,
-                maps,
-                &tasking.depends,
-                loops,
-            )
+            tasked_item(known, ItemKind::Update, place, maps, tasking, loops)
         }
-        Directive::Wait(depends) => {
-            bare_item(
-                known,
-                ItemKind::Wait,
-                false,
-                SmallVec::new(alloc),
-                depends,
-                loops,
-            )
-        }
+        Directive::Wait(depends) => wait_item(known, place, depends, loops),
     }
 }

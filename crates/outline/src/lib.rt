@@ -31,7 +31,7 @@ mod uses;
 mod walk;
 
 // The longest list of items.
-const MOST_ITEMS: u64 = 4096;
+const MOST_ITEMS: u64 = 65_536;
 
 /// A region of a program, and what it names.
 #[derive(Drop)]
@@ -92,7 +92,7 @@ impl<'p> Outlined<'p> {
         &self.regions
     }
 
-    /// The items, in program order; at most 4,096.
+    /// The items, in program order; at most 65,536.
     pub fn items(&self) -> &[Item]
         ensures shown { all_shown (entries_of self.now) result.now ≡ as_shown (plan self.now).items }
         ensures few { length result.now ≤ most_items }
@@ -108,7 +108,7 @@ impl<'p> Outlined<'p> {
     }
 }
 
-/// Turns `main` into its items. `TooManyItems` is answered exactly where there are more than 4,096, at once, whatever
+/// Turns `main` into its items. `TooManyItems` is answered exactly where there are more than 65,536, at once, whatever
 /// the loops' turns. `OutOfMemory` is answered where an allocation fails, and where there are 2^32 regions or arrays.
 pub fn outline<'p>(alloc: Global, program: &'p Program) -> Result<Outlined<'p>, OutlineFault>
     ensures outlined { IfOk result (λ o. o ≡ program.now) }

@@ -53,15 +53,17 @@ fn of_update(kind: UpdateKind) -> MapKind
 fn map_item(
     kind: MapKind,
     always: bool,
+    present: bool,
     text: &SectionText,
     lengths: &[u32],
     loops: &[u64],
 ) -> MapItem
-    ensures { result ≡ item_of lengths.now loops.now kind always text.now }
+    ensures { result ≡ item_of lengths.now loops.now kind always present text.now }
 {
     MapItem {
         kind,
         always,
+        present,
         section: section(text, lengths, loops),
         line: text.place.line,
         column: text.place.column,
@@ -80,7 +82,14 @@ pub fn region_maps(
     let mut maps = SmallVec::new(alloc);
     'texts: for text in texts {
         let kind = of_region(text.kind);
-        maps.push(map_item(kind, text.always, &text.section, lengths, loops))?;
+        maps.push(map_item(
+            kind,
+            text.always,
+            text.present,
+            &text.section,
+            lengths,
+            loops,
+        ))?;
     }
     Ok(maps)
 }
@@ -97,7 +106,14 @@ pub fn enter_maps(
     let mut maps = SmallVec::new(alloc);
     'texts: for text in texts {
         let kind = of_enter(text.kind);
-        maps.push(map_item(kind, text.always, &text.section, lengths, loops))?;
+        maps.push(map_item(
+            kind,
+            text.always,
+            text.present,
+            &text.section,
+            lengths,
+            loops,
+        ))?;
     }
     Ok(maps)
 }
@@ -114,7 +130,14 @@ pub fn exit_maps(
     let mut maps = SmallVec::new(alloc);
     'texts: for text in texts {
         let kind = of_exit(text.kind);
-        maps.push(map_item(kind, text.always, &text.section, lengths, loops))?;
+        maps.push(map_item(
+            kind,
+            text.always,
+            text.present,
+            &text.section,
+            lengths,
+            loops,
+        ))?;
     }
     Ok(maps)
 }
@@ -131,7 +154,7 @@ pub fn update_maps(
     let mut maps = SmallVec::new(alloc);
     'texts: for text in texts {
         let kind = of_update(text.kind);
-        maps.push(map_item(kind, false, &text.section, lengths, loops))?;
+        maps.push(map_item(kind, false, text.present, &text.section, lengths, loops))?;
     }
     Ok(maps)
 }

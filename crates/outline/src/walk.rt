@@ -23,7 +23,7 @@ fn regions_in(part: &Part) -> u32
         Part::Block(all) => regions_in_all(all),
         Part::Loop(_, body) => regions_in_all(body),
         Part::Data(_, body) => regions_in_all(body),
-        Part::Alone(_) => 0,
+        Part::Alone(_, _) => 0,
     }
 }
 
@@ -59,18 +59,20 @@ fn add_part(
     ensures items { OnOk result (Added (entries_in known.now) items.old.items items.new.items (items_of part.now known.now.lengths.now loops.old.items)) }
 {
     match part {
-        Part::Host(_) => add_item(items, host_item(known, first, loops)?),
+        Part::Host(region) => add_item(items, host_item(known, region, first, loops)?),
         Part::Block(all) => add_all(known, all, first, loops, items),
         Part::Loop(bounds, body) => add_turns(known, *bounds, body, first, loops, items),
         Part::Target(target, region) => {
             add_item(items, target_item(known, target, region, first, loops)?)
         }
-        Part::Data(maps, body) => {
-            add_item(items, data_item(known, ItemKind::Begin, maps, loops)?)?;
+        Part::Data(data, body) => {
+            add_item(items, data_item(known, ItemKind::Begin, data, loops)?)?;
             add_all(known, body, first, loops, items)?;
-            add_item(items, data_item(known, ItemKind::End, maps, loops)?)
+            add_item(items, data_item(known, ItemKind::End, data, loops)?)
         }
-        Part::Alone(directive) => add_item(items, alone_item(known, directive, loops)?),
+        Part::Alone(place, directive) => {
+            add_item(items, alone_item(known, *place, directive, loops)?)
+        }
     }
 }
 

@@ -4,7 +4,7 @@ use Rattle.outline.proofs.Shows.{host_shown}
 use Rattle.outline.proofs.items.host_item.Goals as goal
 
 pub returns : goal.returns
-returns c = λ r here.
-    host_shown (entries_in c.args.known.now) c.args.number _ _ _ _ _
-    (stand_get (entries_in c.args.known.now) c.args.number _ here)
-    c.new.ensures.items c.new-2.ensures.items c.in_ok-loop_values.ensures
+returns c =
+    host_shown (entries_in c.args.known.now) c.args.number _ _ _ _ _ _
+    (stand_get (entries_in c.args.known.now) c.args.number _ c.requires)
+    c.default.ensures c.new.ensures.items c.new-2.ensures.items c.in_ok-loop_values.ensures

@@ -51,8 +51,8 @@ add_part-add_turns-requires t c = (
 pub add_part-add_all-requires-in-Data : goal.add_part-add_all-requires-in-Data
 add_part-add_all-requires-in-Data t c = (
   search (rules, the_lemmas),
-  stands_Data (entries_in c.args.known.now) c.args.first _ _ _ c.in-Data.maps c.in-Data.body _ c.in-Data.is
-      c.deref-in-Data-3.ensures.value c.requires,
+  stands_Data (entries_in c.args.known.now) c.args.first _ _ _ c.in-Data.data c.in-Data.body _ c.in-Data.is
+      c.deref-in-Data-2.ensures.value c.requires,
 )
 
 pub add_part-returns-in-Block-clause-items : goal.add_part-returns-in-Block-clause-items
@@ -71,9 +71,8 @@ add_part-returns-in-Loop-clause-items t c =
 pub add_part-returns-in_ok-data_item-in-Data-2-clause-items : goal.add_part-returns-in_ok-data_item-in-Data-2-clause-items
 add_part-returns-in_ok-data_item-in-Data-2-clause-items t c =
     on_ok_weaker c.add_item-in-Data-2.result
-    (λ ended. added_Data (entries_in c.args.known.now) _ _ _ _ _ c.in-Data.maps c.in-Data.body _ _ _ _ _ _ _ _ _ c.in-Data.is
-    c.deref-in-Data-3.ensures.value c.deref-in-Data.ensures c.deref-in-Data-4.ensures
-    c.deref-in-Data-2.ensures.value (c.deref-in-Data-5.ensures.value
+    (λ ended. added_Data (entries_in c.args.known.now) _ _ _ _ _ c.in-Data.data c.in-Data.body _ _ _ _ _ _ _ c.in-Data.is
+    c.deref-in-Data-2.ensures.value c.deref-in-Data.ensures.value (c.deref-in-Data-3.ensures.value
     ∙ c.in_ok-add_all-in-Data.ensures.loops) c.in_ok-add_item-in-Data.ensures
     c.in_ok-data_item-in-Data.ensures c.in_ok-add_all-in-Data.ensures.items ended
     c.in_ok-data_item-in-Data-2.ensures)
@@ -107,11 +106,14 @@ add_part-returns-in_ok-host_item-in-Host-clause-items t c =
     (λ added. added_is (entries_in c.args.known.now) _ _ _ _
     (ap (λ p. items_of p c.args.known.now.lengths.now c.args.loops.now.items) (sym c.in-Host.is))
     (added_one (entries_in c.args.known.now) _ _ _ _ added
-    (c.in_ok-host_item-in-Host.ensures c.in-Host.field-0
-    (stand_is (entries_in c.args.known.now) c.args.first _ _
-    (ap (λ p. part_entries c.args.known.now.counts.scalars c.args.known.now.counts.arrays p) c.in-Host.is) c.requires)
-    ∙ ap (λ ls. Some (host_work c.in-Host.field-0 ls)) c.deref.ensures.value)))
+    (c.in_ok-host_item-in-Host.ensures
+    ∙ ap (λ ls. Some (host_work c.in-Host.region ls)) c.deref.ensures.value)))
     c.add_item.ensures
+
+pub add_part-host_item-requires : goal.add_part-host_item-requires
+add_part-host_item-requires t c =
+    stand_is (entries_in c.args.known.now) c.args.first _ _
+    (ap (λ p. part_entries c.args.known.now.counts.scalars c.args.known.now.counts.arrays p) c.in-Host.is) c.requires
 
 pub add_part-target_item-requires : goal.add_part-target_item-requires
 add_part-target_item-requires t c =
@@ -135,7 +137,7 @@ add_part-returns-in_ok-alone_item-in-Alone-clause-items t c =
     (λ added. added_is (entries_in c.args.known.now) _ _ _ _ (ap (λ p. items_of p lengths c.args.loops.now.items) (sym c.in-Alone.is))
     (added_one (entries_in c.args.known.now) _ _ _ _ added
     (c.in_ok-alone_item-in-Alone.ensures
-    ∙ ap (λ ls. Some (alone_work lengths c.in-Alone.directive ls)) c.deref-in-Alone.ensures.value)))
+    ∙ ap (λ ls. Some (alone_work lengths c.in-Alone.place c.in-Alone.directive ls)) c.deref-in-Alone.ensures.value)))
     c.add_item-in-Alone.ensures
 
 pub add_turns-overflow_add-v : goal.add_turns-overflow_add-v
