@@ -1,12 +1,12 @@
 -- Words that are changed, one or one after the other.
 use Rattle.std.proofs.Common.{◌≡◌, ℕ, ◌+◌, ◌*◌, ◌/◌, ◌%◌, ◌^◌, ◌<◌, ◌≤◌, Bool, true, false, List, length, get_or, refl, sym, ap, ap₂, ◌∙◌, subst, arith, w64, bit_and, bit_or, min, ◌⊎◌, inl, inr, ⊎_elim}
-use Rattle.std.specs.Prelude.{slice_set, not, ◌||◌, ◌&&◌, ◌==◌, nat_lt}
+use Rattle.std.specs.Prelude.{slice_set, not, ◌||◌, ◌&&◌, ◌==◌, nat_le, nat_lt}
 use Rattle.std.specs.Int.{bit_at, bit_not}
-use Rattle.std.proofs.lemmas.Bool.{cases_eq, cases_lt, eq-eqb, ne_eqb, lt-ltb, le-ltb, and_right}
+use Rattle.std.proofs.lemmas.Bool.{cases_eq, cases_lt, eq-eqb, ne_eqb, lt-ltb, le-ltb, lt-leb, le-leb, and_left, and_right}
 use Rattle.std.proofs.lemmas.List.{length-set, get_or-set_same, get_or-set_other, get_or_past}
 use Rattle.std.proofs.lemmas.Nat.Bits.{bit_at-zero, bit_at_set_same, bit_at_set_other, bit_at_clear_same, bit_at_clear_other}
 use Rattle.std.proofs.Math.Bool.{or-false, or-true}
-use Rattle.bits.specs.Sets.{has_bit}
+use Rattle.bits.specs.Sets.{has_bit, is_from}
 use Rattle.bits.proofs.Bits.{bits_or, bits_minus}
 
 pub low : (i : ℕ) → i % 64 < 64
@@ -162,47 +162,83 @@ module _ (made : ℕ → ℕ → ℕ) (old other new : List ℕ) (first k : ℕ)
 pub end_reached : (k m n : ℕ) → min m n ≤ k → (m ≤ k) ⊎ (n ≤ k)
 end_reached k m n h = ⊎_elim (λ (lt : m < n). inl (omega arith)) (λ (le : n ≤ m). inr (omega arith)) (cases_lt m n)
 
-in_room : (i k n : ℕ) → i / 64 < k → k ≤ n → i < 64 * n
-in_room i k n h l = omega arith
+in_words : (first end i : ℕ) → first ≤ i / 64 → i / 64 < end → is_from (64 * first) (64 * end) i ≡ true
+in_words first end i le lt =
+    ap₂ (λ a b. a && b) (le-leb (64 * first) i (omega arith)) (lt-ltb i (64 * end) (omega arith))
 
-no_room : (i n : ℕ) → n ≤ i / 64 → 64 * n ≤ i
-no_room i n h = omega arith
+below_words : (first end i : ℕ) → i / 64 < first → is_from (64 * first) (64 * end) i ≡ false
+below_words first end i lt = and_left (nat_le (64 * first) i) (nat_lt i (64 * end)) (lt-leb (64 * first) i (omega arith))
 
--- all words that both have are joined; the other has no bits in those before
-pub united : (old other new : List ℕ) (first k : ℕ) → Changed bit_or old other first k new →
-    ((i : ℕ) → i < 64 * first → has_bit other i ≡ false) → (length old ≤ k) ⊎ (length other ≤ k) →
-    (i : ℕ) → has_bit new i ≡ (has_bit old i || (nat_lt i (64 * length old) && has_bit other i))
-united old other new first k h none end i = ⊎_elim before from (cases_lt (i / 64) first)
+past_words : (first end i : ℕ) → end ≤ i / 64 → is_from (64 * first) (64 * end) i ≡ false
+past_words first end i le = and_right (nat_le (64 * first) i) (nat_lt i (64 * end)) (le-ltb i (64 * end) (omega arith))
+
+-- the words from the first up to the end are joined
+pub united : (old other new : List ℕ) (first end k : ℕ) → Changed bit_or old other first k new →
+    end ≤ k → (first ≤ end → k ≤ end) → (end < first → k ≤ first) →
+    (i : ℕ) → has_bit new i ≡ (has_bit old i || (is_from (64 * first) (64 * end) i && has_bit other i))
+united old other new first end k h done up none i = ⊎_elim before from (cases_lt (i / 64) first)
   where
-    nothing : (b : Bool) → b ≡ false → has_bit old i ≡ (has_bit old i || b)
-    nothing b e = sym (ap (λ c. has_bit old i || c) e ∙ or-false (has_bit old i))
+    nothing : (b : Bool) → b ≡ false → has_bit old i ≡ (has_bit old i || (b && has_bit other i))
+    nothing b e = sym (ap (λ c. has_bit old i || (c && has_bit other i)) e ∙ or-false (has_bit old i))
 
-    before : i / 64 < first → has_bit new i ≡ (has_bit old i || (nat_lt i (64 * length old) && has_bit other i))
-    before lt =
-        kept_bit bit_or old other new first k h i (inl lt)
-        ∙ nothing (nat_lt i (64 * length old) && has_bit other i)
-        (and_right (nat_lt i (64 * length old)) (has_bit other i) (none i (omega arith)))
+    before : i / 64 < first → has_bit new i ≡ (has_bit old i || (is_from (64 * first) (64 * end) i && has_bit other i))
+    before lt = kept_bit bit_or old other new first k h i (inl lt) ∙ nothing (is_from (64 * first) (64 * end) i) (below_words first end i lt)
 
-    joined : first ≤ i / 64 → i / 64 < k →
-        has_bit new i ≡ (has_bit old i || (nat_lt i (64 * length old) && has_bit other i))
+    joined : first ≤ i / 64 → i / 64 < end →
+        has_bit new i ≡ (has_bit old i || (is_from (64 * first) (64 * end) i && has_bit other i))
     joined le lt =
-        made_from bit_or old other new first k h i le lt
+        made_from bit_or old other new first k h i le (omega arith)
         ∙ bits_or (get_or old (i / 64) 0) (get_or other (i / 64) 0) (i % 64)
-        ∙ sym (ap (λ b. has_bit old i || (b && has_bit other i))
-        (lt-ltb i (64 * length old) (in_room i k (length old) lt (h.within (omega arith)))))
+        ∙ sym (ap (λ b. has_bit old i || (b && has_bit other i)) (in_words first end i le lt))
 
-    above : k ≤ i / 64 → has_bit new i ≡ (has_bit old i || (nat_lt i (64 * length old) && has_bit other i))
-    above le =
-        kept_bit bit_or old other new first k h i (inr le)
-        ∙ nothing (nat_lt i (64 * length old) && has_bit other i)
-        (⊎_elim
-        (λ (all : length old ≤ k). ap (λ b. b && has_bit other i)
-        (le-ltb i (64 * length old) (no_room i (length old) (omega arith))))
-        (λ (all : length other ≤ k). and_right (nat_lt i (64 * length old)) (has_bit other i)
-        (past other i (omega arith))) end)
+    above : first ≤ i / 64 → end ≤ i / 64 → has_bit new i ≡ (has_bit old i || (is_from (64 * first) (64 * end) i && has_bit other i))
+    above low le =
+        kept_bit bit_or old other new first k h i (inr (⊎_elim (λ (lt : end < first). let top : k ≤ first = none lt in omega arith)
+        (λ (ge : first ≤ end). let top : k ≤ end = up ge in omega arith) (cases_lt end first)))
+        ∙ nothing (is_from (64 * first) (64 * end) i) (past_words first end i le)
 
-    from : first ≤ i / 64 → has_bit new i ≡ (has_bit old i || (nat_lt i (64 * length old) && has_bit other i))
-    from le = ⊎_elim (joined le) above (cases_lt (i / 64) k)
+    from : first ≤ i / 64 → has_bit new i ≡ (has_bit old i || (is_from (64 * first) (64 * end) i && has_bit other i))
+    from low = ⊎_elim (joined low) (above low) (cases_lt (i / 64) end)
+
+-- of the words that both have; the other has no bits in those before the first
+pub of_both : (other : List ℕ) (first n i : ℕ) → ((j : ℕ) → j < 64 * first → has_bit other j ≡ false) →
+    (is_from (64 * first) (64 * min n (length other)) i && has_bit other i) ≡ (nat_lt i (64 * n) && has_bit other i)
+of_both other first n i none = by_bit (has_bit other i) refl
+  where
+    off : (b : Bool) → (b && false) ≡ false
+    off b = and_right b false refl
+
+    by_bit : (b : Bool) → has_bit other i ≡ b →
+        (is_from (64 * first) (64 * min n (length other)) i && has_bit other i) ≡ (nat_lt i (64 * n) && has_bit other i)
+    by_bit false e =
+        ap (λ b. is_from (64 * first) (64 * min n (length other)) i && b) e ∙ off (is_from (64 * first) (64 * min n (length other)) i)
+        ∙ sym (ap (λ b. nat_lt i (64 * n) && b) e ∙ off (nat_lt i (64 * n)))
+    by_bit true e = ap (λ b. b && has_bit other i) (same (cases_lt i (64 * n)))
+      where
+        low' : 64 * first ≤ i
+        low' = ⊎_elim (λ (lt : i < 64 * first). absurd (let bad : true ≡ false = sym e ∙ none i lt in cc)) (λ (le : 64 * first ≤ i). le)
+            (cases_lt i (64 * first))
+
+        inside : i / 64 < length other
+        inside = ⊎_elim (λ (lt : i / 64 < length other). lt)
+            (λ (le : length other ≤ i / 64). absurd (let bad : true ≡ false = sym e ∙ past other i le in cc)) (cases_lt (i / 64) (length other))
+
+        same : (i < 64 * n) ⊎ (64 * n ≤ i) → is_from (64 * first) (64 * min n (length other)) i ≡ nat_lt i (64 * n)
+        same (inl lt) = in_words first (min n (length other)) i (omega (arith, low')) (omega (arith, inside, lt)) ∙ sym (lt-ltb i (64 * n) lt)
+        same (inr le) = past_words first (min n (length other)) i (omega (arith, le)) ∙ sym (le-ltb i (64 * n) le)
+
+-- of all words in which the other has bits
+pub of_all : (p : ℕ → Bool) (first end i : ℕ) → ((j : ℕ) → j < first → p j ≡ false) → ((j : ℕ) → p j ≡ true → j < end) →
+    (is_from (64 * (first / 64)) (64 * (end / 64 + min 1 (end % 64))) i && p i) ≡ p i
+of_all p first end i none below = by_bit (p i) refl
+  where
+    by_bit : (b : Bool) → p i ≡ b → (is_from (64 * (first / 64)) (64 * (end / 64 + min 1 (end % 64))) i && p i) ≡ p i
+    by_bit false e = and_right (is_from (64 * (first / 64)) (64 * (end / 64 + min 1 (end % 64))) i) (p i) e ∙ sym e
+    by_bit true e =
+        let low' : first ≤ i = ⊎_elim (λ (lt : i < first). absurd (let bad : true ≡ false = sym e ∙ none i lt in cc))
+        (λ (le : first ≤ i). le) (cases_lt i first) in
+        let high : i < end = below i e in
+        ap (λ b. b && p i) (in_words (first / 64) (end / 64 + min 1 (end % 64)) i (omega arith) (omega arith))
 
 abbrev pub minus : ℕ → ℕ → ℕ
 minus a b = bit_and a (bit_not w64 b)

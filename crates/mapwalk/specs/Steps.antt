@@ -1,5 +1,5 @@
 -- What comes of an item: on the host and its device, and then on all devices.
-use Rattle.std.specs.Prelude.{ℕ, ◌≡◌, ◌==◌, Bool, false, if◌then◌else◌, List, [], Option, Some, None, slice_get}
+use Rattle.std.specs.Prelude.{ℕ, ◌≡◌, ◌<◌, ◌^◌, ◌==◌, length, Bool, false, if◌then◌else◌, List, [], Option, Some, None, slice_get}
 use Rattle.base.specs.declared.item.Cell.{Cell}
 use Rattle.base.specs.declared.fault.RefusalCode.{RefusalCode}
 use Rattle.base.specs.Memory.{changed}
@@ -13,7 +13,7 @@ use Rattle.mapwalk.specs.declared.rows.Acts.{Acts}
 use Rattle.mapwalk.specs.declared.steps.Step.{Step}
 use Rattle.mapwalk.specs.declared.steps.Step.TheVariants.{Done, Refused}
 use Rattle.mapwalk.specs.declared.steps.DeviceState.{DeviceState}
-use Rattle.mapwalk.specs.Current.{marks_in, row_lengths, with_cut}
+use Rattle.mapwalk.specs.Current.{AreInside, marks_in, row_lengths, with_cut}
 use Rattle.mapwalk.specs.Table.{blocks_of}
 use Rattle.mapwalk.specs.Acts.{acts_row}
 use Rattle.mapwalk.specs.Causes.{IsFirstOf}
@@ -73,6 +73,16 @@ current_of host devices = record { host = marks_in host; devices = marks_of devi
 abbrev pub AreAlike : List ℕ → List DeviceState → Type 0
 AreAlike lengths devices =
     (d : ℕ) (x : DeviceState) → slice_get devices d ≡ Some x → row_lengths x.current.items ≡ lengths
+
+-- the cells can be marked where there are these arrays
+pub record IsMarkable (cells : Cell → Bool) (lengths : List ℕ) : Type 0 where
+  pub few : length lengths < 2 ^ 32
+  pub inside : AreInside lengths cells
+
+-- on each device
+abbrev pub AreMarkable : (Cell → Bool) → List DeviceState → Type 0
+AreMarkable cells devices =
+    (d : ℕ) (x : DeviceState) → slice_get devices d ≡ Some x → IsMarkable cells (row_lengths x.current.items)
 
 -- these cells are not current on each device but one
 abbrev pub spoiled : ℕ → (Cell → Bool) → (ℕ → Cell → Bool) → ℕ → Cell → Bool

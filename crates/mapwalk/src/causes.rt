@@ -4,6 +4,7 @@ ghost use Rattle.std.specs.Prelude.{◌≡◌, ◌<◌, ◌^◌, ◌&&◌, ◌||
 ghost use Rattle.std.specs.List.{list_any};
 ghost use Rattle.base.specs.Memory.{is_in};
 ghost use Rattle.base.specs.Actions.{Met};
+ghost use Rattle.base.specs.Accepted;
 ghost use Rattle.ranges.specs.Cells.{has};
 ghost use Rattle.bits.specs.Sets as bits;
 ghost use Rattle.mapwalk.specs.Current.{AreInside, marks_in, row_lengths};
@@ -116,6 +117,18 @@ pub fn least_unmapped(f: &Footprint, maps: &[MapItem], arrays: usize) -> Option<
     None
 }
 
+fn is_exit(kind: ItemKind) -> bool
+    ensures { result ≡ Accepted.is_exit kind }
+{
+    matches!(kind, ItemKind::End | ItemKind::Exit)
+}
+
+fn is_update(kind: ItemKind) -> bool
+    ensures { result ≡ Accepted.is_update kind }
+{
+    matches!(kind, ItemKind::Update)
+}
+
 // The cause of this code, where there is a cell for it.
 fn caused(code: RefusalCode, cell: Option<Cell>) -> Option<Cause>
     ensures { result ≡ cause_at code cell }
@@ -136,18 +149,14 @@ pub fn met_cause(kind: ItemKind, seen: &Seen) -> Option<Cause>
             cell,
         });
     }
-    match kind {
-        ItemKind::End | ItemKind::Exit => {
-            caused(RefusalCode::ExitOfAbsent, lesser(seen.absent, seen.missing))
-        }
-        ItemKind::Update if seen.absent.is_some() => {
-            caused(RefusalCode::UpdateOfAbsent, seen.absent)
-        }
-        ItemKind::Update
-        | ItemKind::Host
-        | ItemKind::Target
-        | ItemKind::Begin
-        | ItemKind::Enter
-        | ItemKind::Wait => caused(RefusalCode::NotPresent, seen.missing),
+    if is_exit(kind) {
+        return caused(RefusalCode::ExitOfAbsent, lesser(seen.absent, seen.missing));
+    }
+    match seen.absent {
+        Some(cell) if is_update(kind) => Some(Cause {
+            code: RefusalCode::UpdateOfAbsent,
+            cell,
+        }),
+        _ => caused(RefusalCode::NotPresent, seen.missing),
     }
 }

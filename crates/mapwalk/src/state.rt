@@ -1,17 +1,17 @@
 // The items, one after the other.
 
-ghost use Rattle.std.specs.Prelude.{◌≡◌, ◌+◌, ◌<◌, ◌≤◌, ◌^◌, ℕ, List, [], Some, length, slice_get, map, filter, IfOk, OnOk, IfSome};
+ghost use Rattle.std.specs.Prelude.{◌≡◌, ◌+◌, ◌<◌, ◌≤◌, ◌^◌, ℕ, List, [], Some, true, length, map, filter, IfOk, OnOk, IfSome};
 ghost use Rattle.std.specs.List.{range_with_len};
 ghost use Rattle.base.specs.Meaning.{lengths_of};
 ghost use Rattle.base.specs.Items.{Work};
 ghost use Rattle.outline.specs.Regions.{Entry};
 ghost use Rattle.outline.specs.Shown.{shown};
 ghost use Rattle.ranges.specs.Cells.{has};
-ghost use Rattle.mapwalk.specs.Current.{AreInside, AreNotCurrent, IsStart, array_number, is_full_in, row_lengths};
+ghost use Rattle.mapwalk.specs.Current.{AreNotCurrent, IsStart, array_number, is_full_in, row_lengths};
 ghost use Rattle.mapwalk.specs.Regions.{IsFootprintOf, IsWithin};
-ghost use Rattle.mapwalk.specs.Steps.{AreAlike, IsDone, current_of, entries_of, marks_of, spoiled, tables_of};
+ghost use Rattle.mapwalk.specs.Steps.{AreAlike, AreMarkable, IsDone, current_of, entries_of, marks_of, spoiled, tables_of};
 
-use crate::current::{cut_set, full, side_of};
+use crate::current::{full, side_of};
 use crate::marks::Marks;
 use crate::steps::{DeviceState, Step};
 use base::item::Item;
@@ -42,7 +42,7 @@ fn empty_devices(alloc: Global, lengths: &[u32]) -> Result<Vec<DeviceState>, All
     ensures current { IfOk result (λ devices. (d : ℕ) → AreNotCurrent lengths.now (marks_of devices.items d)) }
 {
     let mut devices = Vec::new(alloc);
-    'devices: for _ in 0..DEVICES {
+    'devices: for made in 0..DEVICES {
         devices.push(DeviceState::new(alloc, lengths)?)?;
     }
     Ok(devices)
@@ -50,7 +50,7 @@ fn empty_devices(alloc: Global, lengths: &[u32]) -> Result<Vec<DeviceState>, All
 
 // Takes the marks of cells away on each device but one.
 fn spoil_others(devices: &mut [DeviceState], own: usize, cells: &CellSet)
-    requires inside { (d : ℕ) (x : DeviceState) → slice_get devices.old d ≡ Some x → length x.current.items < 2 ^ 32 × AreInside (row_lengths x.current.items) (has cells.now) }
+    requires { AreMarkable (has cells.now) devices.old }
     ensures marks { marks_of devices.new ≡ spoiled own (has cells.now) (marks_of devices.old) }
     ensures tables { tables_of devices.new ≡ tables_of devices.old }
     ensures entries { entries_of devices.new ≡ entries_of devices.old }
@@ -59,7 +59,7 @@ fn spoil_others(devices: &mut [DeviceState], own: usize, cells: &CellSet)
 {
     'devices: for other in 0..devices.len() {
         if other != own {
-            cut_set(&mut devices[other].current, cells);
+            devices[other].spoil(cells);
         }
     }
 }

@@ -6,12 +6,12 @@ use Rattle.std.proofs.lemmas.Option.{slice_get-map}
 use Rattle.base.specs.declared.item.Item.{Item}
 use Rattle.base.specs.Items.{Work, Plan}
 use Rattle.base.specs.Machine.{is_predecessor}
-use Rattle.base.specs.Order.{Before, in_line, after_predecessor, through}
+use Rattle.base.specs.Order.{Before, IsAfterAll, in_line, after_predecessor, through}
 use Rattle.outline.specs.Regions.{Entry}
 use Rattle.outline.specs.Shown.{all_shown, as_shown, shown, work_with}
-use Rattle.bits.specs.declared.set.BitSet.{BitSet}
 use Rattle.order.specs.Bare.{bare, plan_of}
-use Rattle.order.specs.Rows.{IsOrder}
+use Rattle.order.specs.declared.rows.Row.{Row}
+use Rattle.order.specs.Rows.{IsOrder, IsRowThere}
 use Rattle.order.proofs.Befores.{ask, at_both}
 
 abbrev pub stripped : Work → Work
@@ -57,9 +57,26 @@ before_alike p q _ _ alike (after_predecessor i j h) =
 before_alike p q _ _ alike (through i k j first second) =
     through i k j (before_alike p q i k alike first) (before_alike p q k j alike second)
 
-pub order_alike : (p q : Plan) (rows : List BitSet) → Alike p q → IsOrder p rows → IsOrder q rows
-order_alike p q rows alike h i j =
-    (λ e. before_alike p q i j alike ((h i j).0 e), λ b. (h i j).1 (before_alike q p i j (other_way p q alike) b))
+after_alike : (p q : Plan) (i place : ℕ) → Alike p q → IsAfterAll p i place → IsAfterAll q i place
+after_alike p q i place alike h = record {
+  all = λ j le lt. before_alike p q i j alike (h.all j le (subst (λ n. j < n) (sym alike.many) lt));
+  least = λ k all. h.least k (λ j le lt. before_alike q p i j (other_way p q alike) (all j le (subst (λ n. j < n) alike.many lt)));
+}
+
+row_alike : (p q : Plan) (i : ℕ) (o : Option Row) → Alike p q → IsRowThere p i o → IsRowThere q i o
+row_alike p q i None alike h = h
+row_alike p q i (Some r) alike h = record {
+  place = after_alike p q i r.place alike h.place;
+  holds = λ j e. before_alike p q i j alike (h.holds j e);
+  found = λ j b. h.found j (before_alike q p i j (other_way p q alike) b);
+}
+
+pub order_alike : (p q : Plan) (rows : List Row) → Alike p q → IsOrder p rows → IsOrder q rows
+order_alike p q rows alike h = record {
+  many = h.many ∙ alike.many;
+  most = h.most;
+  are = λ i le lt. row_alike p q i (slice_get rows i) alike (h.are i le lt);
+}
 
 -- ---- items and what they stand for
 

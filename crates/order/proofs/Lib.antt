@@ -1,6 +1,8 @@
 pub mod Found
 pub mod Befores
-pub mod Reached
+pub mod Parts
+pub mod Steps
+pub mod Members
 pub mod Alike
 pub mod Least
 pub mod Faults

@@ -1,33 +1,68 @@
--- For each item those before it.
-use Rattle.std.specs.Prelude.{ℕ, ◌≡◌, ◌<◌, Bool, true, false, not, ◌||◌, ◌↔◌, IsTrue, List, Option, Some, None, slice_get, length}
+-- For each item those that it is before.
+use Rattle.std.specs.Prelude.{ℕ, ◌≡◌, ◌<◌, ◌≤◌, Bool, true, false, ◌&&◌, ◌||◌, nat_le, List, Option, Some, None, slice_get, length}
+use Rattle.std.specs.List.{list_any}
 use Rattle.base.specs.Items.{Work, Plan}
-use Rattle.base.specs.Machine.{is_predecessor}
-use Rattle.base.specs.Order.{Before}
-use Rattle.bits.specs.declared.set.BitSet.{BitSet}
-use Rattle.bits.specs.Sets.{has, room, room_for, start}
+use Rattle.base.specs.Limits.{most_items}
+use Rattle.base.specs.Machine.{is_empty, is_wait, match_depends, on_item}
+use Rattle.base.specs.Order.{Before, IsAfterAll}
+use Rattle.bits.specs.Sets.{has}
+use Rattle.order.specs.declared.rows.Row.{Row}
 
--- the earlier of two items is not deferred, or a predecessor of the later
-abbrev pub leads_to : Work → Work → Bool
-leads_to earlier later = not earlier.deferred || is_predecessor earlier later
+-- a `taskwait` without a `depend` clause
+abbrev pub is_bare_wait : Work → Bool
+is_bare_wait w = is_wait w.kind && is_empty w.depends
 
--- the set has the items before item j
-pub record IsRow (plan : Plan) (j : ℕ) (s : BitSet) : Type 0 where
-  pub starts : start s ≡ 0
-  pub roomy : room s ≡ room_for j
-  pub holds : (i : ℕ) → has s i ≡ true → Before plan i j
-  pub found : (i : ℕ) → Before plan i j → has s i ≡ true
+-- a depend item of the earlier item matches one of the later
+abbrev pub do_match : Work → Work → Bool
+do_match earlier later = list_any (λ d. list_any (match_depends d) later.depends) earlier.depends
 
-abbrev pub IsRowThere : Plan → ℕ → Option BitSet → Type 0
-IsRowThere plan j None = ⊥
-IsRowThere plan j (Some s) = IsRow plan j s
+abbrev pub waits_at : Plan → ℕ → Bool
+waits_at plan j = on_item plan j false is_bare_wait
 
--- the sets of the first items, as many as there are sets
-abbrev pub AreRows : Plan → List BitSet → Type 0
-AreRows plan rows = (j : ℕ) → j < length rows → IsRowThere plan j (slice_get rows j)
+abbrev pub match_at : Plan → ℕ → ℕ → Bool
+match_at plan i j = on_item plan i false (λ earlier. on_item plan j false (do_match earlier))
 
--- whether item i is in the set of item j
-abbrev pub is_in_row : List BitSet → ℕ → ℕ → Bool
-is_in_row rows i j = elim (slice_get rows j) [ None ↦ false | Some s ↦ has s i ]
+-- the least item from one on that is a `taskwait` without a `depend` clause, or the number of items
+pub record IsNextWait (plan : Plan) (first wait : ℕ) : Type 0 where
+  pub inside : wait ≤ length plan.items
+  pub waits : wait < length plan.items → (first ≤ wait) × (waits_at plan wait ≡ true)
+  pub first_one : (j : ℕ) → first ≤ j → j < wait → waits_at plan j ≡ false
 
-abbrev pub IsOrder : Plan → List BitSet → Type 0
-IsOrder plan rows = (i j : ℕ) → IsTrue (is_in_row rows i j) ↔ Before plan i j
+-- whether the row has item j: from its place on it has every item, and below it its members
+abbrev pub is_in : Row → ℕ → Bool
+is_in r j = nat_le r.place j || has r.later j
+
+-- the row has the items that item i is before, and its place is the least one
+pub record IsRow (plan : Plan) (i : ℕ) (r : Row) : Type 0 where
+  pub place : IsAfterAll plan i r.place
+  pub holds : (j : ℕ) → has r.later j ≡ true → Before plan i j
+  pub found : (j : ℕ) → Before plan i j → is_in r j ≡ true
+
+abbrev pub IsRowThere : Plan → ℕ → Option Row → Type 0
+IsRowThere plan i None = ⊥
+IsRowThere plan i (Some r) = IsRow plan i r
+
+-- the rows of the items from one on
+abbrev pub AreRowsFrom : Plan → ℕ → List Row → Type 0
+AreRowsFrom plan first rows = (i : ℕ) → first ≤ i → i < length rows → IsRowThere plan i (slice_get rows i)
+
+-- the row has some of the items that item i is before, and with an item all that this item is before
+pub record IsPart (plan : Plan) (i : ℕ) (r : Row) : Type 0 where
+  pub inside : r.place ≤ length plan.items
+  pub few : (j : ℕ) → has r.later j ≡ true → j < length plan.items
+  pub holds : (j : ℕ) → j < length plan.items → is_in r j ≡ true → Before plan i j
+  pub closed : (j k : ℕ) → is_in r j ≡ true → Before plan j k → is_in r k ≡ true
+
+-- the row has each `taskwait` without a `depend` clause behind item i
+abbrev pub HasWaits : Plan → ℕ → Row → Type 0
+HasWaits plan i r = (j : ℕ) → i < j → waits_at plan j ≡ true → is_in r j ≡ true
+
+-- the row has each item behind item i that one of its depend items leads to
+abbrev pub HasMatches : Plan → ℕ → Row → Type 0
+HasMatches plan i r = (j : ℕ) → i < j → match_at plan i j ≡ true → is_in r j ≡ true
+
+-- the rows of all items
+pub record IsOrder (plan : Plan) (rows : List Row) : Type 0 where
+  pub many : length rows ≡ length plan.items
+  pub most : length rows ≤ most_items
+  pub are : AreRowsFrom plan 0 rows

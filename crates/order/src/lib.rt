@@ -4,14 +4,13 @@
 ghost use Rattle.std.specs.Prelude.{◌≡◌, ◌↔◌, IsTrue, IfOk, IfErr, OnOk};
 ghost use Rattle.base.specs.Items.{plan};
 ghost use Rattle.base.specs.Accepted.{SectionsFit};
-ghost use Rattle.base.specs.Order.{Before};
+ghost use Rattle.base.specs.Order.{Before, IsAfterAll};
 ghost use Rattle.order.specs.Built.{HasNoClash, IsBuildFault};
 
 use crate::clash::first_clash;
-use crate::rows::rows_of;
+use crate::rows::{Row, rows_of};
 use base::fault::OrderFault;
 use base::tree::Program;
-use bits::BitSet;
 use outline::Outlined;
 use std::alloc::Global;
 use std::marker::Model;
@@ -34,8 +33,8 @@ pub enum OrderBuildFault {
 #[derive(Drop)]
 pub struct Order<'p> {
     program: &'p Program,
-    // For each item those before it.
-    rows: Vec<BitSet>,
+    // For each item those that it is before.
+    rows: Vec<Row>,
 }
 
 impl<'p> Model for Order<'p> {
@@ -58,7 +57,9 @@ impl<'p> Order<'p> {
     /// identical: at the least later item, then the least earlier one, then the least cell of such an overlap, by array
     /// and then by index. It is `OutOfMemory` where an allocation fails.
     ///
-    /// It takes time for each pair of items, and a bit of memory for each.
+    /// It takes time for each pair of items of which one has a `depend` clause, and memory for each item. A deferred item
+    /// with a `depend` clause takes besides a bit for each later item up to the last that it is before, where others
+    /// stand between them that it is not before.
     pub fn build(alloc: Global, outlined: &Outlined<'p>) -> Result<Order<'p>, OrderBuildFault>
         requires { SectionsFit (plan outlined.now) }
         ensures program { IfOk result (λ o. o ≡ outlined.now) }
@@ -83,9 +84,20 @@ impl<'p> Order<'p> {
     pub fn before(&self, i: u32, j: u32) -> bool
         ensures { IsTrue result ↔ Before (plan self.now) i j }
     {
-        match self.rows.get(j as usize) {
+        match self.rows.get(i as usize) {
             None => false,
-            Some(row) => row.contains(i as usize),
+            Some(row) => (j as usize) < self.rows.len() && row.has(j as usize),
+        }
+    }
+
+    /// The least place from which on every item follows item `i`; the number of items where `i` is past the last. It
+    /// takes no memory, and a few steps.
+    pub fn after_all(&self, i: u32) -> u32
+        ensures { IsAfterAll (plan self.now) i result }
+    {
+        match self.rows.get(i as usize) {
+            None => self.rows.len() as u32,
+            Some(row) => row.place as u32,
         }
     }
 }

@@ -166,18 +166,18 @@ fn bare_item(
 pub fn data_item(
     known: &Known<'_, '_>,
     kind: ItemKind,
-    data: &Data,
+    construct: &Data,
     loops: &[u64],
 ) -> Result<Item, AllocError>
-    ensures { IfOk result (λ i. shown (entries_in known.now) i ≡ Some (data_work kind known.now.lengths.now data.now loops.now)) }
+    ensures { IfOk result (λ i. shown (entries_in known.now) i ≡ Some (data_work kind known.now.lengths.now construct.now loops.now)) }
 {
     let head = Head {
         kind,
-        place: data.place,
+        place: construct.place,
         deferred: false,
-        device: data.device,
+        device: construct.device,
     };
-    let maps = region_maps(known.alloc, &data.maps, known.lengths, loops)?;
+    let maps = region_maps(known.alloc, &construct.maps, known.lengths, loops)?;
     bare_item(known, head, maps, &[], loops)
 }
 

@@ -13,7 +13,7 @@ use Rattle.outline.specs.Shown.{work_with, shown, all_shown, as_shown}
 use Rattle.report.specs.Listing.{line_of, work_line, lines_from, list_bytes}
 
 abbrev pub item_line : Program → ℕ → Item → List ℕ
-item_line p n it = line_of p n it.kind it.deferred it.maps.items it.depends.items
+item_line p n it = line_of p n it.kind it.deferred it.device.number it.maps.items it.depends.items
 
 abbrev pub item_lines : Program → ℕ → List Item → List ℕ
 item_lines p n [] = []

@@ -1,5 +1,5 @@
 -- The listing of a program: a line for each item.
-use Rattle.std.specs.Prelude.{ℕ, ◌+◌, Bool, if◌then◌else◌, List, [], ◌∷◌, ◌++◌, Some, None, flat_map, decimal, codes, slice_get, string_bytes}
+use Rattle.std.specs.Prelude.{ℕ, ◌+◌, Bool, ◌==◌, if◌then◌else◌, List, [], ◌∷◌, ◌++◌, Some, None, flat_map, decimal, codes, slice_get, string_bytes}
 use Rattle.base.specs.declared.item.Depend.{Depend}
 use Rattle.base.specs.declared.item.ItemKind.{ItemKind}
 use Rattle.base.specs.declared.item.ItemKind.TheVariants.{Host, Target, Begin, End, Enter, Exit, Update, Wait}
@@ -39,6 +39,10 @@ depend_word depend.In = codes "dep-in"
 depend_word depend.Out = codes "dep-out"
 depend_word depend.InOut = codes "dep-inout"
 
+-- ` device N`, or nothing for the device that works where none is named
+abbrev pub device_text : ℕ → List ℕ
+device_text d = if d == 0 then [] else codes " device " ++ decimal d
+
 -- `NAME[first:length]`
 abbrev pub section_text : Program → Section → List ℕ
 section_text p s =
@@ -46,19 +50,20 @@ section_text p s =
 
 abbrev pub map_text : Program → MapItem → List ℕ
 map_text p m =
-    codes " " ++ ((if m.always then codes "always " else []) ++ (map_word m.kind ++ (codes " " ++ section_text p m.section)))
+    codes " " ++ ((if m.always then codes "always " else []) ++ ((if m.present then codes "present " else [])
+    ++ (map_word m.kind ++ (codes " " ++ section_text p m.section))))
 
 abbrev pub depend_text : Program → Depend → List ℕ
 depend_text p d = codes " " ++ (depend_word d.kind ++ (codes " " ++ section_text p d.section))
 
--- the line of an item: its number, its kind, whether it is deferred, its map items and its depend items
-abbrev pub line_of : Program → ℕ → ItemKind → Bool → List MapItem → List Depend → List ℕ
-line_of p n kind deferred maps depends =
-    decimal n ++ (codes " " ++ (kind_word kind ++ ((if deferred then codes " nowait" else [])
-    ++ (flat_map (map_text p) maps ++ (flat_map (depend_text p) depends ++ codes "\n")))))
+-- the line of an item: its number, its kind, whether it is deferred, its device, its map items and its depend items
+abbrev pub line_of : Program → ℕ → ItemKind → Bool → ℕ → List MapItem → List Depend → List ℕ
+line_of p n kind deferred device maps depends =
+    decimal n ++ (codes " " ++ (kind_word kind ++ ((if deferred then codes " nowait" else []) ++ (device_text device
+    ++ (flat_map (map_text p) maps ++ (flat_map (depend_text p) depends ++ codes "\n"))))))
 
 abbrev pub work_line : Program → ℕ → Work → List ℕ
-work_line p n w = line_of p n w.kind w.deferred w.maps w.depends
+work_line p n w = line_of p n w.kind w.deferred w.device w.maps w.depends
 
 abbrev pub lines_from : Program → ℕ → List Work → List ℕ
 lines_from p n [] = []

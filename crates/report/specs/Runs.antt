@@ -2,7 +2,7 @@
 use Rattle.std.specs.Prelude.{ℕ, List, ◌++◌, Vec, codes, decimal, flat_map}
 use Rattle.std.specs.declared.alloc.Global.{Global}
 use Rattle.base.specs.declared.item.Event.{Event}
-use Rattle.base.specs.declared.item.Event.TheVariants.{Gen, Open, Close, Wait, End}
+use Rattle.base.specs.declared.item.Event.TheVariants.{Gen, Open, Step, Close, Wait, End}
 use Rattle.base.specs.declared.tree.ArrayId.{ArrayId}
 use Rattle.base.specs.declared.tree.Program.{Program}
 use Rattle.report.specs.Listing.{name_of}
@@ -10,6 +10,7 @@ use Rattle.report.specs.Listing.{name_of}
 abbrev pub event_line : Event → List ℕ
 event_line (Gen i) = codes "gen " ++ (decimal i ++ codes "\n")
 event_line (Open i) = codes "open " ++ (decimal i ++ codes "\n")
+event_line (Step i) = codes "step " ++ (decimal i ++ codes "\n")
 event_line (Close i) = codes "close " ++ (decimal i ++ codes "\n")
 event_line (Wait i) = codes "wait " ++ (decimal i ++ codes "\n")
 event_line End = codes "end\n"

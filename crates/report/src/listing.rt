@@ -2,10 +2,10 @@
 
 ghost use Rattle.std.specs.Prelude.{◌≡◌, if◌then◌else◌, [], codes, flat_map, string_bytes, IfOk, OnOk};
 ghost use Rattle.std.specs.Io.KnownBytes.{Appends};
-ghost use Rattle.report.specs.Listing.{depend_text, depend_word, kind_word, line_of, list_bytes, map_text, map_word, name_of, section_text};
+ghost use Rattle.report.specs.Listing.{depend_text, depend_word, device_text, kind_word, line_of, list_bytes, map_text, map_word, name_of, section_text};
 
 use base::item::{Depend, Item, ItemKind, MapItem, MapKind, Section};
-use base::tree::{ArrayId, DependKind, Program};
+use base::tree::{ArrayId, DependKind, DeviceId, Program};
 use outline::Outlined;
 use std::alloc::{AllocError, Global};
 use std::io;
@@ -55,10 +55,26 @@ fn always_word(always: bool) -> &'static str
     if always { "always " } else { "" }
 }
 
+fn present_word(present: bool) -> &'static str
+    ensures { result.now ≡ (if present then codes "present " else []) }
+{
+    if present { "present " } else { "" }
+}
+
 fn deferred_word(deferred: bool) -> &'static str
     ensures { result.now ≡ (if deferred then codes " nowait" else []) }
 {
     if deferred { " nowait" } else { "" }
+}
+
+// The device of an item, which is not named where it is the first.
+fn device_text(alloc: Global, device: DeviceId) -> Result<String, AllocError>
+    ensures { IfOk result (λ text. string_bytes text ≡ device_text device.number) }
+{
+    if device.number == 0 {
+        return Ok(String::new(alloc));
+    }
+    format!(in alloc; " device {}", device.number)
 }
 
 pub fn name_of(program: &Program, array: ArrayId) -> &str
@@ -81,8 +97,8 @@ fn map_text(alloc: Global, program: &Program, map: &MapItem) -> Result<String, A
     ensures { IfOk result (λ text. string_bytes text ≡ map_text program.now map.now) }
 {
     let section = section_text(alloc, program, &map.section)?;
-    let (always, kind) = (always_word(map.always), map_word(map.kind));
-    format!(in alloc; " {}{} {}", always, kind, section)
+    let (always, present) = (always_word(map.always), present_word(map.present));
+    format!(in alloc; " {}{}{} {}", always, present, map_word(map.kind), section)
 }
 
 fn depend_text(alloc: Global, program: &Program, depend: &Depend) -> Result<String, AllocError>
@@ -119,17 +135,21 @@ fn line_text(
     number: usize,
     item: &Item,
 ) -> Result<String, AllocError>
-    ensures { IfOk result (λ text. string_bytes text ≡ line_of program.now number item.now.kind item.now.deferred item.now.maps.items item.now.depends.items) }
+    ensures { IfOk result (λ text. string_bytes text ≡ line_of program.now number item.now.kind item.now.deferred item.now.device.number item.now.maps.items item.now.depends.items) }
 {
     let (kind, deferred) = (kind_word(item.kind), deferred_word(item.deferred));
+    let device = device_text(alloc, item.device)?;
     let maps = maps_text(alloc, program, &item.maps)?;
     let depends = depends_text(alloc, program, &item.depends)?;
-    format!(in alloc; "{} {}{}{}{}\n", number, kind, deferred, maps, depends)
+    format!(in alloc;
+        "{} {}{}{}{}{}\n",
+        number, kind, deferred, device, maps, depends
+    )
 }
 
-/// Writes the items of a program, a line for each: its number from 0, its kind, `nowait` where it is deferred, each map
-/// item with its type and section, and each depend item with its section. An error of the writer is answered, and then
-/// no more is written; so is want of memory, as an error of that kind.
+/// Writes the items of a program, a line for each: its number from 0, its kind, `nowait` where it is deferred, its device
+/// where that is not 0, each map item with its modifiers, type and section, and each depend item with its section. An
+/// error of the writer is answered, and then no more is written; so is want of memory, as an error of that kind.
 pub fn list_text<W: Write>(alloc: Global, outlined: &Outlined<'_>, out: &mut W) -> io::Result<()>
     ensures { OnOk result (Appends (W.contents out.old) (W.contents out.new) (list_bytes outlined.now)) }
 {

@@ -16,6 +16,7 @@ fn event_text<W: Write>(event: Event, out: &mut W) -> io::Result<()>
     match event {
         Event::Gen(item) => writeln!(out, "gen {item}"),
         Event::Open(item) => writeln!(out, "open {item}"),
+        Event::Step(item) => writeln!(out, "step {item}"),
         Event::Close(item) => writeln!(out, "close {item}"),
         Event::Wait(item) => writeln!(out, "wait {item}"),
         Event::End => writeln!(out, "end"),

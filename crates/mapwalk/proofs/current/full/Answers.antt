@@ -5,17 +5,17 @@ use Rattle.std.proofs.lemmas.List.{map-append}
 use Rattle.mapwalk.specs.Marks.{has_mark}
 use Rattle.mapwalk.specs.Current.{array_number, is_full_in}
 use Rattle.mapwalk.proofs.SideRows.{filter_more, full_row}
-use Rattle.mapwalk.proofs.current.Sides.full.Goals as goal
-use Rattle.mapwalk.proofs.current.Sides.full.Goals.{then-is_full+in_ok-push, else-is_full}
+use Rattle.mapwalk.proofs.current.full.Goals as goal
+use Rattle.mapwalk.proofs.current.full.Goals.{then-is_full+in_ok-push, else-is_full}
 
 pub arrays-preserved : goal.arrays-preserved
 arrays-preserved c =
-    let p = is_full_in c.args.self.now.host.items in
+    let p = is_full_in c.args.side.now in
     let a = c.arrays.array in
-    let there : a < length c.args.self.now.host.items = omega arith in
+    let there : a < length c.args.side.now = omega arith in
     let full : c.is_full.result ≡ p a = c.is_full.ensures
-    ∙ ap (λ m. list_all (has_mark m) (range_with_len 0 m.length)) c.index.ensures
-    ∙ full_row c.args.self.now.host.items a c.index.result.now there in
+    ∙ ap (λ m. list_all (has_mark m) (range_with_len 0 m.length)) c.index-side-array.is
+    ∙ full_row c.args.side.now a c.index-side-array.result there in
     elim c.if-is_full.branch [
       | then-is_full+in_ok-push w ↦
           ap (λ v. map array_number v.items) w.full-is

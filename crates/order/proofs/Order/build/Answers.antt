@@ -1,12 +1,12 @@
-use Rattle.std.proofs.Common.{◌∙◌, sym, subst}
+use Rattle.std.proofs.Common.{◌≡◌, ◌≤◌, ◌∙◌, length, sym, subst, arith}
 use Rattle.base.specs.Items.{plan}
+use Rattle.base.specs.Limits.{most_items}
 use Rattle.outline.specs.Regions.{entries_of}
 use Rattle.std.proofs.lemmas.List.{length-map}
 use Rattle.order.specs.Bare.{bare, plan_of}
 use Rattle.order.specs.Clashes.{IsFirstFound}
 use Rattle.order.specs.Rows.{IsOrder}
 use Rattle.order.proofs.Alike.{Alike, items_alike, order_alike}
-use Rattle.order.proofs.Reached.{are_order}
 use Rattle.order.proofs.Faults.{no_clash, first_clash}
 use Rattle.order.proofs.Order.build.Goals as goal
 
@@ -23,8 +23,12 @@ invariant_of-result c =
     let its = c.items-items.result.now in
     let alike : Alike (plan_of its) p = items_alike (entries_of c.args.outlined.now) its p c.items-items.ensures.shown in
     subst (λ q. IsOrder (plan q) c.in-Ok.rows.items) (sym c.program.ensures)
-    (order_alike (plan_of its) p c.in-Ok.rows.items alike
-    (are_order (plan_of its) c.in-Ok.rows.items c.in-Ok.ensures.rows (c.in-Ok.ensures.all ∙ sym (length-map its bare))))
+    (order_alike (plan_of its) p c.in-Ok.rows.items alike (record {
+      many = c.in-Ok.ensures.all ∙ sym (length-map its bare);
+      most = let few : length its ≤ most_items = c.items-items.ensures.few in
+          let all : length c.in-Ok.rows.items ≡ length its = c.in-Ok.ensures.all in omega arith;
+      are = c.in-Ok.ensures.rows;
+    }))
 
 pub returns-in-Ok-clause-fine : goal.returns-in-Ok-clause-fine
 returns-in-Ok-clause-fine c =
