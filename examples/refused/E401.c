@@ -1,6 +1,0 @@
-uint64_t A[4];
-int main(void) {
-for (uint64_t i = 0; i < 4097; i += 1) {
-#pragma omp target update to(A)
-}
-}

@@ -1,10 +1,13 @@
 -- Which events are allowed.
-use Rattle.std.proofs.Common.{◌≡◌, ◌⊎◌, inl, inr, ◌+◌, ◌-◌, ◌<◌, ◌≤◌, ℕ, zero, suc, Bool, true, false, List, [], ◌∷◌, ◌++◌, map, refl, sym, ap, ◌∙◌, arith}
+use Rattle.std.proofs.Common.{◌≡◌, ◌⊎◌, inl, inr, ◌+◌, ◌-◌, ◌<◌, ◌≤◌, ℕ, zero, suc, Bool, true, false, List, [], ◌∷◌, ◌++◌, map, length, refl, sym, ap, ◌∙◌, arith}
 use Rattle.std.specs.Prelude.{cond, filter}
 use Rattle.std.specs.List.{range_with_len}
 use Rattle.std.proofs.lemmas.List.FromFn.{filter_of_map_range_with_len_more}
 use Rattle.std.proofs.Common.{append_assoc, append-nil, zero-add}
 use Rattle.base.specs.declared.item.Event.{Event}
+use Rattle.base.specs.declared.item.Event.TheVariants as event
+use Rattle.base.specs.Items.{Plan}
+use Rattle.base.specs.Machine.{State, all_enabled, enabled}
 use Rattle.taskgraph.specs.Board.{Board, allows}
 
 pub none_allowed : (events : List Event) (p : Event → Bool) → ((e : Event) → p e ≡ true → ⊥) → filter p events ≡ []
@@ -14,6 +17,15 @@ none_allowed (e ∷ es) p h = go (p e) refl (none_allowed es p h)
     go : (v : Bool) → p e ≡ v → filter p es ≡ [] → cond v (e ∷ filter p es) (filter p es) ≡ []
     go true k rest = absurd (h e k)
     go false k rest = rest
+
+-- the events of which some may happen next
+abbrev pub candidates : Plan → State → List Event
+candidates plan s =
+    let all = range_with_len 0 (length plan.items) in
+    map event.Close all ++ (map event.Open all ++ (event.Gen s.place ∷ event.Wait s.place ∷ event.End ∷ []))
+
+pub none_next : (plan : Plan) (s : State) → ((e : Event) → enabled plan s e ≡ true → ⊥) → all_enabled plan s ≡ []
+none_next plan s h = none_allowed (candidates plan s) (enabled plan s) h
 
 pub never : (v : Bool) → (v ≡ true → ⊥) → false ≡ v
 never true h = absurd (h refl)

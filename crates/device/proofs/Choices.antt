@@ -2,13 +2,13 @@
 use Rattle.std.proofs.Common.{◌≡◌, ℕ, zero, suc, ◌+◌, ◌-◌, ◌*◌, ◌%◌, ◌<◌, ◌≤◌, Bool, true, false, List, [], ◌∷◌, ◌++◌, drop, map, length, refl, sym, ap, ◌∙◌, subst, arith, Option, Some, None, add-one, length-append}
 use Rattle.std.specs.Prelude.{◌==◌, ◌&&◌, ◌||◌, not, cond, filter, slice_get}
 use Rattle.std.specs.List.{range_with_len}
-use Rattle.std.proofs.lemmas.Bool.{true≢false, eq-eqb, eqb-true}
+use Rattle.std.proofs.lemmas.Bool.{true≢false, false≢true, eq-eqb, eqb-true}
 use Rattle.std.proofs.lemmas.Nat.{mod_below}
 use Rattle.std.proofs.lemmas.Option.{slice_get-get_or}
 use Rattle.std.proofs.lemmas.List.Elements.{filter-append}
 use Rattle.base.specs.declared.tree.Program.{Program}
 use Rattle.base.specs.declared.item.Event.{Event}
-use Rattle.base.specs.declared.item.Event.TheVariants.{Gen, Open, Close, Wait, End}
+use Rattle.base.specs.declared.item.Event.TheVariants.{Gen, Open, Step, Close, Wait, End}
 use Rattle.base.specs.declared.fault.RunFault.{RunFault}
 use Rattle.base.specs.declared.fault.RunFault.TheVariants as fault
 use Rattle.base.specs.Items.{Plan, plan}
@@ -21,7 +21,7 @@ use Rattle.device.specs.Choosing.{FewEvents, NothingAfterTheEnd, NothingOnlyAtTh
 use Rattle.device.specs.Run.{Run, fill_in, state_of}
 use Rattle.device.specs.Running.{IsReached}
 use Rattle.device.specs.Taking.{IsEventFault, Takes}
-use Rattle.device.proofs.Allowing.{none_allowed}
+use Rattle.device.proofs.Allowing.{candidates, none_next}
 use Rattle.device.proofs.EventBounds as bounds
 
 -- of a list of which no element passes
@@ -77,6 +77,7 @@ module _ (pl : Plan) (s : State) (none : all_enabled pl s ≡ []) where
   later_parts = both_none _ _ (sym (filter-append (enabled pl s) openings last) ∙ parts.1)
 
   none_enabled : (e : Event) → enabled pl s e ≡ true → ⊥
+  none_enabled (Step i) may = absurd (false≢true may)
   none_enabled (Close i) may =
       let lt = within pl i (λ w. is_open (s.condition i)) may in
       none_of (enabled pl s) Close 0 (length pl.items) i parts.0 (omega arith) (omega arith) may
@@ -97,7 +98,7 @@ few_events = bounds.few_events
 
 pub nothing_after_the_end : NothingAfterTheEnd
 nothing_after_the_end pl fill input events s ran ended =
-    none_allowed _ (enabled pl s) (bounds.nothing_after pl fill input events s ran ended)
+    none_next pl s (bounds.nothing_after pl fill input events s ran ended)
 
 pub nothing_only_at_the_end : NothingOnlyAtTheEnd
 nothing_only_at_the_end p fill input events s ran none = go (s.place == length (plan p).items + 1) refl
@@ -253,7 +254,9 @@ module _ (k : ℕ) (choices : List ℕ) (old now : Run) (h : HasCome k choices o
   -- an event that is picked may happen
   pub may_happen : (e : Event) → next_by now (drop k choices) ≡ Some e →
       enabled (plan now.program) (state_of now) e ≡ true
-  may_happen e next = filter_holds (enabled (plan now.program) (state_of now)) _ _ e next
+  may_happen e next =
+      filter_holds (enabled (plan now.program) (state_of now)) (candidates (plan now.program) (state_of now))
+      (first_or_zero (drop k choices) % length (all_enabled (plan now.program) (state_of now))) e next
 
   -- why it is not done
   pub why : (e : Event) → next_by now (drop k choices) ≡ Some e → (f : RunFault) → IsEventFault now e f →
@@ -266,6 +269,7 @@ module _ (k : ℕ) (choices : List ℕ) (old now : Run) (h : HasCome k choices o
   why (Open i) next fault.OtherState w = w
   why (Open i) next fault.RangeRefused w = w
   why (Gen i) next f w = subst (IsNextFault now (drop k choices)) (sym w) tt
+  why (Step i) next f w = absurd w
   why (Close i) next f w = subst (IsNextFault now (drop k choices)) (sym w) tt
   why (Wait i) next f w = subst (IsNextFault now (drop k choices)) (sym w) tt
   why End next f w = subst (IsNextFault now (drop k choices)) (sym w) tt

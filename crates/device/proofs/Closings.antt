@@ -14,14 +14,16 @@ use Rattle.base.specs.declared.item.MapItem.{MapItem}
 use Rattle.base.specs.declared.item.Event.TheVariants as event
 use Rattle.base.specs.declared.tree.Region.{Region}
 use Rattle.base.specs.Arrays.{memory_of, lengths_of}
-use Rattle.base.specs.Memory.{View, Scalars}
+use Rattle.base.specs.Memory.{View, Scalars, Stores}
 use Rattle.base.specs.Meaning.{Run as Region_run, run_region}
 use Rattle.base.specs.Items.{Work, Plan}
-use Rattle.base.specs.Map.{Device, Memories, in_turn, leave}
-use Rattle.base.specs.Machine.{State, Condition, Untouched, Generated, Opened, Closed, Passed, closing, host_done, is_open, kernel_done, moved_on, step, store_device, with_condition}
+use Rattle.base.specs.Map.{Device, Memories, in_turn, leave, memories_at}
+use Rattle.base.specs.Machine.{State, Condition, Untouched, Generated, Opened, Closed, Passed, closing, host_done, is_open, kernel_done, kernel_memories, moved_on, step, store_device, with_condition, with_memories}
 use Rattle.base.specs.Accepted.{is_host, is_target}
 use Rattle.kernel.specs.Kept.{IsKept, Kept}
-use Rattle.present.specs.Table.{Shows, memories}
+use Rattle.present.specs.Table.{memories}
+use Rattle.device.specs.Devices.{AreAlike, ShowAll}
+use Rattle.device.proofs.Tables.{each_changed, show_all, still_alike}
 use Rattle.taskgraph.specs.Board.{Board, Stands, Follows as GraphFollows}
 use Rattle.device.specs.declared.standing.Held.{Held}
 use Rattle.device.specs.declared.standing.Held.TheVariants as held
@@ -46,8 +48,9 @@ use Rattle.device.proofs.Steps.{stands_again}
 pub record HasValues (lengths : List ℕ) (now : Standing) (x : State) : Type 0 where
   pub host : x.memories.host ≡ memory_of now.host
   pub same_lengths : lengths_of now.host ≡ lengths
-  pub device : Shows now.table x.memories.device
-  pub counts : CountsAtMost now.entered x.memories.device.blocks
+  pub devices : ShowAll now.devices x.memories.devices
+  pub alike : AreAlike now.devices
+  pub counts : (d : ℕ) → CountsAtMost now.entered (x.memories.devices d).blocks
   pub scalars : x.scalars ≡ slice_index now.scalars
   pub input : x.input ≡ now.input.now
   pub output : x.output ≡ now.output.items
@@ -89,6 +92,21 @@ was_open w (Opened a v) s x e = record { captured = a; snapshot = v; is = refl }
 was_open w Closed s x e = absurd cc
 was_open w Passed s x e = absurd cc
 
+-- a kernel that was done on two memories: its stores, and then the exits
+pub record IsKernelDone (w : Work) (stores : Stores) (m after : Memories) : Type 0 where
+  pub device : Device
+  pub stored : store_device stores m.device ≡ Some device
+  pub is : in_turn leave w.maps (record m { device = device }) ≡ Some after
+
+pub is_kernel_done : (w : Work) (stores : Stores) (m after : Memories) → kernel_memories w stores m ≡ Some after →
+    IsKernelDone w stores m after
+is_kernel_done w stores m after e = go (store_device stores m.device) refl e
+  where
+    go : (o : Option Device) → store_device stores m.device ≡ o →
+        option_and_then (λ d. in_turn leave w.maps (record m { device = d })) o ≡ Some after → IsKernelDone w stores m after
+    go None f g = absurd cc
+    go (Some d) f g = record { device = d; stored = f; is = g }
+
 no_region : (o : Option Region) → o ≡ None → IsSome o → ⊥
 no_region o e h = false≢true (subst IsSome e h)
 
@@ -100,7 +118,8 @@ module _ (plan : Plan) (old mid : Standing) (s x : State) (at : IsAt plan old s)
       (record {
         host = at.host;
         same_lengths = at.lengths;
-        device = at.device;
+        devices = at.devices;
+        alike = at.alike;
         counts = at.counts;
         scalars = at.scalars;
         input = at.input;
@@ -114,43 +133,53 @@ module _ (plan : Plan) (old mid : Standing) (s x : State) (at : IsAt plan old s)
       (record {
         host = l.host s.memories.host ∙ ap (with_stored k.stored) at.host ∙ sym done.host;
         same_lengths = done.lengths ∙ at.lengths;
-        device = subst (λ t. Shows t s.memories.device) (sym done.table) at.device;
-        counts = subst (λ n. CountsAtMost n s.memories.device.blocks) (sym done.entered) at.counts;
+        devices = subst (λ ds. ShowAll ds s.memories.devices) (sym done.devices) at.devices;
+        alike = subst AreAlike (sym done.devices) at.alike;
+        counts = λ d. subst (λ n. CountsAtMost n (s.memories.devices d).blocks) (sym done.entered) (at.counts d);
         scalars = l.scalars ∙ sym done.scalars;
         input = l.input ∙ sym done.input;
         output = ap₂ ◌++◌ at.output l.printed ∙ sym done.output;
       })
 
-  kernel_values : (maps : List MapItem) (run : Region_run) (d : Device) (m : Memories) → IsKept (Some run) k →
-      HasDoneKernel k.stored maps old mid → store_device run.stores s.memories.device ≡ Some d →
-      in_turn leave maps (record (s.memories) { device = d }) ≡ Some m → record s { memories = m } ≡ x → HasValues plan.lengths mid x
-  kernel_values maps run d m kept done stored left e =
+  kernel_values : (run : Region_run) (m : Memories) → IsKept (Some run) k → HasDoneKernel w.device k.stored w.maps old mid →
+      IsKernelDone w run.stores (memories_at w.device s.memories) m → with_memories w.device m s ≡ x →
+      HasValues plan.lengths mid x
+  kernel_values run m kept done left e =
       subst (λ (y : State). HasValues plan.lengths mid y) e
-      (subst (λ (z : Standing). HasValues plan.lengths z (record s { memories = m })) (sym done.rest)
+      (subst (λ (z : Standing). HasValues plan.lengths z (with_memories w.device m s)) (sym done.rest)
       (record {
         host = are.host;
         same_lengths = done.lengths ∙ at.lengths;
-        device = are.shown;
-        counts = all_left old.entered maps (record (s.memories) { device = d }) m counted left;
+        devices = show_all w.device old.devices mid.devices done.leaves.after done.leaves.becomes s.memories.devices m.device at.devices are.shown;
+        alike = still_alike w.device old.devices mid.devices done.leaves.after done.leaves.becomes at.alike;
+        counts =
+            each_changed (λ (y : Device). CountsAtMost old.entered y.blocks) w.device m.device s.memories.devices
+            (all_left old.entered w.maps (record (memories_at w.device s.memories) { device = left.device }) m counted left.is)
+            at.counts;
         scalars = at.scalars;
         input = at.input;
         output = at.output;
       }))
     where
+      own : Device
+      own = s.memories.devices w.device
+
       l : Leaves run k
       l = kept_leaves run k kept
 
-      is : with_numbers k.stored s.memories.device ≡ d
-      is = l.device s.memories.device d stored
+      is : with_numbers k.stored own ≡ left.device
+      is = l.device own left.device left.stored
 
-      same : memories old.host (with_numbers k.stored s.memories.device) ≡ record (s.memories) { device = d }
+      same : memories old.host (with_numbers k.stored own) ≡ record (memories_at w.device s.memories) { device = left.device }
       same = λ j. record { host = sym at.host j; device = is j }
 
-      are : Are mid.host mid.table m
-      are = done.done s.memories.device m at.device (ap (in_turn leave maps) same ∙ left)
+      are : Are mid.host done.leaves.after m
+      are =
+          done.leaves.leads own m (at.devices w.device done.leaves.becomes.before done.leaves.becomes.was)
+          (ap (in_turn leave w.maps) same ∙ left.is)
 
-      counted : CountsAtMost old.entered d.blocks
-      counted = subst (λ (y : Device). CountsAtMost old.entered y.blocks) is at.counts
+      counted : CountsAtMost old.entered left.device.blocks
+      counted = subst (λ (y : Device). CountsAtMost old.entered y.blocks) is (at.counts w.device)
 
   -- a host region that has a meaning
   host_ran : (o : Option Region_run) → IsKept o k → HasDoneHost k old mid → option_map (host_done s) o ≡ Some x →
@@ -159,25 +188,20 @@ module _ (plan : Plan) (old mid : Standing) (s x : State) (at : IsAt plan old s)
   host_ran (Some run) kept done e = host_values run kept done (same_Some (host_done s run) x e)
 
   -- a kernel that has one
-  kernel_ran : (o : Option Region_run) → IsKept o k → HasDoneKernel k.stored w.maps old mid →
+  kernel_ran : (o : Option Region_run) → IsKept o k → HasDoneKernel w.device k.stored w.maps old mid →
       option_and_then (kernel_done w s) o ≡ Some x → HasValues plan.lengths mid x
   kernel_ran None kept done e = absurd cc
-  kernel_ran (Some run) kept done e = stored (store_device run.stores s.memories.device) refl e
+  kernel_ran (Some run) kept done e = go (kernel_memories w run.stores (memories_at w.device s.memories)) refl e
     where
-      left : (d : Device) → store_device run.stores s.memories.device ≡ Some d → (q : Option Memories) →
-          in_turn leave w.maps (record (s.memories) { device = d }) ≡ q →
-          option_map (λ m. record s { memories = m }) q ≡ Some x → HasValues plan.lengths mid x
-      left d is None f g = absurd cc
-      left d is (Some m) f g = kernel_values w.maps run d m kept done is f (same_Some (record s { memories = m }) x g)
-
-      stored : (q : Option Device) → store_device run.stores s.memories.device ≡ q →
-          option_and_then (λ d. option_map (λ m. record s { memories = m })
-          (in_turn leave w.maps (record (s.memories) { device = d }))) q ≡ Some x → HasValues plan.lengths mid x
-      stored None f g = absurd cc
-      stored (Some d) f g = left d f (in_turn leave w.maps (record (s.memories) { device = d })) refl g
+      go : (q : Option Memories) → kernel_memories w run.stores (memories_at w.device s.memories) ≡ q →
+          option_map (λ m. with_memories w.device m s) q ≡ Some x → HasValues plan.lengths mid x
+      go None f g = absurd cc
+      go (Some m) f g =
+          kernel_values run m kept done (is_kernel_done w run.stores (memories_at w.device s.memories) m f)
+          (same_Some (with_memories w.device m s) x g)
 
   values : (captured : Scalars) (snapshot : View) → s.condition i ≡ Opened captured snapshot → HasRegion w → IsLeftBy i w s k →
-      (kd : ItemKind) → w.kind ≡ kd → (o : Option Region) → w.region ≡ o → HasLeft kd k w.maps old mid →
+      (kd : ItemKind) → w.kind ≡ kd → (o : Option Region) → w.region ≡ o → HasLeft kd w.device k w.maps old mid →
       closed_as w captured snapshot s kd o ≡ Some x → HasValues plan.lengths mid x
   values a v open' has left kind.Host kd (Some r) rg done e =
       host_ran (run_region r w.loops v a s.input)
@@ -194,7 +218,7 @@ module _ (plan : Plan) (old mid : Standing) (s x : State) (at : IsAt plan old s)
   values a v open' has left kind.Update kd o rg done e = same_values done e
   values a v open' has left kind.Wait kd o rg done e = same_values done e
 
-  ended_still : (kd : ItemKind) (maps : List MapItem) → HasLeft kd k maps old mid → mid.ended ≡ old.ended
+  ended_still : (kd : ItemKind) (maps : List MapItem) → HasLeft kd w.device k maps old mid → mid.ended ≡ old.ended
   ended_still kind.Host maps done = done.ended
   ended_still kind.Target maps done = ap (λ (z : Standing). z.ended) done.rest
   ended_still kind.Begin maps done = ap (λ (z : Standing). z.ended) done
@@ -205,7 +229,7 @@ module _ (plan : Plan) (old mid : Standing) (s x : State) (at : IsAt plan old s)
   ended_still kind.Wait maps done = ap (λ (z : Standing). z.ended) done
 
   -- only a host item takes input
-  input_still : (kd : ItemKind) (maps : List MapItem) → is_host kd ≡ false → HasLeft kd k maps old mid →
+  input_still : (kd : ItemKind) (maps : List MapItem) → is_host kd ≡ false → HasLeft kd w.device k maps old mid →
       mid.input.now ≡ old.input.now
   input_still kind.Host maps h done = absurd (true≢false h)
   input_still kind.Target maps h done = ap (λ (z : Standing). z.input.now) done.rest
@@ -254,7 +278,7 @@ number_not j i h e = grind (arith, nat_tests)
 module _ (plan : Plan) (old mid : Standing) (s t : State) (at : IsAt plan old s) (going : old.ended ≡ false)
     (i : ℕ) (it : Item) (w : Work) (k : Kept) (is : slice_get plan.items i ≡ Some w) (of : IsOf it w) (has : HasRegion w)
     (hosts : HostsAreHere plan s) (left : IsLeftBy i w s k) (e : step plan (fill_from old) s (event.Close i) ≡ Some t)
-    (done : HasLeft it.kind k it.maps.items old mid) where
+    (done : HasLeft it.kind it.device.number k it.maps.items old mid) where
   c : IsClosed plan i w s t
   c = is_closed plan (fill_from old) i w s t is e
 
@@ -264,10 +288,11 @@ module _ (plan : Plan) (old mid : Standing) (s t : State) (at : IsAt plan old s)
   o : WasOpen (s.condition i)
   o = was_open w (s.condition i) s c.left c.is
 
-  its : HasLeft w.kind k w.maps old mid
+  its : HasLeft w.kind w.device k w.maps old mid
   its =
-      subst (λ (kd : ItemKind). HasLeft kd k w.maps old mid) (sym of.kind)
-      (subst (λ (ms : List MapItem). HasLeft it.kind k ms old mid) (sym of.maps) done)
+      subst (λ (kd : ItemKind). HasLeft kd w.device k w.maps old mid) (sym of.kind)
+      (subst (λ (d : ℕ). HasLeft it.kind d k w.maps old mid) (sym of.device)
+      (subst (λ (ms : List MapItem). HasLeft it.kind it.device.number k ms old mid) (sym of.maps) done))
 
   has_values : HasValues plan.lengths mid c.left
   has_values =
@@ -319,8 +344,9 @@ module _ (plan : Plan) (old mid : Standing) (s t : State) (at : IsAt plan old s)
       build y memories scalars input output condition stands = record {
         host = ap (λ m. m.host) memories ∙ has_values.host;
         lengths = has_values.same_lengths;
-        device = subst (λ m. Shows mid.table m.device) (sym memories) has_values.device;
-        counts = subst (λ m. CountsAtMost mid.entered m.device.blocks) (sym memories) has_values.counts;
+        devices = subst (λ m. ShowAll mid.devices m.devices) (sym memories) has_values.devices;
+        alike = has_values.alike;
+        counts = λ d. subst (λ m. CountsAtMost mid.entered (m.devices d).blocks) (sym memories) (has_values.counts d);
         graph = stands_again plan y y g stands refl;
         place = stands.place ∙ sym (ap (λ b. place_of b g.place) not_ended);
         ended = λ d. absurd (true≢false (sym d ∙ not_ended));

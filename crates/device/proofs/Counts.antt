@@ -14,7 +14,7 @@ use Rattle.base.specs.Map.{Device, copies_from, copies_to, update}
 use Rattle.present.specs.declared.Table.{Table}
 use Rattle.base.specs.Blocks.{holder}
 use Rattle.present.specs.Table.{Shows, count_at}
-use Rattle.base.proofs.Moves.{copied_blocks, created_move, entry_absent, entry_part, entry_there, exit_absent, exit_part, exit_there, ignored_move, lowered_move, raised_move}
+use Rattle.base.proofs.Moves.{copied_blocks, created_move, entry_absent, entry_missing, entry_part, entry_there, exit_absent, exit_part, exit_there, ignored_move, lowered_move, raised_move, update_absent, update_missing}
 use Rattle.device.specs.Moves.{AreCounted, CountsAtMost, entered_by, opens_with}
 use Rattle.device.proofs.Updating.{is_updated}
 
@@ -103,10 +103,14 @@ entry_blocks n item bs x h e = go (presence bs item.section) refl
     is : (y : Move) → entry item bs ≡ Some y → CountsAtMost (n + 1) y.blocks → CountsAtMost (n + 1) x.blocks
     is y k c = subst (λ (z : Move). CountsAtMost (n + 1) z.blocks) (same_Some y x (sym k ∙ e)) c
 
-    go : (q : Presence) → presence bs item.section ≡ q → CountsAtMost (n + 1) x.blocks
-    go Absent k =
-        is (created_move item bs) (entry_absent item bs k)
+    absent : presence bs item.section ≡ Absent → (p : Bool) → item.present ≡ p → CountsAtMost (n + 1) x.blocks
+    absent k true p = absurd (let bad : None ≡ Some x = sym (entry_missing item bs k p) ∙ e in cc)
+    absent k false p =
+        is (created_move item bs) (entry_absent item bs k p)
         (one_more (n + 1) (record { section = item.section; count = 1 }) bs (more n (n + 1) bs h (omega arith)) (omega arith))
+
+    go : (q : Presence) → presence bs item.section ≡ q → CountsAtMost (n + 1) x.blocks
+    go Absent k = absent k item.present refl
     go (Inside b) k =
         let low = inside n bs item.section b h k in
         is (raised_move item b bs) (entry_there item bs b k)
@@ -158,8 +162,12 @@ updated_once n item m m' h e = go (presence m.device.blocks item.section) refl
     is x same k =
         subst (λ (y : Memories). CountsAtMost n y.device.blocks) (same_Some x m' (sym k ∙ e)) (subst (CountsAtMost n) (sym same) h)
 
+    absent : presence m.device.blocks item.section ≡ Absent → (p : Bool) → item.present ≡ p → CountsAtMost n m'.device.blocks
+    absent k true p = absurd (let bad : None ≡ Some m' = sym (update_missing item m k p) ∙ e in cc)
+    absent k false p = is m refl (update_absent item m k p)
+
     go : (q : Presence) → presence m.device.blocks item.section ≡ q → CountsAtMost n m'.device.blocks
-    go Absent k = is m refl (is_updated item m Absent k)
+    go Absent k = absent k item.present refl
     go (Inside b) k =
         is (when (copies_from item.kind) (copy_out item.section) (when (copies_to item.kind) (copy_in item.section) m))
         (when_out (copies_from item.kind) item.section _ ∙ copied_blocks (copies_to item.kind) item.section m)

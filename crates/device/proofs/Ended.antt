@@ -5,7 +5,7 @@ use Rattle.std.proofs.lemmas.Bool.{false≢true, and_parts, eqb-true}
 use Rattle.std.proofs.lemmas.Option.{same_Some, slice_get_within}
 use Rattle.base.specs.declared.tree.Program.{Program}
 use Rattle.base.specs.declared.item.Event.{Event}
-use Rattle.base.specs.declared.item.Event.TheVariants.{Gen, Open, Close, Wait, End}
+use Rattle.base.specs.declared.item.Event.TheVariants.{Gen, Open, Step, Close, Wait, End}
 use Rattle.base.specs.Meaning.{lengths_of}
 use Rattle.base.specs.Items.{Work, plan}
 use Rattle.base.specs.Map.{Fill}
@@ -89,6 +89,7 @@ module _ (p : Program) (fill : ℕ → Fill) (s : State) (ok : Sound (plan p) fi
   pub nothing_more : (e : Event) → enabled (plan p) s e ≡ true → ⊥
   nothing_more (Gen i) h = let k = enabled_Gen (plan p) s i h in omega arith
   nothing_more (Open i) h = no_open i h
+  nothing_more (Step i) h = absurd (false≢true h)
   nothing_more (Close i) h = no_close i h
   nothing_more (Wait i) h = let k = enabled_Wait (plan p) s i h in omega arith
   nothing_more End h = let k = enabled_End (plan p) s h in omega arith

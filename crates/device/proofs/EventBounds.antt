@@ -5,10 +5,10 @@ use Rattle.std.proofs.lemmas.Bool.{false≢true, true≢false, and_parts, and_fr
 use Rattle.std.proofs.lemmas.Bool.Decides.{nat_tests}
 use Rattle.std.proofs.lemmas.Option.{same_Some, slice_get_within}
 use Rattle.base.specs.declared.item.Event.{Event}
-use Rattle.base.specs.declared.item.Event.TheVariants.{Gen, Open, Close, Wait, End}
+use Rattle.base.specs.declared.item.Event.TheVariants.{Gen, Open, Step, Close, Wait, End}
 use Rattle.base.specs.Items.{Work, Plan}
-use Rattle.base.specs.Map.{Memories, Fill}
-use Rattle.base.specs.Machine.{State, Condition, Untouched, Generated, Opened, Closed, Passed, start, is_open, is_waiting, is_wait, on_item, is_ready, deferred_closed, enabled, with_condition, moved_on, opening, open_item, captured_by, worked_on, closing, step, Run, RunFrom, HasEnded}
+use Rattle.base.specs.Map.{Memories, Fill, memories_at}
+use Rattle.base.specs.Machine.{State, Condition, Untouched, Generated, Opened, Closed, Passed, start, is_open, is_waiting, is_wait, on_item, is_ready, deferred_closed, enabled, with_condition, with_memories, moved_on, opening, open_item, captured_by, worked_on, closing, step, Run, RunFrom, HasEnded}
 use Rattle.base.proofs.Closing.{Kept, closing_keeps}
 use Rattle.base.proofs.Runs.{enabled_Gen, enabled_Wait, enabled_End}
 use Rattle.device.proofs.Ended.{open_closed, waiting_closed}
@@ -192,6 +192,7 @@ module _ (pl : Plan) (fill : ℕ → Fill) where
             let at = eqb-true s.place i h in
             let lt = slice_get_within pl.items i w e in
             omega arith
+    nothing_more (Step i) h = false≢true h
     nothing_more (Close i) h =
         let f = on_true pl i (λ w. is_open (s.condition i)) h in
         go f.0 f.1 f.0.deferred refl f.2
@@ -321,7 +322,7 @@ module _ (pl : Plan) (fill : ℕ → Fill) where
         let b = and_parts (f.0.deferred || (s.place == i)) _ a.1 in
         let d = and_parts (is_waiting f.0.deferred (s.condition i)) (is_ready pl s i) b.1 in
         go f.0 f.1 a.0 b.0 d.0
-        (opening (fill i) f.0 s.memories) (sym (at_item pl i f.0 f.1 None (λ w. open_item pl (fill i) i w s)) ∙ is)
+        (opening (fill i) f.0 (memories_at f.0.device s.memories)) (sym (at_item pl i f.0 f.1 None (λ w. open_item pl (fill i) i w s)) ∙ is)
       where
         fits : (w : Work) → slice_get pl.items i ≡ Some w → not (is_wait w.kind) ≡ true → (d : Bool) → w.deferred ≡ d →
             (d || (s.place == i)) ≡ true → is_waiting d (s.condition i) ≡ true →
@@ -347,13 +348,13 @@ module _ (pl : Plan) (fill : ℕ → Fill) where
         go : (w : Work) → slice_get pl.items i ≡ Some w → not (is_wait w.kind) ≡ true →
             (w.deferred || (s.place == i)) ≡ true → is_waiting w.deferred (s.condition i) ≡ true → (o : Option Memories) →
             option_map (λ m. with_condition i
-            (Opened (captured_by (s.condition i) s.scalars) (worked_on pl.lengths w.kind m)) (record s { memories = m })) o
+            (Opened (captured_by (s.condition i) s.scalars) (worked_on pl.lengths w.kind m)) (with_memories w.device m s)) o
             ≡ Some t → Further s t
         go w e wait may' waits None h = absurd (cc h)
         go w e wait may' waits (Some m) h =
             let low = had_waiting w.deferred (s.condition i) waits in
             let c : Condition = Opened (captured_by (s.condition i) s.scalars) (worked_on pl.lengths w.kind m) in
-            let u : State = with_condition i c (record s { memories = m }) in
+            let u : State = with_condition i c (with_memories w.device m s) in
             subst (Further s) (same_Some u t h)
             (further_same s u i w c ok (going_on (Open i) may) e refl (λ j. refl) (omega arith)
             (fits w e wait w.deferred refl may' waits _ _))
@@ -405,11 +406,12 @@ module _ (pl : Plan) (fill : ℕ → Fill) where
                 conditions (let x = two in omega arith) (λ g. refl)
 
     one_more : (e : Event) → enabled pl s e ≡ true → step pl fill s e ≡ Some t → Further s t
-    one_more (Gen i) = generated i
-    one_more (Open i) = opened i
-    one_more (Close i) = closed i
-    one_more (Wait i) = passed i
-    one_more End = ended
+    one_more (Gen i) may is = generated i may is
+    one_more (Open i) may is = opened i may is
+    one_more (Step i) may is = absurd (false≢true may)
+    one_more (Close i) may is = closed i may is
+    one_more (Wait i) may is = passed i may is
+    one_more End may is = ended may is
 
   -- what holds after events of a run
   record After (events : List Event) (s t : State) : Type 0 where

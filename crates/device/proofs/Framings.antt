@@ -14,7 +14,7 @@ use Rattle.base.specs.Arrays.{lengths_of, memory_of}
 use Rattle.base.specs.Memory.{View, Scalars, view_of}
 use Rattle.base.specs.Meaning.{run_region}
 use Rattle.base.specs.Items.{Work, Plan, plan}
-use Rattle.base.specs.Map.{Memories, enter, in_turn}
+use Rattle.base.specs.Map.{Memories, enter, in_turn, memories_at}
 use Rattle.base.specs.Machine.{State, Condition, Untouched, Generated, Opened, Closed, Passed, captured_by, is_waiting, opening, worked_on}
 use Rattle.base.specs.Footprint.{touches_of}
 use Rattle.base.specs.Accepted.{is_host, is_target}
@@ -30,7 +30,7 @@ use Rattle.kernel.specs.Rows.{cells_of}
 use Rattle.lower.specs.Image.{IsReach}
 use Rattle.present.specs.declared.Table.{Table}
 use Rattle.present.specs.Rows.{over}
-use Rattle.present.specs.Table.{fill_of, number_at}
+use Rattle.present.specs.Table.{number_at}
 use Rattle.regions.specs.Footprints.{BoundedScalars, BoundedView}
 use Rattle.two_memories.specs.Two.{BoundedCondition, IsBounded}
 use Rattle.device.specs.declared.standing.Held.{Held}
@@ -118,8 +118,9 @@ module _ (p : Program) (now : Standing) (i : ℕ) (scalars : List ℕ) (reach : 
       subst (λ (g : Frame). IsFrameOf i w (captured_by (s.condition i) s.scalars) (worked_on (plan p).lengths w.kind m) s.input g)
       (sym (subst (λ (y : ItemKind). IsFilled y frame t f) k filled)) made
     where
-      same : s.memories ≡ m
-      same = same_Some s.memories m (subst (λ (y : ItemKind). opening (fill_from now i) (record w { kind = y }) s.memories ≡ Some m) k opened)
+      same : memories_at w.device s.memories ≡ m
+      same = same_Some (memories_at w.device s.memories) m
+          (subst (λ (y : ItemKind). opening (fill_from now i) (record w { kind = y }) (memories_at w.device s.memories) ≡ Some m) k opened)
 
       view : in_reach reach (view_of (lengths_of now.host) (memory_of now.host)) ≡ in_reach reach (view_of (plan p).lengths m.host)
       view = λ j. in_reach reach (view_of (at.lengths j) ((sym at.host ∙ ap (λ (x : Memories). x.host) same) j))
@@ -168,12 +169,12 @@ module _ (p : Program) (now : Standing) (i : ℕ) (scalars : List ℕ) (reach : 
       input_is : f.input.now ≡ []
       input_is = has.input ∙ input
 
-      entered : in_turn (enter (fill_of now.table)) w.maps s.memories ≡ Some m
-      entered = subst (λ (y : ItemKind). opening (fill_from now i) (record w { kind = y }) s.memories ≡ Some m) k opened
+      entered : in_turn (enter (fill_from now i)) w.maps (memories_at w.device s.memories) ≡ Some m
+      entered = subst (λ (y : ItemKind). opening (fill_from now i) (record w { kind = y }) (memories_at w.device s.memories) ≡ Some m) k opened
 
       stored : (r : Region) → w.region ≡ Some r → (c : Cell) → is_touched (touches_of r w.loops) c ≡ true → IsSome (m.device.cells c)
       stored r e c touched =
-          entries_give_storage (fill_of now.table) w.maps s.memories m t entered shown c
+          entries_give_storage (fill_from now i) w.maps (memories_at w.device s.memories) m t entered shown c
           (fine.mapped (ap is_target k) c (ap (λ ts. is_touched ts c) (touches_as r e) ∙ touched))
 
       meaning : (r : Region) → w.region ≡ Some r →

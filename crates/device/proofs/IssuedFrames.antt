@@ -104,7 +104,7 @@ module _ (s : Inside) (i : ℕ) (it : Item) (h : Shows s) (f : CloseFacts s i it
 -- all that is known where an item is closed with what was run
 pub record CanClose (s : Inside) (i : ℕ) (it : Item) (k : Kept) : Type 0 where
   pub facts : CloseFacts s i it
-  pub goes : it.kind ≡ kind.Target → GoesOut k.stored it.maps.items s.standing
+  pub goes : it.kind ≡ kind.Target → GoesOut it.device.number k.stored it.maps.items s.standing
   pub cells : AreCells (lengths_of s.standing.host) k.stored
   pub follows : (new : Standing) → FollowsClose s.standing i it k new → IsAt (plan (run_of s).program) new facts.next.state
 

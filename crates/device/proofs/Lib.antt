@@ -1,3 +1,4 @@
+pub mod Tables
 pub mod Moving
 pub mod Updating
 pub mod Counts

@@ -12,8 +12,8 @@ use Rattle.base.specs.Memory.{View, Scalars}
 use Rattle.base.specs.Meaning.{Run as Region_run, run_list, run_region}
 use Rattle.kernel.specs.Rows.{cells_of}
 use Rattle.base.specs.Items.{Work, plan}
-use Rattle.base.specs.Map.{Device, Memories, in_turn, leave}
-use Rattle.base.specs.Machine.{Condition, Untouched, Generated, Opened, Closed, Passed, closing, enabled, is_open, kernel_done, store_device}
+use Rattle.base.specs.Map.{Memories, in_turn, leave, memories_at}
+use Rattle.base.specs.Machine.{Condition, Untouched, Generated, Opened, Closed, Passed, closing, enabled, is_open, kernel_done, kernel_memories, with_memories}
 use Rattle.base.specs.Accepted.{is_host, is_target, region_faults}
 use Rattle.base.proofs.Closing.{closed_as}
 use Rattle.frames.specs.Views.{AreCells}
@@ -25,7 +25,7 @@ use Rattle.lower.specs.Image.{IsRegionOf}
 use Rattle.outline.specs.Regions.{Entry}
 use Rattle.outline.specs.Shown.{all_shown, as_shown}
 use Rattle.present.specs.Rows.{with_numbers}
-use Rattle.present.specs.Table.{memories}
+use Rattle.present.specs.Table.{Shows as TableShows, memories}
 use Rattle.taskgraph.specs.Board.{allows}
 use Rattle.two_memories.proofs.PlanItems.{on_true}
 use Rattle.device.specs.declared.standing.Held.{Held}
@@ -35,7 +35,7 @@ use Rattle.device.specs.Closing.{GoesOut, HasRegion, HostsAreHere, IsLeftBy}
 use Rattle.device.specs.Run.{Run, fill_in, state_of}
 use Rattle.device.specs.Running.{Shows, run_of}
 use Rattle.device.specs.Standing.{IsFrameOf, IsIssued, Keeps, done_on, input_for}
-use Rattle.device.proofs.Closings.{IsClosed, is_closed}
+use Rattle.device.proofs.Closings.{IsClosed, IsKernelDone, is_closed, is_kernel_done}
 use Rattle.device.proofs.MayOpen.{IsItem, is_item}
 use Rattle.device.proofs.Reaching.{Before, Next, asked, before, next}
 use Rattle.device.proofs.Regions.{placed_at}
@@ -246,46 +246,48 @@ module _ (s : Inside) (i : ℕ) (it : Item) (h : Shows s) (f : CloseFacts s i it
             printed = [];
           })) k none) ∙ stored in cc)
 
-  pub goes_out : (k : Kept) → IsLeftBy i f.item.work (state_of (run_of s)) k → it.kind ≡ kind.Target → GoesOut k.stored it.maps.items s.standing
+  pub goes_out : (k : Kept) → IsLeftBy i f.item.work (state_of (run_of s)) k → it.kind ≡ kind.Target →
+      GoesOut it.device.number k.stored it.maps.items s.standing
   goes_out k left target = region f.item.work.region refl
     where
       is_target_work : f.item.work.kind ≡ kind.Target
       is_target_work = f.item.of.kind ∙ target
 
-      out : (run : Region_run) (d : Device) (m : Memories) → IsKept (Some run) k →
-          store_device run.stores (state_of (run_of s)).memories.device ≡ Some d →
-          in_turn leave f.item.work.maps (record ((state_of (run_of s)).memories) { device = d }) ≡ Some m → GoesOut k.stored it.maps.items s.standing
-      out run d m kept stored gone =
+      out : (run : Region_run) (m : Memories) → IsKept (Some run) k →
+          IsKernelDone f.item.work run.stores (memories_at f.item.work.device (state_of (run_of s)).memories) m →
+          GoesOut it.device.number k.stored it.maps.items s.standing
+      out run m kept gone t has =
+          let own = (state_of (run_of s)).memories.devices f.item.work.device in
           let l = kept_leaves run k kept in
-          let d_is = l.device (state_of (run_of s)).memories.device d stored in
+          let d_is = l.device own gone.device gone.stored in
           record {
-            device = (state_of (run_of s)).memories.device;
-            shown = h.at.device;
+            device = own;
+            shown =
+                subst (λ d. TableShows t ((state_of (run_of s)).memories.devices d)) (sym f.item.of.device)
+                (h.at.devices it.device.number t has);
             after = m;
             is =
-                ap (λ ms. in_turn leave ms (memories s.standing.host (with_numbers k.stored (state_of (run_of s)).memories.device))) (sym f.item.of.maps)
-                ∙ (λ j. in_turn leave f.item.work.maps (record { host = sym h.at.host j; device = d_is j })) ∙ gone;
+                ap (λ ms. in_turn leave ms (memories s.standing.host (with_numbers k.stored own))) (sym f.item.of.maps)
+                ∙ (λ j. in_turn leave f.item.work.maps (record { host = sym h.at.host j; device = d_is j })) ∙ gone.is;
           }
 
-      gone : (run : Region_run) (d : Device) → IsKept (Some run) k → store_device run.stores (state_of (run_of s)).memories.device ≡ Some d →
-          (q : Option Memories) → in_turn leave f.item.work.maps (record ((state_of (run_of s)).memories) { device = d }) ≡ q →
-          option_map (λ m. record (state_of (run_of s)) { memories = m }) q ≡ Some closed.left → GoesOut k.stored it.maps.items s.standing
-      gone run d kept stored None g e = absurd cc
-      gone run d kept stored (Some m) g e = out run d m kept stored g
-
-      stored : (run : Region_run) → IsKept (Some run) k → (q : Option Device) → store_device run.stores (state_of (run_of s)).memories.device ≡ q →
-          option_and_then (λ d. option_map (λ m. record (state_of (run_of s)) { memories = m })
-          (in_turn leave f.item.work.maps (record ((state_of (run_of s)).memories) { device = d }))) q ≡ Some closed.left →
-          GoesOut k.stored it.maps.items s.standing
-      stored run kept None g e = absurd cc
-      stored run kept (Some d) g e = gone run d kept g (in_turn leave f.item.work.maps (record ((state_of (run_of s)).memories) { device = d })) refl e
+      done : (run : Region_run) → IsKept (Some run) k → (q : Option Memories) →
+          kernel_memories f.item.work run.stores (memories_at f.item.work.device (state_of (run_of s)).memories) ≡ q →
+          option_map (λ m. with_memories f.item.work.device m (state_of (run_of s))) q ≡ Some closed.left →
+          GoesOut it.device.number k.stored it.maps.items s.standing
+      done run kept None g e = absurd cc
+      done run kept (Some m) g e =
+          out run m kept
+          (is_kernel_done f.item.work run.stores (memories_at f.item.work.device (state_of (run_of s)).memories) m g)
 
       ran : (o : Option Region_run) → IsKept o k → option_and_then (kernel_done f.item.work (state_of (run_of s))) o ≡ Some closed.left →
-          GoesOut k.stored it.maps.items s.standing
+          GoesOut it.device.number k.stored it.maps.items s.standing
       ran None kept e = absurd cc
-      ran (Some run) kept e = stored run kept (store_device run.stores (state_of (run_of s)).memories.device) refl e
+      ran (Some run) kept e =
+          done run kept (kernel_memories f.item.work run.stores (memories_at f.item.work.device (state_of (run_of s)).memories))
+          refl e
 
-      region : (o : Option Region) → f.item.work.region ≡ o → GoesOut k.stored it.maps.items s.standing
+      region : (o : Option Region) → f.item.work.region ≡ o → GoesOut it.device.number k.stored it.maps.items s.standing
       region None e = absurd (false≢true (subst IsSome e (f.region.1 (ap is_target is_target_work))))
       region (Some r) e =
           ran (run_region r f.item.work.loops f.snapshot f.captured [])

@@ -13,7 +13,7 @@ use Rattle.base.specs.declared.tree.Program.{Program}
 use Rattle.base.specs.Arrays.{lengths_of, row_of}
 use Rattle.base.specs.Memory.{end_of}
 use Rattle.base.specs.Items.{Work, plan}
-use Rattle.base.specs.Map.{in_use, need}
+use Rattle.base.specs.Map.{Block, in_use, memories_at, need}
 use Rattle.base.specs.Machine.{enabled, is_ready, is_wait, is_waiting, opening}
 use Rattle.base.specs.Accepted.{map_fault, depend_fault, section_fails}
 use Rattle.base.proofs.Nils.{nil_filter, nil_map, nil_parts}
@@ -21,25 +21,28 @@ use Rattle.frames.specs.Laws.{IsFine}
 use Rattle.frames.proofs.AcceptedWorks.{accepted_items_are_fine}
 use Rattle.outline.specs.Regions.{Entry}
 use Rattle.outline.specs.Shown.{all_shown, as_shown, shown, work_with}
-use Rattle.present.specs.Table.{AreSections, AreWithin, HasNoRoom, HasRoom, capacity_of, cells_in_use, fill_of}
+use Rattle.present.specs.Table.{AreSections, AreWithin, HasNoRoom, HasRoom, fill_of}
+use Rattle.present.specs.Table.{Shows as TableShows}
 use Rattle.taskgraph.specs.Board.{allows}
 use Rattle.two_memories.specs.Two.{IsBounded}
 use Rattle.two_memories.proofs.PlanItems.{on_true}
 use Rattle.device.specs.declared.standing.Standing.{Standing}
-use Rattle.device.specs.Moves.{AreCounted, Goes, IsMapsFault, enters, opens_with}
+use Rattle.device.specs.Devices.{OnTable, fresh_of, table_at}
+use Rattle.device.specs.Moves.{AreCounted, IsMapsFault, enters, opens_with}
 use Rattle.present.specs.declared.Table.{Table}
 use Rattle.base.specs.declared.fault.RunFault.{RunFault}
 use Rattle.base.specs.declared.fault.RunFault.TheVariants as fault
 use Rattle.device.specs.Opening.{IsOf}
-use Rattle.device.specs.Run.{IsOpenFault, Run, fill_in, is_over, state_of}
+use Rattle.device.specs.Run.{IsOpenFault, Run, fill_in, is_over, own_blocks, state_of}
 use Rattle.device.specs.Running.{IsRunning, Shows, run_of}
 use Rattle.device.specs.declared.state.RunState.TheInside.{Inside}
-use Rattle.device.specs.Opening.{IsSame}
+use Rattle.device.specs.Opening.{GoesIn, IsSame}
 use Rattle.device.proofs.Starts.{as_many}
 use Rattle.std.proofs.Common.{get_or}
 use Rattle.std.proofs.lemmas.Option.{slice_get-get_or}
 use Rattle.device.proofs.Counts.{table_counts}
 use Rattle.device.proofs.Moving.{row_length}
+use Rattle.device.proofs.Tables.{are_kept, each_table, still_alike}
 use Rattle.device.proofs.Openings.{is_opened, on_work, opens_by, shown_memories}
 use Rattle.device.proofs.Reaching.{Next, asked, before, next}
 use Rattle.device.proofs.Validity.{valid}
@@ -50,7 +53,7 @@ known_of : (it : Item) (w v : Work) → IsOf it v → Some v ≡ Some w → IsOf
 known_of it w v h e = let same : v ≡ w = cc in subst (IsOf it) same h
 
 plain_of : (it : Item) (r : _) → IsOf it (work_with it r)
-plain_of it r = record { kind = refl; maps = refl; deferred = refl; loops = refl }
+plain_of it r = record { kind = refl; device = refl; maps = refl; deferred = refl; loops = refl }
 
 pub shown_of : (entries : List Entry) (it : Item) (w : Work) → shown entries it ≡ Some w → IsOf it w
 shown_of entries it w e = go it.region e
@@ -120,7 +123,7 @@ pub record IsItem (r : Run) (now : Standing) (i : ℕ) (it : Item) : Type 0 wher
   pub inside : i < length now.held.items
   pub sections : AreSections it.maps.items
   pub within : AreWithin now.host it.maps.items
-  pub counted : AreCounted now.table now.entered
+  pub counted : OnTable now.devices it.device.number (λ t. AreCounted t now.entered)
   pub bounded : IsBounded (state_of r)
 
 pub is_item : (r : Run) (now : Standing) → IsRunning r now → (entries : List Entry) (its : List Item) →
@@ -134,7 +137,9 @@ is_item r now h entries its e i it w at_it at_w = record {
   inside = (let a = h.at.slots in let b = slice_get_within (plan r.program).items i w at_w in omega arith);
   sections = subst AreSections of.maps (sections r.program now.host w fine h.at.lengths h.reached.short);
   within = subst (AreWithin now.host) of.maps (within r.program now.host w fine h.at.lengths h.reached.short);
-  counted = table_counts now.table (state_of r).memories.device now.entered h.at.device h.at.counts;
+  counted = λ t has.
+      table_counts t ((state_of r).memories.devices it.device.number) now.entered (h.at.devices it.device.number t has)
+      (h.at.counts it.device.number);
   bounded =
       (valid r.program h.reached.accepted (fill_in r) (λ i c. h.reached.fresh) r.input h.reached.numbers r.history (state_of r)
       h.reached.ran).bounded;
@@ -167,26 +172,30 @@ may_open r now i h may =
     let z = and_parts (is_waiting f.0.deferred (s.condition i)) (is_ready (plan r.program) s i) y.1 in
     record { going = b.going; allowed = b.allowed; work = f.0; is = f.1; waits = z.0; next = next r (event.Open i) h.reached may }
 
-pub may_go : (r : Run) (now : Standing) (i : ℕ) (it : Item) → IsRunning r now → (k : IsItem r now i it) → r.fresh ≡ now.table.fresh →
-    (n : Next r (event.Open i)) → Goes (opens_with (fill_of now.table) it.kind it.maps.items) now.table now.host
-may_go r now i it h k filled n =
+pub may_go : (r : Run) (now : Standing) (i : ℕ) (it : Item) → IsRunning r now → (k : IsItem r now i it) →
+    r.fresh ≡ fresh_of now.devices → (n : Next r (event.Open i)) → GoesIn now it
+may_go r now i it h k filled n t has =
     let o = is_opened (plan r.program) (fill_in r) i k.work (state_of r) n.state k.is n.step in
+    let own = memories_at k.work.device (state_of r).memories in
     record {
-      device = (state_of r).memories.device;
-      shown = h.at.device;
+      device = own.device;
+      shown =
+          subst (λ d. TableShows t ((state_of r).memories.devices d)) (sym k.of.device) (h.at.devices it.device.number t has);
       after = o.memories;
       is =
-          ap (opens_with (fill_of now.table) it.kind it.maps.items) (sym (shown_memories (plan r.program) now (state_of r) h.at))
-          ∙ sym (opens_by (fill_of now.table) it k.work k.of (state_of r).memories)
-          ∙ ap (λ f. opening (λ c. f) k.work (state_of r).memories) (sym filled) ∙ o.is;
+          ap (opens_with (fill_of t) it.kind it.maps.items)
+          (sym (shown_memories (plan r.program) now (state_of r) h.at k.work.device))
+          ∙ sym (opens_by (fill_of t) it k.work k.of own)
+          ∙ ap (λ f. opening (λ c. f) k.work own) (h.at.alike.fresh it.device.number t has ∙ sym filled) ∙ o.is;
     }
 
--- Room on the device.
+-- Room on the item's device.
 
 over_by : (r : Run) (i : ℕ) (w : Work) → slice_get (plan r.program).items i ≡ Some w →
-    is_over r i ≡ (enters w.kind && nat_lt r.capacity (in_use (state_of r).memories.device.blocks + need w.maps (state_of r).memories.device.blocks))
-over_by r i w e = on_work (plan r.program) i w false (λ w. enters w.kind &&
-    nat_lt r.capacity (in_use (state_of r).memories.device.blocks + need w.maps (state_of r).memories.device.blocks)) e
+    is_over r i ≡ (enters w.kind && nat_lt r.capacity (in_use (own_blocks r w) + need w.maps (own_blocks r w)))
+over_by r i w e =
+    on_work (plan r.program) i w false
+    (λ w. enters w.kind && nat_lt r.capacity (in_use (own_blocks r w) + need w.maps (own_blocks r w))) e
 
 lt_true : (a b : ℕ) → a < b → nat_lt a b ≡ true
 lt_true a b h = grind (arith, nat_tests)
@@ -195,36 +204,40 @@ lt_false : (a b : ℕ) → b ≤ a → nat_lt a b ≡ false
 lt_false a b h = grind (arith, nat_tests)
 
 module _ (r : Run) (now : Standing) (i : ℕ) (it : Item) (h : IsRunning r now) (k : IsItem r now i it) where
-  needed : ℕ
-  needed = need k.work.maps (state_of r).memories.device.blocks
+  abbrev blocks : List Block
+  blocks = ((state_of r).memories.devices it.device.number).blocks
 
-  pub is_full : enters it.kind ≡ true → HasNoRoom now.table it.maps.items → is_over r i ≡ true
-  is_full e none =
-      let d = (state_of r).memories.device in
-      let full : capacity_of now.table < cells_in_use now.table + need k.work.maps d.blocks =
-      subst (λ ms. capacity_of now.table < cells_in_use now.table + need ms d.blocks) (sym k.of.maps) (none d h.at.device) in
-      let used = h.at.device.in_use in
-      let room = h.room in
-      let lt = lt_true r.capacity (in_use d.blocks + need k.work.maps d.blocks) (omega arith) in
-      over_by r i k.work k.is ∙ ap (λ y. enters y && nat_lt r.capacity (in_use d.blocks + need k.work.maps d.blocks)) k.of.kind
-      ∙ ap (λ b. b && nat_lt r.capacity (in_use d.blocks + need k.work.maps d.blocks)) e ∙ lt
+  -- the cells that would be in use
+  abbrev total : ℕ
+  total = in_use blocks + need it.maps.items blocks
 
-  pub has_room : (enters it.kind ≡ true → HasRoom now.table it.maps.items) → is_over r i ≡ false
-  has_room room =
+  over_here : is_over r i ≡ (enters it.kind && nat_lt r.capacity total)
+  over_here =
       over_by r i k.work k.is
-      ∙ ap (λ y. enters y && nat_lt r.capacity (in_use (state_of r).memories.device.blocks + need k.work.maps (state_of r).memories.device.blocks)) k.of.kind
-      ∙ go (enters it.kind) refl
+      ∙ (λ j. enters (k.of.kind j) && nat_lt r.capacity (in_use ((state_of r).memories.devices (k.of.device j)).blocks
+      + need (k.of.maps j) ((state_of r).memories.devices (k.of.device j)).blocks))
+
+  pub is_full : (t : Table) → table_at now.devices it.device.number ≡ Some t → enters it.kind ≡ true →
+      HasNoRoom t it.maps.items → is_over r i ≡ true
+  is_full t has e none =
+      let shown = h.at.devices it.device.number t has in
+      let full = none ((state_of r).memories.devices it.device.number) shown in
+      let used = shown.in_use in
+      let room = h.room it.device.number t has in
+      over_here ∙ ap (λ b. b && nat_lt r.capacity total) e ∙ lt_true r.capacity total (omega arith)
+
+  pub has_room : (t : Table) → table_at now.devices it.device.number ≡ Some t →
+      (enters it.kind ≡ true → HasRoom t it.maps.items) → is_over r i ≡ false
+  has_room t has room = over_here ∙ go (enters it.kind) refl
     where
-      go : (b : Bool) → enters it.kind ≡ b →
-          (b && nat_lt r.capacity (in_use (state_of r).memories.device.blocks + need k.work.maps (state_of r).memories.device.blocks)) ≡ false
+      go : (b : Bool) → enters it.kind ≡ b → (b && nat_lt r.capacity total) ≡ false
       go false e = refl
       go true e =
-          let d = (state_of r).memories.device in
-          let fits : cells_in_use now.table + need k.work.maps d.blocks ≤ capacity_of now.table =
-          subst (λ ms. cells_in_use now.table + need ms d.blocks ≤ capacity_of now.table) (sym k.of.maps) (room e d h.at.device) in
-          let used = h.at.device.in_use in
-          let all = h.room in
-          lt_false r.capacity (in_use d.blocks + need k.work.maps d.blocks) (omega arith)
+          let shown = h.at.devices it.device.number t has in
+          let fits = room e ((state_of r).memories.devices it.device.number) shown in
+          let used = shown.in_use in
+          let all = h.room it.device.number t has in
+          lt_false r.capacity total (omega arith)
 
 -- an item that may be opened is one of the items
 pub inside_open : (s : Inside) (v : Run) (i : ℕ) (entries : List Entry) (its : List Item) → run_of s ≡ v → Shows s →
@@ -240,7 +253,7 @@ inside_open s v i entries its is h may e =
 pub record Facts (s : Inside) (i : ℕ) (it : Item) : Type 0 where
   pub open' : MayOpen (run_of s) s.standing i
   pub item : IsItem (run_of s) s.standing i it
-  pub goes : Goes (opens_with (fill_of s.standing.table) it.kind it.maps.items) s.standing.table s.standing.host
+  pub goes : GoesIn s.standing it
 
 pub facts : (s : Inside) (v : Run) (i : ℕ) (entries : List Entry) (its : List Item) (it : Item) → run_of s ≡ v → Shows s →
     enabled (plan v.program) (state_of v) (event.Open i) ≡ true → all_shown entries its ≡ as_shown (plan (run_of s).program).items →
@@ -262,20 +275,18 @@ same_work s i it f =
     subst (λ (w : Work). is_waiting w.deferred ((state_of (run_of s)).condition i) ≡ true)
     (same_Some f.open'.work f.item.work (sym f.open'.is ∙ f.item.is)) f.open'.waits
 
--- a run whose table looks the same
-pub unchanged : (r : Run) (old new : Standing) → IsRunning r old → IsSame old new → IsRunning r new
-unchanged r old new h same =
+-- a run one of whose tables looks the same
+pub unchanged : (r : Run) (d : ℕ) (old new : Standing) → IsRunning r old → IsSame d old new → IsRunning r new
+unchanged r d old new h same =
     subst (λ (z : Standing). IsRunning r z) (sym same.rest) (record {
       reached = h.reached;
       at = record {
         host = h.at.host;
         lengths = h.at.lengths;
-        device = record {
-          apart = h.at.device.apart;
-          blocks = λ c. h.at.device.blocks c ∙ sym (ap (λ f. f c) same.table.blocks);
-          numbers = λ c. h.at.device.numbers c ∙ sym (ap (λ f. f c) same.table.numbers);
-          in_use = h.at.device.in_use ∙ sym same.table.in_use;
-        };
+        devices =
+            each_table d old.devices new.devices same.looks.after same.looks.becomes
+            (λ e t. TableShows t ((state_of r).memories.devices e)) own (λ e k. h.at.devices e);
+        alike = still_alike d old.devices new.devices same.looks.after same.looks.becomes h.at.alike;
         counts = h.at.counts;
         graph = h.at.graph;
         place = h.at.place;
@@ -286,9 +297,20 @@ unchanged r old new h same =
         slots = h.at.slots;
         held = h.at.held;
       };
-      room = same.table.capacity ∙ h.room;
+      room = (are_kept d old.devices new.devices same.looks.after same.looks.becomes).room r.capacity h.room;
       stayed = h.stayed;
     })
+  where
+    was : TableShows same.looks.becomes.before ((state_of r).memories.devices d)
+    was = h.at.devices d same.looks.becomes.before same.looks.becomes.was
+
+    own : TableShows same.looks.after ((state_of r).memories.devices d)
+    own = record {
+      apart = was.apart;
+      blocks = λ c. was.blocks c ∙ sym (ap (λ f. f c) same.looks.unchanged.blocks);
+      numbers = λ c. was.numbers c ∙ sym (ap (λ f. f c) same.looks.unchanged.numbers);
+      in_use = was.in_use ∙ sym same.looks.unchanged.in_use;
+    }
 
 -- runs that differ in their frames alone
 pub same_but : (a b : Run) → a.program ≡ b.program → a.input ≡ b.input → a.capacity ≡ b.capacity → a.fresh ≡ b.fresh →

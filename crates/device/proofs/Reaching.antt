@@ -14,8 +14,7 @@ use Rattle.device.specs.Running.{IsReached, IsRunning, run_of}
 use Rattle.device.specs.declared.state.RunState.TheInside.{Inside}
 use Rattle.device.specs.Standing.{IsAt, Follows, place_of}
 use Rattle.device.specs.declared.standing.Standing.{Standing}
-use Rattle.present.specs.Table.{capacity_of, fill_of}
-use Rattle.present.specs.declared.Table.{Table}
+use Rattle.device.specs.Devices.{AreKept, HaveRoom, fresh_of}
 use Rattle.taskgraph.specs.Board.{allows, item_facts}
 use Rattle.base.specs.declared.item.Item.{Item}
 use Rattle.outline.specs.Regions.{Entry}
@@ -99,8 +98,8 @@ before r now e h may = record {
 
 -- the run goes on from the state that an event leads to
 pub goes_to : (r r' : run.Run) (old new : Standing) (e : Event) → IsRunning r old → (n : Next r e) →
-    IsAt (plan r.program) new n.state → IsNext r r' e → capacity_of new.table ≡ capacity_of old.table → IsRunning r' new
-goes_to r r' old new e h n at is same = record {
+    IsAt (plan r.program) new n.state → IsNext r r' e → AreKept old.devices new.devices → IsRunning r' new
+goes_to r r' old new e h n at is kept = record {
   reached = k.0;
   at = here;
   room = room;
@@ -115,18 +114,18 @@ goes_to r r' old new e h n at is same = record {
         subst (λ (q : Program). IsAt (plan q) new (state_of r')) (sym is.program)
         (subst (λ (t : State). IsAt (plan r.program) new t) (sym k.1) at)
 
-    room : capacity_of new.table ≡ r'.capacity
-    room = same ∙ h.room ∙ sym is.capacity
+    room : HaveRoom new.devices r'.capacity
+    room = subst (HaveRoom new.devices) (sym is.capacity) (kept.room r.capacity h.room)
 
 -- the same where what is shown follows the event
 pub goes_on : (r r' : run.Run) (old new : Standing) (e : Event) → IsRunning r old →
     enabled (plan r.program) (state_of r) e ≡ true → Follows old e new →
-    r.fresh ≡ old.table.fresh → IsNext r r' e → capacity_of new.table ≡ capacity_of old.table → IsRunning r' new
-goes_on r r' old new e h may follows filled is same =
+    r.fresh ≡ fresh_of old.devices → IsNext r r' e → AreKept old.devices new.devices → IsRunning r' new
+goes_on r r' old new e h may follows filled is kept =
     let n = next r e h.reached may in
     goes_to r r' old new e h n
     (follows (plan r.program) (state_of r) n.state h.at may
-    (subst (λ (f : ℕ). step (plan r.program) (λ i c. f) (state_of r) e ≡ Some n.state) filled n.step)) is same
+    (subst (λ (f : ℕ). step (plan r.program) (λ i c. f) (state_of r) e ≡ Some n.state) filled n.step)) is kept
 
 -- what was asked of the value holds of the fields
 pub asked : (s : Inside) (r : run.Run) (e : Event) → run_of s ≡ r → enabled (plan r.program) (state_of r) e ≡ true →
@@ -135,7 +134,7 @@ asked s r e is may = subst (λ (x : run.Run). enabled (plan x.program) (state_of
 
 -- a run begins where nothing was done
 pub begun : (r : run.Run) (now : Standing) → IsAccepted (plan r.program) → AreShort r.program → AreNumbers r.input →
-    r.fresh < 2 ^ 64 → r.history ≡ [] → IsAt (plan r.program) now (start r.input) → capacity_of now.table ≡ r.capacity →
+    r.fresh < 2 ^ 64 → r.history ≡ [] → IsAt (plan r.program) now (start r.input) → HaveRoom now.devices r.capacity →
     IsRunning r now
 begun r now accepted short numbers fresh none at room = record {
   reached = reached;
@@ -161,10 +160,6 @@ begun r now accepted short numbers fresh none at room = record {
       fresh = fresh;
       ran = subst (λ (s : State). RunFrom (plan r.program) (fill_in r) r.input r.history (Some s)) (sym here) ran;
     }
-
--- the fill of a table is its number
-pub same_fresh : (t t' : Table) → fill_of t' ≡ fill_of t → t'.fresh ≡ t.fresh
-same_fresh t t' e = ap (λ f. f (record { array = record { 0 = 0 }; index = 0 })) e
 
 pub is_opened_next : (old new : run.Run) (i : ℕ) → run.HasOpened i old new → IsNext old new (event.Open i)
 is_opened_next old new i h = record {

@@ -7,6 +7,7 @@ use Rattle.base.specs.declared.tree.Directive.{Directive}
 use Rattle.base.specs.declared.tree.Directive.TheVariants as directive
 use Rattle.base.specs.declared.tree.Part.{Part, Row_of-Part, end_of-Part, more_of-Part}
 use Rattle.base.specs.declared.tree.Part.TheVariants as part
+use Rattle.base.specs.declared.tree.Place.{Place}
 use Rattle.base.specs.declared.tree.Program.{Program}
 use Rattle.base.specs.Meaning.{turns_of, lengths_of}
 use Rattle.base.specs.Items.{Work, plan, items_of, row_items, list_items, turned_out, alone_work}
@@ -33,11 +34,11 @@ so : {A : Type 0} → true ≡ false → A
 so e = absurd (true≢false e)
 
 module _ (lengths : List ℕ) where
-  alone : (d : Directive) (loops : List ℕ) → Placed (alone_work lengths d loops)
-  alone (directive.Enter maps t) loops = record { host = not_so; target = not_so; other = λ e f. refl }
-  alone (directive.Exit maps t) loops = record { host = not_so; target = not_so; other = λ e f. refl }
-  alone (directive.Update maps t) loops = record { host = not_so; target = not_so; other = λ e f. refl }
-  alone (directive.Wait depends) loops = record { host = not_so; target = not_so; other = λ e f. refl }
+  alone : (place : Place) (d : Directive) (loops : List ℕ) → Placed (alone_work lengths place d loops)
+  alone place (directive.Enter maps t) loops = record { host = not_so; target = not_so; other = λ e f. refl }
+  alone place (directive.Exit maps t) loops = record { host = not_so; target = not_so; other = λ e f. refl }
+  alone place (directive.Update maps t) loops = record { host = not_so; target = not_so; other = λ e f. refl }
+  alone place (directive.Wait depends) loops = record { host = not_so; target = not_so; other = λ e f. refl }
 
   turns : (step : ℕ) (items : ℕ → List Work) → ((v : ℕ) → AllPlaced (items v)) → (n v : ℕ) →
       AllPlaced (turned_out n v step items)
@@ -51,12 +52,12 @@ module _ (lengths : List ℕ) where
     placed (part.Loop' b shape all) loops =
         turns b.step (λ v. row_items all lengths (loops ++ v ∷ [])) (λ v. row all (loops ++ v ∷ [])) (turns_of b) b.first
     placed (part.Target t r) loops = (record { host = not_so; target = λ e. refl; other = λ e f. so f }, tt)
-    placed (part.Data' maps shape all) loops = (
+    placed (part.Data' d shape all) loops = (
       record { host = not_so; target = not_so; other = λ e f. refl },
       append (row_items all lengths loops) _ (row all loops)
           (record { host = not_so; target = not_so; other = λ e f. refl }, tt),
     )
-    placed (part.Alone d) loops = (alone d loops, tt)
+    placed (part.Alone place d) loops = (alone place d loops, tt)
 
     row : {m : _} (all : Row_of-Part m) (loops : List ℕ) → AllPlaced (row_items all lengths loops)
     row end_of-Part loops = tt

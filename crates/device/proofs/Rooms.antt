@@ -1,4 +1,4 @@
--- Room on the device, event by event.
+-- Room on the devices, event by event.
 use Rattle.std.proofs.Common.{◌≡◌, ◌<◌, ◌≤◌, ◌++◌, ◌⊎◌, ℕ, List, [], ◌∷◌, inl, inr, length, take, sym, ap, ◌∙◌, subst, arith}
 use Rattle.std.proofs.Math.Seq.{take-nil}
 use Rattle.std.proofs.lemmas.Bool.{cases_lt}
@@ -14,14 +14,21 @@ use Rattle.device.specs.Run.{Run, fill_in, state_of}
 use Rattle.device.specs.Running.{IsReached}
 use Rattle.device.specs.Standing.{IsAt}
 use Rattle.device.specs.declared.standing.Standing.{Standing}
-use Rattle.present.specs.Table.{capacity_of}
+use Rattle.device.specs.Devices.{HaveRoom, device_count}
+use Rattle.device.proofs.Tables.{own_table}
 
--- a table has no more cells in use than it has room for
+-- no device has more cells in use than there is room for
+abbrev pub AreInRoom : Run → Type 0
+AreInRoom r = (d : ℕ) → d < device_count → in_use ((state_of r).memories.devices d).blocks ≤ r.capacity
+
+-- no table has
 pub no_more_in_use : (r : Run) (now : Standing) → IsAt (plan r.program) now (state_of r) →
-    capacity_of now.table ≡ r.capacity → in_use (state_of r).memories.device.blocks ≤ r.capacity
-no_more_in_use r now at room =
-    let shown = at.device.in_use in
-    let most = now.table.room in
+    HaveRoom now.devices r.capacity → AreInRoom r
+no_more_in_use r now at room d lt =
+    let own = own_table now.devices at.alike d lt in
+    let shown = (at.devices d own.0 own.1).in_use in
+    let most = own.0.room in
+    let all = room d own.0 own.1 in
     omega arith
 
 module _ (p : Program) (fill : ℕ → Fill) (input : List ℕ) (capacity : ℕ) where
@@ -38,7 +45,7 @@ module _ (p : Program) (fill : ℕ → Fill) (input : List ℕ) (capacity : ℕ)
 
 -- a run that has had room at each event still has it after the next
 pub has_stayed : (r r' : Run) (e : Event) → HasStayed r → IsNext r r' e → IsReached r' →
-    in_use (state_of r').memories.device.blocks ≤ r'.capacity → HasStayed r'
+    AreInRoom r' → HasStayed r'
 has_stayed r r' e stays is reached room =
     subst (StaysWithin r'.program (fill_in r') r'.input r'.capacity) (sym is.history)
     (one_more r'.program (fill_in r') r'.input r'.capacity r.history e moved
@@ -54,7 +61,7 @@ has_stayed r r' e stays is reached room =
 
 -- a run that has done nothing has had room
 pub nothing_done : (r : Run) → IsReached r → r.history ≡ [] →
-    in_use (state_of r).memories.device.blocks ≤ r.capacity → HasStayed r
+    AreInRoom r → HasStayed r
 nothing_done r reached none room k =
     subst (HasRoomAfter r.program (fill_in r) r.input r.capacity) (none ∙ sym (take-nil k) ∙ ap (λ h. take k h) (sym none))
     (record { state = state_of r; ran = reached.ran; room = room })

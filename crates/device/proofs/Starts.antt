@@ -10,7 +10,7 @@ use Rattle.base.specs.Items.{Work, Plan}
 use Rattle.base.specs.Machine.{start}
 use Rattle.outline.specs.Regions.{Entry}
 use Rattle.outline.specs.Shown.{all_shown, as_shown, shown, work_with}
-use Rattle.present.specs.Table.{Shows}
+use Rattle.device.specs.Devices.{AreAlike, ShowAll}
 use Rattle.taskgraph.specs.Board.{IsNew, facts_of, item_facts}
 use Rattle.device.specs.declared.standing.Held.{Held}
 use Rattle.device.specs.declared.standing.Held.TheVariants.{Nothing}
@@ -59,7 +59,8 @@ issue_none (suc n) = ap (λ (xs : List (Option Issue)). None ∷ xs) (issue_none
 pub record IsFresh (plan : Plan) (its : List Item) (input : List ℕ) (now : Standing) : Type 0 where
   pub zeros : memory_of now.host ≡ zeros
   pub lengths : lengths_of now.host ≡ plan.lengths
-  pub empty : Shows now.table (record { blocks = []; cells = λ c. None })
+  pub empty : ShowAll now.devices (λ d. record { blocks = []; cells = λ c. None })
+  pub alike : AreAlike now.devices
   pub graph : IsNew its now.graph
   pub ended : now.ended ≡ false
   pub scalars : now.scalars ≡ []
@@ -74,8 +75,9 @@ started plan entries its input now e h =
     record {
       host = sym h.zeros;
       lengths = h.lengths;
-      device = h.empty;
-      counts = tt;
+      devices = h.empty;
+      alike = h.alike;
+      counts = λ d. tt;
       graph = record { items = stands.items; place = refl; conditions = stands.conditions };
       place = stands.place ∙ ap (λ b. place_of b now.graph.place) (sym h.ended);
       ended = λ d. absurd (true≢false (sym d ∙ h.ended));

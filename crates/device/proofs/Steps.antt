@@ -85,7 +85,8 @@ module _ (plan : Plan) (old : Standing) (s t : State) (at : IsAt plan old s) (go
       made = record {
         host = at.host;
         lengths = at.lengths;
-        device = at.device;
+        devices = at.devices;
+        alike = at.alike;
         counts = at.counts;
         graph = stands_again plan _ next g stands refl;
         place = ap (λ n. n + 1) at.place ∙ moved old.ended old.graph.place g.place going stands.place;
@@ -115,7 +116,8 @@ module _ (plan : Plan) (old : Standing) (s t : State) (at : IsAt plan old s) (go
       made = record {
         host = at.host;
         lengths = at.lengths;
-        device = at.device;
+        devices = at.devices;
+        alike = at.alike;
         counts = at.counts;
         graph = stands_again plan _ next g stands refl;
         place = ap (λ n. n + 1) at.place ∙ moved old.ended old.graph.place g.place going stands.place;
@@ -140,7 +142,8 @@ ends plan old s t at going may e =
     (record {
       host = at.host;
       lengths = at.lengths;
-      device = at.device;
+      devices = at.devices;
+      alike = at.alike;
       counts = at.counts;
       graph = at.graph;
       place = ap (λ n. n + 1) here;

@@ -10,16 +10,15 @@ use Rattle.base.specs.Arrays.{memory_of, lengths_of}
 use Rattle.base.specs.Memory.{View, Scalars}
 use Rattle.base.specs.Meaning.{run_region}
 use Rattle.base.specs.Items.{Work, Plan}
-use Rattle.base.specs.Map.{Device, Memories, in_turn, leave}
 use Rattle.base.specs.Machine.{State, Opened, is_open, step}
 use Rattle.base.specs.Accepted.{is_host, is_target}
 use Rattle.kernel.specs.Kept.{IsKept, Kept}
 use Rattle.kernel.specs.declared.frames.KeptRow.{KeptRow}
 use Rattle.kernel.specs.Rows.{cells_stored}
-use Rattle.present.specs.Rows.{with_numbers}
-use Rattle.present.specs.Table.{Are, Shows, memories}
 use Rattle.frames.specs.Views.{with_stored}
 use Rattle.device.specs.declared.standing.Standing.{Standing}
+use Rattle.device.specs.Devices.{LeavesOn, OnTable}
+use Rattle.device.specs.Moves.{LeavesFrom}
 use Rattle.device.specs.Opening.{IsOf}
 use Rattle.device.specs.Standing.{IsAt, fill_from, input_for}
 
@@ -35,25 +34,21 @@ pub record HasDoneHost (k : Kept) (old new : Standing) : Type 0 where
   pub scalars : slice_index new.scalars ≡ k.scalars
   pub input : new.input.now ≡ k.input
   pub output : new.output.items ≡ old.output.items ++ k.printed
-  pub table : new.table ≡ old.table
+  pub devices : new.devices ≡ old.devices
   pub entered : new.entered ≡ old.entered
   pub graph : new.graph ≡ old.graph
   pub ended : new.ended ≡ old.ended
   pub held : new.held ≡ old.held
 
--- the exits of a kernel can be done after its stores
-pub record GoesOut (stored : View) (maps : List MapItem) (now : Standing) : Type 0 where
-  pub device : Device
-  pub shown : Shows now.table device
-  pub after : Memories
-  pub is : in_turn leave maps (memories now.host (with_numbers stored device)) ≡ Some after
+-- the exits of a kernel on device d can be done after its stores
+abbrev pub GoesOut : ℕ → View → List MapItem → Standing → Type 0
+GoesOut d stored maps now = OnTable now.devices d (λ t. LeavesFrom stored maps t now.host)
 
--- a kernel's stores, and then the exits
-pub record HasDoneKernel (stored : View) (maps : List MapItem) (old new : Standing) : Type 0 where
-  pub done : (d : Device) (m : Memories) → Shows old.table d →
-      in_turn leave maps (memories old.host (with_numbers stored d)) ≡ Some m → Are new.host new.table m
+-- a kernel's stores on device d, and then the exits
+pub record HasDoneKernel (d : ℕ) (stored : View) (maps : List MapItem) (old new : Standing) : Type 0 where
+  pub leaves : LeavesOn d stored maps old.devices old.host new.devices new.host
   pub lengths : lengths_of new.host ≡ lengths_of old.host
-  pub rest : new ≡ record old { table = new.table; host = new.host }
+  pub rest : new ≡ record old { devices = new.devices; host = new.host }
 
 -- what is kept of a run is what the open item's region leaves
 abbrev pub IsLeftBy : ℕ → Work → State → Kept → Type 0
@@ -65,16 +60,16 @@ abbrev pub HostsAreHere : Plan → State → Type 0
 HostsAreHere plan s = (j : ℕ) (w : Work) → slice_get plan.items j ≡ Some w → is_host w.kind ≡ true →
     is_open (s.condition j) ≡ true → j ≡ s.place
 
--- what an item of this kind leaves when it is closed
-abbrev pub HasLeft : ItemKind → Kept → List MapItem → Standing → Standing → Type 0
-HasLeft kind.Host k maps old new = HasDoneHost k old new
-HasLeft kind.Target k maps old new = HasDoneKernel k.stored maps old new
-HasLeft kind.Begin k maps old new = new ≡ old
-HasLeft kind.End k maps old new = new ≡ old
-HasLeft kind.Enter k maps old new = new ≡ old
-HasLeft kind.Exit k maps old new = new ≡ old
-HasLeft kind.Update k maps old new = new ≡ old
-HasLeft kind.Wait k maps old new = new ≡ old
+-- what an item of this kind leaves on device d when it is closed
+abbrev pub HasLeft : ItemKind → ℕ → Kept → List MapItem → Standing → Standing → Type 0
+HasLeft kind.Host d k maps old new = HasDoneHost k old new
+HasLeft kind.Target d k maps old new = HasDoneKernel d k.stored maps old new
+HasLeft kind.Begin d k maps old new = new ≡ old
+HasLeft kind.End d k maps old new = new ≡ old
+HasLeft kind.Enter d k maps old new = new ≡ old
+HasLeft kind.Exit d k maps old new = new ≡ old
+HasLeft kind.Update d k maps old new = new ≡ old
+HasLeft kind.Wait d k maps old new = new ≡ old
 
 -- a work with a region, if it is of the host or of a target
 abbrev pub HasRegion : Work → Type 0

@@ -1,4 +1,5 @@
 pub mod Moves
+pub mod Devices
 pub mod Reached
 pub mod Allowed
 pub mod Standing

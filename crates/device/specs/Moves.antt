@@ -9,6 +9,8 @@ use Rattle.base.specs.declared.fault.RunFault.TheVariants as fault
 use Rattle.base.specs.declared.memory.Memory.{Memory as Arrays}
 use Rattle.base.specs.Map.{Block, Device, Fill, Memories, enter, in_turn, leave, update}
 use Rattle.present.specs.declared.Table.{Table}
+use Rattle.base.specs.Memory.{View}
+use Rattle.present.specs.Rows.{with_numbers}
 use Rattle.present.specs.Table.{Are, HasNoRoom, Shows, count_at, memories}
 
 -- a rule can be followed on a device that the table shows
@@ -21,6 +23,18 @@ pub record Goes (rule : Memories → Option Memories) (t : Table) (host : Arrays
 -- what a rule makes of each device that the old table shows, the new one shows
 abbrev pub Leads : (Memories → Option Memories) → Table → Arrays → Table → Arrays → Type 0
 Leads rule old host new after = (d : Device) (m : Memories) → Shows old d → rule (memories host d) ≡ Some m → Are after new m
+
+-- the exits of a kernel can be done after its stores
+pub record LeavesFrom (stored : View) (maps : List MapItem) (t : Table) (host : Arrays) : Type 0 where
+  pub device : Device
+  pub shown : Shows t device
+  pub after : Memories
+  pub is : in_turn leave maps (memories host (with_numbers stored device)) ≡ Some after
+
+-- what a kernel's stores and then its exits make of each device that the old table shows, the new one shows
+abbrev pub LeavesTo : View → List MapItem → Table → Arrays → Table → Arrays → Type 0
+LeavesTo stored maps old host new after = (d : Device) (m : Memories) → Shows old d →
+    in_turn leave maps (memories host (with_numbers stored d)) ≡ Some m → Are after new m
 
 -- no block was entered and not left more often than this
 abbrev pub CountsAtMost : ℕ → List Block → Type 0

@@ -7,24 +7,32 @@ use Rattle.base.specs.declared.item.ItemKind.TheVariants as kind
 use Rattle.base.specs.declared.item.Event.TheVariants as event
 use Rattle.base.specs.Memory.{View}
 use Rattle.base.specs.Items.{Work, Plan}
-use Rattle.base.specs.Map.{Memories}
+use Rattle.base.specs.Map.{Memories, memories_at}
 use Rattle.base.specs.Machine.{State, captured_by, opening, step, worked_on}
 use Rattle.frames.specs.Rows.{TakeNumbers}
 use Rattle.kernel.specs.declared.frames.Frame.{Frame}
 use Rattle.kernel.specs.Rows.{cells_of}
 use Rattle.present.specs.declared.Table.{Table}
 use Rattle.present.specs.Rows.{over}
-use Rattle.present.specs.Table.{IsUnchanged, Shows, number_at}
+use Rattle.present.specs.Table.{Shows, fill_of, number_at}
+use Rattle.device.specs.Devices.{LooksTheSame, OnTable, table_at}
+use Rattle.device.specs.Moves.{Goes, opens_with}
 use Rattle.regions.specs.Footprints.{BoundedView}
 use Rattle.device.specs.declared.standing.Standing.{Standing}
 use Rattle.device.specs.Standing.{IsAt, IsFrameOf, fill_from, frame_parts, issue_of}
 
--- a work with the kind and the map items of an item
+-- a work with the kind, the device and the map items of an item
 pub record IsOf (it : Item) (w : Work) : Type 0 where
   pub kind : w.kind ≡ it.kind
+  pub device : w.device ≡ it.device.number
   pub maps : w.maps ≡ it.maps.items
   pub deferred : w.deferred ≡ it.deferred
   pub loops : w.loops ≡ it.loops.values.items
+
+-- what the item does when it is opened can be done on its device
+abbrev pub GoesIn : Standing → Item → Type 0
+GoesIn now it =
+    OnTable now.devices it.device.number (λ t. Goes (opens_with (fill_of t) it.kind it.maps.items) t now.host)
 
 -- a frame with other numbers in its cells
 pub record HasCells (old : Frame) (view : View) (new : Frame) : Type 0 where
@@ -35,7 +43,7 @@ pub record HasCells (old : Frame) (view : View) (new : Frame) : Type 0 where
   pub cells : cells_of new.rows.items ≡ view
   pub bounded : BoundedView (cells_of new.rows.items)
 
--- the frame of a kernel takes the numbers of the device, after the entries
+-- the frame of a kernel takes the numbers of its device, after the entries
 abbrev pub IsFilled : ItemKind → Frame → Table → Frame → Type 0
 IsFilled kind.Target old t new = HasCells old (over (number_at t) (cells_of old.rows.items)) new
 IsFilled kind.Host old t new = new ≡ old
@@ -59,7 +67,7 @@ FillsRows kind.Wait old t new = new ≡ old
 
 -- the frame is that of the item, once it is filled
 abbrev pub Serves : Plan → Standing → State → ℕ → Work → Frame → Type 0
-Serves plan now s i w frame = (m : Memories) (t : Table) (f : Frame) → opening (fill_from now i) w s.memories ≡ Some m →
+Serves plan now s i w frame = (m : Memories) (t : Table) (f : Frame) → opening (fill_from now i) w (memories_at w.device s.memories) ≡ Some m →
     Shows t m.device → IsFilled w.kind frame t f →
     IsFrameOf i w (captured_by (s.condition i) s.scalars) (worked_on plan.lengths w.kind m) s.input f
 
@@ -69,14 +77,16 @@ FollowsOpen old i it frame new = (plan : Plan) (s t : State) (w : Work) → IsAt
     slice_get plan.items i ≡ Some w → IsOf it w → Serves plan old s i w frame →
     step plan (fill_from old) s (event.Open i) ≡ Some t → IsAt plan new t
 
--- all but the table is the same, and the table looks the same
-pub record IsSame (old new : Standing) : Type 0 where
-  pub table : IsUnchanged old.table new.table
-  pub rest : new ≡ record old { table = new.table }
+-- all but the table of device d is the same, and the table looks the same
+pub record IsSame (d : ℕ) (old new : Standing) : Type 0 where
+  pub looks : LooksTheSame d old.devices new.devices
+  pub rest : new ≡ record old { devices = new.devices }
 
 -- a frame, once it was filled, was issued for an item
-pub record Issues (k : ItemKind) (given : Frame) (i : ℕ) (old new : Standing) : Type 0 where
+pub record Issues (it : Item) (given : Frame) (i : ℕ) (old new : Standing) : Type 0 where
   pub frame : Frame
   pub is : map issue_of new.held.items ≡ slice_set (map issue_of old.held.items) i (Some (frame_parts frame))
-  pub filled : IsFilled k given new.table frame
-  pub rows : FillsRows k given new.table frame
+  pub table : Table
+  pub has : table_at new.devices it.device.number ≡ Some table
+  pub filled : IsFilled it.kind given table frame
+  pub rows : FillsRows it.kind given table frame

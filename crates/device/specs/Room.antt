@@ -1,5 +1,5 @@
--- Room on the device throughout a run.
-use Rattle.std.specs.Prelude.{ℕ, ◌≤◌, List, Some, take}
+-- Room on the devices throughout a run.
+use Rattle.std.specs.Prelude.{ℕ, ◌<◌, ◌≤◌, List, Some, take}
 use Rattle.base.specs.declared.item.Answer.{Answer}
 use Rattle.base.specs.declared.item.Event.{Event}
 use Rattle.base.specs.declared.tree.Program.{Program}
@@ -7,13 +7,14 @@ use Rattle.base.specs.Headline.{IsFill}
 use Rattle.base.specs.Items.{plan}
 use Rattle.base.specs.Machine.{State, RunFrom}
 use Rattle.base.specs.Map.{Fill, in_use}
+use Rattle.device.specs.Devices.{device_count}
 use Rattle.device.specs.Run.{Run, fill_in}
 
--- these events are a run, and after them no more cells are in use than the device has room for
+-- these events are a run, and after them no device has more cells in use than there is room for
 pub record HasRoomAfter (p : Program) (fill : ℕ → Fill) (input : List ℕ) (capacity : ℕ) (events : List Event) : Type 0 where
   pub state : State
   pub ran : RunFrom (plan p) fill input events (Some state)
-  pub room : in_use state.memories.device.blocks ≤ capacity
+  pub room : (d : ℕ) → d < device_count → in_use (state.memories.devices d).blocks ≤ capacity
 
 -- the same after each of these events
 abbrev pub StaysWithin : Program → (ℕ → Fill) → List ℕ → ℕ → List Event → Type 0
@@ -22,7 +23,7 @@ StaysWithin p fill input capacity events = (k : ℕ) → HasRoomAfter p fill inp
 abbrev pub HasStayed : Run → Type 0
 HasStayed r = StaysWithin r.program (fill_in r) r.input r.capacity r.history
 
--- after none of the events of an answer were more cells in use than the device has room for
+-- after none of the events of an answer had a device more cells in use than there is room for
 pub record IsAnswerWithin (p : Program) (input : List ℕ) (capacity : ℕ) (a : Answer) : Type 0 where
   pub fill : ℕ → Fill
   pub is_fill : IsFill fill

@@ -6,9 +6,9 @@ use Rattle.base.specs.contracts.tree.Program as program_code
 use Rattle.base.specs.contracts.item.Event as event_code
 use Rattle.base.specs.declared.tree.Program.{Program}
 use Rattle.base.specs.declared.item.Event.{Event}
-use Rattle.base.specs.declared.item.Event.TheVariants.{Gen, Open, Close, Wait, End}
-use Rattle.base.specs.Items.{plan}
-use Rattle.base.specs.Map.{Fill, in_use, need}
+use Rattle.base.specs.declared.item.Event.TheVariants.{Gen, Open, Step, Close, Wait, End}
+use Rattle.base.specs.Items.{Work, plan}
+use Rattle.base.specs.Map.{Block, Fill, in_use, need}
 use Rattle.base.specs.Machine.{State, on_item, start}
 use Rattle.base.specs.declared.fault.RunFault.{RunFault}
 use Rattle.base.specs.declared.fault.RunFault.TheVariants as fault
@@ -16,7 +16,7 @@ use Rattle.device.specs.Moves.{enters}
 use Rattle.device.specs.Reached.{reached}
 use Rattle.device.specs.Standing.{Issue}
 
--- the program and its whole input, how many cells the device has room for, what each cell of created storage holds, the
+-- the program and its whole input, how many cells each device has room for, what each cell of created storage holds, the
 -- events so far, and for each item the frame that its opening issued, as long as it is open
 pub record Run : Type 0 where
   pub program : Program
@@ -29,7 +29,7 @@ pub record Run : Type 0 where
 abbrev pub fill_in : Run → ℕ → Fill
 fill_in r i = λ c. r.fresh
 
--- the state of the two-memory machine after the events so far
+-- the state of the machine after the events so far
 unfoldable pub state_of : Run → State
 state_of r = unwrap_or (reached (plan r.program) (fill_in r) r.input r.history) (start r.input)
 
@@ -37,6 +37,7 @@ state_of r = unwrap_or (reached (plan r.program) (fill_in r) r.input r.history) 
 abbrev pub issued_after : Event → List (Option Issue) → List (Option Issue)
 issued_after (Gen i) frames = slice_set frames i None
 issued_after (Open i) frames = frames
+issued_after (Step i) frames = frames
 issued_after (Close i) frames = slice_set frames i None
 issued_after (Wait i) frames = frames
 issued_after End frames = frames
@@ -86,12 +87,16 @@ pub record HasOpened (i : ℕ) (old new : Run) : Type 0 where
   pub frame : Issue
   pub is : new ≡ opened old i frame
 
--- the item creates storage beyond the capacity when it is opened
+-- the blocks of the device of an item
+abbrev pub own_blocks : Run → Work → List Block
+own_blocks r w = ((state_of r).memories.devices w.device).blocks
+
+-- the item creates storage beyond the capacity of its device when it is opened
 abbrev pub is_over : Run → ℕ → Bool
 is_over r i = on_item (plan r.program) i false (λ w. enters w.kind &&
-    nat_lt r.capacity (in_use (state_of r).memories.device.blocks + need w.maps (state_of r).memories.device.blocks))
+    nat_lt r.capacity (in_use (own_blocks r w) + need w.maps (own_blocks r w)))
 
--- why an item is not opened: for want of memory, or of room on the device
+-- why an item is not opened: for want of memory, or of room on its device
 abbrev pub IsOpenFault : Run → ℕ → RunFault → Type 0
 IsOpenFault r i fault.OutOfMemory = Unit {0}
 IsOpenFault r i fault.DeviceFull = is_over r i ≡ true

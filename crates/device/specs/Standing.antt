@@ -1,4 +1,4 @@
--- The state of the two-memory machine that the code's values show.
+-- The state of the machine that the code's values show.
 use Rattle.std.specs.Prelude.{◌≡◌, ◌+◌, ℕ, Bool, true, false, List, [], Option, Some, None, length, map, slice_get, slice_index}
 use Rattle.base.specs.declared.item.Event.{Event}
 use Rattle.base.specs.declared.item.ItemKind.{ItemKind}
@@ -15,7 +15,7 @@ use Rattle.kernel.specs.declared.frames.Row.{Row}
 use Rattle.frames.specs.Laws.{AreSmall}
 use Rattle.kernel.specs.Rows.{cells_of}
 use Rattle.regions.specs.Footprints.{BoundedView}
-use Rattle.present.specs.Table.{Shows, fill_of}
+use Rattle.device.specs.Devices.{AreAlike, ShowAll, fresh_of}
 use Rattle.device.specs.Moves.{CountsAtMost}
 use Rattle.taskgraph.specs.Board.{Stands}
 use Rattle.device.specs.declared.standing.Held.{Held}
@@ -102,8 +102,9 @@ place_of false place = place
 pub record IsAt (plan : Plan) (now : Standing) (s : State) : Type 0 where
   pub host : s.memories.host ≡ memory_of now.host
   pub lengths : lengths_of now.host ≡ plan.lengths
-  pub device : Shows now.table s.memories.device
-  pub counts : CountsAtMost now.entered s.memories.device.blocks
+  pub devices : ShowAll now.devices s.memories.devices
+  pub alike : AreAlike now.devices
+  pub counts : (d : ℕ) → CountsAtMost now.entered (s.memories.devices d).blocks
   pub graph : Stands plan (record s { place = now.graph.place }) now.graph
   pub place : s.place ≡ place_of now.ended now.graph.place
   pub ended : now.ended ≡ true → (now.graph.place ≡ length plan.items) × (deferred_closed plan s ≡ true)
@@ -114,9 +115,9 @@ pub record IsAt (plan : Plan) (now : Standing) (s : State) : Type 0 where
   pub held : (i : ℕ) (w : Work) → slice_get plan.items i ≡ Some w →
       Keeps i w s.input (s.condition i) (slice_get now.held.items i)
 
--- each item's storage is created with what the table fills it with
+-- each item's storage is created with what the tables fill it with
 abbrev pub fill_from : Standing → ℕ → Fill
-fill_from now i = fill_of now.table
+fill_from now i = λ c. fresh_of now.devices
 
 -- where an event may happen in a state that is shown, the state after it is shown
 abbrev pub Follows : Standing → Event → Standing → Type 0

@@ -1,14 +1,14 @@
 -- What an event does to a run.
 use Rattle.std.specs.Prelude.{◌≡◌, ◌++◌, ◌∷◌, [], false, Some}
 use Rattle.base.specs.declared.item.Event.{Event}
-use Rattle.base.specs.declared.item.Event.TheVariants.{Gen, Open, Close, Wait, End}
+use Rattle.base.specs.declared.item.Event.TheVariants.{Gen, Open, Step, Close, Wait, End}
 use Rattle.base.specs.declared.fault.RunFault.{RunFault}
 use Rattle.base.specs.declared.fault.RunFault.TheVariants as fault
 use Rattle.base.specs.Items.{plan}
 use Rattle.base.specs.Machine.{step}
 use Rattle.device.specs.Run.{IsOpenFault, Run, fill_in, is_over, state_of}
 
--- one event more, which is a step of the two-memory machine
+-- one event more, which is a step of the machine
 pub record Takes (old : Run) (e : Event) (new : Run) : Type 0 where
   pub program : new.program ≡ old.program
   pub input : new.input ≡ old.input
@@ -21,6 +21,7 @@ pub record Takes (old : Run) (e : Event) (new : Run) : Type 0 where
 abbrev pub FitsIn : Run → Event → Type 0
 FitsIn r (Open i) = is_over r i ≡ false
 FitsIn r (Gen i) = Unit {0}
+FitsIn r (Step i) = Unit {0}
 FitsIn r (Close i) = Unit {0}
 FitsIn r (Wait i) = Unit {0}
 FitsIn r End = Unit {0}
@@ -29,6 +30,7 @@ FitsIn r End = Unit {0}
 abbrev pub IsEventFault : Run → Event → RunFault → Type 0
 IsEventFault r (Open i) f = IsOpenFault r i f
 IsEventFault r (Gen i) f = f ≡ fault.OutOfMemory
+IsEventFault r (Step i) f = ⊥
 IsEventFault r (Close i) f = f ≡ fault.OutOfMemory
 IsEventFault r (Wait i) f = f ≡ fault.OutOfMemory
 IsEventFault r End f = f ≡ fault.OutOfMemory

@@ -113,10 +113,10 @@ impl<'a> RunState<'a> {
     }
 }
 
-/// Runs an accepted program on this input by these choices, on a device with room for `capacity` cells. The answer has
-/// the values of the arrays that are marked current, and after none of its events are more than `capacity` cells in use.
-/// The error is `DeviceFull` where the run comes to an opening that would create more cells than the device has room for,
-/// or `OutOfMemory`.
+/// Runs an accepted program on this input by these choices, on devices each with room for `capacity` cells. The answer
+/// has the values of the arrays that are marked current, and after none of its events are more than `capacity` cells of
+/// a device in use. The error is `DeviceFull` where the run comes to an opening that would create more cells than its
+/// device has room for, or `OutOfMemory`.
 pub fn run_choices(
     alloc: Global,
     image: &Image<'_>,

@@ -7,14 +7,15 @@ ghost use Rattle.base.specs.declared.item.Event.TheVariants as event;
 ghost use Rattle.taskgraph.specs.Board.{allows};
 ghost use Rattle.frames.specs.Views.{AreCells};
 ghost use Rattle.kernel.specs.Rows.{cells_stored};
-ghost use Rattle.present.specs.Table.{AreSections, AreWithin, IsKept};
+ghost use Rattle.present.specs.Table.{AreSections, AreWithin};
 ghost use Rattle.device.specs.Closing.{FollowsClose, GoesOut, HasDoneHost, HasDoneKernel, HasLeft, left_in};
+ghost use Rattle.device.specs.Devices.{AreKept};
 ghost use Rattle.device.specs.Standing.{Stays, issue_of};
 
-use crate::moves::exit_all;
 use crate::standing::{Held, Standing};
 use base::item::{Item, ItemKind, MapItem};
-use frames::{store_host, store_kernel};
+use base::tree::DeviceId;
+use frames::store_host;
 use kernel::{KeptRow, Scalars};
 use std::alloc::{AllocError, Global};
 
@@ -35,7 +36,7 @@ impl<'a> Standing<'a> {
         ensures held { self.new.held ≡ self.old.held }
         ensures graph { self.new.graph ≡ self.old.graph }
         ensures ended { self.new.ended ≡ self.old.ended }
-        ensures table { self.new.table ≡ self.old.table }
+        ensures devices { self.new.devices ≡ self.old.devices }
     {
         let scalars = Scalars::new(alloc, scalars)?;
         self.output.extend_from_slice(printed)?;
@@ -45,18 +46,17 @@ impl<'a> Standing<'a> {
         Ok(())
     }
 
-    // What a kernel left is stored, and its map items are left.
-    fn leave_kernel(&mut self, rows: &[KeptRow], maps: &[MapItem])
+    // What a kernel left is stored on its device, and its map items are left.
+    fn leave_kernel(&mut self, device: DeviceId, rows: &[KeptRow], maps: &[MapItem])
         requires few { length (lengths_of self.old.host) ≤ 2 ^ 32 }
         requires cells { AreCells (lengths_of self.old.host) (cells_stored rows.now) }
         requires sections { AreSections maps.now }
         requires within { AreWithin self.old.host maps.now }
-        requires goes { GoesOut (cells_stored rows.now) maps.now self.old }
-        ensures done { HasDoneKernel (cells_stored rows.now) maps.now self.old self.new }
-        ensures kept { IsKept self.old.table self.new.table }
+        requires goes { GoesOut device.number (cells_stored rows.now) maps.now self.old }
+        ensures done { HasDoneKernel device.number (cells_stored rows.now) maps.now self.old self.new }
+        ensures kept { AreKept self.old.devices self.new.devices }
     {
-        store_kernel(&mut self.table, rows);
-        exit_all(&mut self.table, &mut self.host, maps);
+        self.devices.leave(device, &mut self.host, rows, maps);
     }
 
     // What an item left is stored, and its map items are left.
@@ -73,18 +73,18 @@ impl<'a> Standing<'a> {
         requires cells { AreCells (lengths_of self.old.host) (cells_stored rows.now) }
         requires sections { AreSections it.now.maps.items }
         requires within { AreWithin self.old.host it.now.maps.items }
-        requires goes { it.now.kind ≡ ItemKind.Target → GoesOut (cells_stored rows.now) it.now.maps.items self.old }
-        ensures left { OnOk result (HasLeft it.now.kind (left_in scalars.now rows.now input.now printed.now) it.now.maps.items self.old self.new) }
+        requires goes { it.now.kind ≡ ItemKind.Target → GoesOut it.now.device.number (cells_stored rows.now) it.now.maps.items self.old }
+        ensures left { OnOk result (HasLeft it.now.kind it.now.device.number (left_in scalars.now rows.now input.now printed.now) it.now.maps.items self.old self.new) }
         ensures unchanged { OnErr result (Stays self.old self.new) }
         ensures held { self.new.held ≡ self.old.held }
         ensures graph { self.new.graph ≡ self.old.graph }
         ensures ended { self.new.ended ≡ self.old.ended }
-        ensures kept { IsKept self.old.table self.new.table }
+        ensures kept { AreKept self.old.devices self.new.devices }
     {
         match it.kind {
             ItemKind::Host => self.leave_host(alloc, scalars, rows, input, printed),
             ItemKind::Target => {
-                self.leave_kernel(rows, &it.maps);
+                self.leave_kernel(it.device, rows, &it.maps);
                 Ok(())
             }
             ItemKind::Begin => Ok(()),
@@ -114,12 +114,12 @@ impl<'a> Standing<'a> {
         requires cells { AreCells (lengths_of self.old.host) (cells_stored rows.now) }
         requires sections { AreSections it.now.maps.items }
         requires within { AreWithin self.old.host it.now.maps.items }
-        requires goes { it.now.kind ≡ ItemKind.Target → GoesOut (cells_stored rows.now) it.now.maps.items self.old }
+        requires goes { it.now.kind ≡ ItemKind.Target → GoesOut it.now.device.number (cells_stored rows.now) it.now.maps.items self.old }
         ensures closed { OnOk result (FollowsClose self.old item it.now (left_in scalars.now rows.now input.now printed.now) self.new) }
         ensures unchanged { OnErr result (Stays self.old self.new) }
         ensures held { OnErr result (self.new.held ≡ self.old.held) }
         ensures issued { OnOk result (map issue_of self.new.held.items ≡ slice_set (map issue_of self.old.held.items) item None) }
-        ensures kept { IsKept self.old.table self.new.table }
+        ensures kept { AreKept self.old.devices self.new.devices }
     {
         self.leave(alloc, it, scalars, rows, input, printed)?;
         self.held[item as usize] = Held::Nothing;

@@ -19,6 +19,7 @@ fn is_allowed(graph: &Graph, event: Event) -> bool
     match event {
         Event::Gen(item) => graph.may_generate(item as usize),
         Event::Open(item) => graph.may_open(item as usize),
+        Event::Step(_) => false,
         Event::Close(item) => graph.is_open(item as usize),
         Event::Wait(item) => graph.may_pass(item as usize),
         Event::End => graph.may_end(),
@@ -110,7 +111,7 @@ impl<'a> RunState<'a> {
             return None;
         }
         let item = self.standing.graph.next_task(from as usize)?;
-        // There are at most 4,096 items: the number fits.
+        // There are at most 65,536 items: the number fits.
         let _items = self.image.items();
         Some(item as u32)
     }

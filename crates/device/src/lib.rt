@@ -1,8 +1,9 @@
-//! The state of a run of a program on two memories, and its events.
+//! The state of a run of a program on a host memory and devices, and its events.
 #![tactic(auto)]
 
 pub use crate::answer::run_choices;
 pub use crate::choosing::{few_events, nothing_after_the_end, nothing_only_at_the_end};
+pub use crate::devices::{DEVICES, Devices};
 pub use crate::jobs::Job;
 pub use crate::standing::{Held, Standing};
 pub use crate::state::RunState;
@@ -12,6 +13,7 @@ mod answer;
 mod choosing;
 mod close;
 mod closing;
+mod devices;
 mod enabled;
 mod frame;
 mod issued;

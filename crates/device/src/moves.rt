@@ -1,15 +1,19 @@
 // Exits and updates in turn, none of which overlaps a block in part.
 
-ghost use Rattle.std.specs.Prelude.{◌≡◌, ◌+◌, true, IfErr, OnErr, OnOk, length};
+ghost use Rattle.std.specs.Prelude.{◌≡◌, ◌+◌, ◌≤◌, ◌^◌, true, IfErr, OnErr, OnOk, length};
 ghost use Rattle.base.specs.Arrays.{IsWithin, lengths_of};
 ghost use Rattle.base.specs.Map.{in_turn, leave, update};
 ghost use Rattle.present.specs.Blocks.{IsSection};
 ghost use Rattle.present.specs.Table.{AreSections, AreWithin, HasRoom, IsKept, IsUnchanged, entries, fill_of};
-ghost use Rattle.device.specs.Moves.{AreCounted, Goes, IsMapsFault, Leads, entered_by, enters, opens_with};
+ghost use Rattle.frames.specs.Views.{AreCells};
+ghost use Rattle.kernel.specs.Rows.{cells_stored};
+ghost use Rattle.device.specs.Moves.{AreCounted, Goes, IsMapsFault, Leads, LeavesFrom, LeavesTo, entered_by, enters, opens_with};
 
 use base::fault::RunFault;
 use base::item::{ItemKind, MapItem, MapKind};
 use base::memory::Memory;
+use frames::store_kernel;
+use kernel::KeptRow;
 use present::Table;
 
 // One exit.
@@ -39,6 +43,21 @@ pub fn exit_all(table: &mut Table, host: &mut Memory, maps: &[MapItem])
     for i in 0..maps.len() {
         exit_one(table, host, &maps[i]);
     }
+}
+
+/// What a kernel left is stored, and then the exits of these map items are done.
+pub fn leave_maps(table: &mut Table, host: &mut Memory, rows: &[KeptRow], maps: &[MapItem])
+    requires few { length (lengths_of host.old) ≤ 2 ^ 32 }
+    requires cells { AreCells (lengths_of host.old) (cells_stored rows.now) }
+    requires sections { AreSections maps.now }
+    requires within { AreWithin host.old maps.now }
+    requires goes { LeavesFrom (cells_stored rows.now) maps.now table.old host.old }
+    ensures left { LeavesTo (cells_stored rows.now) maps.now table.old host.old table.new host.new }
+    ensures lengths { lengths_of host.new ≡ lengths_of host.old }
+    ensures kept { IsKept table.old table.new }
+{
+    store_kernel(table, rows);
+    exit_all(table, host, maps);
 }
 
 // Copies a section to the device.

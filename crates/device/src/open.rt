@@ -38,7 +38,7 @@ impl<'a> RunState<'a> {
                 let Some(mut issued) = copy else {
                     return Ok(None);
                 };
-                fill(it.kind, &mut issued, &self.standing.table);
+                fill(it.kind, &mut issued, self.standing.devices.table(it.device));
                 Ok(Some(self.job(item, issued)))
             }
             Err(fault) => {
@@ -48,9 +48,9 @@ impl<'a> RunState<'a> {
         }
     }
 
-    /// Opens an item that may be opened: its entries, exits or updates are done, and its region is issued with the frame
-    /// that it is to be run on. An item without a region has a region without statements. The error is `DeviceFull`
-    /// where its entries together would create more cells than the device has room for, or `OutOfMemory`.
+    /// Opens an item that may be opened: its entries, exits or updates are done on its device, and its region is issued
+    /// with the frame that it is to be run on. An item without a region has a region without statements. The error is
+    /// `DeviceFull` where its entries together would create more cells than its device has room for, or `OutOfMemory`.
     pub fn open(&mut self, item: u32) -> Result<Job<'a>, RunFault>
         requires { IsTrue (enabled (plan self.old.program) (state_of self.old) (event.Open item)) }
         ensures opened { OnOk result (HasOpened item self.old self.new) }

@@ -2,12 +2,12 @@
 
 ghost use Rattle.std.specs.Prelude.{◌≡◌, ◌≤◌, ◌<◌, ◌^◌, true, false, map, length, IfErr, OnErr, OnOk};
 ghost use Rattle.base.specs.declared.item.Event.TheVariants as event;
-ghost use Rattle.present.specs.Table.{AreSections, AreWithin, HasRoom, IsKept, fill_of};
+ghost use Rattle.present.specs.Table.{AreSections, AreWithin, HasRoom};
 ghost use Rattle.taskgraph.specs.Board.{allows};
-ghost use Rattle.device.specs.Moves.{AreCounted, Goes, IsMapsFault, enters, opens_with};
-ghost use Rattle.device.specs.Opening.{FillsRows, FollowsOpen, IsFilled, IsSame, Issues};
+ghost use Rattle.device.specs.Devices.{AreKept, OnTable};
+ghost use Rattle.device.specs.Moves.{AreCounted, IsMapsFault, enters};
+ghost use Rattle.device.specs.Opening.{FillsRows, FollowsOpen, GoesIn, IsFilled, IsSame, Issues};
 
-use crate::moves::open_maps;
 use crate::standing::{Held, Standing};
 use base::fault::RunFault;
 use base::item::{Item, ItemKind};
@@ -15,7 +15,7 @@ use frames::load_rows;
 use kernel::Frame;
 use present::Table;
 
-/// The frame of a kernel takes the numbers of the device. It takes no memory.
+/// The frame of a kernel takes the numbers of its device. It takes no memory.
 pub fn fill(kind: ItemKind, frame: &mut Frame<'_>, table: &Table)
     requires { kind ≡ ItemKind.Target → length frame.old.rows.items ≤ 2 ^ 32 }
     ensures filled { IsFilled kind frame.old table.now frame.new }
@@ -34,8 +34,9 @@ pub fn fill(kind: ItemKind, frame: &mut Frame<'_>, table: &Table)
 }
 
 impl<'a> Standing<'a> {
-    /// An item is opened: its entries, exits or updates are done, and its frame is filled and kept. The error is
-    /// `DeviceFull` where its entries together would create more cells than the device has room for, or `OutOfMemory`.
+    /// An item is opened: its entries, exits or updates are done on its device, and its frame is filled and kept. The
+    /// error is `DeviceFull` where its entries together would create more cells than the device has room for, or
+    /// `OutOfMemory`.
     pub fn open(&mut self, it: &Item, item: u32, frame: Frame<'a>) -> Result<(), RunFault>
         requires here { allows self.old.graph (event.Open item) ≡ true }
         requires inside { item < length self.old.held.items }
@@ -43,18 +44,18 @@ impl<'a> Standing<'a> {
         requires few { it.now.kind ≡ ItemKind.Target → length frame.rows.items ≤ 2 ^ 32 }
         requires sections { AreSections it.now.maps.items }
         requires within { AreWithin self.old.host it.now.maps.items }
-        requires counted { AreCounted self.old.table self.old.entered }
-        requires goes { Goes (opens_with (fill_of self.old.table) it.now.kind it.now.maps.items) self.old.table self.old.host }
+        requires counted { OnTable self.old.devices it.now.device.number (λ t. AreCounted t self.old.entered) }
+        requires goes { GoesIn self.old it.now }
         ensures opened { OnOk result (FollowsOpen self.old item it.now frame.entry self.new) }
-        ensures issued { OnOk result (Issues it.now.kind frame.entry item self.old self.new) }
-        ensures room { OnOk result (enters it.now.kind ≡ true → HasRoom self.old.table it.now.maps.items) }
-        ensures fault { IfErr result (IsMapsFault self.old.table it.now.kind it.now.maps.items) }
-        ensures unchanged { OnErr result (IsSame self.old self.new) }
-        ensures kept { IsKept self.old.table self.new.table }
+        ensures issued { OnOk result (Issues it.now frame.entry item self.old self.new) }
+        ensures room { OnOk result (enters it.now.kind ≡ true → OnTable self.old.devices it.now.device.number (λ t. HasRoom t it.now.maps.items)) }
+        ensures fault { IfErr result (λ f. OnTable self.old.devices it.now.device.number (λ t. IsMapsFault t it.now.kind it.now.maps.items f)) }
+        ensures unchanged { OnErr result (IsSame it.now.device.number self.old self.new) }
+        ensures kept { AreKept self.old.devices self.new.devices }
     {
         let mut frame = frame;
-        match open_maps(
-            &mut self.table,
+        match self.devices.open(
+            it.device,
             &mut self.host,
             &mut self.entered,
             it.kind,
@@ -62,7 +63,7 @@ impl<'a> Standing<'a> {
         ) {
             Err(fault) => Err(fault),
             Ok(()) => {
-                fill(it.kind, &mut frame, &self.table);
+                fill(it.kind, &mut frame, self.devices.table(it.device));
                 self.held[item as usize] = Held::Issued(frame);
                 self.graph.opened(item as usize);
                 Ok(())

@@ -48,7 +48,7 @@ impl<'a> RunState<'a> {
 
     /// The run goes on to its end: of the events that may happen next, in the order of `enabled`, each choice in turn
     /// takes the one at its place, counted around, and after the last choice it is the first one. The error is
-    /// `DeviceFull` where an opening would create more cells than the device has room for, or `OutOfMemory`; the run
+    /// `DeviceFull` where an opening would create more cells than its device has room for, or `OutOfMemory`; the run
     /// then stands before the event that was not done.
     pub fn play_choices(&mut self, choices: &[u32]) -> Result<(), RunFault>
         ensures played { OnOk result (IsPlayed choices.now self.old self.new) }

@@ -7,13 +7,13 @@ ghost use Rattle.base.specs.Machine.{start};
 ghost use Rattle.base.specs.declared.item.Event.TheVariants as event;
 ghost use Rattle.outline.specs.Regions.{entries_of};
 ghost use Rattle.taskgraph.specs.Board.{allows};
-ghost use Rattle.present.specs.Table.{capacity_of};
+ghost use Rattle.device.specs.Devices.{HaveRoom, fresh_of};
 ghost use Rattle.device.specs.Standing.{IsAt, Follows, Stays, issue_of};
 
+use crate::devices::Devices;
 use base::memory::Memory;
 use kernel::{Frame, Scalars};
 use lower::Image;
-use present::Table;
 use std::alloc::{AllocError, Global};
 use taskgraph::Graph;
 
@@ -25,12 +25,12 @@ pub enum Held<'a> {
     Issued(Frame<'a>),
 }
 
-/// Where a run stands: the two memories, the order of the items, the scalars, the input that is left, the numbers that
-/// were printed, what is kept for each item, and how many map items were entered.
+/// Where a run stands: the host memory and the storage of each device, the order of the items, the scalars, the input
+/// that is left, the numbers that were printed, what is kept for each item, and how many map items were entered.
 #[derive(Drop)]
 pub struct Standing<'a> {
     pub host: Memory,
-    pub table: Table,
+    pub devices: Devices,
     pub graph: Graph,
     pub ended: bool,
     pub scalars: Scalars,
@@ -52,7 +52,7 @@ fn nothing_held<'a>(alloc: Global, count: usize) -> Result<Vec<Held<'a>>, AllocE
 }
 
 impl<'a> Standing<'a> {
-    /// The start of a run, on zeros and an empty device.
+    /// The start of a run, on zeros and empty devices, each with room for `capacity` cells.
     pub fn new(
         alloc: Global,
         image: &Image<'_>,
@@ -60,8 +60,8 @@ impl<'a> Standing<'a> {
         capacity: u64,
     ) -> Result<Standing<'a>, AllocError>
         ensures start { IfOk result (λ now. IsAt (plan image.now) now (start input.now)) }
-        ensures capacity { IfOk result (λ now. capacity_of now.table ≡ capacity) }
-        ensures number { IfOk result (λ now. now.table.fresh < 2 ^ 64) }
+        ensures capacity { IfOk result (λ now. HaveRoom now.devices capacity) }
+        ensures number { IfOk result (λ now. fresh_of now.devices < 2 ^ 64) }
         ensures held { IfOk result (λ now. map issue_of now.held.items ≡ replicate (length (plan image.now).items) None) }
         ensures entered { IfOk result (λ now. now.entered ≡ 0) }
     {
@@ -69,11 +69,10 @@ impl<'a> Standing<'a> {
         let host = Memory::new(alloc, image.lengths())?;
         let graph = Graph::new(alloc, items)?;
         let held = nothing_held(alloc, items.len())?;
-        let table = Table::new(alloc, capacity);
-        table.fills_with_numbers();
+        let devices = Devices::new(alloc, capacity);
         Ok(Standing {
             host,
-            table,
+            devices,
             graph,
             ended: false,
             scalars: Scalars::zeros(alloc),
@@ -92,7 +91,7 @@ impl<'a> Standing<'a> {
         ensures generated { OnOk result (Follows self.old (event.Gen item) self.new) }
         ensures unchanged { OnErr result (self.new ≡ self.old) }
         ensures issued { OnOk result (map issue_of self.new.held.items ≡ slice_set (map issue_of self.old.held.items) item None) }
-        ensures table { self.new.table ≡ self.old.table }
+        ensures devices { self.new.devices ≡ self.old.devices }
     {
         let captured = self.scalars.copy(alloc)?;
         self.held[item as usize] = Held::Captured(captured);
@@ -106,7 +105,7 @@ impl<'a> Standing<'a> {
         requires going { self.old.ended ≡ false }
         ensures passed { Follows self.old (event.Wait item) self.new }
         ensures held { self.new.held ≡ self.old.held }
-        ensures table { self.new.table ≡ self.old.table }
+        ensures devices { self.new.devices ≡ self.old.devices }
     {
         self.graph.waited(item as usize);
     }
@@ -116,7 +115,7 @@ impl<'a> Standing<'a> {
         requires { self.old.ended ≡ false }
         ensures ended { Follows self.old event.End self.new }
         ensures held { self.new.held ≡ self.old.held }
-        ensures table { self.new.table ≡ self.old.table }
+        ensures devices { self.new.devices ≡ self.old.devices }
     {
         self.ended = true;
     }

@@ -16,12 +16,12 @@ use crate::standing::Standing;
 use base::fault::RunFault;
 use base::item::{Cell, Event, Section};
 use base::memory::Memory;
-use base::tree::Program;
+use base::tree::{DeviceId, Program};
 use lower::Image;
 use std::alloc::{AllocError, Global};
 use std::marker::Model;
 
-/// A run of an accepted program on a host memory and a device memory, between two of its events.
+/// A run of an accepted program on a host memory and the storage of each device, between two of its events.
 #[derive(Drop)]
 pub struct RunState<'a> {
     pub(crate) alloc: Global,
@@ -47,7 +47,7 @@ impl<'a> Model for RunState<'a> {
 }
 
 impl<'a> RunState<'a> {
-    /// A run that has done nothing, on a device with room for `capacity` cells. `input` holds the numbers that `read`
+    /// A run that has done nothing, on devices each with room for `capacity` cells. `input` holds the numbers that `read`
     /// takes in turn. The error comes for want of memory.
     pub fn new(
         alloc: Global,
@@ -80,7 +80,7 @@ impl<'a> RunState<'a> {
         self.image.program()
     }
 
-    /// The events so far are a run of the two-memory machine, which has kept to the device's room.
+    /// The events so far are a run of the machine, which has kept to the room of each device.
     pub fn is_reached(&self)
         ensures reached { IsReached self.now }
         ensures stayed { HasStayed self.now }
@@ -95,7 +95,7 @@ impl<'a> RunState<'a> {
         &self.history
     }
 
-    /// How many cells the device has room for.
+    /// How many cells each device has room for.
     pub fn capacity(&self) -> u64
         ensures { result ≡ self.now.capacity }
     {
@@ -116,21 +116,21 @@ impl<'a> RunState<'a> {
         number_of(&self.standing.host, cell)
     }
 
-    /// How often the block that has a cell was entered and not yet left, if there is one.
-    pub fn count(&self, cell: Cell) -> Option<u64>
-        ensures { result ≡ option_map (λ b. b.count) (holder (state_of self.now).memories.device.blocks cell) }
+    /// How often the device's block that has a cell was entered and not yet left, if there is one.
+    pub fn count(&self, device: DeviceId, cell: Cell) -> Option<u64>
+        ensures { result ≡ option_map (λ b. b.count) (holder ((state_of self.now).memories.devices device.number).blocks cell) }
     {
-        match self.standing.table.lookup(cell) {
+        match self.standing.devices.table(device).lookup(cell) {
             None => None,
             Some((_, count)) => Some(count),
         }
     }
 
-    /// The number that a cell has on the device, if it has storage there.
-    pub fn device_cell(&self, cell: Cell) -> Option<u64>
-        ensures { result ≡ (state_of self.now).memories.device.cells cell }
+    /// The number that a cell has on a device, if it has storage there.
+    pub fn device_cell(&self, device: DeviceId, cell: Cell) -> Option<u64>
+        ensures { result ≡ ((state_of self.now).memories.devices device.number).cells cell }
     {
-        self.standing.table.load(cell)
+        self.standing.devices.table(device).load(cell)
     }
 
     /// The host generates the item at which it stands. The error comes for want of memory.

@@ -27,7 +27,7 @@ impl<'a> RunState<'a> {
     }
 
     /// Does an event that may happen next, with the run of the item's region where it closes an item. The error is
-    /// `DeviceFull` where an opening's entries together would create more cells than the device has room for, or
+    /// `DeviceFull` where an opening's entries together would create more cells than its device has room for, or
     /// `OutOfMemory`.
     pub fn take(&mut self, event: Event) -> Result<(), RunFault>
         requires { IsTrue (enabled (plan self.old.program) (state_of self.old) event) }
@@ -40,6 +40,7 @@ impl<'a> RunState<'a> {
         match event {
             Event::Gen(item) => self.generate(item),
             Event::Open(item) => self.open_item(item),
+            Event::Step(_) => unreachable!(),
             Event::Close(item) => self.close_item(item),
             Event::Wait(item) => self.wait(item),
             Event::End => self.end(),

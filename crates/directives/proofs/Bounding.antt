@@ -10,6 +10,7 @@ use Rattle.c_grammar.specs.LineGrammar.{LineAct, Plain, Opens, Begins, BeginsNam
 use Rattle.c_grammar.specs.LineRules.{LineContext, line_grammar}
 use Rattle.c_grammar.specs.LineMachine.{LineStack, Terms, AfterNumber, AfterTerm, AfterItem, AfterName, Factor, line_advance, line_place, line_machine}
 use Rattle.directives.specs.declared.line.Line.{Line}
+use Rattle.directives.specs.declared.known.Act.TheVariants as act
 use Rattle.directives.specs.Known.{known_of, broken_by}
 use Rattle.directives.specs.Cursor.{first_item, behind}
 use Rattle.directives.specs.Reading.{run, rest, took, fault_at, misfit_at, found_fault}
@@ -37,13 +38,13 @@ pub name_term : (l : Line) (b : Bool) (a : LineAct) (s : LineStack) (x : List �
 name_term l b a s x e = goes l (Terms b a ∷ s) (AfterTerm b a ∷ s) (of BadBound BeginsNamed)
     (ap (line_advance (Terms b a ∷ s)) e ∙ name_begins b a s x)
 
-bad_breaks : (c : LineContext) (a : LineAct) → broken_by c (Numbered None) a ≡ Some BadNumber
+pub bad_breaks : (c : LineContext) (a : LineAct) → broken_by c (Numbered None) a ≡ Some BadNumber
 unfolding broken_by
 bad_breaks c a = refl
 
 pub bad_term : (l : Line) (b : Bool) (a : LineAct) (s : LineStack) → (first_item l).terminal ≡ Numbered None →
     rest l (Terms b a ∷ s) ≡ Some (fault_at (first_item l) BadNumber)
-bad_term l b a s e = number_term l b a s None e ∙ took_broken l Begins BadNumber (Some BadBound) (AfterNumber b a ∷ s)
+bad_term l b a s e = number_term l b a s None e ∙ took_broken l act.Begins BadNumber (Some BadBound) (AfterNumber b a ∷ s)
     (ap (λ (t : Lexeme). broken_by (known_of l.known) t Begins) e ∙ bad_breaks (known_of l.known) Begins)
 
 -- a token with which no term begins
@@ -83,7 +84,7 @@ at_star l b a s e = goes l (AfterNumber b a ∷ s) (Factor ∷ AfterTerm b a ∷
     (star_goes b a s (first_item l).terminal e)
 
 -- stacks that go the same way
-judged_same : (c : LineContext) (s s' : LineStack) (i : Item Lexeme) (n : Lexeme)
+pub judged_same : (c : LineContext) (s s' : LineStack) (i : Item Lexeme) (n : Lexeme)
     (o : Option ((Option Code × LineAct) × LineStack)) (go : LineContext → LineStack → Option
     (Found line_grammar line_machine)) →
     line_place s ≡ line_place s' → judged line_grammar line_machine c s i n o go ≡

@@ -5,16 +5,17 @@ use Rattle.c_tokens.specs.declared.kind.Sign.TheVariants as sign
 use Rattle.c_grammar.specs.Lexeme.{Signed, Worded, Ended, same}
 use Rattle.c_grammar.specs.LineGrammar as grammar
 use Rattle.c_grammar.specs.LineRules.{IsClause, AreClauses}
+use Rattle.base.specs.declared.tree.DeviceId.{DeviceId}
 use Rattle.directives.specs.declared.line.Line.{Line}
 use Rattle.directives.specs.declared.tree.MapClause.{MapClause}
 use Rattle.directives.specs.declared.tree.DependClause.{DependClause}
 use Rattle.directives.specs.declared.tree.MotionClause.{MotionClause}
 use Rattle.directives.specs.declared.tree.Clause.{Clause}
-use Rattle.directives.specs.declared.tree.Clause.TheVariants.{Map, Depend, Motion, NoWait}
+use Rattle.directives.specs.declared.tree.Clause.TheVariants.{Map, Depend, Motion, NoWait, Device}
 use Rattle.directives.specs.Kinds.{seen_map, seen_depend, seen_motion}
 use Rattle.directives.specs.Cursor.{Items, first_item, behind, items}
 use Rattle.directives.specs.Reading.{IsSpelled}
-use Rattle.directives.specs.Trees.{Spelling, word_mark, sign_mark, always_marks, type_marks, sections_marks, clause_of, clause_marks, clauses_marks}
+use Rattle.directives.specs.Trees.{Spelling, word_mark, sign_mark, number_mark, modifiers_marks, present_marks, type_marks, sections_marks, clause_of, clause_marks, clauses_marks}
 use Rattle.directives.proofs.Clausing.{end_is}
 use Rattle.directives.proofs.Spellings.{spelled_one, spelled_first, spelled_then, spelled_as, spelled_less}
 
@@ -27,7 +28,7 @@ read_word l l1 l2 x e b f d = spelled_first l l1 (Worded x) None (sign_mark sign
 
 pub read_map : (l l1 l2 l3 l4 l5 : Line) (m : MapClause) → (first_item l).terminal ≡ Worded (codes "map") →
     behind l ≡ items l1 → (first_item l1).terminal ≡ Signed sign.OpenParen → behind l1 ≡ items l2 →
-    IsSpelled (always_marks m.always) (items l2) (items l3) →
+    IsSpelled (modifiers_marks m.modifiers.items) (items l2) (items l3) →
     IsSpelled (type_marks (grammar.map_word (seen_map m.map_type))) (items l3) (items l4) →
     IsSpelled (sections_marks m.sections) (items l4) (items l5) → IsSpelled (clause_marks (Map m)) (items l) (items l5)
 unfolding clause_marks
@@ -36,9 +37,9 @@ read_map l l1 l2 l3 l4 l5 m e b f d a t s =
     let more : IsSpelled (type_marks x ++ sections_marks m.sections) (items l3) (items l5) =
     spelled_then (type_marks x) (sections_marks m.sections) (items l3) (items l4) (items l5) t s in
     spelled_then (word_mark (codes "map") ∷ sign_mark sign.OpenParen ∷ [])
-    (always_marks m.always ++ (type_marks x ++ sections_marks m.sections)) (items l) (items l2) (items l5)
+    (modifiers_marks m.modifiers.items ++ (type_marks x ++ sections_marks m.sections)) (items l) (items l2) (items l5)
     (read_word l l1 l2 (codes "map") e b f d)
-    (spelled_then (always_marks m.always) (type_marks x ++ sections_marks m.sections) (items l2) (items l3)
+    (spelled_then (modifiers_marks m.modifiers.items) (type_marks x ++ sections_marks m.sections) (items l2) (items l3)
     (items l5) a more)
 
 pub read_depend : (l l1 l2 l3 l4 : Line) (m : DependClause) → (first_item l).terminal ≡ Worded (codes "depend") →
@@ -54,34 +55,49 @@ read_depend l l1 l2 l3 l4 m e b f d t s =
     (items l) (items l2) (items l4) (read_word l l1 l2 (codes "depend") e b f d)
     (spelled_then (type_marks x) (sections_marks m.sections) (items l2) (items l3) (items l4) t s)
 
-pub read_motion : (l l1 l2 l3 : Line) (m : MotionClause) →
+pub read_motion : (l l1 l2 l3 l4 : Line) (m : MotionClause) →
     (first_item l).terminal ≡ Worded (grammar.motion_word (seen_motion m.motion_type)) → behind l ≡ items l1 →
     (first_item l1).terminal ≡ Signed sign.OpenParen → behind l1 ≡ items l2 →
-    IsSpelled (sections_marks m.sections) (items l2) (items l3) → IsSpelled (clause_marks (Motion m)) (items l)
-    (items l3)
+    IsSpelled (present_marks m.present) (items l2) (items l3) →
+    IsSpelled (sections_marks m.sections) (items l3) (items l4) → IsSpelled (clause_marks (Motion m)) (items l)
+    (items l4)
 unfolding clause_marks
-read_motion l l1 l2 l3 m e b f d s =
+read_motion l l1 l2 l3 l4 m e b f d p s =
     let x : List ℕ = grammar.motion_word (seen_motion m.motion_type) in
-    spelled_then (word_mark x ∷ sign_mark sign.OpenParen ∷ []) (sections_marks m.sections) (items l) (items l2)
-    (items l3)
-    (read_word l l1 l2 x e b f d) s
+    spelled_then (word_mark x ∷ sign_mark sign.OpenParen ∷ []) (present_marks m.present ++ sections_marks m.sections)
+    (items l) (items l2) (items l4) (read_word l l1 l2 x e b f d)
+    (spelled_then (present_marks m.present) (sections_marks m.sections) (items l2) (items l3) (items l4) p s)
 
 pub read_nowait : (l l1 : Line) → (first_item l).terminal ≡ Worded (codes "nowait") → behind l ≡ items l1 →
     IsSpelled (clause_marks NoWait) (items l) (items l1)
 unfolding clause_marks
 read_nowait l l1 e b = spelled_one l (items l1) (Worded (codes "nowait")) None e tt b
 
+pub read_device : (l l1 l2 l3 l4 : Line) (d : DeviceId) → (first_item l).terminal ≡ Worded (codes "device") →
+    behind l ≡ items l1 → (first_item l1).terminal ≡ Signed sign.OpenParen → behind l1 ≡ items l2 →
+    IsSpelled (number_mark d.number ∷ []) (items l2) (items l3) → (first_item l3).terminal ≡ Signed sign.CloseParen →
+    behind l3 ≡ items l4 → IsSpelled (clause_marks (Device d)) (items l) (items l4)
+unfolding clause_marks
+read_device l l1 l2 l3 l4 d e b f g n h c =
+    spelled_then (word_mark (codes "device") ∷ sign_mark sign.OpenParen ∷ [])
+    (number_mark d.number ∷ sign_mark sign.CloseParen ∷ []) (items l) (items l2) (items l4)
+    (read_word l l1 l2 (codes "device") e b f g)
+    (spelled_then (number_mark d.number ∷ []) (sign_mark sign.CloseParen ∷ []) (items l2) (items l3) (items l4) n
+    (spelled_one l3 (items l4) (Signed sign.CloseParen) None h tt c))
+
 -- ---- a clause has a token
 
 pub clause_less : (c : Clause) (a b : Items) → IsSpelled (clause_marks c) a b → length b < length a
 unfolding clause_marks
-clause_less (Map m) a b r = spelled_less (word_mark (codes "map")) (sign_mark sign.OpenParen ∷ (always_marks m.always ++
-    (type_marks (grammar.map_word (seen_map m.map_type)) ++ sections_marks m.sections))) a b r.fits
+clause_less (Map m) a b r = spelled_less (word_mark (codes "map"))
+    (sign_mark sign.OpenParen ∷ (modifiers_marks m.modifiers.items ++ (type_marks (grammar.map_word (seen_map m.map_type)) ++ sections_marks m.sections))) a b r.fits
 clause_less (Depend d) a b r = spelled_less (word_mark (codes "depend")) (sign_mark sign.OpenParen ∷
     (type_marks (grammar.depend_word (seen_depend d.depend_type)) ++ sections_marks d.sections)) a b r.fits
 clause_less (Motion m) a b r = spelled_less (word_mark (grammar.motion_word (seen_motion m.motion_type)))
-    (sign_mark sign.OpenParen ∷ sections_marks m.sections) a b r.fits
+    (sign_mark sign.OpenParen ∷ (present_marks m.present ++ sections_marks m.sections)) a b r.fits
 clause_less NoWait a b r = spelled_less (word_mark (codes "nowait")) [] a b r.fits
+clause_less (Device d) a b r = spelled_less (word_mark (codes "device"))
+    (sign_mark sign.OpenParen ∷ number_mark d.number ∷ sign_mark sign.CloseParen ∷ []) a b r.fits
 
 -- ---- clauses
 

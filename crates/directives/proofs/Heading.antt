@@ -8,7 +8,6 @@ use Rattle.c_grammar.specs.LineMachine.{LineStack, Want, Begin, AfterTarget, Cla
 use Rattle.directives.specs.declared.line.Line.{Line}
 use Rattle.directives.specs.declared.tree.Directive.{Directive}
 use Rattle.directives.specs.declared.tree.DirectiveKind.{DirectiveKind as GivenKind}
-use Rattle.directives.specs.declared.tree.DirectiveKind.TheVariants as kind
 use Rattle.directives.specs.Cursor.{first_item, behind, items}
 use Rattle.directives.specs.Reading.{rest, took, misfit_at, IsSpelled}
 use Rattle.directives.specs.Trees.{word_mark, target_marks, kind_marks, head_marks, line_marks, clauses_marks}

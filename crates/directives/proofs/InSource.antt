@@ -1,11 +1,11 @@
 -- What a source's rules find on a line.
 use Rattle.std.proofs.Common.{◌≡◌, ℕ, ◌+◌, true, List, [], ◌∷◌, drop, map, Option, Some, None, refl, sym, ap, ◌∙◌}
-use Rattle.c_grammar.specs.Lexeme.{Lexeme, Placed, lexemes_of}
+use Rattle.c_grammar.specs.Lexeme.{Lexeme, Ended, Placed, lexemes_of}
 use Rattle.c_grammar.specs.Texts.{terminals, kinds}
 use Rattle.c_grammar.specs.LineGrammar as grammar
 use Rattle.c_grammar.specs.LineRules.{line_grammar}
 use Rattle.c_grammar.specs.LineMachine.{LineStack, line_start}
-use Rattle.c_grammar.specs.Lines.{Use, use_of, with_use, uses_from, uses_of, is_omp, kind_of}
+use Rattle.c_grammar.specs.Lines.{Use, use_of, with_use, first_of, uses_from, uses_of, is_omp, kind_of}
 use Rattle.c_grammar.proofs.LineGoes.{Goes, line_passes_text}
 use Rattle.directives.specs.declared.tree.Directive.{Directive}
 use Rattle.directives.specs.Cursor.{Items, item_of, line_items}
@@ -15,7 +15,7 @@ use Rattle.directives.specs.Reading.{IsAt, Fits}
 use Rattle.directives.specs.Spells.{SpellsLine, kinds_of, columns_of}
 use Rattle.directives.specs.Trees.{Spelling, text_of, line_marks}
 use Rattle.directives.proofs.Numbered.{nth_first, drop_next}
-use Rattle.directives.proofs.Telling.{Tells, TellsOne, line_tells}
+use Rattle.directives.proofs.Telling.{Tells, TellsOne, next_kind, line_tells}
 
 abbrev Slots : Type 0
 Slots = grammar.LineSlots
@@ -23,7 +23,11 @@ Slots = grammar.LineSlots
 -- the names in slots with the numbers of their tokens
 abbrev slot_uses : ℕ → Slots → Uses
 slot_uses k [] = []
-slot_uses k (x ∷ xs) = with_use k (use_of x.0 x.1.1) (slot_uses (k + 1) xs)
+slot_uses k (x ∷ xs) = with_use k (use_of x.0 x.1.1 (next_kind xs Ended)) (slot_uses (k + 1) xs)
+
+first_is : (xs : Slots) → first_of (kinds line_grammar xs) ≡ next_kind xs Ended
+first_is [] = refl
+first_is (x ∷ xs) = refl
 
 -- they are what the machine finds on its way
 uses_pass : (k : ℕ) (s : LineStack) (xs : Slots) (s' : LineStack) → Goes s xs s' →
@@ -31,22 +35,23 @@ uses_pass : (k : ℕ) (s : LineStack) (xs : Slots) (s' : LineStack) → Goes s x
 unfolding uses_from
 uses_pass k s [] s' p = refl
 uses_pass k s (x ∷ xs) s' p =
-    rw p.1 (ap (λ (us : Uses). with_use k (use_of x.0 x.1.1) us) (uses_pass (k + 1) p.0 xs s' p.2))
+    rw (p.1, first_is xs) (ap (λ (us : Uses). with_use k (use_of x.0 x.1.1 (next_kind xs Ended)) us)
+    (uses_pass (k + 1) p.0 xs s' p.2))
 
 -- with the columns of tokens that fit
 placed_uses : (all : List ℕ) (k : ℕ) (xs : Spelling) (us : Slots) (is : Items) (ns : Uses) →
-    drop k all ≡ map (λ i. i.column) is → Fits xs is [] → Tells xs us ns → map (at_column all) (slot_uses k us) ≡ ns
+    drop k all ≡ map (λ i. i.column) is → Fits xs is [] → Tells xs us Ended ns → map (at_column all) (slot_uses k us) ≡ ns
 placed_uses all k [] [] is ns d e h = sym h
 placed_uses all k [] (u ∷ us) is ns d e h = absurd h
 placed_uses all k (x ∷ xs) [] is ns d e h = absurd h
 placed_uses all k (x ∷ xs) (u ∷ us) [] ns d e h = absurd e
 placed_uses all k (x ∷ xs) (u ∷ us) (i ∷ is) ns d e h =
-    one x.1 (use_of u.0 u.1.1) ns e.1
+    one x.1 (use_of u.0 u.1.1 (next_kind us Ended)) ns e.1
     (λ ms g. placed_uses all (k + 1) xs us is ms (drop_next all k i.column (map (λ j. j.column) is) d) e.2 g) h
   where
     one : (o : Option ℕ) (n : Option Use) (ns : Uses) → IsAt o i.column →
-        ((ms : Uses) → Tells xs us ms → map (at_column all) (slot_uses (k + 1) us) ≡ ms) →
-        TellsOne o n ns (λ ms. Tells xs us ms) → map (at_column all) (with_use k n (slot_uses (k + 1) us)) ≡ ns
+        ((ms : Uses) → Tells xs us Ended ms → map (at_column all) (slot_uses (k + 1) us) ≡ ms) →
+        TellsOne o n ns (λ ms. Tells xs us Ended ms) → map (at_column all) (with_use k n (slot_uses (k + 1) us)) ≡ ns
     one None None ns a more h = more ns h
     one None (Some v) ns a more h = absurd h
     one (Some c) None ns a more h = absurd h
@@ -77,9 +82,10 @@ unfolding kind_of
 target_is [] = refl
 target_is (grammar.MapOf a t is ∷ cs) = refl
 target_is (grammar.DependOf t is ∷ cs) = refl
-target_is (grammar.MotionOf grammar.ToDevice is ∷ cs) = refl
-target_is (grammar.MotionOf grammar.FromDevice is ∷ cs) = refl
+target_is (grammar.MotionOf grammar.ToDevice p is ∷ cs) = refl
+target_is (grammar.MotionOf grammar.FromDevice p is ∷ cs) = refl
 target_is (grammar.NoWait ∷ cs) = refl
+target_is (grammar.DeviceOf n ∷ cs) = refl
 
 kind_is : (k : grammar.DirectiveKind) (cs : List grammar.Clause) →
     kind_of (kinds line_grammar (grammar.line_slots (record { kind = k; clauses = cs }))) ≡ k

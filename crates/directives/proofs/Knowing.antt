@@ -1,17 +1,18 @@
 -- What is known of a line, and which rule a token breaks.
 use Rattle.std.proofs.Common.{◌≡◌, ℕ, Bool, true, false, List, [], ◌∷◌, ◌++◌, Option, Some, None, refl, sym, ◌∙◌}
-use Rattle.std.specs.Prelude.{◌||◌, if◌then◌else◌}
+use Rattle.std.specs.Prelude.{◌||◌, nat_le, if◌then◌else◌}
 use Rattle.std.specs.List.{list_any}
 use Rattle.std.specs.Str.{bytes_eq}
 use Rattle.std.specs.Borrow.{Bor}
 use Rattle.std.proofs.Math.Bool.{or-false}
 use Rattle.base.specs.declared.fault.ReadCode.{ReadCode as Code}
-use Rattle.base.specs.declared.fault.ReadCode.TheVariants.{UnknownByte, BadNumber, TooMany, ClauseCount, ArrayTwice}
+use Rattle.base.specs.declared.fault.ReadCode.TheVariants.{UnknownByte, BadNumber, TooMany, ClauseCount, ArrayTwice, BadDevice}
 use Rattle.c_grammar.specs.Lexeme.{Lexeme}
-use Rattle.c_grammar.specs.LineGrammar.{LineAct, Plain, Demands, Meets, Once, Ends, Maps, Depends, Opens, Begins, BeginsNamed, Times}
-use Rattle.c_grammar.specs.LineRules.{LineContext, is_among, is_strange, is_bad_number, is_long, line_wrong, line_breaks, line_breaks_act}
+use Rattle.c_grammar.specs.LineRules.{LineContext, max_depends, max_terms, has_single, is_among, is_name_among, is_no_device, is_strange, is_bad_number, is_long, line_wrong, line_breaks}
 use Rattle.c_grammar.specs.LineMachine.{line_first_broken, line_first_wrong}
-use Rattle.directives.specs.Known.{names_onto, own_code, first_some, broken_by}
+use Rattle.directives.specs.declared.known.Act.{Act}
+use Rattle.directives.specs.declared.known.Act.TheVariants as act
+use Rattle.directives.specs.Known.{names_onto, own_code, first_some, broken_by, seen_act, seen_single}
 
 -- ---- the names that were there
 
@@ -38,43 +39,46 @@ any_is_among xs y = among xs [] y
 
 -- ---- the rules
 
-lowest : (a b l m cc at : Bool) →
+lowest : (a b l m cc at d : Bool) →
     (if a || false then Some UnknownByte
     else (if b || false then Some BadNumber
     else (if l || m then Some TooMany
     else (if false || cc then Some ClauseCount
     else (if false || at then Some ArrayTwice
-    else None))))) ≡ first_some
+    else (if false || d then Some BadDevice
+    else None)))))) ≡ first_some
     (if a then Some UnknownByte else (if b then Some BadNumber else (if l then Some TooMany else None)))
-    (if m then Some TooMany else (if cc then Some ClauseCount else (if at then Some ArrayTwice else None)))
-lowest true b l m cc at = refl
-lowest false true l m cc at = refl
-lowest false false true m cc at = refl
-lowest false false false true cc at = refl
-lowest false false false false true at = refl
-lowest false false false false false true = refl
-lowest false false false false false false = refl
+    (if m then Some TooMany
+    else (if cc then Some ClauseCount else (if at then Some ArrayTwice else (if d then Some BadDevice else None))))
+lowest true b l m cc at d = refl
+lowest false true l m cc at d = refl
+lowest false false true m cc at d = refl
+lowest false false false true cc at d = refl
+lowest false false false false true at d = refl
+lowest false false false false false true d = refl
+lowest false false false false false false true = refl
+lowest false false false false false false false = refl
 
-pub broken_is : (c : LineContext) (t : Lexeme) (a : LineAct) (m : Option Code) (n : Lexeme) →
-    line_first_broken c (t, (m, a)) n ≡ broken_by c t a
+pub broken_is : (c : LineContext) (t : Lexeme) (a : Act) (m : Option Code) (n : Lexeme) →
+    line_first_broken c (t, (m, seen_act a)) n ≡ broken_by c t (seen_act a)
 unfolding line_first_broken line_breaks line_wrong broken_by
-broken_is c t Plain m n = lowest (is_strange t) (is_bad_number t) (is_long t) false false false
-broken_is c t Demands m n = lowest (is_strange t) (is_bad_number t) (is_long t) false false false
-broken_is c t Meets m n = lowest (is_strange t) (is_bad_number t) (is_long t) false false false
-broken_is c t Once m n = lowest (is_strange t) (is_bad_number t) (is_long t) false
-    (line_breaks_act ClauseCount c t Once) false
-broken_is c t Ends m n = lowest (is_strange t) (is_bad_number t) (is_long t) false
-    (line_breaks_act ClauseCount c t Ends) false
-broken_is c t Maps m n = lowest (is_strange t) (is_bad_number t) (is_long t) false false
-    (line_breaks_act ArrayTwice c t Maps)
-broken_is c t Depends m n = lowest (is_strange t) (is_bad_number t) (is_long t)
-    (line_breaks_act TooMany c t Depends) false false
-broken_is c t Opens m n = lowest (is_strange t) (is_bad_number t) (is_long t) false false false
-broken_is c t Begins m n = lowest (is_strange t) (is_bad_number t) (is_long t)
-    (line_breaks_act TooMany c t Begins) false false
-broken_is c t BeginsNamed m n = lowest (is_strange t) (is_bad_number t) (is_long t)
-    (line_breaks_act TooMany c t BeginsNamed) false false
-broken_is c t Times m n = lowest (is_strange t) (is_bad_number t) (is_long t) false false false
+broken_is c t act.Plain m n = lowest (is_strange t) (is_bad_number t) (is_long t) false false false false
+broken_is c t act.Demands m n = lowest (is_strange t) (is_bad_number t) (is_long t) false false false false
+broken_is c t act.Meets m n = lowest (is_strange t) (is_bad_number t) (is_long t) false false false false
+broken_is c t (act.Once what) m n = lowest (is_strange t) (is_bad_number t) (is_long t) false
+    (has_single (seen_single what) c) false false
+broken_is c t act.Ends m n = lowest (is_strange t) (is_bad_number t) (is_long t) false c.missing false false
+broken_is c t act.Maps m n = lowest (is_strange t) (is_bad_number t) (is_long t) false false
+    (is_name_among c.arrays t) false
+broken_is c t act.Depends m n = lowest (is_strange t) (is_bad_number t) (is_long t)
+    (nat_le max_depends c.depends) false false false
+broken_is c t act.Numbers m n = lowest (is_strange t) (is_bad_number t) (is_long t) false false false (is_no_device t)
+broken_is c t act.Opens m n = lowest (is_strange t) (is_bad_number t) (is_long t) false false false false
+broken_is c t act.Begins m n = lowest (is_strange t) (is_bad_number t) (is_long t)
+    (nat_le max_terms c.terms) false false false
+broken_is c t act.BeginsNamed m n = lowest (is_strange t) (is_bad_number t) (is_long t)
+    (nat_le max_terms c.terms) false false false
+broken_is c t act.Times m n = lowest (is_strange t) (is_bad_number t) (is_long t) false false false false
 
 pub wrong_is : (t : Lexeme) → line_first_wrong t ≡ own_code t
 unfolding line_first_wrong line_wrong

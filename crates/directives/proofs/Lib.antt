@@ -7,6 +7,9 @@ pub mod Bounding
 pub mod BoundsRead
 pub mod Listing
 pub mod Typing
+pub mod Modifying
+pub mod Motions
+pub mod Devices
 pub mod Clausing
 pub mod ClausesRead
 pub mod Heading

@@ -7,12 +7,14 @@ use Rattle.c_grammar.specs.Lexeme.{Lexeme, Reserved, Signed, Worded, Numbered, S
 use Rattle.c_grammar.specs.Code.{lower_code}
 use Rattle.c_grammar.specs.Texts.{Item, next_of}
 use Rattle.c_grammar.specs.Machine.{lower, own_rule, run as machine_run}
-use Rattle.c_grammar.specs.LineGrammar.{LineAct, of}
+use Rattle.c_grammar.specs.LineGrammar.{LineAct, Ends, of}
 use Rattle.c_grammar.specs.LineRules.{LineContext, line_act, line_enter, line_grammar}
 use Rattle.c_grammar.specs.LineMachine.{LineStack, Want, w, is_word, line_advance, line_place, line_machine}
 use Rattle.directives.specs.declared.line.Line.{Line}
 use Rattle.directives.specs.Seen.{ends_well}
-use Rattle.directives.specs.Known.{known_of, own_code, broken_by}
+use Rattle.directives.specs.declared.known.Act.{Act}
+use Rattle.directives.specs.declared.known.Act.TheVariants as act
+use Rattle.directives.specs.Known.{known_of, own_code, broken_by, seen_act}
 use Rattle.directives.specs.Cursor.{Items, first_item, behind}
 use Rattle.directives.specs.Reading.{run, rest, took_from, took, fault_at, misfit_at, found_fault}
 use Rattle.c_grammar.proofs.Lexemes.{same-true}
@@ -30,9 +32,9 @@ pub goes : (l : Line) (s s' : LineStack) (r : Option Code × LineAct) →
     line_advance s (first_item l).terminal ≡ Some (r, s') → rest l s ≡ took l r s'
 goes l s s' r e = item_took (known_of l.known) s s' r (first_item l) (behind l) e
 
-pub took_broken : (l : Line) (a : LineAct) (code : Code) (m : Option Code) (s : LineStack) →
-    broken_by (known_of l.known) (first_item l).terminal a ≡ Some code →
-    took l (m, a) s ≡ Some (fault_at (first_item l) code)
+pub took_broken : (l : Line) (a : Act) (code : Code) (m : Option Code) (s : LineStack) →
+    broken_by (known_of l.known) (first_item l).terminal (seen_act a) ≡ Some code →
+    took l (m, seen_act a) s ≡ Some (fault_at (first_item l) code)
 unfolding took_from
 took_broken l a code m s e =
     rw (broken_is (known_of l.known) (first_item l).terminal a m (next_of line_grammar (behind l)) ∙ e) refl
@@ -41,23 +43,29 @@ entered : (c : LineContext) (r : Option Code × LineAct) (t : Lexeme) → line_e
 unfolding line_enter
 entered c r t = refl
 
-pub took_passes : (l : Line) (a : LineAct) (m : Option Code) (s : LineStack) (c : LineContext) (is : Items) →
-    broken_by (known_of l.known) (first_item l).terminal a ≡ None →
-    c ≡ line_act (known_of l.known) (first_item l).terminal a → behind l ≡ is → took l (m, a) s ≡ run c s is
+pub took_passes : (l : Line) (a : Act) (m : Option Code) (s : LineStack) (c : LineContext) (is : Items) →
+    broken_by (known_of l.known) (first_item l).terminal (seen_act a) ≡ None →
+    c ≡ line_act (known_of l.known) (first_item l).terminal (seen_act a) → behind l ≡ is →
+    took l (m, seen_act a) s ≡ run c s is
 unfolding took_from run
 took_passes l a m s c is e k b =
     rw (broken_is (known_of l.known) (first_item l).terminal a m (next_of line_grammar (behind l)) ∙ e)
     (ap (λ (d : LineContext). found_fault (machine_run line_grammar line_machine d s (behind l)))
-    (entered (known_of l.known) (m, a) (first_item l).terminal ∙ sym k)
+    (entered (known_of l.known) (m, seen_act a) (first_item l).terminal ∙ sym k)
     ∙ ap (λ (js : Items). found_fault (machine_run line_grammar line_machine c s js)) b)
 
-pub took_last : (l : Line) (a : LineAct) (m : Option Code) →
-    broken_by (known_of l.known) (first_item l).terminal a ≡ None → behind l ≡ [] → took l (m, a) [] ≡ None
+pub last_broken : (l : Line) (code : Code) (m : Option Code) →
+    broken_by (known_of l.known) (first_item l).terminal Ends ≡ Some code →
+    took l (m, Ends) [] ≡ Some (fault_at (first_item l) code)
+last_broken l code m e = took_broken l act.Ends code m [] e
+
+pub last_passes : (l : Line) (m : Option Code) → broken_by (known_of l.known) (first_item l).terminal Ends ≡ None →
+    behind l ≡ [] → took l (m, Ends) [] ≡ None
 unfolding took_from machine_run
-took_last l a m e b =
-    rw (broken_is (known_of l.known) (first_item l).terminal a m (next_of line_grammar (behind l)) ∙ e)
+last_passes l m e b =
+    rw (broken_is (known_of l.known) (first_item l).terminal act.Ends m (next_of line_grammar (behind l)) ∙ e)
     (ap (λ (is : Items). found_fault (machine_run line_grammar line_machine
-    (line_enter (known_of l.known) ((first_item l).terminal, (m, a))) [] is)) b)
+    (line_enter (known_of l.known) ((first_item l).terminal, (m, Ends))) [] is)) b)
 
 -- ---- a token that may not come
 

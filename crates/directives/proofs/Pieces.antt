@@ -4,7 +4,6 @@ use Rattle.c_tokens.specs.declared.kind.Kind.{Kind}
 use Rattle.c_tokens.specs.declared.kind.Mood.{Mood}
 use Rattle.c_tokens.specs.declared.kind.Piece.TheVariants as piece
 use Rattle.c_tokens.specs.Text.{after_kind}
-use Rattle.c_tokens.specs.declared.kind.Kind.TheVariants as kind
 use Rattle.c_grammar.specs.Lexeme.{Strange, Ended, Placed, lexeme_of, lexemes_from}
 use Rattle.directives.specs.declared.lexemes.Lexemes.{Lexemes}
 use Rattle.directives.specs.Pieces.{piece_on}

@@ -8,18 +8,19 @@ use Rattle.base.specs.declared.fault.ReadCode.{ReadCode as Code}
 use Rattle.base.specs.declared.fault.ReadCode.TheVariants.{BadBound, BadMapType}
 use Rattle.c_grammar.specs.Lexeme.{Lexeme, Signed, Worded, Ended}
 use Rattle.c_grammar.specs.LineGrammar as grammar
+use Rattle.directives.specs.declared.tree.Modifier.{Modifier}
 use Rattle.directives.specs.declared.tree.Term.{Term}
 use Rattle.directives.specs.declared.tree.Term.TheVariants.{Literal, Variable, Product}
 use Rattle.directives.specs.declared.tree.Bound.{Bound}
 use Rattle.directives.specs.declared.tree.Section.{Section}
 use Rattle.directives.specs.declared.tree.Sections.{Sections}
 use Rattle.directives.specs.declared.tree.Clause.{Clause}
-use Rattle.directives.specs.declared.tree.Clause.TheVariants.{Map, Depend, Motion, NoWait}
+use Rattle.directives.specs.declared.tree.Clause.TheVariants.{Map, Depend, Motion, NoWait, Device}
 use Rattle.directives.specs.declared.tree.Directive.{Directive}
 use Rattle.directives.specs.declared.tree.DirectiveKind.{DirectiveKind as GivenKind}
 use Rattle.directives.specs.declared.tree.DirectiveKind.TheVariants as kind
-use Rattle.directives.specs.Kinds.{seen_kind, seen_map, seen_depend, seen_motion}
-use Rattle.directives.specs.Trees.{Spelling, sign_mark, each_behind, term_of, bound_of, bounds_of, section_of, sections_of, clause_of, text_of, term_marks, bound_marks, second_marks, bounds_marks, section_marks, sections_marks, always_marks, type_marks, clause_marks, clauses_marks, kind_marks, line_marks}
+use Rattle.directives.specs.Kinds.{seen_kind, seen_modifier, seen_map, seen_depend, seen_motion}
+use Rattle.directives.specs.Trees.{Spelling, sign_mark, each_behind, term_of, bound_of, bounds_of, section_of, sections_of, clause_of, text_of, term_marks, bound_marks, second_marks, bounds_marks, section_marks, sections_marks, modifiers_marks, present_marks, type_marks, clause_marks, clauses_marks, kind_marks, line_marks}
 
 abbrev pub ks : Spelling → List Lexeme
 ks xs = map (λ x. x.0) xs
@@ -83,36 +84,46 @@ more_same a (x ∷ xs) = ap (λ (zs : List Lexeme). Signed sign.Comma ∷ zs) (b
     (each_behind sign.Comma section_marks xs) (grammar.item a (section_of x)) (grammar.more_items a (map section_of xs))
     (section_same a x) (more_same a xs))
 
-sections_same : (a : grammar.LineAct) (s : Sections) → ks (sections_marks s) ≡ ss (grammar.items a (sections_of s))
+sections_same : (first a : grammar.LineAct) (s : Sections) →
+    ks (sections_marks s) ≡ ss (grammar.items_from first a (sections_of s))
 unfolding sections_marks
-sections_same a s =
+sections_same first a s =
     let more : Spelling = each_behind sign.Comma section_marks s.more.items in
     let last : Spelling = sign_mark sign.CloseParen ∷ [] in
     let slots : grammar.LineSlots = grammar.more_items a (map section_of s.more.items) in
     let ends : grammar.LineSlots = grammar.mark sign.CloseParen ∷ [] in
     ap (λ (zs : Spelling). ks zs) (append_assoc (section_marks s.first) more last)
-    ∙ both (section_marks s.first) (more ++ last) (grammar.item a (section_of s.first)) (slots ++ ends)
-    (section_same a s.first) (both more last slots ends (more_same a s.more.items) refl)
+    ∙ both (section_marks s.first) (more ++ last) (grammar.item first (section_of s.first)) (slots ++ ends)
+    (section_same first s.first) (both more last slots ends (more_same a s.more.items) refl)
 
-always_same : (b : Bool) → ks (always_marks b) ≡ ss (grammar.always b)
-always_same true = refl
-always_same false = refl
+modifiers_same : (ms : List Modifier) → ks (modifiers_marks ms) ≡ ss (grammar.modifiers (map seen_modifier ms))
+modifiers_same [] = refl
+modifiers_same (m ∷ ms) = ap (λ (zs : List Lexeme). Worded (grammar.modifier_word (seen_modifier m)) ∷
+    Signed sign.Comma ∷ zs) (modifiers_same ms)
+
+motion_same : (p : Bool) (s : Sections) →
+    ks (present_marks p ++ sections_marks s) ≡ ss (grammar.motion p (sections_of s))
+motion_same false s = sections_same grammar.Heads grammar.Maps s
+motion_same true s = ap (λ (zs : List Lexeme). Worded (grammar.modifier_word grammar.Present) ∷
+    Signed sign.Colon ∷ zs) (sections_same grammar.Maps grammar.Maps s)
 
 clause_same : (c : Clause) → ks (clause_marks c) ≡ ss (grammar.clause (clause_of c))
 unfolding clause_marks
 clause_same (Map m) = ap (λ (zs : List Lexeme). (Worded (codes "map")) ∷ Signed sign.OpenParen ∷ zs)
-    (both (always_marks m.always)
-    (type_marks (grammar.map_word (seen_map m.map_type)) ++ sections_marks m.sections) (grammar.always m.always)
+    (both (modifiers_marks m.modifiers.items)
+    (type_marks (grammar.map_word (seen_map m.map_type)) ++ sections_marks m.sections)
+    (grammar.modifiers (map seen_modifier m.modifiers.items))
     ((Worded (grammar.map_word (seen_map m.map_type)), grammar.of BadMapType grammar.Plain) ∷
     grammar.mark sign.Colon ∷ grammar.items grammar.Maps (sections_of m.sections))
-    (always_same m.always) (ap (λ (zs : List Lexeme). (Worded (grammar.map_word (seen_map m.map_type))) ∷
-    Signed sign.Colon ∷ zs) (sections_same grammar.Maps m.sections)))
+    (modifiers_same m.modifiers.items) (ap (λ (zs : List Lexeme). (Worded (grammar.map_word (seen_map m.map_type))) ∷
+    Signed sign.Colon ∷ zs) (sections_same grammar.Maps grammar.Maps m.sections)))
 clause_same (Depend d) = ap (λ (zs : List Lexeme). (Worded (codes "depend")) ∷ Signed sign.OpenParen ∷
     (Worded (grammar.depend_word (seen_depend d.depend_type))) ∷ Signed sign.Colon ∷ zs)
-    (sections_same grammar.Depends d.sections)
+    (sections_same grammar.Depends grammar.Depends d.sections)
 clause_same (Motion m) = ap (λ (zs : List Lexeme). (Worded (grammar.motion_word (seen_motion m.motion_type))) ∷
-    Signed sign.OpenParen ∷ zs) (sections_same grammar.Maps m.sections)
+    Signed sign.OpenParen ∷ zs) (motion_same m.present m.sections)
 clause_same NoWait = refl
+clause_same (Device d) = refl
 
 clauses_same : (cs : List Clause) →
     ks (clauses_marks cs ++ (Ended, None) ∷ []) ≡ ss (grammar.clauses (map clause_of cs))

@@ -1,19 +1,17 @@
 -- The machine at the words behind which sections stand.
 use Rattle.std.proofs.Common.{◌≡◌, true, false, List, [], ◌∷◌, Some, None, refl, sym, ap, ◌∙◌, inl, inr}
-use Rattle.std.specs.Prelude.{codes}
 use Rattle.std.proofs.lemmas.Bool.{or_cases}
 use Rattle.c_tokens.specs.declared.kind.Sign.TheVariants as sign
 use Rattle.base.specs.declared.fault.ReadCode.TheVariants.{Unexpected, BadMapType}
 use Rattle.c_grammar.specs.Lexeme.{Lexeme, Worded}
-use Rattle.c_grammar.specs.LineGrammar.{Plain, Maps, plain, of, DirectiveKind, MapType, To, From, ToFrom, Alloc, Release, Delete, DependType, In, Out, InOut, map_word, depend_word, map_types}
+use Rattle.c_grammar.specs.LineGrammar.{Modifier, Always, Present, Plain, Once, Modified, Maps, plain, of, DirectiveKind, MapType, To, From, ToFrom, Alloc, Release, Delete, DependType, In, Out, InOut, modifier_word, map_word, depend_word, takes_modifier, map_types}
 use Rattle.c_grammar.specs.LineRules.{IsAmong}
-use Rattle.c_grammar.specs.LineMachine.{LineStack, MapHead, TypeOf, DependHead, Name, w, is_word, is_map_type, line_advance, line_place}
+use Rattle.c_grammar.specs.LineMachine.{LineStack, MapHead, DependHead, Name, w, is_word, is_map_type, line_advance, line_place}
 use Rattle.directives.specs.declared.line.Line.{Line}
-use Rattle.directives.specs.Kinds.{allows, IsNoMapWord, IsNoDependWord}
-use Rattle.directives.specs.Cursor.{first_item, behind}
+use Rattle.directives.specs.Kinds.{allows, IsNoModifier, IsNoMapWord, IsNoDependWord}
+use Rattle.directives.specs.Cursor.{first_item}
 use Rattle.directives.specs.Reading.{rest, took, misfit_at}
 use Rattle.directives.proofs.Moves.{goes, stops}
-use Rattle.directives.proofs.Bounding.{same_rest}
 
 -- ---- map types
 
@@ -82,50 +80,43 @@ pub not_allowed : (k : DirectiveKind) (t : MapType) (x : Lexeme) → x ≡ Worde
     is_map_type (map_types k) x ≡ false
 not_allowed k t x e h = ap (is_map_type (map_types k)) e ∙ h
 
-type_goes : (k : DirectiveKind) (s : LineStack) (t : Lexeme) → is_map_type (map_types k) t ≡ true →
-    line_advance (TypeOf k ∷ s) t ≡ Some (of BadMapType Plain, w sign.Colon ∷ Name Maps ∷ s)
+type_goes : (k : DirectiveKind) (s : LineStack) (t : Lexeme) → IsNoModifier k t →
+    is_map_type (map_types k) t ≡ true →
+    line_advance (MapHead k ∷ s) t ≡ Some (of BadMapType Plain, w sign.Colon ∷ Name Maps ∷ s)
 unfolding line_advance
-type_goes k s t e = rw e refl
+type_goes k s t n e = rw (n.0, n.1, e) refl
 
-pub at_type : (l : Line) (k : DirectiveKind) (s : LineStack) (t : MapType) →
+pub at_type : (l : Line) (k : DirectiveKind) (s : LineStack) (t : MapType) → IsNoModifier k (first_item l).terminal →
     (first_item l).terminal ≡ Worded (map_word t) → allows k t ≡ true →
-    rest l (TypeOf k ∷ s) ≡ took l (of BadMapType Plain) (w sign.Colon ∷ Name Maps ∷ s)
-at_type l k s t e h = goes l (TypeOf k ∷ s) (w sign.Colon ∷ Name Maps ∷ s) (of BadMapType Plain)
-    (type_goes k s (first_item l).terminal (ap (is_map_type (map_types k)) e ∙ h))
+    rest l (MapHead k ∷ s) ≡ took l (of BadMapType Plain) (w sign.Colon ∷ Name Maps ∷ s)
+at_type l k s t n e h = goes l (MapHead k ∷ s) (w sign.Colon ∷ Name Maps ∷ s) (of BadMapType Plain)
+    (type_goes k s (first_item l).terminal n (ap (is_map_type (map_types k)) e ∙ h))
 
-type_none : (k : DirectiveKind) (s : LineStack) (t : Lexeme) → is_map_type (map_types k) t ≡ false →
-    line_advance (TypeOf k ∷ s) t ≡ None
+type_none : (k : DirectiveKind) (s : LineStack) (t : Lexeme) → IsNoModifier k t →
+    is_map_type (map_types k) t ≡ false → line_advance (MapHead k ∷ s) t ≡ None
 unfolding line_advance
-type_none k s t e = rw e refl
+type_none k s t n e = rw (n.0, n.1, e) refl
 
-pub stop_type : (l : Line) (k : DirectiveKind) (s : LineStack) →
+pub stop_type : (l : Line) (k : DirectiveKind) (s : LineStack) → IsNoModifier k (first_item l).terminal →
     is_map_type (map_types k) (first_item l).terminal ≡ false →
-    rest l (TypeOf k ∷ s) ≡ Some (misfit_at BadMapType (first_item l))
+    rest l (MapHead k ∷ s) ≡ Some (misfit_at BadMapType (first_item l))
 unfolding line_place
-stop_type l k s e = stops l (TypeOf k ∷ s) BadMapType (type_none k s (first_item l).terminal e) refl
+stop_type l k s n e = stops l (MapHead k ∷ s) BadMapType (type_none k s (first_item l).terminal n e) refl
 
--- ---- always
+-- ---- modifiers
 
-always_goes : (k : DirectiveKind) (s : LineStack) (t : Lexeme) → is_word (codes "always") t ≡ true →
-    line_advance (MapHead k ∷ s) t ≡ Some (of BadMapType Plain, w sign.Comma ∷ TypeOf k ∷ s)
+modifier_goes : (k : DirectiveKind) (m : Modifier) (s : LineStack) → takes_modifier k m ≡ true →
+    line_advance (MapHead k ∷ s) (Worded (modifier_word m)) ≡ Some
+    (of BadMapType (Once (Modified m)), w sign.Comma ∷ MapHead k ∷ s)
 unfolding line_advance
-always_goes k s t e = rw e refl
+modifier_goes k Always s h = refl
+modifier_goes k Present s h = rw h refl
 
-pub at_always : (l : Line) (k : DirectiveKind) (s : LineStack) →
-    is_word (codes "always") (first_item l).terminal ≡ true →
-    rest l (MapHead k ∷ s) ≡ took l (of BadMapType Plain) (w sign.Comma ∷ TypeOf k ∷ s)
-at_always l k s e = goes l (MapHead k ∷ s) (w sign.Comma ∷ TypeOf k ∷ s) (of BadMapType Plain)
-    (always_goes k s (first_item l).terminal e)
-
-always_not : (k : DirectiveKind) (s : LineStack) (t : Lexeme) → is_word (codes "always") t ≡ false →
-    line_advance (MapHead k ∷ s) t ≡ line_advance (TypeOf k ∷ s) t
-unfolding line_advance
-always_not k s t e = rw e refl
-
-pub no_always : (l : Line) (k : DirectiveKind) (s : LineStack) →
-    is_word (codes "always") (first_item l).terminal ≡ false → rest l (MapHead k ∷ s) ≡ rest l (TypeOf k ∷ s)
-unfolding line_place
-no_always l k s e = same_rest l (MapHead k ∷ s) (TypeOf k ∷ s) (always_not k s (first_item l).terminal e) refl
+pub at_modifier : (l : Line) (k : DirectiveKind) (m : Modifier) (s : LineStack) →
+    (first_item l).terminal ≡ Worded (modifier_word m) → takes_modifier k m ≡ true →
+    rest l (MapHead k ∷ s) ≡ took l (of BadMapType (Once (Modified m))) (w sign.Comma ∷ MapHead k ∷ s)
+at_modifier l k m s e h = goes l (MapHead k ∷ s) (w sign.Comma ∷ MapHead k ∷ s) (of BadMapType (Once (Modified m)))
+    (ap (line_advance (MapHead k ∷ s)) e ∙ modifier_goes k m s h)
 
 -- ---- depend types
 

@@ -1,10 +1,12 @@
 -- The words of a directive, as the grammar has them.
-use Rattle.std.specs.Prelude.{◌≡◌, Bool, false}
+use Rattle.std.specs.Prelude.{◌≡◌, Bool, false, ◌&&◌}
 use Rattle.c_grammar.specs.Lexeme.{Lexeme, Worded}
 use Rattle.c_grammar.specs.LineMachine.{is_word, is_map_type}
-use Rattle.c_grammar.specs.LineGrammar.{map_word, depend_word, map_types, DirectiveKind, Target, Data, Enter, Exit, Update, Wait, MapType, To, From, ToFrom, Alloc, Release, Delete, DependType, In, Out, InOut, MotionType, ToDevice, FromDevice}
+use Rattle.c_grammar.specs.LineGrammar.{Modifier, Always, Present, modifier_word, takes_modifier, map_word, depend_word, map_types, DirectiveKind, Target, Data, Enter, Exit, Update, Wait, MapType, To, From, ToFrom, Alloc, Release, Delete, DependType, In, Out, InOut, MotionType, ToDevice, FromDevice}
 use Rattle.directives.specs.declared.tree.DirectiveKind.{DirectiveKind as GivenKind}
 use Rattle.directives.specs.declared.tree.DirectiveKind.TheVariants as kind
+use Rattle.directives.specs.declared.tree.Modifier.{Modifier as GivenModifier}
+use Rattle.directives.specs.declared.tree.Modifier.TheVariants as modifier
 use Rattle.directives.specs.declared.tree.MapType.{MapType as GivenMap}
 use Rattle.directives.specs.declared.tree.MapType.TheVariants as map_type
 use Rattle.directives.specs.declared.tree.DependType.{DependType as GivenDepend}
@@ -19,6 +21,10 @@ seen_kind kind.TargetEnterData = Enter
 seen_kind kind.TargetExitData = Exit
 seen_kind kind.TargetUpdate = Update
 seen_kind kind.TaskWait = Wait
+
+abbrev pub seen_modifier : GivenModifier → Modifier
+seen_modifier modifier.Always = Always
+seen_modifier modifier.Present = Present
 
 abbrev pub seen_map : GivenMap → MapType
 seen_map map_type.To = To
@@ -40,6 +46,11 @@ seen_motion motion_type.From = FromDevice
 -- the map clauses of a directive may have the type
 abbrev pub allows : DirectiveKind → MapType → Bool
 allows k t = is_map_type (map_types k) (Worded (map_word t))
+
+-- no word of a modifier that the directive takes
+abbrev pub IsNoModifier : DirectiveKind → Lexeme → Type 0
+IsNoModifier k t = ((takes_modifier k Always && is_word (modifier_word Always) t) ≡ false) ×
+    ((takes_modifier k Present && is_word (modifier_word Present) t) ≡ false)
 
 -- no word of a map type
 abbrev pub IsNoMapWord : Lexeme → Type 0

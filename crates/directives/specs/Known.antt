@@ -2,22 +2,31 @@
 use Rattle.std.specs.Prelude.{ℕ, nat_le, if◌then◌else◌, List, [], ◌∷◌, Option, Some, None}
 use Rattle.std.specs.Borrow.{Bor}
 use Rattle.base.specs.declared.fault.ReadCode.{ReadCode as Code}
-use Rattle.base.specs.declared.fault.ReadCode.TheVariants.{UnknownByte, BadNumber, TooMany, ClauseCount, ArrayTwice}
+use Rattle.base.specs.declared.fault.ReadCode.TheVariants.{UnknownByte, BadNumber, TooMany, ClauseCount, ArrayTwice, BadDevice}
 use Rattle.c_grammar.specs.Lexeme.{Lexeme}
 use Rattle.c_grammar.specs.LineGrammar as grammar
-use Rattle.c_grammar.specs.LineRules.{LineContext, max_depends, max_terms, is_name_among, is_strange, is_bad_number, is_long}
+use Rattle.c_grammar.specs.LineRules.{LineContext, max_depends, max_terms, has_single, is_name_among, is_no_device, is_strange, is_bad_number, is_long}
 use Rattle.directives.specs.declared.known.Act.{Act}
 use Rattle.directives.specs.declared.known.Act.TheVariants as act
+use Rattle.directives.specs.declared.known.Single.{Single}
+use Rattle.directives.specs.declared.known.Single.TheVariants as single
 use Rattle.directives.specs.declared.known.Known.{Known}
+use Rattle.directives.specs.Kinds.{seen_modifier}
+
+abbrev pub seen_single : Single → grammar.Single
+seen_single single.NoWaits = grammar.NoWaits
+seen_single single.OnDevice = grammar.OnDevice
+seen_single (single.Modified m) = grammar.Modified (seen_modifier m)
 
 abbrev pub seen_act : Act → grammar.LineAct
 seen_act act.Plain = grammar.Plain
 seen_act act.Demands = grammar.Demands
 seen_act act.Meets = grammar.Meets
-seen_act act.Once = grammar.Once
+seen_act (act.Once what) = grammar.Once (seen_single what)
 seen_act act.Ends = grammar.Ends
 seen_act act.Maps = grammar.Maps
 seen_act act.Depends = grammar.Depends
+seen_act act.Numbers = grammar.Numbers
 seen_act act.Opens = grammar.Opens
 seen_act act.Begins = grammar.Begins
 seen_act act.BeginsNamed = grammar.BeginsNamed
@@ -32,6 +41,9 @@ abbrev pub known_of : Known → LineContext
 known_of k = record {
   missing = k.missing;
   waits = k.waits;
+  device = k.device;
+  always = k.always;
+  present = k.present;
   arrays = names_onto k.arrays.items [];
   depends = k.depends;
   terms = k.terms;
@@ -47,12 +59,13 @@ own_code t =
 
 -- the code that a token has for what it does
 abbrev pub act_code : LineContext → Lexeme → grammar.LineAct → Option Code
-act_code c t grammar.Once = if c.waits then Some ClauseCount else None
+act_code c t (grammar.Once what) = if has_single what c then Some ClauseCount else None
 act_code c t grammar.Ends = if c.missing then Some ClauseCount else None
 act_code c t grammar.Maps = if is_name_among c.arrays t then Some ArrayTwice else None
 act_code c t grammar.Depends = if nat_le max_depends c.depends then Some TooMany else None
 act_code c t grammar.Begins = if nat_le max_terms c.terms then Some TooMany else None
 act_code c t grammar.BeginsNamed = if nat_le max_terms c.terms then Some TooMany else None
+act_code c t grammar.Numbers = if is_no_device t then Some BadDevice else None
 act_code c t _ = None
 
 abbrev pub first_some : Option Code → Option Code → Option Code

@@ -9,7 +9,7 @@ use Rattle.directives.specs.declared.tree.Bound.{Bound}
 use Rattle.directives.specs.declared.tree.Section.{Section}
 use Rattle.directives.specs.declared.tree.Sections.{Sections}
 use Rattle.directives.specs.declared.tree.Clause.{Clause}
-use Rattle.directives.specs.declared.tree.Clause.TheVariants.{Map, Depend, Motion, NoWait}
+use Rattle.directives.specs.declared.tree.Clause.TheVariants.{Map, Depend, Motion, NoWait, Device}
 use Rattle.directives.specs.declared.tree.Directive.{Directive}
 use Rattle.directives.specs.Kinds.{seen_kind}
 use Rattle.directives.specs.Spells.{kinds_of, columns_of}
@@ -46,6 +46,7 @@ clause_names (Map m) = sections_names m.sections
 clause_names (Depend d) = sections_names d.sections
 clause_names (Motion m) = sections_names m.sections
 clause_names NoWait = []
+clause_names (Device d) = []
 
 -- from left to right
 unfoldable pub names_in : Directive → Uses

@@ -4,6 +4,7 @@ use Rattle.c_tokens.specs.declared.kind.Sign.{Sign}
 use Rattle.c_tokens.specs.declared.kind.Sign.TheVariants as sign
 use Rattle.c_grammar.specs.Lexeme.{Lexeme, Signed, Worded, Numbered, Ended}
 use Rattle.c_grammar.specs.LineGrammar as grammar
+use Rattle.directives.specs.declared.tree.Modifier.{Modifier}
 use Rattle.directives.specs.declared.tree.Name.{Name}
 use Rattle.directives.specs.declared.tree.Term.{Term}
 use Rattle.directives.specs.declared.tree.Term.TheVariants.{Literal, Variable, Product}
@@ -11,11 +12,11 @@ use Rattle.directives.specs.declared.tree.Bound.{Bound}
 use Rattle.directives.specs.declared.tree.Section.{Section}
 use Rattle.directives.specs.declared.tree.Sections.{Sections}
 use Rattle.directives.specs.declared.tree.Clause.{Clause}
-use Rattle.directives.specs.declared.tree.Clause.TheVariants.{Map, Depend, Motion, NoWait}
+use Rattle.directives.specs.declared.tree.Clause.TheVariants.{Map, Depend, Motion, NoWait, Device}
 use Rattle.directives.specs.declared.tree.Directive.{Directive}
 use Rattle.directives.specs.declared.tree.DirectiveKind.{DirectiveKind as GivenKind}
 use Rattle.directives.specs.declared.tree.DirectiveKind.TheVariants as kind
-use Rattle.directives.specs.Kinds.{seen_kind, seen_map, seen_depend, seen_motion}
+use Rattle.directives.specs.Kinds.{seen_kind, seen_modifier, seen_map, seen_depend, seen_motion}
 
 -- ---- the tree
 
@@ -38,10 +39,12 @@ abbrev pub sections_of : Sections → grammar.Items
 sections_of s = (section_of s.first, map section_of s.more.items)
 
 abbrev pub clause_of : Clause → grammar.Clause
-clause_of (Map m) = grammar.MapOf m.always (seen_map m.map_type) (sections_of m.sections)
+clause_of (Map m) = grammar.MapOf (map seen_modifier m.modifiers.items) (seen_map m.map_type)
+    (sections_of m.sections)
 clause_of (Depend d) = grammar.DependOf (seen_depend d.depend_type) (sections_of d.sections)
-clause_of (Motion m) = grammar.MotionOf (seen_motion m.motion_type) (sections_of m.sections)
+clause_of (Motion m) = grammar.MotionOf (seen_motion m.motion_type) m.present (sections_of m.sections)
 clause_of NoWait = grammar.NoWait
+clause_of (Device d) = grammar.DeviceOf (Some d.number)
 
 abbrev pub text_of : Directive → grammar.LineText
 text_of d = record { kind = seen_kind d.kind; clauses = map clause_of d.clauses.items }
@@ -96,22 +99,33 @@ unfoldable pub sections_marks : Sections → Spelling
 sections_marks s = (section_marks s.first ++ each_behind sign.Comma section_marks s.more.items) ++
     sign_mark sign.CloseParen ∷ []
 
-abbrev pub always_marks : Bool → Spelling
-always_marks false = []
-always_marks true = word_mark (codes "always") ∷ sign_mark sign.Comma ∷ []
+-- a modifier and the comma behind it
+abbrev pub modifier_marks : Modifier → Spelling
+modifier_marks m = word_mark (grammar.modifier_word (seen_modifier m)) ∷ sign_mark sign.Comma ∷ []
+
+abbrev pub modifiers_marks : List Modifier → Spelling
+modifiers_marks [] = []
+modifiers_marks (m ∷ ms) = modifier_marks m ++ modifiers_marks ms
+
+-- present and the colon behind it
+abbrev pub present_marks : Bool → Spelling
+present_marks false = []
+present_marks true = word_mark (grammar.modifier_word grammar.Present) ∷ sign_mark sign.Colon ∷ []
 
 -- a type and the colon behind it
 abbrev pub type_marks : List ℕ → Spelling
 type_marks x = word_mark x ∷ sign_mark sign.Colon ∷ []
 
 unfoldable pub clause_marks : Clause → Spelling
-clause_marks (Map m) = (word_mark (codes "map") ∷ sign_mark sign.OpenParen ∷ []) ++ (always_marks m.always ++
+clause_marks (Map m) = (word_mark (codes "map") ∷ sign_mark sign.OpenParen ∷ []) ++ (modifiers_marks m.modifiers.items ++
     (type_marks (grammar.map_word (seen_map m.map_type)) ++ sections_marks m.sections))
 clause_marks (Depend d) = (word_mark (codes "depend") ∷ sign_mark sign.OpenParen ∷ []) ++
     (type_marks (grammar.depend_word (seen_depend d.depend_type)) ++ sections_marks d.sections)
 clause_marks (Motion m) = (word_mark (grammar.motion_word (seen_motion m.motion_type)) ∷ sign_mark sign.OpenParen ∷ [])
-    ++ sections_marks m.sections
+    ++ (present_marks m.present ++ sections_marks m.sections)
 clause_marks NoWait = word_mark (codes "nowait") ∷ []
+clause_marks (Device d) = (word_mark (codes "device") ∷ sign_mark sign.OpenParen ∷ []) ++
+    (number_mark d.number ∷ sign_mark sign.CloseParen ∷ [])
 
 abbrev pub clauses_marks : List Clause → Spelling
 clauses_marks [] = []

@@ -1,10 +1,11 @@
 //! The clauses of a directive.
 
 use crate::fault::DirectiveFault;
-use crate::known::Act;
+use crate::known::{Act, Single};
 use crate::line::Line;
 use crate::tree::{Clause, DependClause, DirectiveKind, MapClause, MotionClause, MotionType};
 use base::fault::ReadCode;
+use base::tree::DeviceId;
 use c_tokens::Sign;
 
 impl<'a> Line<'a> {
@@ -14,7 +15,7 @@ impl<'a> Line<'a> {
     ghost use Rattle.c_grammar.specs.LineRules.{AreClauses, IsClause};
     ghost use Rattle.c_grammar.specs.LineMachine.{LineStack, Clauses};
     ghost use Rattle.directives.specs.Kinds.{seen_kind, seen_motion};
-    ghost use Rattle.directives.specs.Clauses.{IsNoMotion, is_depend, is_map, is_nowait};
+    ghost use Rattle.directives.specs.Clauses.{IsNoMotion, is_depend, is_device, is_map, is_nowait};
     ghost use Rattle.directives.specs.Cursor.{first_item, items};
     ghost use Rattle.directives.specs.Reading.{IsSpelled, Outcome, rest};
     ghost use Rattle.directives.specs.Trees.{clause_marks, clause_of, clauses_marks};
@@ -38,6 +39,13 @@ impl<'a> Line<'a> {
         ensures { result ≡ is_nowait (seen_kind kind) (first_item self.now).terminal }
     {
         kind.takes_nowait() && self.at_word(b"nowait".as_slice())
+    }
+
+    /// Whether a device clause that the directive takes stands next.
+    fn at_device(&self, kind: DirectiveKind) -> bool
+        ensures { result ≡ is_device (seen_kind kind) (first_item self.now).terminal }
+    {
+        kind.takes_device() && self.at_word(b"device".as_slice())
     }
 
     /// The way in which the next clause copies, if it is one of an update, and the directive is one.
@@ -69,11 +77,11 @@ impl<'a> Line<'a> {
     {
         self.enter(Act::Meets)?;
         self.expect(Sign::OpenParen)?;
-        let always = self.always(kind)?;
+        let modifiers = self.modifiers(kind)?;
         let map_type = self.map_type(kind)?;
         let sections = self.sections(Act::Maps)?;
         Ok(MapClause {
-            always,
+            modifiers,
             map_type,
             sections,
         })
@@ -111,14 +119,31 @@ impl<'a> Line<'a> {
     {
         self.enter(Act::Meets)?;
         self.expect(Sign::OpenParen)?;
+        let present = self.present();
         let sections = self.sections(Act::Maps)?;
         Ok(MotionClause {
             motion_type,
+            present,
             sections,
         })
     }
 
-    /// A `to`, `from` or `nowait` clause.
+    /// A device clause, whose word stands next.
+    fn device_clause(&mut self, kind: DirectiveKind) -> Result<DeviceId, DirectiveFault>
+        requires { is_device (seen_kind kind) (first_item self.old).terminal ≡ true }
+        ensures read { (s : LineStack) → Outcome result (rest self.old (Clauses (seen_kind kind) ∷ s))
+            (rest self.new (Clauses (seen_kind kind) ∷ s)) }
+        ensures tree { IfOk result (λ d. IsSpelled (clause_marks (Clause.Device d)) (items self.old) (items self.new)) }
+        ensures takes { IfOk result (λ d. IsClause (seen_kind kind) (clause_of (Clause.Device d))) }
+    {
+        self.enter(Act::Once(Single::OnDevice))?;
+        self.expect(Sign::OpenParen)?;
+        let device = self.device_number()?;
+        self.expect(Sign::CloseParen)?;
+        Ok(device)
+    }
+
+    /// A `to`, `from`, `nowait` or `device` clause.
     fn short_clause(&mut self, kind: DirectiveKind) -> Result<Clause<'a>, DirectiveFault>
         requires going { same Ended (first_item self.old).terminal ≡ false }
         requires no_map { is_map (seen_kind kind) (first_item self.old).terminal ≡ false }
@@ -132,8 +157,12 @@ impl<'a> Line<'a> {
             return self.motion_clause(kind, motion_type).map(Clause::Motion);
         }
         if self.at_nowait(kind) {
-            self.enter(Act::Once)?;
+            self.enter(Act::Once(Single::NoWaits))?;
             return Ok(Clause::NoWait);
+        }
+        if self.at_device(kind) {
+            let device = self.device_clause(kind)?;
+            return Ok(Clause::Device(device));
         }
         Err(DirectiveFault::Line(self.misfit(ReadCode::UnknownClause)))
     }

@@ -31,6 +31,7 @@ fn code_number(code: ReadCode) -> u8
         ReadCode::HostOnly => 18,
         ReadCode::NoBody => 19,
         ReadCode::DirectiveUnderIf => 20,
+        ReadCode::BadDevice => 21,
     }
 }
 

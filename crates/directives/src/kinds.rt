@@ -47,6 +47,26 @@ impl DirectiveKind {
         }
     }
 
+    /// Whether it takes a device clause.
+    pub(crate) fn takes_device(self) -> bool
+        ensures { result ≡ grammar.takes_device (seen_kind self) }
+    {
+        match self {
+            DirectiveKind::TaskWait => false,
+            _ => true,
+        }
+    }
+
+    /// Whether its map clauses may have `present`.
+    pub(crate) fn takes_present(self) -> bool
+        ensures { result ≡ grammar.takes_present (seen_kind self) }
+    {
+        match self {
+            DirectiveKind::TargetExitData => false,
+            _ => true,
+        }
+    }
+
     /// Whether its map clauses may have the type.
     pub(crate) fn takes_type(self, map_type: MapType) -> bool
         ensures { result ≡ allows (seen_kind self) (seen_map map_type) }

@@ -4,12 +4,28 @@ ghost use Rattle.std.specs.Prelude.{◌≡◌};
 ghost use Rattle.std.specs.List.{list_any};
 ghost use Rattle.std.specs.Str.{bytes_eq};
 ghost use Rattle.directives.specs.Seen.{seen_lexeme};
+ghost use Rattle.c_grammar.specs.LineRules.{is_no_device};
 ghost use Rattle.directives.specs.Known.{own_code};
 
 use crate::lexeme::Lexeme;
+use crate::tree::Modifier;
 use base::fault::ReadCode;
 use c_tokens::limits::{MAX_DEPENDS, MAX_NAME, MAX_TERMS};
 use std::alloc::{AllocError, Global};
+
+/// The highest number of a device.
+const MAX_DEVICE: u64 = 3;
+
+/// What stands once at most.
+#[derive(Clone, Copy)]
+pub enum Single {
+    /// `nowait`.
+    NoWaits,
+    /// A device clause.
+    OnDevice,
+    /// A modifier, in its map clause.
+    Modified(Modifier),
+}
 
 /// What a token is there for.
 #[derive(Clone, Copy)]
@@ -19,14 +35,16 @@ pub enum Act {
     Demands,
     /// Such a clause's word.
     Meets,
-    /// The word of a clause that stands once at most.
-    Once,
+    /// The word of what stands once at most.
+    Once(Single),
     /// The end of the line.
     Ends,
     /// An array's name in a map, to or from clause.
     Maps,
     /// An array's name in a depend clause.
     Depends,
+    /// The number of a device.
+    Numbers,
     /// A sign behind which a bound begins.
     Opens,
     /// The number that begins a term.
@@ -44,6 +62,12 @@ pub struct Known<'a> {
     pub missing: bool,
     /// `nowait` was there.
     pub waits: bool,
+    /// A device clause was there.
+    pub device: bool,
+    /// `always` was there in the last map clause.
+    pub always: bool,
+    /// `present` was there in the last map clause.
+    pub present: bool,
     /// The arrays of the map, to and from clauses.
     pub arrays: Vec<&'a [u8]>,
     pub depends: u32,
@@ -68,6 +92,16 @@ pub fn own_code(lexeme: Lexeme<'_>) -> Option<ReadCode>
     }
 }
 
+/// Whether it is a number that no device has.
+fn is_no_device(lexeme: Lexeme<'_>) -> bool
+    ensures { result ≡ is_no_device (seen_lexeme lexeme.entry) }
+{
+    match lexeme {
+        Lexeme::Number(number) => number > MAX_DEVICE,
+        _ => false,
+    }
+}
+
 /// Whether the name is one of those.
 fn is_among(names: &[&[u8]], name: &[u8]) -> bool
     ensures { result ≡ list_any (λ x. bytes_eq x.now name.now) names.now }
@@ -77,9 +111,9 @@ fn is_among(names: &[&[u8]], name: &[u8]) -> bool
 
 impl<'a> Known<'a> {
     ghost use Rattle.std.specs.Prelude.{◌≡◌, OnOk, None};
-    ghost use Rattle.c_grammar.specs.LineRules.{line_act, line_begin, is_name_among};
+    ghost use Rattle.c_grammar.specs.LineRules.{has_single, line_act, line_begin, is_name_among, with_single};
     ghost use Rattle.directives.specs.Seen.{seen_lexeme};
-    ghost use Rattle.directives.specs.Known.{act_code, broken_by, known_of, names_onto, seen_act};
+    ghost use Rattle.directives.specs.Known.{act_code, broken_by, known_of, names_onto, seen_act, seen_single};
 
     pub fn new(alloc: Global) -> Known<'a>
         ensures { known_of result ≡ line_begin }
@@ -87,6 +121,9 @@ impl<'a> Known<'a> {
         Known {
             missing: false,
             waits: false,
+            device: false,
+            always: false,
+            present: false,
             arrays: Vec::new(alloc),
             depends: 0,
             terms: 0,
@@ -104,15 +141,40 @@ impl<'a> Known<'a> {
         }
     }
 
+    /// Whether that was there.
+    fn has_single(&self, what: Single) -> bool
+        ensures { result ≡ has_single (seen_single what) (known_of self.now) }
+    {
+        match what {
+            Single::NoWaits => self.waits,
+            Single::OnDevice => self.device,
+            Single::Modified(Modifier::Always) => self.always,
+            Single::Modified(Modifier::Present) => self.present,
+        }
+    }
+
+    /// Takes note that it was there.
+    fn note_single(&mut self, what: Single)
+        ensures { known_of self.new ≡ with_single (seen_single what) (known_of self.old) }
+    {
+        match what {
+            Single::NoWaits => self.waits = true,
+            Single::OnDevice => self.device = true,
+            Single::Modified(Modifier::Always) => self.always = true,
+            Single::Modified(Modifier::Present) => self.present = true,
+        }
+    }
+
     /// The code that the token has for what it does.
     fn act_code(&self, lexeme: Lexeme<'_>, act: Act) -> Option<ReadCode>
         ensures { result ≡ act_code (known_of self.now) (seen_lexeme lexeme.entry) (seen_act act) }
     {
         let (breaks, code) = match act {
-            Act::Once => (self.waits, ReadCode::ClauseCount),
+            Act::Once(what) => (self.has_single(what), ReadCode::ClauseCount),
             Act::Ends => (self.missing, ReadCode::ClauseCount),
             Act::Maps => (self.has(lexeme), ReadCode::ArrayTwice),
             Act::Depends => (self.depends >= MAX_DEPENDS, ReadCode::TooMany),
+            Act::Numbers => (is_no_device(lexeme), ReadCode::BadDevice),
             Act::Begins | Act::BeginsNamed => (self.terms >= MAX_TERMS, ReadCode::TooMany),
             _ => return None,
         };
@@ -137,10 +199,14 @@ impl<'a> Known<'a> {
         ensures { OnOk result (known_of self.new ≡ line_act (known_of self.old) (seen_lexeme lexeme.entry) (seen_act act)) }
     {
         match act {
-            Act::Plain | Act::Ends | Act::Times => {}
+            Act::Plain | Act::Ends | Act::Numbers | Act::Times => {}
             Act::Demands => self.missing = true,
-            Act::Meets => self.missing = false,
-            Act::Once => self.waits = true,
+            Act::Meets => {
+                self.missing = false;
+                self.always = false;
+                self.present = false;
+            }
+            Act::Once(what) => self.note_single(what),
             Act::Maps => {
                 if let Lexeme::Name(name) = lexeme {
                     self.arrays.push(name)?;

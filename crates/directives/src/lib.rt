@@ -25,6 +25,6 @@ pub use lexeme::{Lexeme, PlacedLexeme, same_lexeme};
 pub use lexemes::Lexemes;
 pub use tree::{
     Bound, Clause, DependClause, DependType, Directive, DirectiveKind, MapClause, MapType,
-    MotionClause, MotionType, Name, Section, Sections, Term,
+    Modifier, MotionClause, MotionType, Name, Section, Sections, Term,
 };
 pub use word::{Word, word_of};

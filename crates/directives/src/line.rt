@@ -32,7 +32,7 @@ impl<'a> Line<'a> {
     ghost use Rattle.c_grammar.specs.LineRules.{line_begin};
     ghost use Rattle.c_grammar.specs.LineMachine.{LineStack, Want, w, is_word};
     ghost use Rattle.directives.specs.Seen.{seen_lexeme};
-    ghost use Rattle.directives.specs.Known.{known_of, seen_act};
+    ghost use Rattle.directives.specs.Known.{broken_by, known_of, seen_act};
     ghost use Rattle.directives.specs.Cursor.{first_item, behind, items, line_items};
     ghost use Rattle.directives.specs.Reading.{Outcome, rest, took, fault_at, misfit_at};
 
@@ -105,6 +105,7 @@ impl<'a> Line<'a> {
         ensures read { (m : Option ReadCode) (s : LineStack) → Outcome result (took self.old (m, seen_act act) s)
             (rest self.new s) }
         ensures taken { OnOk result (behind self.old ≡ items self.new) }
+        ensures kept { OnOk result (broken_by (known_of self.old.known) (first_item self.old).terminal (seen_act act) ≡ None) }
     {
         if let Some(code) = self.known.broken(self.token.lexeme, act) {
             return Err(DirectiveFault::Line(self.fault(code)));
@@ -115,7 +116,7 @@ impl<'a> Line<'a> {
     }
 
     /// The end of the line.
-    #[tactic(auto, using(crate::proofs::Moves::took_broken, crate::proofs::Moves::took_last))]
+    #[tactic(auto, using(crate::proofs::Moves::last_broken, crate::proofs::Moves::last_passes))]
     pub fn end(&self) -> Result<(), DirectiveFault>
         requires { (first_item self.now).terminal ≡ Ended }
         ensures read { (m : Option ReadCode) → Outcome result (took self.now (m, Ends) []) None }

@@ -1,5 +1,7 @@
 //! A directive as it is written. Its names are not looked up.
 
+use base::tree::DeviceId;
+
 /// A name, and the column of its first byte.
 #[derive(Clone, Copy)]
 pub struct Name<'a> {
@@ -36,6 +38,13 @@ pub struct Sections<'a> {
     pub more: Vec<Section<'a>>,
 }
 
+/// What may stand before the type of a map clause.
+#[derive(Clone, Copy, PartialEq, Eq)]
+pub enum Modifier {
+    Always,
+    Present,
+}
+
 #[derive(Clone, Copy)]
 pub enum MapType {
     To,
@@ -62,7 +71,8 @@ pub enum MotionType {
 
 #[derive(Drop)]
 pub struct MapClause<'a> {
-    pub always: bool,
+    /// In the order of the source.
+    pub modifiers: Vec<Modifier>,
     pub map_type: MapType,
     pub sections: Sections<'a>,
 }
@@ -76,6 +86,7 @@ pub struct DependClause<'a> {
 #[derive(Drop)]
 pub struct MotionClause<'a> {
     pub motion_type: MotionType,
+    pub present: bool,
     pub sections: Sections<'a>,
 }
 
@@ -85,6 +96,7 @@ pub enum Clause<'a> {
     Depend(DependClause<'a>),
     Motion(MotionClause<'a>),
     NoWait,
+    Device(DeviceId),
 }
 
 #[derive(Clone, Copy, PartialEq, Eq)]

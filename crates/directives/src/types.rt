@@ -1,23 +1,25 @@
-//! The words behind which a clause's sections stand.
+//! The words behind which a clause's sections stand, and the number of a device.
 
 use crate::fault::DirectiveFault;
-use crate::known::Act;
+use crate::known::{Act, Single};
+use crate::lexeme::{Lexeme, same_lexeme};
 use crate::line::Line;
-use crate::tree::{DependType, DirectiveKind, MapType};
+use crate::tree::{DependType, DirectiveKind, MapType, Modifier};
 use base::fault::ReadCode;
+use base::tree::DeviceId;
 use c_tokens::Sign;
 
 impl<'a> Line<'a> {
-    ghost use Rattle.std.specs.Prelude.{◌≡◌, ◌∷◌, true, false, IfOk, IfSome, IfNone};
+    ghost use Rattle.std.specs.Prelude.{◌≡◌, ◌∷◌, [], map, true, false, IfOk, IfSome, IfNone, OnOk};
     ghost use Rattle.c_tokens.specs.declared.kind.Sign.TheVariants as sign;
     ghost use Rattle.c_grammar.specs.Lexeme.{Worded};
     ghost use Rattle.c_grammar.specs.LineGrammar as grammar;
-    ghost use Rattle.c_grammar.specs.LineRules.{IsAmong};
-    ghost use Rattle.c_grammar.specs.LineMachine.{LineStack, DependHead, MapHead, Name, TypeOf, is_map_type, w};
-    ghost use Rattle.directives.specs.Kinds.{IsNoDependWord, IsNoMapWord, allows, seen_depend, seen_kind, seen_map};
+    ghost use Rattle.c_grammar.specs.LineRules.{AreModifiers, IsAmong};
+    ghost use Rattle.c_grammar.specs.LineMachine.{LineStack, DependHead, DeviceNumber, MapHead, MotionHead, Name, is_map_type, w};
+    ghost use Rattle.directives.specs.Kinds.{IsNoDependWord, IsNoMapWord, IsNoModifier, allows, seen_depend, seen_kind, seen_map, seen_modifier};
     ghost use Rattle.directives.specs.Cursor.{first_item, items};
     ghost use Rattle.directives.specs.Reading.{IsSpelled, Outcome, rest};
-    ghost use Rattle.directives.specs.Trees.{always_marks, type_marks};
+    ghost use Rattle.directives.specs.Trees.{modifier_marks, modifiers_marks, number_mark, present_marks, type_marks};
 
     /// The map type whose word stands next.
     #[tactic(auto, using(crate::proofs::Moves::word_is))]
@@ -64,9 +66,10 @@ impl<'a> Line<'a> {
         }
     }
 
-    /// A map type of the directive and the colon behind it.
+    /// A map type of the directive and the colon behind it, where no modifier stands.
     pub fn map_type(&mut self, kind: DirectiveKind) -> Result<MapType, DirectiveFault>
-        ensures read { (s : LineStack) → Outcome result (rest self.old (TypeOf (seen_kind kind) ∷ s))
+        requires { IsNoModifier (seen_kind kind) (first_item self.old).terminal }
+        ensures read { (s : LineStack) → Outcome result (rest self.old (MapHead (seen_kind kind) ∷ s))
             (rest self.new (Name grammar.Maps ∷ s)) }
         ensures tree { IfOk result (λ t. IsSpelled (type_marks (grammar.map_word (seen_map t)))
             (items self.old) (items self.new)) }
@@ -82,18 +85,84 @@ impl<'a> Line<'a> {
         }
     }
 
-    /// Whether `always` stands before the type, and goes past it and its comma.
-    pub fn always(&mut self, kind: DirectiveKind) -> Result<bool, DirectiveFault>
-        ensures read { (s : LineStack) → Outcome result (rest self.old (MapHead (seen_kind kind) ∷ s))
-            (rest self.new (TypeOf (seen_kind kind) ∷ s)) }
-        ensures tree { IfOk result (λ a. IsSpelled (always_marks a) (items self.old) (items self.new)) }
+    /// The modifier whose word stands next, if the directive takes it.
+    #[tactic(auto, using(crate::proofs::Moves::word_is))]
+    fn modifier_word(&self, kind: DirectiveKind) -> Option<Modifier>
+        ensures some { IfSome result (λ m. (first_item self.now).terminal ≡ Worded (grammar.modifier_word (seen_modifier m))) }
+        ensures takes { IfSome result (λ m. grammar.takes_modifier (seen_kind kind) (seen_modifier m) ≡ true) }
+        ensures none { IfNone result (IsNoModifier (seen_kind kind) (first_item self.now).terminal) }
     {
-        if !self.at_word(b"always".as_slice()) {
-            return Ok(false);
+        if self.at_word(b"always".as_slice()) {
+            return Some(Modifier::Always);
         }
-        self.enter(Act::Plain)?;
-        self.expect(Sign::Comma)?;
-        Ok(true)
+        if kind.takes_present() && self.at_word(b"present".as_slice()) {
+            return Some(Modifier::Present);
+        }
+        None
+    }
+
+    /// The modifier, whose word stands next, and the comma behind it.
+    fn modifier(&mut self, kind: DirectiveKind, modifier: Modifier) -> Result<(), DirectiveFault>
+        requires word { (first_item self.old).terminal ≡ Worded (grammar.modifier_word (seen_modifier modifier)) }
+        requires takes { grammar.takes_modifier (seen_kind kind) (seen_modifier modifier) ≡ true }
+        ensures read { (s : LineStack) → Outcome result (rest self.old (MapHead (seen_kind kind) ∷ s))
+            (rest self.new (MapHead (seen_kind kind) ∷ s)) }
+        ensures tree { OnOk result (IsSpelled (modifier_marks modifier) (items self.old) (items self.new)) }
+    {
+        self.enter(Act::Once(Single::Modified(modifier)))?;
+        self.expect(Sign::Comma)
+    }
+
+    /// The modifiers before a map type, each with the comma behind it.
+    pub fn modifiers(&mut self, kind: DirectiveKind) -> Result<Vec<Modifier>, DirectiveFault>
+        ensures read { (s : LineStack) → Outcome result (rest self.old (MapHead (seen_kind kind) ∷ s))
+            (rest self.new (MapHead (seen_kind kind) ∷ s)) }
+        ensures tree { IfOk result (λ ms. IsSpelled (modifiers_marks ms.items) (items self.old) (items self.new)) }
+        ensures takes { IfOk result (λ ms. AreModifiers (seen_kind kind) (map seen_modifier ms.items)) }
+        ensures stops { OnOk result (IsNoModifier (seen_kind kind) (first_item self.new).terminal) }
+    {
+        let mut modifiers = Vec::new(self.alloc);
+        'modifiers: while let Some(modifier) = self.modifier_word(kind) {
+            self.modifier(kind, modifier)?;
+            modifiers.push(modifier)?;
+        }
+        Ok(modifiers)
+    }
+
+    /// Whether `present` and a colon stand before the sections of a `to` or `from` clause, and goes past both. An array
+    /// may be called `present`: its name is not followed by a colon.
+    pub fn present(&mut self) -> bool
+        ensures read { (s : LineStack) → rest self.old (MotionHead ∷ s) ≡ rest self.new (Name grammar.Maps ∷ s) }
+        ensures tree { IsSpelled (present_marks result) (items self.old) (items self.new) }
+    {
+        if !self.at_word(b"present".as_slice()) {
+            return false;
+        }
+        let mut ahead = self.lexemes;
+        let next = ahead.next();
+        if !same_lexeme(Lexeme::Sign(Sign::Colon), next.lexeme) {
+            return false;
+        }
+        self.token = ahead.next();
+        self.lexemes = ahead;
+        true
+    }
+
+    /// The number of a device.
+    pub fn device_number(&mut self) -> Result<DeviceId, DirectiveFault>
+        ensures read { (s : LineStack) → Outcome result (rest self.old (DeviceNumber ∷ s)) (rest self.new s) }
+        ensures tree { IfOk result (λ d. IsSpelled (number_mark d.number ∷ []) (items self.old) (items self.new)) }
+    {
+        match self.peek() {
+            Lexeme::Number(number) => {
+                self.enter(Act::Numbers)?;
+                Ok(DeviceId {
+                    number: number as u8,
+                })
+            }
+            Lexeme::BadNumber => Err(DirectiveFault::Line(self.fault(ReadCode::BadNumber))),
+            _ => Err(DirectiveFault::Line(self.misfit(ReadCode::BadDevice))),
+        }
     }
 
     /// The depend type whose word stands next.

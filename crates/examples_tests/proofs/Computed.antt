@@ -165,19 +165,19 @@ module _ (v : Vec (Unit {0}) Global) (p : Box (Unit {0}) Global) where
       record { nowait = nowait; device = first_device; depends = record { items = []; capacity = 2 } }
 
   abbrev target : Bool → List (MapText RegionKind) → Target
-  target nowait maps = record { maps = record { items = maps; capacity = 2 }; tasking = tasking nowait }
+  target nowait maps = record { place = here; maps = record { items = maps; capacity = 2 }; tasking = tasking nowait }
 
   abbrev enter_whole : ArrayId → Part
-  enter_whole b = part.Alone (directive.Enter (record { items = map_item entered.To (whole b) ∷ []; capacity = 2 })
+  enter_whole b = part.Alone here (directive.Enter (record { items = map_item entered.To (whole b) ∷ []; capacity = 2 })
       (tasking false))
 
   abbrev update_from : SectionText → Part
   update_from s =
       let u : UpdateText = record { kind = updated.From; present = false; section = s } in
-      part.Alone (directive.Update (record { items = u ∷ []; capacity = 2 }) (tasking false))
+      part.Alone here (directive.Update (record { items = u ∷ []; capacity = 2 }) (tasking false))
 
   abbrev wait_all : Part
-  wait_all = part.Alone (directive.Wait (record { items = []; capacity = 2 }))
+  wait_all = part.Alone here (directive.Wait (record { items = []; capacity = 2 }))
 
   abbrev doubled : List Part
   doubled =
@@ -226,7 +226,7 @@ module _ (v : Vec (Unit {0}) Global) (p : Box (Unit {0}) Global) where
 
   -- data with alloc, a target with an implicit map, an update of two cells, and a print of cell k
   abbrev kept_on_device : ℕ → List Part
-  kept_on_device k = part_data v (record { items = map_item mapped.Alloc (section a 0 4) ∷ []; capacity = 2 }) first_device (
+  kept_on_device k = part_data v (record { place = here; maps = record { items = map_item mapped.Alloc (section a 0 4) ∷ []; capacity = 2 }; device = first_device }) (
       part.Target (target false [])
       (region (loop v (upto 4 (lit< tt)) (Store a here i (Value (Binary' Add p i p (Number 5))) ∷ []) (lit< tt) ∷ [])
       (lit< tt))
@@ -300,7 +300,7 @@ module _ (v : Vec (Unit {0}) Global) (p : Box (Unit {0}) Global) where
   abbrev early_exit : Plan
   early_exit =
       plan_of (8 ∷ []) (two_targets
-      ++ part.Alone (directive.Exit (record { items = map_item left.From (whole a) ∷ []; capacity = 2 })
+      ++ part.Alone here (directive.Exit (record { items = map_item left.From (whole a) ∷ []; capacity = 2 })
       (tasking false)) ∷ the_end)
 
   early_exit_refused : take 2 (clashes early_exit 3) ≡ clash 3 0 0 1 ∷ clash 3 0 0 2 ∷ []
@@ -408,8 +408,8 @@ module _ (v : Vec (Unit {0}) Global) (p : Box (Unit {0}) Global) where
 
   -- a block that is deleted inside its data construct
   deleted_inside_data_refused :
-      causes (plan_of (2 ∷ []) (part_data v (record { items = map_item mapped.To (whole a) ∷ []; capacity = 2 }) first_device
-      (part.Alone (directive.Exit (record { items = map_item left.Delete (whole a) ∷ []; capacity = 2 })
+      causes (plan_of (2 ∷ []) (part_data v (record { place = here; maps = record { items = map_item mapped.To (whole a) ∷ []; capacity = 2 }; device = first_device })
+      (part.Alone here (directive.Exit (record { items = map_item left.Delete (whole a) ∷ []; capacity = 2 })
       (tasking false)) ∷ []) (lit< tt)
       ∷ []))
       ≡ found 2 ExitOfAbsent 0 0 ∷ []

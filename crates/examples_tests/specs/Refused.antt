@@ -30,7 +30,7 @@ FirstRefusal lengths parts code j other =
     IsFirstFault (plan p) (Refused (refusal code j (record { array = a; index = 0 }) other))
 
 abbrev pub exit_of : ExitKind → ArrayId → Part
-exit_of kind x = part.Alone (directive.Exit (record { items = map_item kind (whole x) ∷ []; capacity = 2 })
+exit_of kind x = part.Alone here (directive.Exit (record { items = map_item kind (whole x) ∷ []; capacity = 2 })
     (tasking false []))
 
 module _ (v : Vec (Unit {0}) Global) (p : Box (Unit {0}) Global) where
@@ -44,7 +44,7 @@ module _ (v : Vec (Unit {0}) Global) (p : Box (Unit {0}) Global) where
 
   -- the storage of A is deleted inside the data construct that ends with an exit of it
   abbrev pub deleted_inside_data : List Part
-  deleted_inside_data = part_data v (record { items = map_item To (whole a) ∷ []; capacity = 2 }) first_device
+  deleted_inside_data = part_data v (record { place = here; maps = record { items = map_item To (whole a) ∷ []; capacity = 2 }; device = first_device })
       (exit_of left.Delete a ∷ []) (lit< tt) ∷ []
 
   -- two deferred targets, and an exit of A that waits for neither

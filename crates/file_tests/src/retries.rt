@@ -120,7 +120,7 @@ fn happen(alloc: Global, state: &mut RunState<'_>, next: Event) -> Result<(), Ru
     match next {
         Event::Gen(item) => generated(state, item),
         Event::Open(item) => done_whole(alloc, state, item),
-        Event::Close(_) => taken(state, next),
+        Event::Step(_) | Event::Close(_) => taken(state, next),
         Event::Wait(item) => passed(state, item),
         Event::End => ended(state),
     }

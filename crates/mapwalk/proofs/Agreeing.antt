@@ -1,28 +1,37 @@
 -- What is current on the cells of arrays decides what is refused.
 use Rattle.std.proofs.Common.{◌≡◌, ℕ, Bool, true, false, List, [], ◌∷◌, refl, sym, ap, ◌∙◌}
-use Rattle.std.specs.Prelude.{not, ◌&&◌, ◌||◌}
+use Rattle.std.specs.Prelude.{not, ◌&&◌, ◌||◌, ◌==◌, if◌then◌else◌}
 use Rattle.base.specs.declared.item.Cell.{Cell}
 use Rattle.base.specs.declared.item.MapItem.{MapItem}
 use Rattle.base.specs.declared.fault.RefusalCode.{RefusalCode}
-use Rattle.base.specs.declared.fault.RefusalCode.TheVariants.{OverlapsInPart, ExitOfAbsent, UpdateOfAbsent, Unmapped, HostNotCurrent, DeviceNotCurrent, Conflict}
+use Rattle.base.specs.declared.fault.RefusalCode.TheVariants.{OverlapsInPart, ExitOfAbsent, UpdateOfAbsent, NotPresent, Unmapped, HostNotCurrent, DeviceNotCurrent, Conflict}
 use Rattle.base.specs.Memory.{is_cell, is_in}
 use Rattle.base.specs.Items.{Work}
 use Rattle.base.specs.Map.{Block}
 use Rattle.base.specs.Footprint.{exposes, surely_writes, writes}
-use Rattle.base.specs.Actions.{Action, Counts, Creates, CopiesIn, CopiesOut, HostRegion, Kernel, Removes, touches_in}
-use Rattle.base.specs.Current.{Current, after_action, after_actions}
+use Rattle.base.specs.Actions.{Action, Counts, Creates, CopiesIn, CopiesOut, HostRegion, Kernel, Removes, Stage, touches_in}
+use Rattle.base.specs.Current.{AllCurrent, Current, after_action, after_actions, after_stage, current_at, other_side}
 use Rattle.base.specs.Accepted.{cause, is_host, is_target, range_faults}
 use Rattle.mapwalk.specs.declared.rows.Acts.{Acts}
 use Rattle.mapwalk.specs.Sides.{act_if, after_act, after_acts}
 use Rattle.mapwalk.specs.Kinds.{before_region}
-use Rattle.mapwalk.specs.Steps.{stage_of}
+use Rattle.mapwalk.specs.Steps.{everywhere, stage_of}
 use Rattle.mapwalk.proofs.Touched.{exposed_inside}
 use Rattle.mapwalk.proofs.WorkParts.{at_region, parts}
 
+-- two sides have the same cells of arrays
+abbrev pub AgreeOn : List ℕ → (Cell → Bool) → (Cell → Bool) → Type 0
+AgreeOn lengths s t = (c : Cell) → is_cell lengths c ≡ true → s c ≡ t c
+
 -- the same cells of arrays are current
 pub record Agree (lengths : List ℕ) (k j : Current) : Type 0 where
-  pub host : (c : Cell) → is_cell lengths c ≡ true → k.host c ≡ j.host c
-  pub device : (c : Cell) → is_cell lengths c ≡ true → k.device c ≡ j.device c
+  pub host : AgreeOn lengths k.host j.host
+  pub device : AgreeOn lengths k.device j.device
+
+-- and on every device
+pub record AgreeAll (lengths : List ℕ) (k j : AllCurrent) : Type 0 where
+  pub host : AgreeOn lengths k.host j.host
+  pub devices : (d : ℕ) → AgreeOn lengths (k.devices d) (j.devices d)
 
 pick : (t a b x y : Bool) → a ≡ x → b ≡ y → elim t as (λ z. Bool) [ true ↦ a | false ↦ b ] ≡ elim t as (λ z. Bool) [ true ↦ x | false ↦ y ]
 pick true a b x y e f = e
@@ -81,12 +90,26 @@ stale_agree : (x y : Bool) (t : Bool) → (t ≡ true → x ≡ y) → (t && not
 stale_agree x y true h = ap not (h refl)
 stale_agree x y false h = refl
 
+-- what is current on another device than an item's decides nothing
+pub cause_here : (s : Stage) (k : AllCurrent) (code : RefusalCode) (c : Cell) →
+    cause code s k c ≡ cause code s (everywhere (current_at s.work.device k)) c
+cause_here s k OverlapsInPart c = refl
+cause_here s k ExitOfAbsent c = refl
+cause_here s k UpdateOfAbsent c = refl
+cause_here s k NotPresent c = refl
+cause_here s k Unmapped c = refl
+cause_here s k HostNotCurrent c = refl
+cause_here s k DeviceNotCurrent c = refl
+cause_here s k Conflict c = refl
+
 -- an item with no fault of range has the same causes
-pub cause_agree : (lengths : List ℕ) (w : Work) (blocks : List Block) (k j : Current) → range_faults lengths w ≡ [] →
-    Agree lengths k j → (code : RefusalCode) (c : Cell) → cause code (stage_of w blocks) k c ≡ cause code (stage_of w blocks) j c
+cause_agree : (lengths : List ℕ) (w : Work) (blocks : List Block) (k j : Current) → range_faults lengths w ≡ [] →
+    Agree lengths k j → (code : RefusalCode) (c : Cell) →
+    cause code (stage_of w blocks) (everywhere k) c ≡ cause code (stage_of w blocks) (everywhere j) c
 cause_agree lengths w blocks k j none h OverlapsInPart c = refl
 cause_agree lengths w blocks k j none h ExitOfAbsent c = refl
 cause_agree lengths w blocks k j none h UpdateOfAbsent c = refl
+cause_agree lengths w blocks k j none h NotPresent c = refl
 cause_agree lengths w blocks k j none h Unmapped c = refl
 cause_agree lengths w blocks k j none h HostNotCurrent c =
     let same = acts_agree lengths w.maps (before_region w.kind w.maps blocks) k j h in
@@ -103,3 +126,30 @@ cause_agree lengths w blocks k j none h DeviceNotCurrent c =
     (λ e. same.device c (exposed_inside lengths w c none e)))
     ∙ sym ((parts w blocks).device_stale j c)
 cause_agree lengths w blocks k j none h Conflict c = refl
+
+pub all_cause_agree : (lengths : List ℕ) (w : Work) (blocks : List Block) (k j : AllCurrent) → range_faults lengths w ≡ [] →
+    AgreeAll lengths k j → (code : RefusalCode) (c : Cell) → cause code (stage_of w blocks) k c ≡ cause code (stage_of w blocks) j c
+all_cause_agree lengths w blocks k j none h code c =
+    cause_here (stage_of w blocks) k code c
+    ∙ cause_agree lengths w blocks (current_at w.device k) (current_at w.device j) none
+    (record { host = h.host; device = h.devices w.device }) code c
+    ∙ sym (cause_here (stage_of w blocks) j code c)
+
+-- what is current after an item
+pub stage_agree : (lengths : List ℕ) (s : Stage) (k j : AllCurrent) → AgreeAll lengths k j →
+    AgreeAll lengths (after_stage s k) (after_stage s j)
+stage_agree lengths s k j h =
+    record { host = own.host; devices = λ e. go e (e == d) }
+  where
+    d : ℕ
+    d = s.work.device
+
+    own : Agree lengths (after_actions s.actions (current_at s.work.device k)) (after_actions s.actions (current_at s.work.device j))
+    own = actions_agree lengths s.actions (current_at s.work.device k) (current_at s.work.device j)
+        (record { host = h.host; device = h.devices s.work.device })
+
+    go : (e : ℕ) (b : Bool) → AgreeOn lengths
+        (if b then (after_actions s.actions (current_at s.work.device k)).device else other_side (touches_in s.work) (k.devices e))
+        (if b then (after_actions s.actions (current_at s.work.device j)).device else other_side (touches_in s.work) (j.devices e))
+    go e true = own.device
+    go e false = λ c x. ap (λ b. not (writes (touches_in s.work) c) && b) (h.devices e c x)

@@ -1,16 +1,18 @@
 -- Each block has a count for each of some entries in it.
 use Rattle.std.proofs.Common.{◌≡◌, ℕ, ◌+◌, ◌<◌, ◌≤◌, Bool, true, false, List, [], ◌∷◌, ◌++◌, ◌⊎◌, inl, inr, map, Option, Some, None, refl, sym, ap, ◌∙◌, subst, arith, true≢false}
-use Rattle.std.specs.Prelude.{find, option_map, if◌then◌else◌}
+use Rattle.std.specs.Prelude.{find, option_map, if◌then◌else◌, ◌&&◌, ◌||◌}
 use Rattle.std.proofs.lemmas.Bool.{cases_Bool, cond-true, cond-false, or_parts}
 use Rattle.std.proofs.lemmas.Option.{same_Some}
 use Rattle.base.proofs.Sections.{same_self, inside_self}
 use Rattle.base.specs.declared.item.MapItem.{MapItem}
 use Rattle.base.specs.declared.item.Section.{Section}
 use Rattle.base.specs.Memory.{is_inside, overlaps, same_section}
+use Rattle.base.specs.declared.item.ItemKind.TheVariants.{Target}
 use Rattle.base.specs.Map.{Block, blocks_after, counted, entry}
-use Rattle.base.specs.Accepted.{in_part, met_at}
+use Rattle.base.specs.Actions.{Met}
+use Rattle.base.specs.Accepted.{in_part, is_absent as absent, met_at}
 use Rattle.mapwalk.specs.Acts.{entries_after}
-use Rattle.mapwalk.specs.Laws.{AllWide, meets_in_part}
+use Rattle.mapwalk.specs.Laws.{AllWide, is_missing, meets_badly}
 use Rattle.mapwalk.specs.Seen.{entry_mets}
 use Rattle.base.proofs.Moves.{is_absent, is_there, is_part}
 use Rattle.mapwalk.proofs.HeldBlocks.{after_absent, after_inside, find_added, find_kept, find_other, has_length, held, held_counted, meets_itself, name, name_absent, name_inside, names, no_block, same_is, section_counted}
@@ -221,9 +223,14 @@ step_inside f m blocks b long h e inside =
       inside = inside;
     }
 
+may_be_absent : (b : Bool) → (b && true) ≡ false → b ≡ false
+may_be_absent true e = e
+may_be_absent false e = refl
+
 step : (f : Section → ℕ) (m : MapItem) (blocks : List Block) → 0 < m.section.length → Holds f blocks →
-    in_part (met_at (record { item = m; blocks = blocks })) ≡ false → Step f m blocks
-step f m blocks long h part = go (held m.section blocks) refl
+    in_part (met_at (record { item = m; blocks = blocks })) ≡ false →
+    is_missing (record { item = m; blocks = blocks }) ≡ false → Step f m blocks
+step f m blocks long h part there = go (held m.section blocks) refl
   where
     inner : (b : Block) → held m.section blocks ≡ Some b →
         (is_inside m.section b.section ≡ true) ⊎ (is_inside m.section b.section ≡ false) → Step f m blocks
@@ -236,8 +243,9 @@ step f m blocks long h part = go (held m.section blocks) refl
     go : (o : Option Block) → held m.section blocks ≡ o → Step f m blocks
     go None e =
         let at = is_absent blocks m.section e in
-        step_from f m blocks m.section (blocks ++ record { section = m.section; count = 1 } ∷ []) (name_absent m blocks at)
-        (after_absent m blocks at) (step_absent f m blocks long h e)
+        let free = may_be_absent m.present (ap (λ p. m.present && absent p) (sym at) ∙ there) in
+        step_from f m blocks m.section (blocks ++ record { section = m.section; count = 1 } ∷ []) (name_absent m blocks at free)
+        (after_absent m blocks at free) (step_absent f m blocks long h e)
     go (Some b) e = inner b e (cases_Bool (is_inside m.section b.section))
 
 -- each map item's block has the section of its entry
@@ -257,15 +265,17 @@ holds_same f g e blocks h =
     record { enough = enough_same f g e blocks h.enough; none = λ s k. sym (e s) ∙ h.none s k }
 
 pub steps : (f : Section → ℕ) (maps : List MapItem) (blocks : List Block) → AllWide maps → Holds f blocks →
-    meets_in_part (entry_mets maps blocks) ≡ false → Steps f maps blocks
+    meets_badly Target (entry_mets maps blocks) ≡ false → Steps f maps blocks
 steps f [] blocks wide h part =
     record { holds = holds_same f (λ s. f s + 0) (λ s. omega arith) blocks h; here = tt; stays = λ s t k. k }
 steps f (m ∷ maps) blocks wide h part =
     let next = blocks_after blocks (entry m blocks) in
     let t = name m blocks in
-    let first = step f m blocks wide.0 h (or_parts (in_part (met_at (record { item = m; blocks = blocks }))) _ part).0 in
-    let rest = steps (λ s. f s + one t s) maps next wide.1 first.holds
-    (or_parts (in_part (met_at (record { item = m; blocks = blocks }))) _ part).1 in
+    let at : Met = record { item = m; blocks = blocks } in
+    let both = or_parts (in_part (met_at at) || is_missing at) _ part in
+    let fine = or_parts (in_part (met_at at)) (is_missing at) both.0 in
+    let first = step f m blocks wide.0 h fine.0 fine.1 in
+    let rest = steps (λ s. f s + one t s) maps next wide.1 first.holds both.1 in
     record {
       holds = holds_same (λ s. (f s + one t s) + uses (names maps next) s) (λ s. f s + (one t s + uses (names maps next) s))
           (λ s. omega arith) (entries_after maps next) rest.holds;

@@ -10,10 +10,11 @@ use Rattle.base.specs.Actions.{stages}
 use Rattle.base.specs.Current.{after_stages, at_start, current_at_end, is_marked}
 use Rattle.base.specs.Accepted.{current_before}
 use Rattle.mapwalk.specs.declared.rows.Acts.{Acts}
-use Rattle.mapwalk.specs.declared.current.Sides.{Sides}
-use Rattle.mapwalk.specs.Current.{is_full_in, marks_in}
-use Rattle.mapwalk.specs.Sides.{lengths_in, shown_by}
-use Rattle.mapwalk.proofs.Agreeing.{Agree}
+use Rattle.mapwalk.specs.declared.marks.Marks.{Marks}
+use Rattle.mapwalk.specs.declared.steps.DeviceState.{DeviceState}
+use Rattle.mapwalk.specs.Current.{is_full_in, marks_in, row_lengths}
+use Rattle.mapwalk.specs.Steps.{current_of}
+use Rattle.mapwalk.proofs.Agreeing.{AgreeOn}
 use Rattle.mapwalk.proofs.Refusals.{stages_end}
 use Rattle.mapwalk.proofs.SideRows.{lengths_count}
 use Rattle.mapwalk.proofs.Walking.{Reached}
@@ -33,22 +34,22 @@ cell_there : (lengths : List ℕ) (a j : ℕ) → j < slice_index lengths a → 
 cell_there lengths a j h = grind (arith, nat_tests)
 
 -- an array is marked where each of its marks is set
-full_is : (plan : Plan) (s : Sides) → lengths_in s ≡ plan.lengths → Agree plan.lengths (shown_by s) (current_at_end plan) →
-    (a : ℕ) → is_full_in s.host.items a ≡ is_marked plan a
-full_is plan s e h a =
-    let long : slice_index (lengths_in s) a ≡ slice_index plan.lengths a = ap (λ ls. slice_index ls a) e in
-    ap (λ n. list_all (λ j. marks_in s.host.items (record { array = record { 0 = a }; index = j })) (range_with_len 0 n)) long
-    ∙ all_same (λ j. marks_in s.host.items (record { array = record { 0 = a }; index = j }))
+full_is : (plan : Plan) (host : List Marks) → row_lengths host ≡ plan.lengths →
+    AgreeOn plan.lengths (marks_in host) (current_at_end plan).host → (a : ℕ) → is_full_in host a ≡ is_marked plan a
+full_is plan host e h a =
+    let long : slice_index (row_lengths host) a ≡ slice_index plan.lengths a = ap (λ ls. slice_index ls a) e in
+    ap (λ n. list_all (λ j. marks_in host (record { array = record { 0 = a }; index = j })) (range_with_len 0 n)) long
+    ∙ all_same (λ j. marks_in host (record { array = record { 0 = a }; index = j }))
     (λ j. (current_at_end plan).host (record { array = record { 0 = a }; index = j })) 0 (slice_index plan.lengths a)
-    (λ j x. h.host (record { array = record { 0 = a }; index = j }) (cell_there plan.lengths a j (omega arith)))
+    (λ j x. h (record { array = record { 0 = a }; index = j }) (cell_there plan.lengths a j (omega arith)))
 
-pub marked_at_end : (plan : Plan) (i : ℕ) (blocks : List Block) (s : Sides) (rows : List (List Acts)) → lengths_in s ≡ plan.lengths →
-    length plan.items ≤ i → Reached plan i blocks (shown_by s) rows →
-    filter (is_full_in s.host.items) (range_with_len 0 (length s.host.items))
-    ≡ filter (is_marked plan) (range_with_len 0 (length plan.lengths))
-marked_at_end plan i blocks s rows e h r =
+pub marked_at_end : (plan : Plan) (i : ℕ) (tables : ℕ → List Block) (host : List Marks) (devices : List DeviceState)
+    (rows : List (List Acts)) → row_lengths host ≡ plan.lengths →
+    length plan.items ≤ i → Reached plan i tables (current_of host devices) rows →
+    filter (is_full_in host) (range_with_len 0 (length host)) ≡ filter (is_marked plan) (range_with_len 0 (length plan.lengths))
+marked_at_end plan i tables host devices rows e h r =
     let end : current_before plan i ≡ current_at_end plan = ap (λ ss. after_stages ss at_start)
-    (take_whole (stages plan) i (stages_end plan i blocks (shown_by s) rows h r)) in
-    let agree = subst (Agree plan.lengths (shown_by s)) end r.agree in
-    let many : length s.host.items ≡ length plan.lengths = sym (lengths_count s.host.items) ∙ ap (λ ls. length ls) e in
-    (λ t. filter (fun_ext (λ (a : ℕ). full_is plan s e agree a) t) (range_with_len 0 (many t)))
+    (take_whole (stages plan) i (stages_end plan i tables (current_of host devices) rows h r)) in
+    let agree = subst (λ k. AgreeOn plan.lengths (marks_in host) k.host) end r.agree.host in
+    let many : length host ≡ length plan.lengths = sym (lengths_count host) ∙ ap (λ ls. length ls) e in
+    (λ t. filter (fun_ext (λ (a : ℕ). full_is plan host e agree a) t) (range_with_len 0 (many t)))

@@ -1,6 +1,6 @@
 -- The first block that a section overlaps, after an entry or an exit.
 use Rattle.std.proofs.Common.{◌≡◌, ℕ, ◌+◌, ◌<◌, ◌≤◌, Bool, true, false, ◌==◌, List, [], ◌∷◌, ◌++◌, ◌⊎◌, inl, inr, map, Option, Some, None, refl, sym, ap, ◌∙◌, arith, true≢false}
-use Rattle.std.specs.Prelude.{find, filter, ◌&&◌, nat_le, option_map, if◌then◌else◌}
+use Rattle.std.specs.Prelude.{find, filter, ◌&&◌, nat_le, option_map}
 use Rattle.std.proofs.lemmas.Bool.{cases_Bool, cond-true, cond-false, and_from, eqb-true, eq-eqb, lt-ltb, leb-true, and_parts}
 use Rattle.std.proofs.lemmas.Option.{same_Some}
 use Rattle.base.specs.declared.item.MapItem.{MapItem}
@@ -111,12 +111,13 @@ abbrev pub names : List MapItem → List Block → List Section
 names [] blocks = []
 names (m ∷ maps) blocks = name m blocks ∷ names maps (blocks_after blocks (entry m blocks))
 
-pub after_absent : (m : MapItem) (blocks : List Block) → presence blocks m.section ≡ Absent →
+pub after_absent : (m : MapItem) (blocks : List Block) → presence blocks m.section ≡ Absent → m.present ≡ false →
     blocks_after blocks (entry m blocks) ≡ blocks ++ record { section = m.section; count = 1 } ∷ []
-after_absent m blocks e = rw e refl
+after_absent m blocks e p = rw (e, p) refl
 
-pub name_absent : (m : MapItem) (blocks : List Block) → presence blocks m.section ≡ Absent → name m blocks ≡ m.section
-name_absent m blocks e = rw (e, name) refl
+pub name_absent : (m : MapItem) (blocks : List Block) → presence blocks m.section ≡ Absent → m.present ≡ false →
+    name m blocks ≡ m.section
+name_absent m blocks e p = rw (e, p, name) refl
 
 pub after_inside : (m : MapItem) (blocks : List Block) (b : Block) → presence blocks m.section ≡ Inside b →
     blocks_after blocks (entry m blocks) ≡ map (counted b.section (b.count + 1)) blocks
@@ -132,7 +133,11 @@ entries_named f (m ∷ maps) blocks =
     (λ i. go (presence blocks m.section) refl i ∷ entries_named f maps (blocks_after blocks (entry m blocks)) i)
   where
     go : (p : Presence) → presence blocks m.section ≡ p → (entry_of (f m) m blocks).block ≡ name m blocks
-    go Absent e = rw (e, name) refl
+    go Absent e = absent m.present refl
+      where
+        absent : (b : Bool) → m.present ≡ b → (entry_of (f m) m blocks).block ≡ name m blocks
+        absent true p = rw (e, p, name) refl
+        absent false p = rw (e, p, name) refl
     go (Inside b) e = rw (e, name) refl
     go InPart e = rw (e, name) refl
 

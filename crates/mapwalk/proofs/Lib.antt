@@ -11,6 +11,8 @@ pub mod RegionEffects
 pub mod MetCauses
 pub mod RegionCauses
 pub mod ShownItems
+mod Spoiling
+mod Lifting
 pub mod ActedParts
 pub mod WorkParts
 pub mod Verdicts

@@ -3,6 +3,7 @@ use Rattle.std.proofs.Common.{◌≡◌, ℕ, ◌+◌, ◌<◌, ◌≤◌, max, 
 use Rattle.std.specs.Prelude.{find, filter, not, ◌&&◌, ◌||◌, nat_lt, if◌then◌else◌}
 use Rattle.std.specs.List.{list_any}
 use Rattle.std.proofs.lemmas.Bool.{cases_Bool, cond-true, cond-false, and_from, eqb-true, eq-eqb, ltb-true, lt-ltb, le-leb, or_right, or_left, and_parts, or_parts, or_from}
+use Rattle.std.proofs.Math.Bool.{and-true}
 use Rattle.std.proofs.lemmas.Option.{same_Some}
 use Rattle.base.specs.declared.item.Cell.{Cell}
 use Rattle.base.specs.declared.item.MapItem.{MapItem}
@@ -12,14 +13,14 @@ use Rattle.base.specs.declared.item.Section.{Section}
 use Rattle.base.specs.Memory.{end_of, is_in, overlaps, same_section}
 use Rattle.base.specs.Map.{Block, Presence, Absent, Inside, InPart, blocks_after, counted, entry, exit, exit_count, presence, without}
 use Rattle.base.specs.Actions.{Met}
-use Rattle.base.specs.Accepted.{in_part, met_at}
+use Rattle.base.specs.Accepted.{first_cell, in_part, is_absent as absent, is_exit, met_at}
 use Rattle.mapwalk.specs.Acts.{entries_after, exits_after}
-use Rattle.mapwalk.specs.Causes.{is_part_cell}
+use Rattle.mapwalk.specs.Causes.{is_missing_cell, is_part_cell}
 use Rattle.mapwalk.specs.Kinds.{after_maps, met_by}
-use Rattle.mapwalk.specs.Laws.{AllWide, meets_in_part}
+use Rattle.mapwalk.specs.Laws.{AllWide, is_missing, meets_badly}
 use Rattle.mapwalk.specs.Seen.{entry_mets, exit_mets, update_mets}
 use Rattle.base.proofs.Moves.{is_absent}
-use Rattle.mapwalk.proofs.Leasts.{first_of}
+use Rattle.mapwalk.proofs.Leasts.{first_of, itself}
 use Rattle.mapwalk.proofs.HeldBlocks.{find_passes, held, no_block, section_counted}
 use Rattle.base.proofs.Blocks.{find_yes, find_no, meets}
 
@@ -50,7 +51,11 @@ wide_entered : (m : MapItem) (blocks : List Block) → 0 < m.section.length → 
 wide_entered m blocks long h = go (presence blocks m.section) refl
   where
     go : (p : Presence) → presence blocks m.section ≡ p → BlocksWide (blocks_after blocks (entry m blocks))
-    go Absent e = rw e (wide_added blocks (record { section = m.section; count = 1 }) h long)
+    go Absent e = absent m.present refl
+      where
+        absent : (b : Bool) → m.present ≡ b → BlocksWide (blocks_after blocks (entry m blocks))
+        absent true p = rw (e, p) h
+        absent false p = rw (e, p) (wide_added blocks (record { section = m.section; count = 1 }) h long)
     go (Inside b) e = rw e (wide_counted b.section (b.count + 1) blocks h)
     go InPart e = rw e h
 
@@ -162,10 +167,30 @@ part_cell m long wide none = go (held m.item.section m.blocks) refl
     go None e = ap in_part (is_absent m.blocks m.item.section e)
     go (Some b) e = inner b e (cases_Bool (in_part (met_at m)))
 
-pub no_part : (mets : List Met) → MetsWide mets → ((c : Cell) → list_any (is_part_cell c) mets ≡ false) →
-    meets_in_part mets ≡ false
-no_part [] wide none = refl
-no_part (m ∷ mets) wide none =
-    or_from (in_part (met_at m)) (meets_in_part mets)
+-- a missing section has a first cell
+not_missing : (m : Met) → ((c : Cell) → is_missing_cell c m ≡ false) → is_missing m ≡ false
+not_missing m none =
+    let c = first_cell m.item.section in
+    ap (λ b. m.item.present && b) (sym (ap (λ b. absent (met_at m) && b) (itself c) ∙ and-true (absent (met_at m))))
+    ∙ none c
+
+pub not_bad : (kind : ItemKind) (mets : List Met) → MetsWide mets → ((c : Cell) → list_any (is_part_cell c) mets ≡ false) →
+    ((c : Cell) → (not (is_exit kind) && list_any (is_missing_cell c) mets) ≡ false) → meets_badly kind mets ≡ false
+not_bad kind [] wide none least = refl
+not_bad kind (m ∷ mets) wide none least =
+    or_from (in_part (met_at m) || (not (is_exit kind) && is_missing m)) (meets_badly kind mets)
+    (or_from (in_part (met_at m)) (not (is_exit kind) && is_missing m)
     (part_cell m wide.0.0 wide.0.1 (λ c. (or_parts (is_part_cell c m) (list_any (is_part_cell c) mets) (none c)).0))
-    (no_part mets wide.1 (λ c. (or_parts (is_part_cell c m) (list_any (is_part_cell c) mets) (none c)).1))
+    (go (not (is_exit kind)) least))
+    (not_bad kind mets wide.1 (λ c. (or_parts (is_part_cell c m) (list_any (is_part_cell c) mets) (none c)).1)
+    (λ c. later (not (is_exit kind)) c (least c)))
+  where
+    go : (b : Bool) → ((c : Cell) → (b && (is_missing_cell c m || list_any (is_missing_cell c) mets)) ≡ false) →
+        (b && is_missing m) ≡ false
+    go false h = refl
+    go true h = not_missing m (λ c. (or_parts (is_missing_cell c m) (list_any (is_missing_cell c) mets) (h c)).0)
+
+    later : (b : Bool) (c : Cell) → (b && (is_missing_cell c m || list_any (is_missing_cell c) mets)) ≡ false →
+        (b && list_any (is_missing_cell c) mets) ≡ false
+    later false c h = refl
+    later true c h = (or_parts (is_missing_cell c m) (list_any (is_missing_cell c) mets) h).1

@@ -6,18 +6,18 @@ use Rattle.std.proofs.lemmas.List.{drop_all}
 use Rattle.base.specs.declared.item.Cell.{Cell}
 use Rattle.base.specs.declared.fault.Refusal.{Refusal}
 use Rattle.base.specs.declared.fault.RefusalCode.{RefusalCode}
-use Rattle.base.specs.declared.fault.RefusalCode.TheVariants.{OverlapsInPart, ExitOfAbsent, UpdateOfAbsent, Unmapped, HostNotCurrent, DeviceNotCurrent, Conflict}
+use Rattle.base.specs.declared.fault.RefusalCode.TheVariants.{OverlapsInPart, ExitOfAbsent, UpdateOfAbsent, NotPresent, Unmapped, HostNotCurrent, DeviceNotCurrent, Conflict}
 use Rattle.base.specs.Items.{Plan, Work}
 use Rattle.base.specs.Map.{Block}
 use Rattle.base.specs.Actions.{Stage, stages, stages_from}
-use Rattle.base.specs.Current.{Current}
+use Rattle.base.specs.Current.{AllCurrent}
 use Rattle.base.specs.Accepted.{IsFault, IsRefusal, Refused, cause, current_before, fault_key, key_less, on_stage, refusal_rank}
 use Rattle.mapwalk.specs.declared.rows.Acts.{Acts}
 use Rattle.mapwalk.specs.declared.causes.Cause.{Cause}
 use Rattle.mapwalk.specs.Causes.{IsFirstOf, refusal_of}
 use Rattle.mapwalk.specs.Steps.{stage_of}
 use Rattle.mapwalk.specs.Walk.{HasNoRangeFault, IsFirstAlone}
-use Rattle.mapwalk.proofs.Agreeing.{cause_agree}
+use Rattle.mapwalk.proofs.Agreeing.{all_cause_agree}
 use Rattle.mapwalk.proofs.Walking.{Reached, no_fault_at, on_stage_is, stage_at}
 
 nowhere_true : (o : Option Stage) → (elim o as (λ z. Bool) [ None ↦ false | Some s ↦ false ]) ≡ true → ⊥
@@ -29,6 +29,7 @@ refusal_from : (plan : Plan) (code : RefusalCode) (j : ℕ) (c : Cell) →
 refusal_from plan OverlapsInPart j c h = h
 refusal_from plan ExitOfAbsent j c h = h
 refusal_from plan UpdateOfAbsent j c h = h
+refusal_from plan NotPresent j c h = h
 refusal_from plan Unmapped j c h = h
 refusal_from plan HostNotCurrent j c h = h
 refusal_from plan DeviceNotCurrent j c h = h
@@ -39,6 +40,7 @@ refusal_to : (plan : Plan) (code : RefusalCode) (j : ℕ) (c : Cell) → IsRefus
 refusal_to plan OverlapsInPart j c h = h
 refusal_to plan ExitOfAbsent j c h = h
 refusal_to plan UpdateOfAbsent j c h = h
+refusal_to plan NotPresent j c h = h
 refusal_to plan Unmapped j c h = h
 refusal_to plan HostNotCurrent j c h = h
 refusal_to plan DeviceNotCurrent j c h = h
@@ -49,10 +51,11 @@ caused : (plan : Plan) (g : Refusal) → g.other ≡ None → IsFault plan (Refu
     on_stage plan g.item false (λ s. cause g.code s (current_before plan g.item) g.cell) ≡ true
 caused plan g e h = refusal_to plan g.code g.item g.cell (subst (IsRefusal plan g.code g.item g.cell) e h)
 
-no_conflict : (code : RefusalCode) (s : Stage) (k : Current) (c : Cell) → cause code s k c ≡ true → code ≢ Conflict
+no_conflict : (code : RefusalCode) (s : Stage) (k : AllCurrent) (c : Cell) → cause code s k c ≡ true → code ≢ Conflict
 no_conflict OverlapsInPart s k c h e = cc
 no_conflict ExitOfAbsent s k c h e = cc
 no_conflict UpdateOfAbsent s k c h e = cc
+no_conflict NotPresent s k c h e = cc
 no_conflict Unmapped s k c h e = cc
 no_conflict HostNotCurrent s k c h e = cc
 no_conflict DeviceNotCurrent s k c h e = cc
@@ -93,23 +96,23 @@ above a b e f =
     let ne : a ≢ b = eqb-false a b f in
     omega arith
 
-pub first_alone : (plan : Plan) (i : ℕ) (blocks : List Block) (k : Current) (rows : List (List Acts)) (w : Work) (x : Cause) →
-    HasNoRangeFault plan → slice_get plan.items i ≡ Some w → Reached plan i blocks k rows →
-    IsFirstOf (λ code. cause code (stage_of w blocks) k) (Some x) → IsFirstAlone plan (refusal_of x i)
-first_alone plan i blocks k rows w x none e r h =
+pub first_alone : (plan : Plan) (i : ℕ) (tables : ℕ → List Block) (k : AllCurrent) (rows : List (List Acts)) (w : Work) (x : Cause) →
+    HasNoRangeFault plan → slice_get plan.items i ≡ Some w → Reached plan i tables k rows →
+    IsFirstOf (λ code. cause code (stage_of w (tables w.device)) k) (Some x) → IsFirstAlone plan (refusal_of x i)
+first_alone plan i tables k rows w x none e r h =
     record {
       holds = refusal_from plan x.code i x.cell (here x.code x.cell ∙ h.0);
       alone = refl;
-      no_conflict = no_conflict x.code (stage_of w blocks) k x.cell h.0;
+      no_conflict = no_conflict x.code (stage_of w (tables w.device)) k x.cell h.0;
       first = λ g o f. go g (caused plan g o f) (nat_lt g.item i) refl (g.item == i) refl;
     }
   where
     here : (code : RefusalCode) (c : Cell) → on_stage plan i false (λ s. cause code s (current_before plan i) c)
-        ≡ cause code (stage_of w blocks) k c
+        ≡ cause code (stage_of w (tables w.device)) k c
     here code c =
-        on_stage_is plan i (stage_of w blocks) (λ s. cause code s (current_before plan i) c)
-        (stage_at plan i blocks k rows w r e)
-        ∙ sym (cause_agree plan.lengths w blocks k (current_before plan i) (no_fault_at plan i w none e) r.agree code c)
+        on_stage_is plan i (stage_of w (tables w.device)) (λ s. cause code s (current_before plan i) c)
+        (stage_at plan i tables k rows w r e)
+        ∙ sym (all_cause_agree plan.lengths w (tables w.device) k (current_before plan i) (no_fault_at plan i w none e) r.agree code c)
 
     go : (g : Refusal) → on_stage plan g.item false (λ s. cause g.code s (current_before plan g.item) g.cell) ≡ true →
         (a : Bool) → nat_lt g.item i ≡ a → (b : Bool) → (g.item == i) ≡ b →
@@ -133,13 +136,13 @@ past (x ∷ xs) (suc i) zero e h = absurd (omega arith)
 past (x ∷ xs) (suc i) (suc j) e h = past xs i j e (omega arith)
 
 -- after the last item nothing is left
-pub stages_end : (plan : Plan) (i : ℕ) (blocks : List Block) (k : Current) (rows : List (List Acts)) → length plan.items ≤ i →
-    Reached plan i blocks k rows → drop i (stages plan) ≡ []
-stages_end plan i blocks k rows h r = r.stages_left ∙ ap (λ ws. stages_from ws blocks) (drop_all i plan.items h)
+pub stages_end : (plan : Plan) (i : ℕ) (tables : ℕ → List Block) (k : AllCurrent) (rows : List (List Acts)) → length plan.items ≤ i →
+    Reached plan i tables k rows → drop i (stages plan) ≡ []
+stages_end plan i tables k rows h r = r.stages_left ∙ ap (λ ws. stages_from ws tables) (drop_all i plan.items h)
 
-pub none_refused : (plan : Plan) (i : ℕ) (blocks : List Block) (k : Current) (rows : List (List Acts)) → length plan.items ≤ i →
-    Reached plan i blocks k rows → (g : Refusal) → g.other ≡ None → IsFault plan (Refused g) → ⊥
-none_refused plan i blocks k rows h r g o f = go (nat_lt g.item i) refl
+pub none_refused : (plan : Plan) (i : ℕ) (tables : ℕ → List Block) (k : AllCurrent) (rows : List (List Acts)) → length plan.items ≤ i →
+    Reached plan i tables k rows → (g : Refusal) → g.other ≡ None → IsFault plan (Refused g) → ⊥
+none_refused plan i tables k rows h r g o f = go (nat_lt g.item i) refl
   where
     t : on_stage plan g.item false (λ s. cause g.code s (current_before plan g.item) g.cell) ≡ true
     t = caused plan g o f
@@ -149,4 +152,4 @@ none_refused plan i blocks k rows h r g o f = go (nat_lt g.item i) refl
     go false p =
         absurd (both_ways _
         (ap (λ (s : Option Stage). elim s as (λ z. Bool) [ None ↦ false | Some v ↦ cause g.code v (current_before plan g.item) g.cell ])
-        (past (stages plan) i g.item (stages_end plan i blocks k rows h r) (ltb-false g.item i p))) t)
+        (past (stages plan) i g.item (stages_end plan i tables k rows h r) (ltb-false g.item i p))) t)

@@ -7,7 +7,7 @@ use Rattle.base.specs.declared.item.Cell.{Cell}
 use Rattle.base.specs.declared.item.MapItem.{MapItem}
 use Rattle.base.specs.declared.item.ItemKind.TheVariants as kind
 use Rattle.base.specs.declared.fault.RefusalCode.{RefusalCode}
-use Rattle.base.specs.declared.fault.RefusalCode.TheVariants.{OverlapsInPart, ExitOfAbsent, UpdateOfAbsent, Unmapped, HostNotCurrent, DeviceNotCurrent, Conflict}
+use Rattle.base.specs.declared.fault.RefusalCode.TheVariants.{OverlapsInPart, ExitOfAbsent, UpdateOfAbsent, NotPresent, Unmapped, HostNotCurrent, DeviceNotCurrent, Conflict}
 use Rattle.base.specs.Memory.{is_in}
 use Rattle.base.specs.Items.{Work}
 use Rattle.base.specs.Footprint.{exposes, reads, writes}
@@ -56,6 +56,7 @@ host_none w f k e t h = all
     all OverlapsInPart c = refl
     all ExitOfAbsent c = refl
     all UpdateOfAbsent c = refl
+    all NotPresent c = refl
     all Unmapped c = and_left (is_target w.kind) (unmapped_in w c) (ap is_target e)
     all HostNotCurrent c = and_right (is_host w.kind) (stale_in w k.host c) (sym (exposed_same w f k.host t c) ∙ h c)
     all DeviceNotCurrent c = and_left (is_target w.kind) (stale_in w k.device c) (ap is_target e)
@@ -76,6 +77,7 @@ host_first w f k cell e t h = (and_from (is_host w.kind) (stale_in w k.host cell
     order OverlapsInPart c g = absurd cc
     order ExitOfAbsent c g = absurd cc
     order UpdateOfAbsent c g = absurd cc
+    order NotPresent c g = absurd cc
     order Unmapped c g = absurd (both_ways _ (and_left (is_target w.kind) (unmapped_in w c) (ap is_target e)) g)
     order HostNotCurrent c g = least.1 c (and_parts (is_host w.kind) (stale_in w k.host c) g).1
     order DeviceNotCurrent c g = refl
@@ -91,6 +93,7 @@ kernel_none w f k maps e m t u h = all
     all OverlapsInPart c = refl
     all ExitOfAbsent c = refl
     all UpdateOfAbsent c = refl
+    all NotPresent c = refl
     all Unmapped c = and_right (is_target w.kind) (unmapped_in w c) (sym (touched_same w f maps t m c) ∙ u c)
     all HostNotCurrent c = and_left (is_host w.kind) (stale_in w k.host c) (ap is_host e)
     all DeviceNotCurrent c = and_right (is_target w.kind) (stale_in w k.device c) (sym (exposed_same w f k.device t c) ∙ h c)
@@ -111,6 +114,7 @@ kernel_unmapped w f k maps cell e m t u = (and_from (is_target w.kind) (unmapped
     order OverlapsInPart c g = absurd cc
     order ExitOfAbsent c g = absurd cc
     order UpdateOfAbsent c g = absurd cc
+    order NotPresent c g = absurd cc
     order Unmapped c g = least.1 c (and_parts (is_target w.kind) (unmapped_in w c) g).1
     order HostNotCurrent c g = refl
     order DeviceNotCurrent c g = refl
@@ -132,6 +136,7 @@ kernel_stale w f k maps cell e m t u h =
     order OverlapsInPart c g = absurd cc
     order ExitOfAbsent c g = absurd cc
     order UpdateOfAbsent c g = absurd cc
+    order NotPresent c g = absurd cc
     order Unmapped c g =
         absurd (both_ways _ (and_right (is_target w.kind) (unmapped_in w c) (sym (touched_same w f maps t m c) ∙ u c)) g)
     order HostNotCurrent c g = absurd (both_ways _ (and_left (is_host w.kind) (stale_in w k.host c) (ap is_host e)) g)

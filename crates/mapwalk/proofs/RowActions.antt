@@ -1,23 +1,25 @@
 -- What an item does, spelled out of the row of its map items.
 use Rattle.std.proofs.Common.{◌≡◌, ℕ, Bool, true, false, List, [], ◌∷◌, ◌++◌, Option, Some, None, map, refl, sym, ap, ◌∙◌}
+use Rattle.std.specs.Prelude.{not, ◌&&◌, ◌||◌}
 use Rattle.std.proofs.lemmas.List.Folds.{list_any-append}
-use Rattle.std.proofs.lemmas.Bool.{or_parts}
+use Rattle.std.proofs.lemmas.Bool.{or_from, or_parts}
 use Rattle.base.specs.declared.item.Depend.{Depend}
 use Rattle.base.specs.declared.item.MapItem.{MapItem}
 use Rattle.base.specs.declared.item.ItemKind.{ItemKind}
 use Rattle.base.specs.declared.item.ItemKind.TheVariants.{Host, Target, Begin, End, Enter, Exit, Update, Wait}
+use Rattle.base.specs.declared.tree.Place.{Place}
 use Rattle.base.specs.declared.tree.Region.{Region}
 use Rattle.base.specs.Items.{Work}
 use Rattle.base.specs.Map.{Block, Move, Presence, Absent, Inside, InPart, blocks_after, entry, exit, presence}
 use Rattle.base.specs.Footprint.{touches_of}
 use Rattle.base.specs.Actions.{Action, Kernel, Counts, Creates, CopiesIn, CopiesOut, Removes, Met, acts_of, always_works, each_acts, entry_acts, exit_acts, only_if, rests, update_acts}
-use Rattle.base.specs.Accepted.{in_part, met_at}
+use Rattle.base.specs.Accepted.{in_part, is_absent, is_exit, met_at}
 use Rattle.mapwalk.specs.declared.rows.Acts.{Acts}
 use Rattle.mapwalk.specs.Acts.{acts_row, entered, entries_after, entry_of, entry_row, exit_of, exit_row, joined, left, moved, update_row, updated}
 use Rattle.mapwalk.specs.Seen.{entry_mets, exit_mets, update_mets}
-use Rattle.mapwalk.specs.Laws.{ActsAreActions, KeepsBlocks, actions_of, block_named, entry_actions, exit_actions, meets_in_part, update_actions}
+use Rattle.mapwalk.specs.Laws.{ActsAreActions, KeepsBlocks, actions_of, block_named, entry_actions, exit_actions, is_missing, meets_badly, meets_in_part, update_actions}
 use Rattle.mapwalk.proofs.ActedParts.{all_entered, all_left, all_updated}
-use Rattle.mapwalk.proofs.WorkParts.{target_met}
+use Rattle.mapwalk.proofs.WorkParts.{target_met, work_of}
 
 abbrev met : MapItem → List Block → Met
 met item blocks = record { item = item; blocks = blocks }
@@ -45,13 +47,21 @@ abbrev is_move : Option Move → Bool
 is_move None = false
 is_move (Some m) = true
 
-enters : (item : MapItem) (blocks : List Block) → in_part (met_at (met item blocks)) ≡ false → is_move (entry item blocks) ≡ true
+enters : (item : MapItem) (blocks : List Block) →
+    (in_part (met_at (met item blocks)) || is_missing (met item blocks)) ≡ false → is_move (entry item blocks) ≡ true
 enters item blocks h = go (presence blocks item.section) refl
   where
+    fine : (in_part (met_at (met item blocks)) ≡ false) × (is_missing (met item blocks) ≡ false)
+    fine = or_parts (in_part (met_at (met item blocks))) (is_missing (met item blocks)) h
+
     go : (at : Presence) → presence blocks item.section ≡ at → is_move (entry item blocks) ≡ true
-    go Absent e = rw e refl
+    go Absent e = absent item.present refl
+      where
+        absent : (b : Bool) → item.present ≡ b → is_move (entry item blocks) ≡ true
+        absent true p = absurd (let x : true ≡ false = (λ i. sym p i && is_absent (sym e i)) ∙ fine.1 in cc)
+        absent false p = rw (e, p) refl
     go (Inside b) e = rw e refl
-    go InPart e = absurd (let x : true ≡ false = ap in_part (sym e) ∙ h in cc)
+    go InPart e = absurd (let x : true ≡ false = ap in_part (sym e) ∙ fine.0 in cc)
 
 leaves : (item : MapItem) (blocks : List Block) → in_part (met_at (met item blocks)) ≡ false → is_move (exit item blocks) ≡ true
 leaves item blocks h = go (presence blocks item.section) refl
@@ -60,6 +70,18 @@ leaves item blocks h = go (presence blocks item.section) refl
     go Absent e = rw e refl
     go (Inside b) e = rw e refl
     go InPart e = absurd (let x : true ≡ false = ap in_part (sym e) ∙ h in cc)
+
+-- what stands against an entry
+abbrev stands : MapItem → List Block → Bool
+stands item blocks = in_part (met_at (met item blocks)) || is_missing (met item blocks)
+
+-- what stands against entries stands against exits in part alone
+in_part_alone : (kind : ItemKind) (mets : List Met) → meets_badly kind mets ≡ false → meets_in_part mets ≡ false
+in_part_alone kind [] h = refl
+in_part_alone kind (m ∷ mets) h =
+    let both = or_parts (in_part (met_at m) || (not (is_exit kind) && is_missing m)) (meets_badly kind mets) h in
+    or_from (in_part (met_at m)) (meets_in_part mets)
+    (or_parts (in_part (met_at m)) (not (is_exit kind) && is_missing m) both.0).0 (in_part_alone kind mets both.1)
 
 entry_spelled : (r : Bool) (item : MapItem) (o : Option Move) → is_move o ≡ true →
     entered_acts r item o ≡ entry_part item (moved (entered r) item.section o)
@@ -103,17 +125,18 @@ exit_next f item blocks = go (exit item blocks) refl
     go None e = rw e refl
     go (Some m) e = rw e refl
 
-each_entered : (f : MapItem → Bool) (maps : List MapItem) (blocks : List Block) → meets_in_part (entry_mets maps blocks) ≡ false →
+each_entered : (f : MapItem → Bool) (maps : List MapItem) (blocks : List Block) →
+    meets_badly Target (entry_mets maps blocks) ≡ false →
     (each_acts (entry_acts f) maps blocks).actions ≡ entry_actions maps (entry_row f maps blocks)
 each_entered f [] blocks h = refl
 each_entered f (item ∷ maps) blocks h =
     let next = blocks_after blocks (entry item blocks) in
     ap (λ xs. xs ++ (each_acts (entry_acts f) maps (entry_acts f item blocks).blocks).actions)
     (entry_one f item blocks ∙ entry_spelled (f item) item (entry item blocks)
-    (enters item blocks (or_parts (in_part (met_at (met item blocks))) _ h).0))
+    (enters item blocks (or_parts (stands item blocks) _ h).0))
     ∙ ap (λ bs. entry_part item (entry_of (f item) item blocks) ++ (each_acts (entry_acts f) maps bs).actions) (entry_next f item blocks)
     ∙ ap (λ ys. entry_part item (entry_of (f item) item blocks) ++ ys)
-    (each_entered f maps next (or_parts (in_part (met_at (met item blocks))) _ h).1)
+    (each_entered f maps next (or_parts (stands item blocks) _ h).1)
 
 each_left : (f : MapItem → Bool) (maps : List MapItem) (blocks : List Block) → meets_in_part (exit_mets maps blocks) ≡ false →
     (each_acts (exit_acts f) maps blocks).actions ≡ exit_actions maps (exit_row f maps blocks)
@@ -162,12 +185,13 @@ each_updated (item ∷ maps) blocks h =
 abbrev resting : Acts → Bool
 resting a = a.rests
 
-entry_rests : (f : MapItem → Bool) (maps : List MapItem) (blocks : List Block) → meets_in_part (entry_mets maps blocks) ≡ false →
+entry_rests : (f : MapItem → Bool) (maps : List MapItem) (blocks : List Block) →
+    meets_badly Target (entry_mets maps blocks) ≡ false →
     map resting (entry_row f maps blocks) ≡ map f maps
 entry_rests f [] blocks h = refl
 entry_rests f (item ∷ maps) blocks h =
-    (λ i. go (entry item blocks) (enters item blocks (or_parts (in_part (met_at (met item blocks))) _ h).0) i
-    ∷ entry_rests f maps (blocks_after blocks (entry item blocks)) (or_parts (in_part (met_at (met item blocks))) _ h).1 i)
+    (λ i. go (entry item blocks) (enters item blocks (or_parts (stands item blocks) _ h).0) i
+    ∷ entry_rests f maps (blocks_after blocks (entry item blocks)) (or_parts (stands item blocks) _ h).1 i)
   where
     go : (o : Option Move) → is_move o ≡ true → (moved (entered (f item)) item.section o).rests ≡ f item
     go None e = absurd cc
@@ -207,7 +231,7 @@ joined_exits (m ∷ maps) (x ∷ xs) (y ∷ ys) e f =
 
 -- the entries, the region's actions, the exits of a target
 target_actions : (maps : List MapItem) (blocks : List Block) (region : List Action) →
-    meets_in_part (entry_mets maps blocks ++ exit_mets maps (entries_after maps blocks)) ≡ false → KeepsBlocks maps blocks →
+    meets_badly Target (entry_mets maps blocks ++ exit_mets maps (entries_after maps blocks)) ≡ false → KeepsBlocks maps blocks →
     ((each_acts (entry_acts (rests blocks)) maps blocks).actions ++ region)
     ++ (each_acts (exit_acts (rests blocks)) maps (each_acts (entry_acts (rests blocks)) maps blocks).blocks).actions
     ≡ (entry_actions maps (joined (entry_row (rests blocks) maps blocks) (exit_row (rests blocks) maps (entries_after maps blocks)))
@@ -218,11 +242,12 @@ target_actions maps blocks region h keeps =
     let later = entries_after maps blocks in
     let er = entry_row f maps blocks in
     let xr = exit_row f maps later in
-    let apart = sym (list_any-append (λ (m : Met). in_part (met_at m)) (entry_mets maps blocks) (exit_mets maps later)) ∙ h in
-    let first : meets_in_part (entry_mets maps blocks) ≡ false =
-    (or_parts _ (meets_in_part (exit_mets maps later)) apart).0 in
+    let apart = sym (list_any-append (λ (m : Met). in_part (met_at m) || is_missing m) (entry_mets maps blocks)
+    (exit_mets maps later)) ∙ h in
+    let first : meets_badly Target (entry_mets maps blocks) ≡ false =
+    (or_parts _ (meets_badly Target (exit_mets maps later)) apart).0 in
     let second : meets_in_part (exit_mets maps later) ≡ false =
-    (or_parts (meets_in_part (entry_mets maps blocks)) _ apart).1 in
+    in_part_alone Target (exit_mets maps later) (or_parts (meets_badly Target (entry_mets maps blocks)) _ apart).1 in
     ap (λ xs. (xs ++ region) ++ (each_acts (exit_acts f) maps (each_acts (entry_acts f) maps blocks).blocks).actions)
     (each_entered f maps blocks first ∙ sym (joined_entries maps er xr))
     ∙ ap (λ bs. (entry_actions maps (joined er xr) ++ region) ++ (each_acts (exit_acts f) maps bs).actions)
@@ -231,30 +256,33 @@ target_actions maps blocks region h keeps =
     (each_left f maps later second
     ∙ sym (joined_exits maps er xr keeps (exit_rests f maps later second ∙ sym (entry_rests f maps blocks first))))
 
-law_of : (kind : ItemKind) (d : Bool) (maps : List MapItem) (ds : List Depend) (region : Option Region) (loops : List ℕ)
-    (blocks : List Block) →
-    let w : Work = record { kind = kind; deferred = d; maps = maps; depends = ds; region = region; loops = loops } in
-    meets_in_part (acts_of w blocks).met ≡ false → (kind ≡ Target → KeepsBlocks maps blocks) →
+law_of : (kind : ItemKind) (p : Place) (d : Bool) (e : ℕ) (maps : List MapItem) (ds : List Depend) (region : Option Region)
+    (loops : List ℕ) (blocks : List Block) →
+    let w : Work = work_of kind p d e maps ds region loops in
+    meets_badly kind (acts_of w blocks).met ≡ false → (kind ≡ Target → KeepsBlocks maps blocks) →
     (acts_of w blocks).actions ≡ actions_of w (acts_row w blocks)
-law_of Host d maps ds None loops blocks h keeps = refl
-law_of Host d maps ds (Some r) loops blocks h keeps = refl
-law_of Target d maps ds None loops blocks h keeps =
+law_of Host p d e maps ds None loops blocks h keeps = refl
+law_of Host p d e maps ds (Some r) loops blocks h keeps = refl
+law_of Target p d e maps ds None loops blocks h keeps =
     target_actions maps blocks []
-    (ap meets_in_part (sym (target_met maps blocks [])) ∙ h) (keeps refl)
-law_of Target d maps ds (Some r) loops blocks h keeps =
+    (ap (meets_badly Target) (sym (target_met maps blocks [])) ∙ h) (keeps refl)
+law_of Target p d e maps ds (Some r) loops blocks h keeps =
     target_actions maps blocks (Kernel (touches_of r loops) ∷ [])
-    (ap meets_in_part (sym (target_met maps blocks [])) ∙ h) (keeps refl)
-law_of Begin d maps ds region loops blocks h keeps =
-    each_entered always_works maps blocks (ap meets_in_part (sym (all_entered always_works maps blocks).met) ∙ h)
-law_of Enter d maps ds region loops blocks h keeps =
-    each_entered always_works maps blocks (ap meets_in_part (sym (all_entered always_works maps blocks).met) ∙ h)
-law_of End d maps ds region loops blocks h keeps =
-    each_left always_works maps blocks (ap meets_in_part (sym (all_left always_works maps blocks).met) ∙ h)
-law_of Exit d maps ds region loops blocks h keeps =
-    each_left always_works maps blocks (ap meets_in_part (sym (all_left always_works maps blocks).met) ∙ h)
-law_of Update d maps ds region loops blocks h keeps =
-    each_updated maps blocks (ap meets_in_part (sym (all_updated maps blocks).met) ∙ h)
-law_of Wait d maps ds region loops blocks h keeps = refl
+    (ap (meets_badly Target) (sym (target_met maps blocks [])) ∙ h) (keeps refl)
+law_of Begin p d e maps ds region loops blocks h keeps =
+    each_entered always_works maps blocks (ap (meets_badly Target) (sym (all_entered always_works maps blocks).met) ∙ h)
+law_of Enter p d e maps ds region loops blocks h keeps =
+    each_entered always_works maps blocks (ap (meets_badly Target) (sym (all_entered always_works maps blocks).met) ∙ h)
+law_of End p d e maps ds region loops blocks h keeps =
+    each_left always_works maps blocks (in_part_alone Exit (exit_mets maps blocks)
+    (ap (meets_badly Exit) (sym (all_left always_works maps blocks).met) ∙ h))
+law_of Exit p d e maps ds region loops blocks h keeps =
+    each_left always_works maps blocks (in_part_alone Exit (exit_mets maps blocks)
+    (ap (meets_badly Exit) (sym (all_left always_works maps blocks).met) ∙ h))
+law_of Update p d e maps ds region loops blocks h keeps =
+    each_updated maps blocks (in_part_alone Update (update_mets maps blocks)
+    (ap (meets_badly Update) (sym (all_updated maps blocks).met) ∙ h))
+law_of Wait p d e maps ds region loops blocks h keeps = refl
 
 pub acts_are_actions : ActsAreActions
-acts_are_actions w blocks h keeps = law_of w.kind w.deferred w.maps w.depends w.region w.loops blocks h keeps
+acts_are_actions w blocks h keeps = law_of w.kind w.place w.deferred w.device w.maps w.depends w.region w.loops blocks h keeps

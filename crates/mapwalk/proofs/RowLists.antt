@@ -12,7 +12,7 @@ use Rattle.mapwalk.specs.Sides.{after_acts}
 
 pub seen_append : (xs ys : List Met) (s : Seen) → seen_all (xs ++ ys) s ≡ seen_all ys (seen_all xs s)
 seen_append [] ys s = refl
-seen_append (m ∷ xs) ys s = seen_append xs ys (seen_at m.item.section m.blocks s)
+seen_append (m ∷ xs) ys s = seen_append xs ys (seen_at m.item m.blocks s)
 
 -- past the end of either list nothing is left to do
 pub acts_end : (maps : List MapItem) (row : List Acts) (i : ℕ) (k : Current) → min (length maps) (length row) ≤ i →

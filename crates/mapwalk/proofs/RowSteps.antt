@@ -27,11 +27,11 @@ module _ (maps : List MapItem) (i : ℕ) (d : MapItem) (h : i < length maps) (ol
       ap (entries_after (drop (i + 1) maps)) new_is ∙ ap (λ ms. entries_after ms old) (sym (drop_more maps i d h)) ∙ inv
 
   pub entry_seen_step : (seen noted all : Seen) (at : List Block) → seen_all (entry_mets (drop i maps) old) seen ≡ all →
-      noted ≡ seen_at (get_or maps i d).section at seen → at ≡ old →
+      noted ≡ seen_at (get_or maps i d) at seen → at ≡ old →
       new ≡ blocks_after old (entry (get_or maps i d) old) → seen_all (entry_mets (drop (i + 1) maps) new) noted ≡ all
   entry_seen_step seen noted all at inv noted_is at_is new_is =
       ap₂ (λ s n. seen_all (entry_mets (drop (i + 1) maps) n) s)
-      (noted_is ∙ ap (λ bs. seen_at (get_or maps i d).section bs seen) at_is) new_is
+      (noted_is ∙ ap (λ bs. seen_at (get_or maps i d) bs seen) at_is) new_is
       ∙ ap (λ ms. seen_all (entry_mets ms old) seen) (sym (drop_more maps i d h))
       ∙ inv
 
@@ -53,10 +53,10 @@ module _ (maps : List MapItem) (i : ℕ) (d : MapItem) (h : i < length maps) (ol
       ap (exits_after (drop (i + 1) maps)) new_is ∙ ap (λ ms. exits_after ms old) (sym (drop_more maps i d h)) ∙ inv
 
   pub exit_seen_step : (seen noted all : Seen) (at : List Block) → seen_all (exit_mets (drop i maps) old) seen ≡ all →
-      noted ≡ seen_at (get_or maps i d).section at seen → at ≡ old →
+      noted ≡ seen_at (get_or maps i d) at seen → at ≡ old →
       new ≡ blocks_after old (exit (get_or maps i d) old) → seen_all (exit_mets (drop (i + 1) maps) new) noted ≡ all
   exit_seen_step seen noted all at inv noted_is at_is new_is =
       ap₂ (λ s n. seen_all (exit_mets (drop (i + 1) maps) n) s)
-      (noted_is ∙ ap (λ bs. seen_at (get_or maps i d).section bs seen) at_is) new_is
+      (noted_is ∙ ap (λ bs. seen_at (get_or maps i d) bs seen) at_is) new_is
       ∙ ap (λ ms. seen_all (exit_mets ms old) seen) (sym (drop_more maps i d h))
       ∙ inv

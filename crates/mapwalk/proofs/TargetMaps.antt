@@ -3,6 +3,7 @@ use Rattle.std.proofs.Common.{◌≡◌, ℕ, zero, suc, ◌+◌, true, false, L
 use Rattle.std.specs.Prelude.{slice_get}
 use Rattle.std.proofs.lemmas.Bool.{false≢true}
 use Rattle.std.proofs.lemmas.Option.{same_Some}
+use Rattle.base.specs.declared.tree.Place.{Place}
 use Rattle.base.specs.declared.tree.Directive.{Directive}
 use Rattle.base.specs.declared.tree.Directive.TheVariants as directive
 use Rattle.base.specs.declared.tree.MapText.{MapText}
@@ -56,11 +57,11 @@ other : {A : Type 0} → false ≡ true → A
 other e = absurd (false≢true e)
 
 module _ (lengths : List ℕ) where
-  alone_keeps : (d : Directive) (loops : List ℕ) → Keeps (alone_work lengths d loops)
-  alone_keeps (directive.Enter maps t) loops = λ e. other e
-  alone_keeps (directive.Exit maps t) loops = λ e. other e
-  alone_keeps (directive.Update maps t) loops = λ e. other e
-  alone_keeps (directive.Wait depends) loops = λ e. other e
+  alone_keeps : (place : Place) (d : Directive) (loops : List ℕ) → Keeps (alone_work lengths place d loops)
+  alone_keeps place (directive.Enter maps t) loops = λ e. other e
+  alone_keeps place (directive.Exit maps t) loops = λ e. other e
+  alone_keeps place (directive.Update maps t) loops = λ e. other e
+  alone_keeps place (directive.Wait depends) loops = λ e. other e
 
   target_keeps : (t : TargetText) (r : Region) (loops : List ℕ) → NoDelete (target_work lengths t r loops).maps
   target_keeps t r loops =
@@ -82,9 +83,9 @@ module _ (lengths : List ℕ) where
         turns_keep b.step (λ v. row_items all lengths (loops ++ v ∷ [])) (λ v. row_keeps all (loops ++ v ∷ []))
         (turns_of b) b.first
     part_keeps (part.Target t r) loops = (λ e. target_keeps t r loops, tt)
-    part_keeps (part.Data' maps shape all) loops =
+    part_keeps (part.Data' d shape all) loops =
         (λ e. other e, keep_append (row_items all lengths loops) _ (row_keeps all loops) (λ e. other e, tt))
-    part_keeps (part.Alone d) loops = (alone_keeps d loops, tt)
+    part_keeps (part.Alone place d) loops = (alone_keeps place d loops, tt)
 
     row_keeps : {m : _} (row : Row_of-Part m) (loops : List ℕ) → AllKeep (row_items row lengths loops)
     row_keeps end_of-Part loops = tt

@@ -7,7 +7,7 @@ use Rattle.base.specs.declared.item.Cell.{Cell}
 use Rattle.base.specs.declared.item.MapItem.{MapItem}
 use Rattle.base.specs.declared.item.ItemKind.{ItemKind}
 use Rattle.base.specs.declared.fault.RefusalCode.{RefusalCode}
-use Rattle.base.specs.declared.fault.RefusalCode.TheVariants.{OverlapsInPart, ExitOfAbsent, UpdateOfAbsent, Unmapped, HostNotCurrent, DeviceNotCurrent, Conflict}
+use Rattle.base.specs.declared.fault.RefusalCode.TheVariants.{OverlapsInPart, ExitOfAbsent, UpdateOfAbsent, NotPresent, Unmapped, HostNotCurrent, DeviceNotCurrent, Conflict}
 use Rattle.base.specs.Items.{Work}
 use Rattle.base.specs.Map.{Block}
 use Rattle.base.specs.Actions.{Met}
@@ -20,36 +20,38 @@ use Rattle.mapwalk.specs.Kinds.{after_maps, after_region, before_region, joined_
 use Rattle.mapwalk.specs.Regions.{region_actions}
 use Rattle.mapwalk.specs.Sides.{after_acts}
 use Rattle.base.specs.Least.{is_less as is_cell_less}
-use Rattle.mapwalk.specs.Steps.{HasDone, stage_of}
+use Rattle.mapwalk.specs.Steps.{HasDoneHere, everywhere, stage_of}
 use Rattle.mapwalk.proofs.WorkParts.{at_region, cause_split, parts}
 
-abbrev Test : Type 0
+abbrev pub Test : Type 0
 Test = RefusalCode → Cell → Bool
 
-first_same : (p q : Test) (o : Option Cause) → ((code : RefusalCode) (c : Cell) → p code c ≡ q code c) → IsFirstOf p o → IsFirstOf q o
+pub first_same : (p q : Test) (o : Option Cause) → ((code : RefusalCode) (c : Cell) → p code c ≡ q code c) → IsFirstOf p o → IsFirstOf q o
 first_same p q None e h = λ code c. sym (e code c) ∙ h code c
 first_same p q (Some x) e h = (sym (e x.code x.cell) ∙ h.0, λ code c t. h.1 code c (e code c ∙ t))
 
 met_low : (kind : ItemKind) (mets : List Met) (code : RefusalCode) (c : Cell) → met_causes kind mets code c ≡ true →
-    refusal_rank code ≤ 3
+    refusal_rank code ≤ 4
 met_low kind mets OverlapsInPart c h = omega arith
 met_low kind mets ExitOfAbsent c h = omega arith
 met_low kind mets UpdateOfAbsent c h = omega arith
+met_low kind mets NotPresent c h = omega arith
 met_low kind mets Unmapped c h = absurd cc
 met_low kind mets HostNotCurrent c h = absurd cc
 met_low kind mets DeviceNotCurrent c h = absurd cc
 met_low kind mets Conflict c h = absurd cc
 
-region_high : (w : Work) (k : Current) (code : RefusalCode) (c : Cell) → region_causes w k code c ≡ true → 4 ≤ refusal_rank code
+region_high : (w : Work) (k : Current) (code : RefusalCode) (c : Cell) → region_causes w k code c ≡ true → 5 ≤ refusal_rank code
 region_high w k OverlapsInPart c h = absurd cc
 region_high w k ExitOfAbsent c h = absurd cc
 region_high w k UpdateOfAbsent c h = absurd cc
+region_high w k NotPresent c h = absurd cc
 region_high w k Unmapped c h = omega arith
 region_high w k HostNotCurrent c h = omega arith
 region_high w k DeviceNotCurrent c h = omega arith
 region_high w k Conflict c h = absurd cc
 
-not_less : (r x : ℕ) (b : Bool) → 4 ≤ r → x ≤ 3 → (nat_lt r x || ((r == x) && b)) ≡ false
+not_less : (r x : ℕ) (b : Bool) → 5 ≤ r → x ≤ 4 → (nat_lt r x || ((r == x) && b)) ≡ false
 not_less r x b low high = grind (arith, nat_tests)
 
 or_last : (a b : Bool) → a ≡ false → (a || b) ≡ b
@@ -67,7 +69,7 @@ module _ (w : Work) (blocks : List Block) (k : Current) where
   both code c = met code c || region code c
 
   abbrev all : Test
-  all code c = cause code (stage_of w blocks) k c
+  all code c = cause code (stage_of w blocks) (everywhere k) c
 
   whole : (o : Option Cause) → IsFirstOf both o → IsFirstOf all o
   whole o h = first_same both all o (λ code c. sym (cause_split w blocks k code c)) h
@@ -113,7 +115,7 @@ pub step_done : (w : Work) (blocks now : List Block) (k k1 k2 k3 : Current) (kin
     (before after r3 row : List Acts) → w.kind ≡ kind → w.maps ≡ maps → before ≡ before_region kind maps blocks →
     after ≡ after_region kind maps blocks → k1 ≡ at_region w blocks k → k2 ≡ after_actions (region_actions w) k1 →
     k3 ≡ after_acts ms r3 k2 → ms ≡ maps → r3 ≡ after → row ≡ joined_by kind before after → now ≡ after_maps kind maps blocks →
-    IsFirstOf (all w blocks k) None → HasDone w blocks now k k3 row
+    IsFirstOf (all w blocks k) None → HasDoneHere w blocks now k k3 row
 step_done w blocks now k k1 k2 k3 kind maps ms before after r3 row e f b a one two three m r j n clean =
     record {
       clean = clean;

@@ -9,21 +9,22 @@ use Rattle.base.specs.declared.item.MapItem.{MapItem}
 use Rattle.base.specs.declared.item.ItemKind.{ItemKind}
 use Rattle.base.specs.declared.item.ItemKind.TheVariants.{Host, Target, Begin, End, Enter, Exit, Update, Wait}
 use Rattle.base.specs.declared.fault.RefusalCode.{RefusalCode}
-use Rattle.base.specs.declared.fault.RefusalCode.TheVariants.{OverlapsInPart, ExitOfAbsent, UpdateOfAbsent, Unmapped, HostNotCurrent, DeviceNotCurrent, Conflict}
+use Rattle.base.specs.declared.fault.RefusalCode.TheVariants.{OverlapsInPart, ExitOfAbsent, UpdateOfAbsent, NotPresent, Unmapped, HostNotCurrent, DeviceNotCurrent, Conflict}
+use Rattle.base.specs.declared.tree.Place.{Place}
 use Rattle.base.specs.declared.tree.Region.{Region}
 use Rattle.base.specs.Items.{Work}
 use Rattle.base.specs.Map.{Block}
 use Rattle.base.specs.Footprint.{exposes, touches_of}
 use Rattle.base.specs.Actions.{Acted, Action, Kernel, acts_of, always_works, each_acts, entry_acts, exit_acts, rests, touches_in}
 use Rattle.base.specs.Current.{Current, after_actions}
-use Rattle.base.specs.Accepted.{cause, is_exit, is_host, is_target, is_update, reads_stale}
+use Rattle.base.specs.Accepted.{cause, is_exit, is_host, is_target, is_update, names_absent, reads_stale}
 use Rattle.mapwalk.specs.Acts.{acts_row, entries_after, entry_row, exit_row, exits_after}
 use Rattle.mapwalk.specs.Kinds.{after_maps, after_region, before_region, joined_by, met_by}
 use Rattle.mapwalk.specs.Seen.{entry_mets, exit_mets}
 use Rattle.mapwalk.specs.Sides.{after_acts}
 use Rattle.mapwalk.specs.Regions.{region_actions}
-use Rattle.mapwalk.specs.Causes.{is_absent_cell, is_part_cell, met_causes, region_causes}
-use Rattle.mapwalk.specs.Steps.{stage_of}
+use Rattle.mapwalk.specs.Causes.{is_absent_cell, is_missing_cell, is_part_cell, met_causes, region_causes}
+use Rattle.mapwalk.specs.Steps.{everywhere, stage_of}
 use Rattle.mapwalk.proofs.ActedParts.{AreAll, after_append, all_entered, all_left, all_updated}
 
 no_acts : (maps : List MapItem) (k : Current) → after_acts maps [] k ≡ k
@@ -96,10 +97,23 @@ module _ (maps : List MapItem) (blocks : List Block) (region : List Action) wher
       ∙ ap (λ xs. reads_stale xs k c) (sym (append-nil (second later).actions))
       ∙ exits.quiet [] k c
 
-parts_of : (kind : ItemKind) (deferred : Bool) (maps : List MapItem) (depends : List Depend) (region : Option Region)
-    (loops : List ℕ) (blocks : List Block) →
-    Parts (record { kind = kind; deferred = deferred; maps = maps; depends = depends; region = region; loops = loops }) blocks
-parts_of Host d maps ds None loops blocks =
+abbrev pub work_of : ItemKind → Place → Bool → ℕ → List MapItem → List Depend → Option Region → List ℕ → Work
+work_of kind place deferred device maps depends region loops =
+    record {
+      kind = kind;
+      place = place;
+      deferred = deferred;
+      device = device;
+      maps = maps;
+      depends = depends;
+      region = region;
+      loops = loops;
+    }
+
+parts_of : (kind : ItemKind) (place : Place) (deferred : Bool) (device : ℕ) (maps : List MapItem) (depends : List Depend)
+    (region : Option Region) (loops : List ℕ) (blocks : List Block) →
+    Parts (work_of kind place deferred device maps depends region loops) blocks
+parts_of Host p d e maps ds None loops blocks =
     record {
       met = refl;
       blocks_after = refl;
@@ -108,24 +122,17 @@ parts_of Host d maps ds None loops blocks =
       host_stale = λ k c. refl;
       device_stale = λ k c. refl;
     }
-parts_of Host d maps ds (Some r) loops blocks =
+parts_of Host p d e maps ds (Some r) loops blocks =
     record {
       met = refl;
       blocks_after = refl;
       row = refl;
-      current = λ k. ap (λ j. after_actions (acts_of (record {
-        kind = Host;
-        deferred = d;
-        maps = maps;
-        depends = ds;
-        region = Some r;
-        loops = loops;
-      }) blocks).actions j) (sym (no_acts maps k))
+      current = λ k. ap (λ j. after_actions (acts_of (work_of Host p d e maps ds (Some r) loops) blocks).actions j) (sym (no_acts maps k))
           ∙ sym (no_acts maps _);
       host_stale = λ k c. ap (λ (j : Current). exposes (touches_of r loops) c && not (j.host c)) (sym (no_acts maps k));
       device_stale = λ k c. refl;
     }
-parts_of Target d maps ds None loops blocks =
+parts_of Target p d e maps ds None loops blocks =
     record {
       met = target_met maps blocks [];
       blocks_after = target_blocks maps blocks [];
@@ -134,7 +141,7 @@ parts_of Target d maps ds None loops blocks =
       host_stale = λ k c. refl;
       device_stale = λ k c. target_stale maps blocks [] k c ∙ exits_quiet maps blocks [] _ c;
     }
-parts_of Target d maps ds (Some r) loops blocks =
+parts_of Target p d e maps ds (Some r) loops blocks =
     record {
       met = target_met maps blocks (Kernel (touches_of r loops) ∷ []);
       blocks_after = target_blocks maps blocks (Kernel (touches_of r loops) ∷ []);
@@ -146,7 +153,7 @@ parts_of Target d maps ds (Some r) loops blocks =
           ∙ ap (λ (j : Current). exposes (touches_of r loops) c && not (j.device c))
           ((all_entered (rests blocks) maps blocks).current k);
     }
-parts_of Begin d maps ds region loops blocks =
+parts_of Begin p d e maps ds region loops blocks =
     let all = all_entered always_works maps blocks in
     record {
       met = all.met;
@@ -156,7 +163,7 @@ parts_of Begin d maps ds region loops blocks =
       host_stale = λ k c. refl;
       device_stale = λ k c. refl;
     }
-parts_of Enter d maps ds region loops blocks =
+parts_of Enter p d e maps ds region loops blocks =
     let all = all_entered always_works maps blocks in
     record {
       met = all.met;
@@ -166,7 +173,7 @@ parts_of Enter d maps ds region loops blocks =
       host_stale = λ k c. refl;
       device_stale = λ k c. refl;
     }
-parts_of End d maps ds region loops blocks =
+parts_of End p d e maps ds region loops blocks =
     let all = all_left always_works maps blocks in
     record {
       met = all.met;
@@ -176,7 +183,7 @@ parts_of End d maps ds region loops blocks =
       host_stale = λ k c. refl;
       device_stale = λ k c. refl;
     }
-parts_of Exit d maps ds region loops blocks =
+parts_of Exit p d e maps ds region loops blocks =
     let all = all_left always_works maps blocks in
     record {
       met = all.met;
@@ -186,7 +193,7 @@ parts_of Exit d maps ds region loops blocks =
       host_stale = λ k c. refl;
       device_stale = λ k c. refl;
     }
-parts_of Update d maps ds region loops blocks =
+parts_of Update p d e maps ds region loops blocks =
     let all = all_updated maps blocks in
     record {
       met = all.met;
@@ -196,7 +203,7 @@ parts_of Update d maps ds region loops blocks =
       host_stale = λ k c. refl;
       device_stale = λ k c. refl;
     }
-parts_of Wait d maps ds region loops blocks =
+parts_of Wait p d e maps ds region loops blocks =
     record {
       met = refl;
       blocks_after = refl;
@@ -207,18 +214,20 @@ parts_of Wait d maps ds region loops blocks =
     }
 
 pub parts : (w : Work) (blocks : List Block) → Parts w blocks
-parts w blocks = parts_of w.kind w.deferred w.maps w.depends w.region w.loops blocks
+parts w blocks = parts_of w.kind w.place w.deferred w.device w.maps w.depends w.region w.loops blocks
 
 -- a cause is one that map items make, or one that the region makes
 pub cause_split : (w : Work) (blocks : List Block) (k : Current) (code : RefusalCode) (c : Cell) →
-    cause code (stage_of w blocks) k c
+    cause code (stage_of w blocks) (everywhere k) c
     ≡ (met_causes w.kind (met_by w.kind w.maps blocks) code c || region_causes w (at_region w blocks k) code c)
 cause_split w blocks k OverlapsInPart c =
     ap (λ ms. list_any (is_part_cell c) ms) (parts w blocks).met ∙ sym (or-false _)
 cause_split w blocks k ExitOfAbsent c =
-    ap (λ ms. is_exit w.kind && list_any (is_absent_cell c) ms) (parts w blocks).met ∙ sym (or-false _)
+    ap (λ ms. is_exit w.kind && list_any (names_absent c) ms) (parts w blocks).met ∙ sym (or-false _)
 cause_split w blocks k UpdateOfAbsent c =
     ap (λ ms. is_update w.kind && list_any (is_absent_cell c) ms) (parts w blocks).met ∙ sym (or-false _)
+cause_split w blocks k NotPresent c =
+    ap (λ ms. not (is_exit w.kind) && list_any (is_missing_cell c) ms) (parts w blocks).met ∙ sym (or-false _)
 cause_split w blocks k Unmapped c = refl
 cause_split w blocks k HostNotCurrent c = (parts w blocks).host_stale k c
 cause_split w blocks k DeviceNotCurrent c = (parts w blocks).device_stale k c

@@ -1,9 +1,10 @@
 -- What the map items of an item do on the table.
-use Rattle.std.specs.Prelude.{Bool, true, false, List, [], ◌∷◌, Option, Some, None, map}
+use Rattle.std.specs.Prelude.{ℕ, Bool, true, false, List, [], ◌∷◌, Option, Some, None, map}
 use Rattle.base.specs.declared.item.Section.{Section}
 use Rattle.base.specs.declared.item.MapItem.{MapItem}
 use Rattle.base.specs.declared.item.ItemKind.{ItemKind}
 use Rattle.base.specs.declared.item.ItemKind.TheVariants as kind
+use Rattle.base.specs.Memory.{changed}
 use Rattle.base.specs.Items.{Work}
 use Rattle.base.specs.Map.{Block, Move, Presence, Absent, Inside, InPart, presence, entry, exit, blocks_after, copies_to, copies_from}
 use Rattle.base.specs.Actions.{acts_of, always_works, rests}
@@ -96,7 +97,8 @@ acts_row w blocks = at w.kind
     at kind.Update = update_row w.maps blocks
     at kind.Wait = []
 
--- the rows of items, one after the other
-abbrev pub acts_rows : List Work → List Block → List (List Acts)
-acts_rows [] blocks = []
-acts_rows (w ∷ rest) blocks = acts_row w blocks ∷ acts_rows rest (acts_of w blocks).blocks
+-- the rows of items, one after the other, from these blocks of each device
+abbrev pub acts_rows : List Work → (ℕ → List Block) → List (List Acts)
+acts_rows [] tables = []
+acts_rows (w ∷ rest) tables =
+    acts_row w (tables w.device) ∷ acts_rows rest (changed w.device (acts_of w (tables w.device)).blocks tables)

@@ -5,13 +5,13 @@ use Rattle.base.specs.declared.item.Cell.{Cell}
 use Rattle.base.specs.declared.item.ItemKind.{ItemKind}
 use Rattle.base.specs.declared.fault.Refusal.{Refusal}
 use Rattle.base.specs.declared.fault.RefusalCode.{RefusalCode}
-use Rattle.base.specs.declared.fault.RefusalCode.TheVariants.{OverlapsInPart, ExitOfAbsent, UpdateOfAbsent, Unmapped, HostNotCurrent, DeviceNotCurrent, Conflict}
-use Rattle.base.specs.Memory.{is_in, same_cell}
+use Rattle.base.specs.declared.fault.RefusalCode.TheVariants.{OverlapsInPart, ExitOfAbsent, UpdateOfAbsent, NotPresent, Unmapped, HostNotCurrent, DeviceNotCurrent, Conflict}
+use Rattle.base.specs.Memory.{is_in}
 use Rattle.base.specs.Items.{Work}
 use Rattle.base.specs.Footprint.{exposes, reads, writes}
 use Rattle.base.specs.Actions.{Met, touches_in}
 use Rattle.base.specs.Current.{Current}
-use Rattle.base.specs.Accepted.{first_cell, in_part, is_absent, is_exit, is_host, is_target, is_update, met_at, refusal_rank}
+use Rattle.base.specs.Accepted.{in_part, is_exit, is_host, is_target, is_update, met_at, names_absent, refusal_rank}
 use Rattle.mapwalk.specs.declared.causes.Cause.{Cause}
 use Rattle.base.specs.Least.{is_less as is_before}
 
@@ -23,6 +23,11 @@ abbrev pub is_less : RefusalCode → Cell → Cause → Bool
 is_less code c x = nat_lt (refusal_rank code) (refusal_rank x.code)
     || ((refusal_rank code == refusal_rank x.code) && is_before c x.cell)
 
+-- the cause of a code, where there is a cell for it
+abbrev pub cause_at : RefusalCode → Option Cell → Option Cause
+cause_at code None = None
+cause_at code (Some cell) = Some (record { code = code; cell = cell })
+
 -- the first of some causes, or none
 abbrev pub IsFirstOf : (RefusalCode → Cell → Bool) → Option Cause → Type 0
 IsFirstOf p None = (code : RefusalCode) (c : Cell) → p code c ≡ false
@@ -33,15 +38,20 @@ IsFirstOf p (Some x) =
 abbrev pub is_part_cell : Cell → Met → Bool
 is_part_cell c m = in_part (met_at m) && (is_in c m.item.section && list_any (λ b. is_in c b.section) m.blocks)
 
--- the first cell of a met section that is absent
+-- the first cell of a met section that is absent, and need not be present
 abbrev pub is_absent_cell : Cell → Met → Bool
-is_absent_cell c m = is_absent (met_at m) && same_cell c (first_cell m.item.section)
+is_absent_cell c m = not m.item.present && names_absent c m
+
+-- the first cell of a met section that is absent, and is to be present
+abbrev pub is_missing_cell : Cell → Met → Bool
+is_missing_cell c m = m.item.present && names_absent c m
 
 -- the causes that map items make
 abbrev pub met_causes : ItemKind → List Met → RefusalCode → Cell → Bool
 met_causes kind mets OverlapsInPart c = list_any (is_part_cell c) mets
-met_causes kind mets ExitOfAbsent c = is_exit kind && list_any (is_absent_cell c) mets
+met_causes kind mets ExitOfAbsent c = is_exit kind && list_any (names_absent c) mets
 met_causes kind mets UpdateOfAbsent c = is_update kind && list_any (is_absent_cell c) mets
+met_causes kind mets NotPresent c = not (is_exit kind) && list_any (is_missing_cell c) mets
 met_causes kind mets Unmapped c = false
 met_causes kind mets HostNotCurrent c = false
 met_causes kind mets DeviceNotCurrent c = false
@@ -52,6 +62,7 @@ abbrev pub region_causes : Work → Current → RefusalCode → Cell → Bool
 region_causes w k OverlapsInPart c = false
 region_causes w k ExitOfAbsent c = false
 region_causes w k UpdateOfAbsent c = false
+region_causes w k NotPresent c = false
 region_causes w k Unmapped c =
     is_target w.kind
     && ((reads (touches_in w) c || writes (touches_in w) c) && not (list_any (λ m. is_in c m.section) w.maps))

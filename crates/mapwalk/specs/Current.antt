@@ -42,6 +42,10 @@ with_cut cells side c = not (cells c) && side c
 abbrev pub IsStart : List ℕ → Bool → List Marks → Type 0
 IsStart lengths mark side = (c : Cell) → is_cell lengths c ≡ true → marks_in side c ≡ mark
 
+-- no cell of an array is one of these
+abbrev pub AreNotCurrent : List ℕ → (Cell → Bool) → Type 0
+AreNotCurrent lengths cells = (c : Cell) → is_cell lengths c ≡ true → cells c ≡ false
+
 abbrev pub array_number : ArrayId → ℕ
 array_number a = a.0
 

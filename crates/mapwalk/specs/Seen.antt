@@ -33,19 +33,26 @@ least_shared s [] found = found
 least_shared s (b ∷ rest) found = least_shared s rest (also (shared s b.section) found)
 
 abbrev pub nothing : Seen
-nothing = record { in_part = None; absent = None }
+nothing = record { in_part = None; absent = None; missing = None }
 
-abbrev pub seen_at : Section → List Block → Seen → Seen
-seen_at s blocks seen = at (presence blocks s)
+-- a section that is absent
+abbrev pub seen_absent : MapItem → Seen → Seen
+seen_absent item seen =
+    if item.present
+    then record seen { missing = Some (lesser (first_cell item.section) seen.missing) }
+    else record seen { absent = Some (lesser (first_cell item.section) seen.absent) }
+
+abbrev pub seen_at : MapItem → List Block → Seen → Seen
+seen_at item blocks seen = at (presence blocks item.section)
   where
     at : Presence → Seen
-    at Absent = record seen { absent = Some (lesser (first_cell s) seen.absent) }
+    at Absent = seen_absent item seen
     at (Inside b) = seen
-    at InPart = record seen { in_part = least_shared s blocks seen.in_part }
+    at InPart = record seen { in_part = least_shared item.section blocks seen.in_part }
 
 abbrev pub seen_all : List Met → Seen → Seen
 seen_all [] seen = seen
-seen_all (m ∷ rest) seen = seen_all rest (seen_at m.item.section m.blocks seen)
+seen_all (m ∷ rest) seen = seen_all rest (seen_at m.item m.blocks seen)
 
 -- what entries in turn meet, and exits, and updates
 abbrev pub entry_mets : List MapItem → List Block → List Met

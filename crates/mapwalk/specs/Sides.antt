@@ -1,18 +1,15 @@
--- What the two sides stand for, and what map items do to it.
-use Rattle.std.specs.Prelude.{ℕ, Bool, true, false, List, [], ◌∷◌}
+-- What the marks of the host and of a device stand for, and what map items do to it.
+use Rattle.std.specs.Prelude.{Bool, true, false, List, [], ◌∷◌}
 use Rattle.base.specs.declared.item.Section.{Section}
 use Rattle.base.specs.declared.item.MapItem.{MapItem}
 use Rattle.base.specs.Actions.{Action, Creates, CopiesIn, CopiesOut, Removes}
 use Rattle.base.specs.Current.{Current, after_action}
+use Rattle.mapwalk.specs.declared.marks.Marks.{Marks}
 use Rattle.mapwalk.specs.declared.rows.Acts.{Acts}
-use Rattle.mapwalk.specs.declared.current.Sides.{Sides}
-use Rattle.mapwalk.specs.Current.{marks_in, row_lengths}
+use Rattle.mapwalk.specs.Current.{marks_in}
 
-abbrev pub shown_by : Sides → Current
-shown_by s = record { host = marks_in s.host.items; device = marks_in s.device.items }
-
-abbrev pub lengths_in : Sides → List ℕ
-lengths_in s = row_lengths s.host.items
+abbrev pub shown_by : List Marks → List Marks → Current
+shown_by host device = record { host = marks_in host; device = marks_in device }
 
 abbrev pub act_if : Bool → Action → Current → Current
 act_if true a k = after_action a k

@@ -26,7 +26,7 @@ row_items row = row.items
 
 -- a row for each item before the refused one
 abbrev pub AreActs : Plan → Walked → Type 0
-AreActs plan w = map row_items w.acts.items ≡ take (items_before plan w.fault) (acts_rows plan.items [])
+AreActs plan w = map row_items w.acts.items ≡ take (items_before plan w.fault) (acts_rows plan.items (λ d. []))
 
 -- an item is refused by itself, and no item is before it
 pub record IsFirstAlone (plan : Plan) (r : Refusal) : Type 0 where

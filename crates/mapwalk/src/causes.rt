@@ -4,12 +4,13 @@ ghost use Rattle.std.specs.Prelude.{◌≡◌, ◌<◌, ◌^◌, ◌&&◌, ◌||
 ghost use Rattle.std.specs.List.{list_any};
 ghost use Rattle.base.specs.Memory.{is_in};
 ghost use Rattle.base.specs.Actions.{Met};
+ghost use Rattle.base.specs.Accepted;
 ghost use Rattle.ranges.specs.Cells.{has};
 ghost use Rattle.bits.specs.Sets as bits;
 ghost use Rattle.mapwalk.specs.Current.{AreInside, marks_in, row_lengths};
 ghost use Rattle.bits.specs.Sets.{IsFirstAt};
 ghost use Rattle.base.specs.Least.{IsLeast};
-ghost use Rattle.mapwalk.specs.Causes.{AreBelow, IsFirstOf, met_causes};
+ghost use Rattle.mapwalk.specs.Causes.{AreBelow, IsFirstOf, cause_at, met_causes};
 ghost use Rattle.mapwalk.specs.Seen.{nothing, seen_all};
 
 use crate::blocks::end;
@@ -17,6 +18,7 @@ use crate::marks::Marks;
 use crate::seen::Seen;
 use base::fault::RefusalCode;
 use base::item::{Cell, ItemKind, MapItem, Section};
+use base::least::lesser;
 use base::tree::ArrayId;
 use bits::BitSet;
 use ranges::{CellSet, Footprint};
@@ -115,6 +117,28 @@ pub fn least_unmapped(f: &Footprint, maps: &[MapItem], arrays: usize) -> Option<
     None
 }
 
+fn is_exit(kind: ItemKind) -> bool
+    ensures { result ≡ Accepted.is_exit kind }
+{
+    matches!(kind, ItemKind::End | ItemKind::Exit)
+}
+
+fn is_update(kind: ItemKind) -> bool
+    ensures { result ≡ Accepted.is_update kind }
+{
+    matches!(kind, ItemKind::Update)
+}
+
+// The cause of this code, where there is a cell for it.
+fn caused(code: RefusalCode, cell: Option<Cell>) -> Option<Cause>
+    ensures { result ≡ cause_at code cell }
+{
+    match cell {
+        None => None,
+        Some(cell) => Some(Cause { code, cell }),
+    }
+}
+
 /// Why an item is refused for what its map items meet.
 pub fn met_cause(kind: ItemKind, seen: &Seen) -> Option<Cause>
     ensures { (mets : List Met) → seen.now ≡ seen_all mets nothing → IsFirstOf (met_causes kind mets) result }
@@ -125,19 +149,14 @@ pub fn met_cause(kind: ItemKind, seen: &Seen) -> Option<Cause>
             cell,
         });
     }
-    let Some(cell) = seen.absent else {
-        return None;
-    };
-    match kind {
-        ItemKind::End | ItemKind::Exit => Some(Cause {
-            code: RefusalCode::ExitOfAbsent,
-            cell,
-        }),
-        ItemKind::Update => Some(Cause {
+    if is_exit(kind) {
+        return caused(RefusalCode::ExitOfAbsent, lesser(seen.absent, seen.missing));
+    }
+    match seen.absent {
+        Some(cell) if is_update(kind) => Some(Cause {
             code: RefusalCode::UpdateOfAbsent,
             cell,
         }),
-        ItemKind::Host | ItemKind::Target | ItemKind::Begin | ItemKind::Enter | ItemKind::Wait =>
-            None,
+        _ => caused(RefusalCode::NotPresent, seen.missing),
     }
 }

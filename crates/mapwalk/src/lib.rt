@@ -13,7 +13,8 @@ pub use crate::alike::repeats;
 use crate::causes::Cause;
 pub use crate::footprints::{footprint_of, next_footprint};
 pub use crate::rows::Acts;
-use crate::steps::{State, Step};
+use crate::state::State;
+use crate::steps::Step;
 use base::fault::Refusal;
 use base::tree::ArrayId;
 use outline::Outlined;
@@ -30,6 +31,7 @@ mod marks;
 mod region;
 mod rows;
 mod seen;
+mod state;
 mod steps;
 mod table;
 
@@ -93,18 +95,20 @@ fn refusal(cause: Cause, item: u32) -> Refusal
     }
 }
 
-/// What an item does is spelled out by the row of its map items, where none of these meets a block in part.
+/// What an item does is spelled out by the row of its map items, where none of these meets a block in part, or is absent
+/// and to be present.
 pub fn acts_are_actions()
     ensures { ActsAreActions }
 {}
 
-/// A target's exits are of the blocks of its entries, where none of these meets a block in part.
+/// A target's exits are of the blocks of its entries, where none of these meets a block in part, or is absent and to be
+/// present.
 pub fn targets_keep_blocks()
     ensures { TargetsKeepBlocks }
 {}
 
-/// What an item of a program without a fault of range does is spelled out by the row of its map items, where it is not
-/// refused with E501.
+/// What an item of a program without a fault of range does is spelled out by the row of its map items, where it is refused
+/// neither with E501 nor with E509.
 pub fn stages_are_spelled()
     ensures { StagesAreSpelled }
 {}

@@ -103,7 +103,7 @@ impl Blocks {
     {
         let mut row = Vec::new(alloc);
         'maps: for item in maps {
-            seen.note(&self.blocks, &item.section);
+            seen.note(&self.blocks, item);
             row.push(self.enter(item, rests(before, item))?)?;
         }
         Ok(row)
@@ -124,7 +124,7 @@ impl Blocks {
     {
         let mut row = Vec::new(alloc);
         'maps: for item in maps {
-            seen.note(&self.blocks, &item.section);
+            seen.note(&self.blocks, item);
             row.push(self.leave(item, rests(before, item)))?;
         }
         Ok(row)
@@ -142,7 +142,7 @@ impl Blocks {
     {
         let mut row = Vec::new(alloc);
         'maps: for item in maps {
-            seen.note(&self.blocks, &item.section);
+            seen.note(&self.blocks, item);
             row.push(update(item, &place_of(&self.blocks, &item.section)))?;
         }
         Ok(row)

@@ -4,16 +4,18 @@ ghost use Rattle.std.specs.Prelude.{◌≡◌, Some, None, map};
 ghost use Rattle.base.specs.Accepted.{first_cell};
 ghost use Rattle.base.specs.Least.{is_less};
 ghost use Rattle.mapwalk.specs.Blocks.{block_of};
-ghost use Rattle.mapwalk.specs.Seen.{least_shared, lesser, nothing, seen_at, shared};
+ghost use Rattle.mapwalk.specs.Seen.{least_shared, lesser, nothing, seen_absent, seen_at, shared};
 
 use crate::blocks::{Block, Place, end, place_of};
-use base::item::{Cell, Section};
+use base::item::{Cell, MapItem, Section};
 
-/// The least cell of a section that overlaps a block in part and of a block, and the least first cell of an absent one.
+/// The least cell of a section that overlaps a block in part and of a block; the least first cell of a section that is
+/// absent, and of one that is absent and is to be present.
 #[derive(Clone, Copy)]
 pub struct Seen {
     pub in_part: Option<Cell>,
     pub absent: Option<Cell>,
+    pub missing: Option<Cell>,
 }
 
 // Whether a cell is before another, by array and then by index.
@@ -87,17 +89,29 @@ impl Seen {
         Seen {
             in_part: None,
             absent: None,
+            missing: None,
         }
     }
 
-    /// Notes a section that is met.
-    pub fn note(&mut self, blocks: &[Block], section: &Section)
-        ensures { self.new ≡ seen_at section.now (map block_of blocks.now) self.old }
+    // Notes a section that is absent.
+    fn note_absent(&mut self, item: &MapItem)
+        ensures { self.new ≡ seen_absent item.now self.old }
     {
-        match place_of(blocks, section) {
-            Place::Absent => self.absent = Some(least(first(section), self.absent)),
+        if item.present {
+            self.missing = Some(least(first(&item.section), self.missing));
+        } else {
+            self.absent = Some(least(first(&item.section), self.absent));
+        }
+    }
+
+    /// Notes a map item that is met.
+    pub fn note(&mut self, blocks: &[Block], item: &MapItem)
+        ensures { self.new ≡ seen_at item.now (map block_of blocks.now) self.old }
+    {
+        match place_of(blocks, &item.section) {
+            Place::Absent => self.note_absent(item),
             Place::Inside(_) => {}
-            Place::InPart => self.in_part = least_common(blocks, section, self.in_part),
+            Place::InPart => self.in_part = least_common(blocks, &item.section, self.in_part),
         }
     }
 }

@@ -1,29 +1,27 @@
-// The items, one after the other.
+// An item on the host and on its device.
 
-ghost use Rattle.std.specs.Prelude.{◌≡◌, ◌+◌, ◌<◌, ◌≤◌, ◌^◌, List, [], Some, true, false, length, map, filter, IfOk, OnOk, IfNone, IfSome};
-ghost use Rattle.std.specs.List.{range_with_len};
-ghost use Rattle.base.specs.Meaning.{lengths_of};
+ghost use Rattle.std.specs.Prelude.{◌≡◌, ◌+◌, ◌<◌, ◌≤◌, ◌^◌, List, [], Some, true, false, length, IfOk, OnOk, IfNone, IfSome};
 ghost use Rattle.base.specs.Items.{Work};
 ghost use Rattle.base.specs.Current.{after_actions};
 ghost use Rattle.outline.specs.Regions.{Entry};
 ghost use Rattle.outline.specs.Shown.{shown};
+ghost use Rattle.ranges.specs.Cells.{has};
 ghost use Rattle.mapwalk.specs.Table.{blocks_of};
 ghost use Rattle.mapwalk.specs.Causes.{IsFirstOf, region_causes};
-ghost use Rattle.mapwalk.specs.Current.{IsStart, array_number, is_full_in};
+ghost use Rattle.mapwalk.specs.Current.{IsStart, marks_in, row_lengths, with_cut};
 ghost use Rattle.mapwalk.specs.Regions.{IsFootprintOf, IsWithin, region_actions};
-ghost use Rattle.mapwalk.specs.Sides.{lengths_in, shown_by};
-ghost use Rattle.mapwalk.specs.Steps.{StepIs};
+ghost use Rattle.mapwalk.specs.Sides.{after_acts, shown_by};
+ghost use Rattle.mapwalk.specs.Steps.{IsDoneHere, IsMarkable};
 
 use crate::causes::{Cause, met_cause};
-use crate::current::Sides;
+use crate::current::{act_all, cut_set, side_of};
+use crate::marks::Marks;
 use crate::region::{run_host, run_kernel};
-use crate::rows::Acts;
+use crate::rows::{Acts, Rows};
 use crate::seen::Seen;
 use crate::table::Blocks;
 use base::item::{Item, ItemKind};
-use base::tree::ArrayId;
-use outline::Outlined;
-use ranges::Footprint;
+use ranges::{CellSet, Footprint};
 use std::alloc::{AllocError, Global};
 
 /// What comes of an item: a row for its map items, or why it is refused.
@@ -33,25 +31,24 @@ pub enum Step {
     Refused(Cause),
 }
 
-/// The blocks, and what is current.
-#[derive(Drop)]
-pub struct State {
-    alloc: Global,
-    pub blocks: Blocks,
-    pub sides: Sides,
-}
-
-// What the region of an item does, or why it is refused.
-fn run_region(item: &Item, found: &Option<Footprint>, sides: &mut Sides) -> Option<Cause>
-    requires few { length sides.old.host.items < 2 ^ 32 }
-    requires within { IfSome found.now (IsWithin (lengths_in sides.old)) }
-    ensures cause { (entries : List Entry) (w : Work) → shown entries item.now ≡ Some w → IsFootprintOf w found.now → IsFirstOf (region_causes w (shown_by sides.old)) result }
-    ensures current { (entries : List Entry) (w : Work) → shown entries item.now ≡ Some w → IsFootprintOf w found.now → IfNone result (shown_by sides.new ≡ after_actions (region_actions w) (shown_by sides.old)) }
-    ensures lengths { lengths_in sides.new ≡ lengths_in sides.old }
+// What the region of an item does on the host and its device, or why it is refused.
+fn run_region(
+    item: &Item,
+    found: &Option<Footprint>,
+    host: &mut [Marks],
+    device: &mut [Marks],
+) -> Option<Cause>
+    requires few { length host.old < 2 ^ 32 }
+    requires same { row_lengths host.old ≡ row_lengths device.old }
+    requires within { IfSome found.now (IsWithin (row_lengths host.old)) }
+    ensures cause { (entries : List Entry) (w : Work) → shown entries item.now ≡ Some w → IsFootprintOf w found.now → IsFirstOf (region_causes w (shown_by host.old device.old)) result }
+    ensures current { (entries : List Entry) (w : Work) → shown entries item.now ≡ Some w → IsFootprintOf w found.now → IfNone result (shown_by host.new device.new ≡ after_actions (region_actions w) (shown_by host.old device.old)) }
+    ensures host { row_lengths host.new ≡ row_lengths host.old }
+    ensures device { row_lengths device.new ≡ row_lengths device.old }
 {
     match item.kind {
-        ItemKind::Host => run_host(found, item, sides),
-        ItemKind::Target => run_kernel(found, item, sides),
+        ItemKind::Host => run_host(found, item, host, device),
+        ItemKind::Target => run_kernel(found, item, host, device),
         ItemKind::Begin
         | ItemKind::End
         | ItemKind::Enter
@@ -61,50 +58,86 @@ fn run_region(item: &Item, found: &Option<Footprint>, sides: &mut Sides) -> Opti
     }
 }
 
-impl State {
-    /// No block, and every cell current on the host.
-    pub fn new(alloc: Global, outlined: &Outlined<'_>) -> Result<State, AllocError>
-        ensures blocks { IfOk result (λ s. blocks_of s.blocks ≡ []) }
-        ensures entries { IfOk result (λ s. s.blocks.entries ≡ 0) }
-        ensures few { IfOk result (λ s. length s.sides.host.items < 2 ^ 32) }
-        ensures lengths { IfOk result (λ s. lengths_in s.sides ≡ lengths_of outlined.now) }
-        ensures host { IfOk result (λ s. IsStart (lengths_of outlined.now) true s.sides.host.items) }
-        ensures device { IfOk result (λ s. IsStart (lengths_of outlined.now) false s.sides.device.items) }
+// What an item whose map items do this does on the host and its device, or why its region is refused.
+fn run_item(
+    item: &Item,
+    found: &Option<Footprint>,
+    rows: &Rows,
+    host: &mut [Marks],
+    device: &mut [Marks],
+) -> Option<Cause>
+    requires few { length host.old < 2 ^ 32 }
+    requires same { row_lengths host.old ≡ row_lengths device.old }
+    requires within { IfSome found.now (IsWithin (row_lengths host.old)) }
+    ensures cause { (entries : List Entry) (w : Work) → shown entries item.now ≡ Some w → IsFootprintOf w found.now → IsFirstOf (region_causes w (after_acts item.now.maps.items rows.now.before.items (shown_by host.old device.old))) result }
+    ensures current { (entries : List Entry) (w : Work) → shown entries item.now ≡ Some w → IsFootprintOf w found.now → IfNone result (shown_by host.new device.new ≡ after_acts item.now.maps.items rows.now.after.items (after_actions (region_actions w) (after_acts item.now.maps.items rows.now.before.items (shown_by host.old device.old)))) }
+    ensures host { row_lengths host.new ≡ row_lengths host.old }
+    ensures device { row_lengths device.new ≡ row_lengths device.old }
+{
+    act_all(host, device, &item.maps, &rows.before);
+    let cause = run_region(item, found, host, device);
+    if cause.is_none() {
+        act_all(host, device, &item.maps, &rows.after);
+    }
+    cause
+}
+
+/// A device: its blocks, and the marks of the cells that are current on it.
+#[derive(Drop)]
+pub struct DeviceState {
+    pub blocks: Blocks,
+    pub current: Vec<Marks>,
+}
+
+impl DeviceState {
+    /// No block, and no current cell.
+    pub fn new(alloc: Global, lengths: &[u32]) -> Result<DeviceState, AllocError>
+        ensures blocks { IfOk result (λ d. blocks_of d.blocks ≡ []) }
+        ensures entries { IfOk result (λ d. d.blocks.entries ≡ 0) }
+        ensures lengths { IfOk result (λ d. row_lengths d.current.items ≡ lengths.now) }
+        ensures current { IfOk result (λ d. IsStart lengths.now false d.current.items) }
     {
-        Ok(State {
-            alloc,
+        Ok(DeviceState {
             blocks: Blocks::new(alloc),
-            sides: Sides::new(alloc, outlined.lengths())?,
+            current: side_of(alloc, lengths, false)?,
         })
     }
 
-    /// Does an item whose region has this footprint, or says why it is refused.
-    pub fn step(&mut self, item: &Item, found: &Option<Footprint>) -> Result<Step, AllocError>
+    /// Takes the marks of cells away that another device's region may write.
+    pub fn spoil(&mut self, cells: &CellSet)
+        requires { IsMarkable (has cells.now) (row_lengths self.old.current.items) }
+        ensures blocks { self.new.blocks ≡ self.old.blocks }
+        ensures marks { marks_in self.new.current.items ≡ with_cut (has cells.now) (marks_in self.old.current.items) }
+        ensures lengths { row_lengths self.new.current.items ≡ row_lengths self.old.current.items }
+    {
+        cut_set(&mut self.current, cells);
+    }
+
+    /// Does an item of this device whose region has this footprint, or says why it is refused.
+    pub fn step(
+        &mut self,
+        alloc: Global,
+        host: &mut [Marks],
+        item: &Item,
+        found: &Option<Footprint>,
+    ) -> Result<Step, AllocError>
         requires room { self.old.blocks.entries + 2 ^ 64 < 2 ^ 128 }
-        requires few { length self.old.sides.host.items < 2 ^ 32 }
-        requires within { IfSome found.now (IsWithin (lengths_in self.old.sides)) }
-        ensures step { (entries : List Entry) (w : Work) → shown entries item.now ≡ Some w → IsFootprintOf w found.now → IfOk result (StepIs w self.old self.new) }
+        requires few { length host.old < 2 ^ 32 }
+        requires same { row_lengths host.old ≡ row_lengths self.old.current.items }
+        requires within { IfSome found.now (IsWithin (row_lengths host.old)) }
+        ensures step { (entries : List Entry) (w : Work) → shown entries item.now ≡ Some w → IsFootprintOf w found.now → IfOk result (IsDoneHere w (blocks_of self.old.blocks) (blocks_of self.new.blocks) (shown_by host.old self.old.current.items) (shown_by host.new self.new.current.items)) }
         ensures entries { OnOk result (self.new.blocks.entries ≤ self.old.blocks.entries + 2 ^ 64) }
-        ensures lengths { lengths_in self.new.sides ≡ lengths_in self.old.sides }
+        ensures host { row_lengths host.new ≡ row_lengths host.old }
+        ensures device { row_lengths self.new.current.items ≡ row_lengths self.old.current.items }
     {
         let mut seen = Seen::new();
-        let rows = self.blocks.item(self.alloc, item, &mut seen)?;
+        let rows = self.blocks.item(alloc, item, &mut seen)?;
         if let Some(cause) = met_cause(item.kind, &seen) {
             return Ok(Step::Refused(cause));
         }
-        self.sides.act_all(&item.maps, &rows.before);
-        if let Some(cause) = run_region(item, found, &mut self.sides) {
-            return Ok(Step::Refused(cause));
+        match run_item(item, found, &rows, host, &mut self.current) {
+            Some(cause) => Ok(Step::Refused(cause)),
+            None => Ok(Step::Done(rows.join(item.kind))),
         }
-        self.sides.act_all(&item.maps, &rows.after);
-        Ok(Step::Done(rows.join(item.kind)))
-    }
-
-    /// The arrays of which each cell is current on the host.
-    pub fn current(&self) -> Result<Vec<ArrayId>, AllocError>
-        requires { length self.now.sides.host.items < 2 ^ 32 }
-        ensures { IfOk result (λ full. map array_number full.items ≡ filter (is_full_in self.now.sides.host.items) (range_with_len 0 (length self.now.sides.host.items))) }
-    {
-        self.sides.full(self.alloc)
     }
 }

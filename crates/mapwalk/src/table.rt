@@ -40,6 +40,10 @@ impl Blocks {
     {
         let place = place_of(&self.blocks, &item.section);
         match place {
+            Place::Absent if item.present => {
+                self.entries += 1;
+                Ok(Acts::look(item.section, true))
+            }
             Place::Absent => {
                 let block = Block {
                     section: item.section,

@@ -9,8 +9,7 @@ use Rattle.base.specs.Arrays.{memory_of}
 use Rattle.base.specs.Map.{Block as Present, Device, Memories, Move, Inside, presence, entry, enter, in_turn, copy_in, when, created, blocks_after, need}
 use Rattle.present.specs.declared.Table.{Table}
 use Rattle.present.specs.Blocks.{IsSection, present}
-use Rattle.present.specs.Found.{IsInPart}
-use Rattle.present.specs.Change.{IsCountedAt, IsCountFault, IsOver, blocks_of}
+use Rattle.present.specs.Change.{IsCountedAt, IsCountFault, IsOver, IsRefused}
 use Rattle.present.specs.Table.{Shows, Are, Does, Fails, CountsFit, SomeRoom, IsPartFault, capacity_of, fill_of, first_cell, memories, with_created, with_host, with_host_if}
 use Rattle.present.proofs.Entries.{is_absent_at, is_inside_at, opens_entry, opens_used, opens_shown, raises_entry, raises_shown, recount_used}
 use Rattle.present.proofs.Undone.{count_grows}
@@ -29,13 +28,14 @@ no_room : (t : Table) (item : MapItem) (rest : List MapItem) → IsSection item.
     IsOver t item → ⊥
 no_room t item rest w r h =
     let e = need_step item rest r.device.blocks _
-    (entry_absent item r.device.blocks (is_absent_at t item.section w h.at h.absent r.device r.shown)) in
+    (entry_absent item r.device.blocks (is_absent_at t item.section w h.at h.absent r.device r.shown)
+    h.without_present) in
     let room = r.room in
     let over = h.over in
     omega (arith, e, room, over)
 
 pub part_fault : (t : Table) (item : MapItem) (rest : List MapItem) (P : Type 0) → IsSection item.section →
-    SomeRoom t (item ∷ rest) → (IsInPart (blocks_of t) item.section → P) → (f : RunFault) → IsCountFault t item f →
+    SomeRoom t (item ∷ rest) → (IsRefused t item → P) → (f : RunFault) → IsCountFault t item f →
     IsPartFault P f
 part_fault t item rest P w r part fault.OutOfMemory h = tt
 part_fault t item rest P w r part fault.DeviceFull h = no_room t item rest w r h
@@ -55,7 +55,7 @@ later_fault P Q g fault.OtherState h = h
 later_fault P Q g fault.RangeRefused h = h
 
 pub no_first : (t : Table) (item : MapItem) (rest : List MapItem) (host : Arrays) → IsSection item.section →
-    IsInPart (blocks_of t) item.section → Fails (in_turn (enter (fill_of t)) (item ∷ rest)) t host
+    IsRefused t item → Fails (in_turn (enter (fill_of t)) (item ∷ rest)) t host
 no_first t item rest host w h d sh =
     ap (λ (o : Option Memories). elim o [ None ↦ None | Some next ↦ in_turn (enter (fill_of t)) rest next ])
     (no_enter t item host w h d sh)

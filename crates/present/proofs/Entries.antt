@@ -1,5 +1,5 @@
 -- What the count of an entry shows.
-use Rattle.std.proofs.Common.{◌≡◌, ℕ, zero, suc, ◌+◌, ◌-◌, ◌<◌, ◌≤◌, Bool, true, List, [], ◌∷◌, ◌++◌, map, length, replicate, Option, Some, None, refl, sym, ◌∙◌, ap, subst, arith}
+use Rattle.std.proofs.Common.{◌≡◌, ℕ, zero, suc, ◌+◌, ◌-◌, ◌<◌, ◌≤◌, Bool, true, false, List, [], ◌∷◌, ◌++◌, map, length, replicate, Option, Some, None, refl, sym, ◌∙◌, ap, subst, arith}
 use Rattle.std.specs.Prelude.{slice_get, slice_set, insert, option_map}
 use Rattle.std.proofs.lemmas.Option.{slice_get_within}
 use Rattle.base.specs.declared.item.Cell.{Cell}
@@ -12,13 +12,13 @@ use Rattle.present.specs.declared.Table.{Table}
 use Rattle.present.specs.declared.block.Block.{Block}
 use Rattle.present.specs.Blocks.{IsSection, Show, present, number_in, stored_at, cells_in}
 use Rattle.present.specs.Found.{IsAbsentAt, IsInsideAt, IsInPart}
-use Rattle.present.specs.Change.{Opens, Raises, blocks_of, with_count}
+use Rattle.present.specs.Change.{IsRefused, Partly, Missing, Opens, Raises, blocks_of, with_count}
 use Rattle.present.specs.Table.{Shows, count_at, first_cell, fill_of, with_created}
 use Rattle.base.proofs.Sections.{in_parts, inside_in, inside_self, first_in}
 use Rattle.present.proofs.Orders.{cells_insert, cells_set}
 use Rattle.present.proofs.Founds.{at_block, absent_none}
 use Rattle.present.proofs.Shown.{presence_absent, presence_inside, presence_part, shows_created, shows_counted}
-use Rattle.base.proofs.Moves.{created_move, raised_move, entry_absent, entry_there, entry_part}
+use Rattle.base.proofs.Moves.{created_move, raised_move, entry_absent, entry_missing, entry_there, entry_part}
 use Rattle.present.proofs.BlockReads.{change_insert, change_set}
 
 pub get_replicate : (n i v : ℕ) → i < n → slice_get (replicate n v) i ≡ Some v
@@ -52,7 +52,7 @@ module _ (t : Table) (s : Section) (w : IsSection s) where
 module _ (old new : Table) (item : MapItem) (n : ℕ) (copied : Bool) (w : IsSection item.section)
     (h : Opens old new item n copied) (d : Device) (sh : Shows old d) where
   pub opens_entry : entry item d.blocks ≡ Some (created_move item d.blocks)
-  opens_entry = entry_absent item d.blocks (is_absent_at old item.section w n h.absent d sh)
+  opens_entry = entry_absent item d.blocks (is_absent_at old item.section w n h.absent d sh) h.without_present
 
   pub opens_used : new.used ≡ old.used + item.section.length
   opens_used =
@@ -159,19 +159,25 @@ count_here t s n b w e i =
     (at_block (blocks_of t) t.stored (first_cell s) n b e (inside_in (first_cell s) s b.section i
     (first_in s w.has_cells)))
 
+-- an entry that may not be done
+pub refused_entry : (t : Table) (item : MapItem) → IsSection item.section → IsRefused t item →
+    (d : Device) → Shows t d → entry item d.blocks ≡ None
+refused_entry t item w (Partly h) d sh = entry_part item d.blocks (is_in_part t item.section w h d sh)
+refused_entry t item w (Missing h) d sh =
+    entry_missing item d.blocks (is_absent_at t item.section w h.at h.absent d sh) h.with_present
+
 -- How many cells an entry needs.
 
 need_one : (item : MapItem) (blocks : List Present) → need (item ∷ []) blocks ≡ created (entry item blocks)
 need_one item blocks = omega arith
 
 pub need_absent : (item : MapItem) (blocks : List Present) → presence blocks item.section ≡ Absent →
-    need (item ∷ []) blocks ≡ item.section.length
-need_absent item blocks e = need_one item blocks ∙ ap created (entry_absent item blocks e)
+    item.present ≡ false → need (item ∷ []) blocks ≡ item.section.length
+need_absent item blocks e p = need_one item blocks ∙ ap created (entry_absent item blocks e p)
 
 pub need_inside : (item : MapItem) (blocks : List Present) (b : Present) → presence blocks item.section ≡ Inside b →
     need (item ∷ []) blocks ≡ 0
 need_inside item blocks b e = need_one item blocks ∙ ap created (entry_there item blocks b e)
 
-pub need_part : (item : MapItem) (blocks : List Present) → presence blocks item.section ≡ InPart →
-    need (item ∷ []) blocks ≡ 0
-need_part item blocks e = need_one item blocks ∙ ap created (entry_part item blocks e)
+pub need_none : (item : MapItem) (blocks : List Present) → entry item blocks ≡ None → need (item ∷ []) blocks ≡ 0
+need_none item blocks e = need_one item blocks ∙ ap created e

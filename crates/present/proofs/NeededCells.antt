@@ -12,11 +12,11 @@ use Rattle.present.specs.declared.block.Block.{Block}
 use Rattle.present.specs.Blocks.{IsSection, present, stored_at}
 use Rattle.base.specs.Blocks.{holder}
 use Rattle.present.specs.Table.{Shows}
-use Rattle.present.specs.Needed.{Covers, Meets, Takes, IsMetOr, IsFreeOr, IsNumber, Needs, in_one, is_taken}
+use Rattle.present.specs.Needed.{Covers, Meets, Takes, IsMetOr, IsFreeOr, IsNewOr, IsNumber, Needs, in_one, is_taken}
 use Rattle.base.proofs.Sections.{common}
 use Rattle.present.proofs.Finds.{find_yes, find_no}
 use Rattle.base.proofs.Blocks.{meets, judge, presence_is, absent_from, holder_absent, holder_counted, holder_some, holder_none, counted_apart, more_apart}
-use Rattle.base.proofs.Moves.{is_absent, entry_absent, entry_there, entry_part}
+use Rattle.base.proofs.Moves.{is_absent, entry_absent, entry_missing, entry_there, entry_part}
 
 none_of : {A : Type 0} (o : Option A) → is_some o ≡ false → o ≡ None
 none_of None e = refl
@@ -80,21 +80,22 @@ module _ (t : Table) (sections : List Section) (item : MapItem) (w : IsSection i
           old (holder blocks c) refl i ∙ h.held c
           ∙ ap (λ b. is_some (stored_at t.blocks.items c) || (b || in_one sections c)) (sym i)
 
-  pub free_covers : IsFreeOr t sections item.section true →
+  pub free_covers : item.present ≡ false → IsFreeOr t sections item.section true →
       Covers t (item.section ∷ sections) (blocks_after blocks (entry item blocks))
-  free_covers f =
+  free_covers p f =
       subst (λ o. Covers t (item.section ∷ sections) (blocks_after blocks o)) (sym (entry_absent item blocks
-      (free_absent f)))
+      (free_absent f) p))
       (record {
         apart = more_apart blocks (record { section = item.section; count = 1 }) h.apart w.has_cells
             (λ c i. none_of (holder blocks c) (h.held c ∙ f c i));
         held = free_held f;
       })
 
-  pub free_created : IsFreeOr t sections item.section true → created (entry item blocks) ≡ item.section.length
-  free_created f = ap created (entry_absent item blocks (free_absent f))
+  pub free_created : item.present ≡ false → IsFreeOr t sections item.section true →
+      created (entry item blocks) ≡ item.section.length
+  free_created p f = ap created (entry_absent item blocks (free_absent f) p)
 
-  -- any other section is not
+  -- no other entry creates cells
 
   counted_held : (s : Section) (n : ℕ) (c : Cell) →
       is_some (holder (map (counted s n) blocks) c) ≡ is_taken t sections c
@@ -104,16 +105,24 @@ module _ (t : Table) (sections : List Section) (item : MapItem) (w : IsSection i
       same None = refl
       same (Some b) = refl
 
-  pub taken_keeps : Takes t sections item.section →
+  refused_keeps : entry item blocks ≡ None →
       Covers t sections (blocks_after blocks (entry item blocks)) × (created (entry item blocks) ≡ 0)
-  taken_keeps k = go (presence blocks item.section) refl
+  refused_keeps e = (subst (λ o. Covers t sections (blocks_after blocks o)) (sym e) h, ap created e)
+
+  pub old_keeps : IsNewOr t sections item false →
+      Covers t sections (blocks_after blocks (entry item blocks)) × (created (entry item blocks) ≡ 0)
+  old_keeps old = go (presence blocks item.section) refl
     where
-      go : (p : Presence) → presence blocks item.section ≡ p →
-          Covers t sections (blocks_after blocks (entry item blocks)) × (created (entry item blocks) ≡ 0)
-      go Absent e =
+      missing : presence blocks item.section ≡ Absent → IsNewOr t sections item false → entry item blocks ≡ None
+      missing e (inl p) = entry_missing item blocks e p
+      missing e (inr k) =
           absurd (some_of (holder blocks k.cell)
           (holder_absent blocks item.section k.cell (absent_found blocks item.section e) k.inside) (h.held k.cell
           ∙ k.taken))
+
+      go : (p : Presence) → presence blocks item.section ≡ p →
+          Covers t sections (blocks_after blocks (entry item blocks)) × (created (entry item blocks) ≡ 0)
+      go Absent e = refused_keeps (missing e old)
       go (Inside b) e = (
         subst (λ o. Covers t sections (blocks_after blocks o)) (sym (entry_there item blocks b e)) (record {
           apart = counted_apart blocks b.section (b.count + 1) h.apart;
@@ -121,10 +130,7 @@ module _ (t : Table) (sections : List Section) (item : MapItem) (w : IsSection i
         }),
         ap created (entry_there item blocks b e),
       )
-      go InPart e = (
-        subst (λ o. Covers t sections (blocks_after blocks o)) (sym (entry_part item blocks e)) h,
-        ap created (entry_part item blocks e),
-      )
+      go InPart e = refused_keeps (entry_part item blocks e)
 
 -- The answers.
 
@@ -153,19 +159,19 @@ drop_item xs i d h = rw (add-one, drop-cons xs i d)
 
 module _ (t : Table) (sections : List Section) (item : MapItem) (rest : List MapItem)
     (w : IsSection item.section) where
-  pub needs_free : IsFreeOr t sections item.section true → (r : Option ℕ) → Needs t (item.section ∷ sections) rest r →
+  pub needs_new : IsNewOr t sections item true → (r : Option ℕ) → Needs t (item.section ∷ sections) rest r →
       (blocks : List Present) → Covers t sections blocks →
       (n : ℕ) × (IsNumber n r) × (need (item ∷ rest) blocks ≡ item.section.length + n)
-  needs_free f r h blocks k = (
+  needs_new f r h blocks k = (
     need rest (blocks_after blocks (entry item blocks)),
-    h (blocks_after blocks (entry item blocks)) (free_covers t sections item w blocks k f),
-    ap (λ n. n + need rest (blocks_after blocks (entry item blocks))) (free_created t sections item w blocks k f),
+    h (blocks_after blocks (entry item blocks)) (free_covers t sections item w blocks k f.0 f.1),
+    ap (λ n. n + need rest (blocks_after blocks (entry item blocks))) (free_created t sections item w blocks k f.0 f.1),
   )
 
-  pub needs_taken : Takes t sections item.section → (r : Option ℕ) → Needs t sections rest r →
+  pub needs_old : IsNewOr t sections item false → (r : Option ℕ) → Needs t sections rest r →
       Needs t sections (item ∷ rest) r
-  needs_taken f r h blocks k =
-      let keeps = taken_keeps t sections item w blocks k f in
+  needs_old f r h blocks k =
+      let keeps = old_keeps t sections item w blocks k f in
       let e : need rest (blocks_after blocks (entry item blocks)) ≡ need (item ∷ rest) blocks =
       omega (arith, keeps.1) in
       subst (λ n. IsNumber n r) e (h (blocks_after blocks (entry item blocks)) keeps.0)

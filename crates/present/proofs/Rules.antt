@@ -12,16 +12,15 @@ use Rattle.base.specs.Map.{Block as Present, Device, Fill, Memories, Move, Absen
 use Rattle.present.specs.declared.Table.{Table}
 use Rattle.present.specs.declared.block.Block.{Block}
 use Rattle.present.specs.Blocks.{IsSection, Show, present, cells_in}
-use Rattle.present.specs.Found.{IsInPart}
-use Rattle.present.specs.Change.{IsCountedAt, IsCountFault, blocks_of, with_count}
+use Rattle.present.specs.Change.{IsCountedAt, IsCountFault, IsRefused, blocks_of, with_count}
 use Rattle.present.specs.Found.{IsInsideAt}
-use Rattle.present.specs.Table.{Shows, Are, HasRoom, IsEntryFault, IsNoEntry, Fails, fill_of, counted_in, counted_out, with_created, with_host, memories, host_after, item_to, item_from, removed}
+use Rattle.present.specs.Table.{Shows, Are, HasRoom, IsEntryFault, Fails, fill_of, counted_in, counted_out, with_created, with_host, memories, host_after, item_to, item_from, removed}
 use Rattle.present.proofs.Orders.{stored_each, cells_remove}
 use Rattle.present.proofs.Founds.{at_block}
 use Rattle.present.proofs.Shown.{shows_removed}
 use Rattle.present.proofs.BlockReads.{change_remove}
-use Rattle.base.proofs.Moves.{entry_part, exit_part, exit_absent, exit_there}
-use Rattle.present.proofs.Entries.{is_absent_at, is_inside_at, is_in_part, opens_entry, opens_shown, opens_inside, raises_entry, raises_shown, raises_inside, recount_shown, need_absent, need_inside, need_part}
+use Rattle.base.proofs.Moves.{exit_part, exit_absent, exit_there}
+use Rattle.present.proofs.Entries.{is_absent_at, is_inside_at, opens_entry, opens_shown, opens_inside, raises_entry, raises_shown, raises_inside, recount_shown, need_absent, need_inside, need_none, refused_entry}
 
 -- Entries.
 
@@ -58,7 +57,7 @@ module _ (old new : Table) (item : MapItem) (n : ℕ) (copied : Bool) (w : IsSec
       IsCountedAt old new item n copied creates →
       HasRoom old (item ∷ [])
   done_room true h d sh =
-      let e = need_absent item d.blocks (is_absent_at old item.section w n h.absent d sh) in
+      let e = need_absent item d.blocks (is_absent_at old item.section w n h.absent d sh) h.without_present in
       let r = h.room in
       omega (arith, e, r)
   done_room false h d sh =
@@ -128,31 +127,26 @@ module _ (old new : Table) (item : MapItem) (copied : Bool) (host : Arrays) (d :
       (record { host = refl; shown = brought _ h.shown })
 
 pub entry_fault : (t : Table) (item : MapItem) (P : Type 0) → IsSection item.section →
-    (IsInPart (blocks_of t) item.section → P) →
+    (IsRefused t item → P) →
     (f : RunFault) → IsCountFault t item f → IsEntryFault t (item ∷ []) P f
-entry_fault t item P w part fault.OutOfMemory h = tt
-entry_fault t item P w part fault.DeviceFull h =
-    λ d sh. (let e = need_absent item d.blocks (is_absent_at t item.section w h.at h.absent d sh) in
+entry_fault t item P w refused fault.OutOfMemory h = tt
+entry_fault t item P w refused fault.DeviceFull h =
+    λ d sh. (let e = need_absent item d.blocks (is_absent_at t item.section w h.at h.absent d sh) h.without_present in
     let o = h.over in
     omega (arith, e, o))
-entry_fault t item P w part fault.Absent h = (
-  (λ d sh. (let e = need_part item d.blocks (is_in_part t item.section w h d sh) in let r = t.room in omega
+entry_fault t item P w refused fault.Absent h = (
+  (λ d sh. (let e = need_none item d.blocks (refused_entry t item w h d sh) in let r = t.room in omega
       (arith, e, r))),
-  part h,
+  refused h,
 )
-entry_fault t item P w part fault.Stranger h = h
-entry_fault t item P w part fault.ThreadNotStarted h = h
-entry_fault t item P w part fault.OtherState h = h
-entry_fault t item P w part fault.RangeRefused h = h
+entry_fault t item P w refused fault.Stranger h = h
+entry_fault t item P w refused fault.ThreadNotStarted h = h
+entry_fault t item P w refused fault.OtherState h = h
+entry_fault t item P w refused fault.RangeRefused h = h
 
-pub no_entry : (t : Table) (item : MapItem) → IsSection item.section → IsInPart (blocks_of t) item.section →
-    IsNoEntry item t
-no_entry t item w h d sh = entry_part item d.blocks (is_in_part t item.section w h d sh)
-
-pub no_enter : (t : Table) (item : MapItem) (host : Arrays) → IsSection item.section →
-    IsInPart (blocks_of t) item.section →
+pub no_enter : (t : Table) (item : MapItem) (host : Arrays) → IsSection item.section → IsRefused t item →
     Fails (enter (fill_of t) item) t host
-no_enter t item host w h d sh = ap (option_map _) (no_entry t item w h d sh)
+no_enter t item host w h d sh = ap (option_map _) (refused_entry t item w h d sh)
 
 -- Updates.
 

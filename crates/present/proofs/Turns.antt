@@ -13,7 +13,7 @@ use Rattle.base.proofs.Sections.{same_parts}
 use Rattle.base.proofs.Blocks.{meets, judge, presence_is, find_yes, find_no, holder_absent, holder_inside}
 use Rattle.present.proofs.NeededCells.{absent_found}
 use Rattle.present.proofs.Shown.{within_in, within_out}
-use Rattle.base.proofs.Moves.{created_move, raised_move, entry_absent, entry_there, entry_part}
+use Rattle.base.proofs.Moves.{created_move, raised_move, entry_absent, entry_missing, entry_there, entry_part}
 use Rattle.present.proofs.Rules.{enters}
 
 -- A section that is present stays present.
@@ -92,15 +92,19 @@ move_keeps : (item : MapItem) (blocks : List Present) (s : Section) → Found bl
     entry item blocks ≡ Some move → Found move.blocks s
 move_keeps item blocks s h move e = go (presence blocks item.section) refl
   where
-    go : (p : Presence) → presence blocks item.section ≡ p → Found move.blocks s
-    go Absent f =
-        let g : Some (created_move item blocks) ≡ Some move = sym (entry_absent item blocks f) ∙ e in
+    absent : presence blocks item.section ≡ Absent → (item.present ≡ true) ⊎ (item.present ≡ false) → Found move.blocks s
+    absent f (inl p) = absurd (cc (sym (entry_missing item blocks f p) ∙ e))
+    absent f (inr p) =
+        let g : Some (created_move item blocks) ≡ Some move = sym (entry_absent item blocks f p) ∙ e in
         let is : created_move item blocks ≡ move = cc g in
         subst (λ (m : Move). Found m.blocks s) is (record {
           block = h.block;
           is = found_more blocks (record { section = item.section; count = 1 }) s h.block h.is;
           inside = h.inside;
         })
+
+    go : (p : Presence) → presence blocks item.section ≡ p → Found move.blocks s
+    go Absent f = absent f (cases_Bool item.present)
     go (Inside b) f =
         let g : Some (raised_move item b blocks) ≡ Some move = sym (entry_there item blocks b f) ∙ e in
         let is : raised_move item b blocks ≡ move = cc g in
@@ -222,19 +226,26 @@ module _ (fill : Fill) (item : MapItem) (s : Section) (m : Memories) (h : Found 
   pub enter_swaps : enter fill item (copy_in s m) ≡ option_map (copy_in s) (enter fill item m)
   enter_swaps = go (presence m.device.blocks item.section) refl
     where
+      refused : entry item m.device.blocks ≡ None →
+          enter fill item (copy_in s m) ≡ option_map (copy_in s) (enter fill item m)
+      refused e = no_enter fill item (copy_in s m) e ∙ ap (option_map (copy_in s)) (sym (no_enter fill item m e))
+
+      absent : presence m.device.blocks item.section ≡ Absent → (item.present ≡ true) ⊎ (item.present ≡ false) →
+          enter fill item (copy_in s m) ≡ option_map (copy_in s) (enter fill item m)
+      absent e (inl p) = refused (entry_missing item m.device.blocks e p)
+      absent e (inr p) =
+          enters fill item _ (copy_in s m) (entry_absent item m.device.blocks e p)
+          ∙ ap Some (created_swaps e)
+          ∙ ap (option_map (copy_in s)) (sym (enters fill item _ m (entry_absent item m.device.blocks e p)))
+
       go : (p : Presence) → presence m.device.blocks item.section ≡ p →
           enter fill item (copy_in s m) ≡ option_map (copy_in s) (enter fill item m)
-      go Absent e =
-          enters fill item _ (copy_in s m) (entry_absent item m.device.blocks e)
-          ∙ ap Some (created_swaps e)
-          ∙ ap (option_map (copy_in s)) (sym (enters fill item _ m (entry_absent item m.device.blocks e)))
+      go Absent e = absent e (cases_Bool item.present)
       go (Inside b) e =
           enters fill item _ (copy_in s m) (entry_there item m.device.blocks b e)
           ∙ ap Some (raised_swaps b)
           ∙ ap (option_map (copy_in s)) (sym (enters fill item _ m (entry_there item m.device.blocks b e)))
-      go InPart e =
-          no_enter fill item (copy_in s m) (entry_part item m.device.blocks e)
-          ∙ ap (option_map (copy_in s)) (sym (no_enter fill item m (entry_part item m.device.blocks e)))
+      go InPart e = refused (entry_part item m.device.blocks e)
 
   -- an entry keeps it present
   pub enter_keeps : (next : Memories) → enter fill item m ≡ Some next → Found next.device.blocks s

@@ -43,6 +43,7 @@ pub record Removes (old new : Table) (at : ℕ) : Type 0 where
 -- an entry created its block
 pub record Opens (old new : Table) (item : MapItem) (at : ℕ) (copied : Bool) : Type 0 where
   pub absent : IsAbsentAt (blocks_of old) item.section at
+  pub without_present : item.present ≡ false
   pub room : old.used + item.section.length ≤ old.capacity
   pub creates : Creates old new item.section at
   pub copies : copied ≡ entry_copies item 1
@@ -66,13 +67,25 @@ IsCounted old new item k = IsCountedAt old new item k.at k.copies k.creates
 pub record IsOver (t : Table) (item : MapItem) : Type 0 where
   pub at : ℕ
   pub absent : IsAbsentAt (blocks_of t) item.section at
+  pub without_present : item.present ≡ false
   pub over : t.capacity < t.used + item.section.length
+
+-- the section of an entry is to be present and is absent
+pub record IsMissing (t : Table) (item : MapItem) : Type 0 where
+  pub at : ℕ
+  pub absent : IsAbsentAt (blocks_of t) item.section at
+  pub with_present : item.present ≡ true
+
+-- an entry may not be done
+pub data IsRefused (t : Table) (item : MapItem) : Type 0 where
+  Partly : (part : IsInPart (blocks_of t) item.section) → IsRefused t item
+  Missing : (missing : IsMissing t item) → IsRefused t item
 
 -- why the count of an entry is refused
 abbrev pub IsCountFault : Table → MapItem → RunFault → Type 0
 IsCountFault t item fault.OutOfMemory = Unit {0}
 IsCountFault t item fault.DeviceFull = IsOver t item
-IsCountFault t item fault.Absent = IsInPart (blocks_of t) item.section
+IsCountFault t item fault.Absent = IsRefused t item
 IsCountFault t item fault.Stranger = ⊥
 IsCountFault t item fault.ThreadNotStarted = ⊥
 IsCountFault t item fault.OtherState = ⊥

@@ -1,5 +1,5 @@
 -- The cells that entries in turn would create, beside sections that are to be created.
-use Rattle.std.specs.Prelude.{ℕ, ◌≡◌, ◌≤◌, ◌^◌, Bool, true, false, ◌||◌, List, [], ◌∷◌, Option, Some, None, is_some}
+use Rattle.std.specs.Prelude.{ℕ, ◌≡◌, ◌⊎◌, ◌≤◌, ◌^◌, Bool, true, false, ◌||◌, List, [], ◌∷◌, Option, Some, None, is_some}
 use Rattle.std.specs.List.{list_any}
 use Rattle.base.specs.declared.item.Cell.{Cell}
 use Rattle.base.specs.declared.item.Section.{Section}
@@ -47,6 +47,11 @@ pub record Takes (t : Table) (sections : List Section) (s : Section) : Type 0 wh
 abbrev pub IsFreeOr : Table → List Section → Section → Bool → Type 0
 IsFreeOr t sections s true = (c : Cell) → is_in c s ≡ true → is_taken t sections c ≡ false
 IsFreeOr t sections s false = Takes t sections s
+
+-- whether an entry creates its block
+abbrev pub IsNewOr : Table → List Section → MapItem → Bool → Type 0
+IsNewOr t sections item true = (item.present ≡ false) × IsFreeOr t sections item.section true
+IsNewOr t sections item false = (item.present ≡ true) ⊎ Takes t sections item.section
 
 -- blocks that have the table's cells, and those of the sections
 pub record Covers (t : Table) (sections : List Section) (blocks : List Present) : Type 0 where

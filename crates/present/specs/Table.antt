@@ -76,15 +76,15 @@ HasRoom t items = (d : Device) → Shows t d → cells_in_use t + need items d.b
 abbrev pub HasNoRoom : Table → List MapItem → Type 0
 HasNoRoom t items = (d : Device) → Shows t d → capacity_of t < cells_in_use t + need items d.blocks
 
--- why entries are refused: where there is no room, and only else where a section overlaps a block in part
+-- why entries are refused: where there is no room, and only else where one may not be done
 abbrev pub IsEntryFault : Table → List MapItem → Type 0 → RunFault → Type 0
-IsEntryFault t items in_part fault.OutOfMemory = Unit {0}
-IsEntryFault t items in_part fault.DeviceFull = HasNoRoom t items
-IsEntryFault t items in_part fault.Absent = HasRoom t items × in_part
-IsEntryFault t items in_part fault.Stranger = ⊥
-IsEntryFault t items in_part fault.ThreadNotStarted = ⊥
-IsEntryFault t items in_part fault.OtherState = ⊥
-IsEntryFault t items in_part fault.RangeRefused = ⊥
+IsEntryFault t items refused fault.OutOfMemory = Unit {0}
+IsEntryFault t items refused fault.DeviceFull = HasNoRoom t items
+IsEntryFault t items refused fault.Absent = HasRoom t items × refused
+IsEntryFault t items refused fault.Stranger = ⊥
+IsEntryFault t items refused fault.ThreadNotStarted = ⊥
+IsEntryFault t items refused fault.OtherState = ⊥
+IsEntryFault t items refused fault.RangeRefused = ⊥
 
 -- the only error of exits and updates: a section overlaps a block in part
 abbrev pub IsAbsent : Type 0 → RunFault → Type 0
@@ -152,17 +152,17 @@ removed s d = at (presence d.blocks s)
 
 -- an update's section, to the device or to the host
 abbrev pub item_to : Section → MapItem
-item_to s = record { kind = To; always = false; section = s; line = 0; column = 0 }
+item_to s = record { kind = To; always = false; present = false; section = s; line = 0; column = 0 }
 
 abbrev pub item_from : Section → MapItem
-item_from s = record { kind = From; always = false; section = s; line = 0; column = 0 }
+item_from s = record { kind = From; always = false; present = false; section = s; line = 0; column = 0 }
 
 -- the creation and the count of an entry were done
 abbrev pub IsCountedIn : MapItem → Bool → Table → Table → Type 0
 IsCountedIn item copies old new = (d : Device) → Shows old d →
     IsSomeAnd (counted_in (fill_of old) item d) (λ r. (r.0 ≡ copies) × Shows new r.1)
 
--- there is no entry: the section overlaps a block in part
+-- there is no entry: the section overlaps a block in part, or is to be present and is absent
 abbrev pub IsNoEntry : MapItem → Table → Type 0
 IsNoEntry item t = (d : Device) → Shows t d → entry item d.blocks ≡ None
 
@@ -200,13 +200,13 @@ pub record SomeRoom (t : Table) (items : List MapItem) : Type 0 where
 
 -- why entries for which there is room are refused
 abbrev pub IsPartFault : Type 0 → RunFault → Type 0
-IsPartFault in_part fault.OutOfMemory = Unit {0}
-IsPartFault in_part fault.DeviceFull = ⊥
-IsPartFault in_part fault.Absent = in_part
-IsPartFault in_part fault.Stranger = ⊥
-IsPartFault in_part fault.ThreadNotStarted = ⊥
-IsPartFault in_part fault.OtherState = ⊥
-IsPartFault in_part fault.RangeRefused = ⊥
+IsPartFault refused fault.OutOfMemory = Unit {0}
+IsPartFault refused fault.DeviceFull = ⊥
+IsPartFault refused fault.Absent = refused
+IsPartFault refused fault.Stranger = ⊥
+IsPartFault refused fault.ThreadNotStarted = ⊥
+IsPartFault refused fault.OtherState = ⊥
+IsPartFault refused fault.RangeRefused = ⊥
 
 -- the device with the host's numbers in the section, if an entry copies
 abbrev pub with_host_if : Bool → Section → Memory → Device → Device

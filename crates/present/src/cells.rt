@@ -26,6 +26,20 @@ impl Table {
         }
     }
 
+    /// An empty table with as much room, whose storage is created with the same contents.
+    pub fn another(&self) -> Table
+        ensures empty { Shows result (record { blocks = []; cells = λ c. None }) }
+        ensures kept { IsKept self.now result }
+    {
+        Table {
+            alloc: self.alloc,
+            blocks: Vec::new(self.alloc),
+            used: 0,
+            capacity: self.capacity,
+            fresh: self.fresh,
+        }
+    }
+
     /// A table shows a device of the definitions: its own blocks and numbers.
     pub fn shows_a_device(&self)
         ensures { Shows self.now (device_of self.now) }

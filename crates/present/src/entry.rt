@@ -77,6 +77,9 @@ impl Table {
     {
         match find(&self.blocks, &item.section) {
             Found::Absent(at) => {
+                if item.present {
+                    return Err(RunFault::Absent);
+                }
                 if self.capacity - self.used < item.section.length {
                     return Err(RunFault::DeviceFull);
                 }
@@ -119,7 +122,8 @@ impl Table {
     }
 
     /// One entry: creation, count and copy. The error is `DeviceFull` where it would create more cells than there is
-    /// room for, `Absent` where the section overlaps a block in part, or `OutOfMemory`.
+    /// room for, `Absent` where the section overlaps a block in part, or is to be present and is absent, or
+    /// `OutOfMemory`.
     pub fn enter(&mut self, item: &MapItem, host: &Memory) -> Result<(), RunFault>
         requires section { IsSection item.now.section }
         requires within { IsWithin host.now item.now.section }

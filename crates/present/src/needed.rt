@@ -3,7 +3,7 @@
 ghost use Rattle.std.specs.Prelude.{◌≡◌, ◌≤◌, drop, length};
 ghost use Rattle.base.specs.Memory.{overlaps};
 ghost use Rattle.present.specs.Blocks.{IsSection};
-ghost use Rattle.present.specs.Needed.{AreAll, IsFreeOr, IsMetOr, Needs, sections_in};
+ghost use Rattle.present.specs.Needed.{AreAll, IsFreeOr, IsMetOr, IsNewOr, Needs, sections_in};
 ghost use Rattle.present.specs.Table.{AreSections, IsNeed};
 
 use crate::Table;
@@ -45,7 +45,7 @@ fn meets(created: &Created<'_>, section: &Section) -> bool
 }
 
 impl Table {
-    // Whether an entry of a section would create its block, after the creation of these.
+    // Whether no cell of a section has storage, after the creation of these.
     fn is_free(&self, section: &Section, created: &Created<'_>) -> bool
         requires created { AreAll (sections_in created.now) }
         requires section { IsSection section.now }
@@ -58,6 +58,15 @@ impl Table {
         }
     }
 
+    // Whether an entry would create its block, after the creation of these.
+    fn is_new(&self, item: &MapItem, created: &Created<'_>) -> bool
+        requires created { AreAll (sections_in created.now) }
+        requires section { IsSection item.now.section }
+        ensures { IsNewOr self.now (sections_in created.now) item.now result }
+    {
+        !item.present && self.is_free(&item.section, created)
+    }
+
     // The cells that the entries from this one on would create, if a number can say it.
     fn needed_from(&self, items: &[MapItem], from: usize, created: &Created<'_>) -> Option<u64>
         requires items { AreSections items.now }
@@ -68,8 +77,9 @@ impl Table {
         if from == items.len() {
             return Some(0);
         }
-        let section = items[from].section;
-        if self.is_free(&section, created) {
+        let item = &items[from];
+        let section = item.section;
+        if self.is_new(item, created) {
             let more = Created::Also(section, &*created);
             match self.needed_from(items, from + 1, &more) {
                 None => None,
@@ -95,7 +105,7 @@ impl Table {
     }
 
     /// The cells that entries in turn would create, or the greatest number where they are more. An entry that overlaps
-    /// a block in part creates none. It takes time for each two of the entries.
+    /// a block in part, or is to be present, creates none. It takes time for each two of the entries.
     pub fn need(&self, items: &[MapItem]) -> u64
         requires { AreSections items.now }
         ensures { IsNeed self.now items.now result }

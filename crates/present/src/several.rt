@@ -48,8 +48,8 @@ impl Table {
     }
 
     /// Several entries in turn, or none of them. The error is `DeviceFull` where together they would create more cells
-    /// than there is room for, else `Absent` where a section overlaps in part a block that it then meets, or
-    /// `OutOfMemory`.
+    /// than there is room for, else `Absent` where a section overlaps in part a block that it then meets, or is to be
+    /// present and then is absent, or `OutOfMemory`.
     pub fn enter_all(&mut self, items: &[MapItem], host: &Memory) -> Result<(), RunFault>
         requires sections { AreSections items.now }
         requires within { AreWithin host.now items.now }

@@ -147,6 +147,7 @@ same plan s b (event.Open i) h =
     (waiting_same plan s b i w.deferred h lt)
     ∙ ap (λ x. not (is_wait w.kind) && ((w.deferred || (b.place == i)) &&
     (is_waiting w.deferred ((state_in b).condition i) && x))) (ready_same plan s b i h))
+same plan s b (event.Step i) h = refl
 same plan s b (event.Close i) h =
     on_same plan b i false (λ w. is_open (s.condition i)) (λ w. is_open ((state_in b).condition i)) h.items
     (λ w lt. open_same plan s b i h lt)

@@ -32,6 +32,7 @@ task_facts t = record { kind = t.kind; deferred = t.deferred; depends = t.depend
 abbrev pub work_of : Facts → Work
 work_of f = record {
   kind = f.kind;
+  place = record { line = 0; column = 0 };
   deferred = f.deferred;
   device = 0;
   maps = [];

@@ -3,7 +3,7 @@
 use crate::sources::{Look, look_at};
 use base::fault::RunFault;
 use base::item::{Cell, Event};
-use base::tree::ArrayId;
+use base::tree::{ArrayId, DeviceId};
 use device::{RunState, run_choices};
 use lower::Image;
 use std::alloc::Global;
@@ -20,6 +20,14 @@ const TWO_ARRAYS: &str =
 // An entry that stays, a target on it, an update.
 const KEPT: &str =
     "uint64_t A[2];\nint main(void) {\nA[1] = 7;\n#pragma omp target enter data map(to: A)\n#pragma omp target\n{ A[0] = A[1] + 1; }\n#pragma omp target update from(A)\nprint(A[0]);\n}\n";
+
+// An array on two devices, where a target of each works on its own copy.
+const TWO_DEVICES: &str =
+    "uint64_t A[2];\nint main(void) {\n#pragma omp target enter data map(to: A)\n#pragma omp target enter data map(to: A) device(1)\n#pragma omp target map(present, alloc: A) nowait\n{ A[0] = 7; }\n#pragma omp target map(present, alloc: A) nowait device(1)\n{ A[1] = 8; }\n#pragma omp taskwait\n#pragma omp target update from(present: A[0:1])\n#pragma omp target update from(A[1:1]) device(1)\nprint(A[0]); print(A[1]);\n}\n";
+
+const FIRST: DeviceId = DeviceId { number: 0 };
+
+const SECOND: DeviceId = DeviceId { number: 1 };
 
 fn cell(array: u32, index: u64) -> Cell {
     Cell {
@@ -58,16 +66,16 @@ fn is_opened(run: &mut RunState<'_>) -> bool {
         Event::Open(1),
     ];
     happen_all(run, events.as_slice())
-        && run.device_cell(cell(0, 0)) == Some(0)
-        && run.count(cell(0, 1)) == Some(1)
+        && run.device_cell(FIRST, cell(0, 0)) == Some(0)
+        && run.count(FIRST, cell(0, 1)) == Some(1)
         && !run.is_enabled(Event::Wait(3))
 }
 
 // It is closed: the scalar that it stored is the captured one, and its cells have left the device.
 fn is_closed(run: &mut RunState<'_>) -> bool {
     happens(run, Event::Close(1))
-        && run.device_cell(cell(0, 0)) == None
-        && run.count(cell(0, 0)) == None
+        && run.device_cell(FIRST, cell(0, 0)) == None
+        && run.count(FIRST, cell(0, 0)) == None
         && run.host_cell(cell(0, 0)) == 5
         && run.host_cell(cell(0, 2)) == 0
         && run.host_cell(cell(7, 0)) == 0
@@ -115,8 +123,8 @@ fn is_full(run: &mut RunState<'_>) -> bool {
 fn is_unchanged(run: &RunState<'_>) -> bool {
     run.is_enabled(Event::Open(2))
         && run.is_enabled(Event::Close(1))
-        && run.count(cell(0, 0)) == Some(1)
-        && run.count(cell(1, 0)) == None
+        && run.count(FIRST, cell(0, 0)) == Some(1)
+        && run.count(FIRST, cell(1, 0)) == None
         && run.host_cell(cell(1, 0)) == 3
         && run.output().is_empty()
 }
@@ -155,11 +163,11 @@ fn is_kept(run: &mut RunState<'_>) -> bool {
         Event::Open(2),
     ];
     happen_all(run, events.as_slice())
-        && run.count(cell(0, 0)) == Some(2)
-        && run.device_cell(cell(0, 1)) == Some(7)
+        && run.count(FIRST, cell(0, 0)) == Some(2)
+        && run.device_cell(FIRST, cell(0, 1)) == Some(7)
         && happens(run, Event::Close(2))
-        && run.count(cell(0, 0)) == Some(1)
-        && run.device_cell(cell(0, 0)) == Some(8)
+        && run.count(FIRST, cell(0, 0)) == Some(1)
+        && run.device_cell(FIRST, cell(0, 0)) == Some(8)
 }
 
 // What it stored comes to the host by the update alone.
@@ -201,5 +209,43 @@ impl Look for Marked {
 #[test]
 fn an_answer_has_what_is_marked(rt: HostRuntime) -> Result<(), Fail> {
     assert!(rt; look_at(rt.alloc(), TWO_ARRAYS, &Marked)?);
+    Ok(())
+}
+
+// Each kernel has stored in the memory of its own device.
+fn are_apart(run: &mut RunState<'_>) -> bool {
+    run.play_choices(&[]).is_ok()
+        && run.device_cell(FIRST, cell(0, 0)) == Some(7)
+        && run.device_cell(FIRST, cell(0, 1)) == Some(0)
+        && run.device_cell(SECOND, cell(0, 0)) == Some(0)
+        && run.device_cell(SECOND, cell(0, 1)) == Some(8)
+        && run.output() == [7, 8].as_slice()
+}
+
+// Nothing is on the second device before it is entered there, and then each counts for itself.
+fn are_entered(run: &mut RunState<'_>) -> bool {
+    let first = [Event::Open(0), Event::Close(0)];
+    let second = [Event::Open(1), Event::Close(1), Event::Gen(2), Event::Open(2)];
+    happen_all(run, first.as_slice())
+        && run.count(FIRST, cell(0, 0)) == Some(1)
+        && run.count(SECOND, cell(0, 0)) == None
+        && happen_all(run, second.as_slice())
+        && run.count(FIRST, cell(0, 0)) == Some(2)
+        && run.count(SECOND, cell(0, 0)) == Some(1)
+}
+
+struct TwoDevices;
+
+// Each device has room for the whole array alone.
+impl Look for TwoDevices {
+    fn look(&self, alloc: Global, image: &Image<'_>) -> Result<bool, Fail> {
+        let mut run = RunState::new(alloc, image, &[], 2).map_err(Fail::new)?;
+        Ok(are_entered(&mut run) && are_apart(&mut run))
+    }
+}
+
+#[test]
+fn each_device_has_storage_of_its_own(rt: HostRuntime) -> Result<(), Fail> {
+    assert!(rt; look_at(rt.alloc(), TWO_DEVICES, &TwoDevices)?);
     Ok(())
 }

@@ -1,4 +1,4 @@
-// The order of as many items as there may be.
+// The order of a long chain of tasks.
 
 use c_read::read_program;
 use mapcheck::passes::{footprints_of, order_of};
@@ -11,7 +11,7 @@ use std::test::Fail;
 const LONG_CHAIN: &str = "\
 uint64_t A[8];
 int main(void) {
-for (uint64_t i = 0; i < 4096; i += 1) {
+for (uint64_t i = 0; i < 16384; i += 1) {
 #pragma omp target nowait depend(inout: A[0:1])
 { }
 }
@@ -21,15 +21,16 @@ for (uint64_t i = 0; i < 4096; i += 1) {
 // Whether an item comes behind those before it, and not behind itself.
 fn is_in_turn(order: &Order<'_>, item: u32) -> bool {
     (item == 0 || order.before(0, item))
-        && (item == 4095 || order.before(item, 4095))
+        && (item == 16383 || order.before(item, 16383))
         && !order.before(item, item)
-        && !order.before(4095, item)
-        && !order.before(item, 4096)
-        && !order.before(4096, item)
+        && !order.before(16383, item)
+        && !order.before(item, 16384)
+        && !order.before(16384, item)
+        && order.after_all(item) == item + 1
 }
 
 fn is_chain(order: &Order<'_>) -> bool {
-    for item in 0..4096 {
+    for item in 0..16384 {
         if !is_in_turn(order, item) {
             return false;
         }
@@ -39,10 +40,10 @@ fn is_chain(order: &Order<'_>) -> bool {
 
 fn is_ordered(alloc: Global, outlined: &Outlined<'_>) -> Result<bool, Fail> {
     footprints_of(alloc, outlined, &repeats(alloc, outlined)?)?;
-    Ok(outlined.items().len() == 4096 && is_chain(&order_of(alloc, outlined)?))
+    Ok(outlined.items().len() == 16384 && is_chain(&order_of(alloc, outlined)?))
 }
 
-// As many tasks as there may be items, each of which waits for the one before it.
+// Each task waits for the one before it.
 #[test]
 fn a_long_chain_is_ordered(rt: HostRuntime) -> Result<(), Fail> {
     let program = read_program(rt.alloc(), LONG_CHAIN.as_bytes())?;

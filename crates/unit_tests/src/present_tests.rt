@@ -26,6 +26,18 @@ pub(crate) fn item(kind: MapKind, section: Section) -> MapItem {
     MapItem {
         kind,
         always: false,
+        present: false,
+        section,
+        line: 1,
+        column: 1,
+    }
+}
+
+fn there(kind: MapKind, section: Section) -> MapItem {
+    MapItem {
+        kind,
+        always: false,
+        present: true,
         section,
         line: 1,
         column: 1,
@@ -36,6 +48,7 @@ fn always(kind: MapKind, section: Section) -> MapItem {
     MapItem {
         kind,
         always: true,
+        present: false,
         section,
         line: 1,
         column: 1,
@@ -325,5 +338,29 @@ fn several(rt: HostRuntime) -> Result<(), Fail> {
     let all = section(0, 0, 4);
     assert!(rt; set(&mut host, &all, &[10, 11, 12, 13]));
     assert!(rt; is_refused_whole(&mut table, &host, all) && are_entered(&mut table, &host, all));
+    Ok(())
+}
+
+// What is to be present and is not is refused, and nothing has changed; it needs no room.
+fn is_missing(table: &mut Table, host: &Memory, all: Section) -> bool {
+    let alone = [there(MapKind::To, all)];
+    need(table, &alone, host, 0)
+        && enter(table, &there(MapKind::To, all), host) == Err(RunFault::Absent)
+        && is_absent(table, cell(0, 0))
+}
+
+// Where it is there, it is entered as any other.
+fn is_there(table: &mut Table, host: &Memory, all: Section) -> bool {
+    enter(table, &item(MapKind::To, all), host).is_ok()
+        && enter(table, &there(MapKind::To, section(0, 1, 2)), host).is_ok()
+        && is_in(table, cell(0, 0), all, 2)
+}
+
+#[test]
+fn presence(rt: HostRuntime) -> Result<(), Fail> {
+    let host = Memory::new(rt.alloc(), &[8])?;
+    let mut table = Table::new(rt.alloc(), 8);
+    let all = section(0, 0, 4);
+    assert!(rt; is_missing(&mut table, &host, all) && is_there(&mut table, &host, all));
     Ok(())
 }

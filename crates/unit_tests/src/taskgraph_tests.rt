@@ -1,7 +1,7 @@
 //! Tasks that wait for others, from their clauses to the order in which they may run.
 
 use base::item::{Depend, Item, ItemKind, LoopValues, Section};
-use base::tree::{ArrayId, DependKind};
+use base::tree::{ArrayId, DependKind, DeviceId, Place};
 use smallvec::SmallVec;
 use std::alloc::{AllocError, Global};
 use std::test::Fail;
@@ -36,7 +36,9 @@ fn at_once(kind: ItemKind, depends: &[Depend]) -> Row<'_> {
 fn item(alloc: Global, (kind, deferred, depends): Row<'_>) -> Result<Item, AllocError> {
     Ok(Item {
         kind,
+        place: Place::default(),
         deferred,
+        device: DeviceId::default(),
         maps: SmallVec::from_vec(Vec::new(alloc)),
         depends: SmallVec::from_vec(depends.to_vec(alloc)?),
         region: None,

@@ -1,5 +1,5 @@
 int main(void) {
-for (uint64_t i = 0; i < 4096; i += 1) {
+for (uint64_t i = 0; i < 65536; i += 1) {
 #pragma omp taskwait
 }
 }

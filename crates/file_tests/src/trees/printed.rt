@@ -1,12 +1,12 @@
 //! The text of a program's tree: a line for each array, one for the number of scalars, and one for each part, clause and
 //! statement, indented below what it stands in. `s1` is scalar 1, `l0` the name of the outermost loop, and `a0@3:5` array
 //! 0 by a name on line 3 at column 5. A section without bounds is the whole array. A part of `main` has the name of its
-//! kind, and a region the place where it begins; operators have the names of the tree.
+//! kind, a directive the place of its `#`, and a region the place where it begins; operators have the names of the tree.
 
 use crate::text::Text;
 use base::tree::{
-    ArrayId, Bound, Bounds, DependText, Directive, Expr, MapText, Part, Place, Program, Region,
-    SectionText, Source, Stmt, Tasking, Term, UpdateText,
+    ArrayId, Bound, Bounds, DependText, DeviceId, Directive, Expr, MapText, Part, Place, Program,
+    Region, SectionText, Source, Stmt, Tasking, Term, UpdateText,
 };
 use std::fmt::Debug;
 
@@ -194,9 +194,19 @@ fn add_item<K: Debug + Copy>(
     out.add("\n");
 }
 
+/// A map clause with its modifiers.
+fn map_words(always: bool, present: bool) -> &'static str {
+    match (always, present) {
+        (true, true) => "map always present ",
+        (true, false) => "map always ",
+        (false, true) => "map present ",
+        (false, false) => "map ",
+    }
+}
+
 fn add_maps<K: Debug + Copy>(out: &mut Text, depth: usize, maps: &[MapText<K>]) {
     for map in maps {
-        let clause = if map.always { "map always " } else { "map " };
+        let clause = map_words(map.always, map.present);
         add_item(out, depth, clause, map.kind, &map.section);
     }
 }
@@ -209,7 +219,21 @@ fn add_depends(out: &mut Text, depth: usize, depends: &[DependText]) {
 
 fn add_updates(out: &mut Text, depth: usize, updates: &[UpdateText]) {
     for update in updates {
-        add_item(out, depth, "motion ", update.kind, &update.section);
+        let clause = if update.present {
+            "motion present "
+        } else {
+            "motion "
+        };
+        add_item(out, depth, clause, update.kind, &update.section);
+    }
+}
+
+/// The line of a device that is not the first.
+fn add_device(out: &mut Text, depth: usize, device: DeviceId) {
+    if device.number > 0 {
+        add_indent(out, depth);
+        out.add_with("device ", device.number);
+        out.add("\n");
     }
 }
 
@@ -219,27 +243,35 @@ fn add_tasking(out: &mut Text, depth: usize, tasking: &Tasking) {
         add_indent(out, depth);
         out.add("nowait\n");
     }
+    add_device(out, depth, tasking.device);
 }
 
-fn add_alone(out: &mut Text, depth: usize, directive: &Directive) {
+/// The line of a directive that stands there.
+fn add_directive(out: &mut Text, word: &str, place: Place) {
+    out.add(word);
+    add_place(out, place);
+    out.add("\n");
+}
+
+fn add_alone(out: &mut Text, depth: usize, place: Place, directive: &Directive) {
     match directive {
         Directive::Enter(maps, tasking) => {
-            out.add("enter\n");
+            add_directive(out, "enter ", place);
             add_maps(out, depth, maps);
             add_tasking(out, depth, tasking);
         }
         Directive::Exit(maps, tasking) => {
-            out.add("exit\n");
+            add_directive(out, "exit ", place);
             add_maps(out, depth, maps);
             add_tasking(out, depth, tasking);
         }
         Directive::Update(updates, tasking) => {
-            out.add("update\n");
+            add_directive(out, "update ", place);
             add_updates(out, depth, updates);
             add_tasking(out, depth, tasking);
         }
         Directive::Wait(depends) => {
-            out.add("wait\n");
+            add_directive(out, "wait ", place);
             add_depends(out, depth, depends);
         }
     }
@@ -270,17 +302,20 @@ fn add_part(out: &mut Text, depth: usize, part: &Part) {
             add_parts(out, below, inner);
         }
         Part::Target(target, region) => {
-            add_region(out, "target ", region);
+            out.add("target ");
+            add_place(out, target.place);
+            add_region(out, " region ", region);
             add_maps(out, below, &target.maps);
             add_tasking(out, below, &target.tasking);
             add_block(out, below, &region.body);
         }
-        Part::Data(maps, inner) => {
-            out.add("data\n");
-            add_maps(out, below, maps);
+        Part::Data(data, inner) => {
+            add_directive(out, "data ", data.place);
+            add_maps(out, below, &data.maps);
+            add_device(out, below, data.device);
             add_parts(out, below, inner);
         }
-        Part::Alone(directive) => add_alone(out, below, directive),
+        Part::Alone(place, directive) => add_alone(out, below, *place, directive),
     }
 }
 

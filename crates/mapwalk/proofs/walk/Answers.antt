@@ -6,9 +6,7 @@ use Rattle.mapwalk.specs.declared.steps.Step.{Step}
 use Rattle.base.specs.declared.fault.Refusal.{Refusal}
 use Rattle.mapwalk.specs.Acts.{acts_rows}
 use Rattle.mapwalk.specs.Causes.{refusal_of}
-use Rattle.mapwalk.specs.Sides.{shown_by}
-use Rattle.mapwalk.specs.Steps.{StepIs}
-use Rattle.mapwalk.specs.Table.{blocks_of}
+use Rattle.mapwalk.specs.Steps.{IsDone, current_of, tables_of}
 use Rattle.mapwalk.specs.Walk.{IsFirstAlone, row_items}
 use Rattle.std.specs.Prelude.{IfSome}
 use Rattle.mapwalk.specs.Regions.{IsWithin}
@@ -32,8 +30,9 @@ bounds-found-len c =
     at_inside (plan p) i at.work c.args.found.now c.len.result c.requires.found at.there place
 
 pub step-requires-clause-room : goal.step-requires-clause-room
-step-requires-clause-room c =
-    let few = c.items-item-items.ensures.few in omega (arith, few, c.items-test.true, c.items.invariant.entries)
+step-requires-clause-room c d =
+    let few = c.items-item-items.ensures.few in
+    let most = c.items.invariant.entries d in omega (arith, few, c.items-test.true, most)
 
 pub step-requires-clause-few : goal.step-requires-clause-few
 step-requires-clause-few c = c.items.invariant.few
@@ -66,8 +65,8 @@ returns-in-Refused-clause-acts c =
     let rows = map row_items c.items.acts.items in
     let place : c.refusal-fault.result.item ≡ c.items.item-index = ap (λ (r : Refusal). r.item) c.refusal-fault.ensures
     ∙ c.len-in-Refused.ensures ∙ c.items.acts.ok.0 ∙ sym (length-map c.items.acts.items row_items) ∙ c.items.invariant.reached.count in
-    subst (λ n. rows ≡ take n (acts_rows p.items [])) (sym place)
-    (rows_before p c.items.item-index (blocks_of c.items.state.blocks) (shown_by c.items.state.sides) rows c.items.invariant.reached)
+    subst (λ n. rows ≡ take n (acts_rows p.items (λ d. []))) (sym place)
+    (rows_before p c.items.item-index (tables_of c.items.state.devices.items) (current_of c.items.state.host.items c.items.state.devices.items) rows c.items.invariant.reached)
 
 pub returns-in-Refused-clause-fault : goal.returns-in-Refused-clause-fault
 returns-in-Refused-clause-fault c =
@@ -85,9 +84,11 @@ returns-in-Refused-clause-fault c =
     let again : c.len-in-Refused.result ≡ i = c.len-in-Refused.ensures ∙ c.items.acts.ok.0
     ∙ sym (length-map c.items.acts.items row_items) ∙ c.items.invariant.reached.count in
     subst (IsFirstAlone (plan p)) (sym (c.refusal-fault.ensures ∙ ap (refusal_of c.in-Refused.cause) again))
-    (first_alone (plan p) i (blocks_of c.items.state.blocks) (shown_by c.items.state.sides) rows at.work c.in-Refused.cause
+    (first_alone (plan p) i (tables_of c.items.state.devices.items) (current_of c.items.state.host.items c.items.state.devices.items) rows at.work c.in-Refused.cause
     c.requires.fine at.there c.items.invariant.reached
-    (subst (λ (s : Step). StepIs at.work c.items.state c.step.new.self s) c.in-Refused.is (c.in_ok-row.ensures.step (entries_of p) at.work at.is found.touches)))
+    (subst (λ (s : Step). IsDone at.work (tables_of c.items.state.devices.items) (tables_of c.step.new.self.devices.items)
+    (current_of c.items.state.host.items c.items.state.devices.items)
+    (current_of c.step.new.self.host.items c.step.new.self.devices.items) s) c.in-Refused.is (c.in_ok-row.ensures.step (entries_of p) at.work at.is found.touches)))
 
 pub items-preserved : goal.items-preserved
 items-preserved c =
@@ -102,22 +103,27 @@ items-preserved c =
     c.requires.found at.there place in
     let found = found_at (plan p) c.args.found.now i c.len.result at.work c.index-found-len.result c.requires.found at.there place
     inside c.index-found-len.is in
-    let done = subst (λ (s : Step). StepIs at.work c.items.state c.step.new.self s) c.in-Done.is
+    let done = subst (λ (s : Step). IsDone at.work (tables_of c.items.state.devices.items) (tables_of c.step.new.self.devices.items)
+    (current_of c.items.state.host.items c.items.state.devices.items)
+    (current_of c.step.new.self.host.items c.step.new.self.devices.items) s) c.in-Done.is
     (c.in_ok-row.ensures.step (entries_of p) at.work at.is found.touches) in
     let same = c.in_ok-row.ensures.lengths in
-    let many : length c.step.new.self.sides.host.items ≡ length c.items.state.sides.host.items =
-    sym (lengths_count c.step.new.self.sides.host.items) ∙ ap (λ ls. length ls) same
-    ∙ lengths_count c.items.state.sides.host.items in
+    let many : length c.step.new.self.host.items ≡ length c.items.state.host.items =
+    sym (lengths_count c.step.new.self.host.items) ∙ ap (λ ls. length ls) same
+    ∙ lengths_count c.items.state.host.items in
     let few = c.items.invariant.few in
-    let before = c.items.invariant.entries in
-    let more = c.in_ok-row.ensures.entries in
     record {
       reached =
-          subst (Reached (plan p) (i + 1) (blocks_of c.step.new.self.blocks) (shown_by c.step.new.self.sides))
+          subst (Reached (plan p) (i + 1) (tables_of c.step.new.self.devices.items)
+          (current_of c.step.new.self.host.items c.step.new.self.devices.items))
           (sym (ap (map row_items) c.in_ok-push-in-Done.ensures.items ∙ map-append row_items c.items.acts.items (c.in-Done.row ∷ [])))
-          (next (plan p) i (blocks_of c.items.state.blocks) (blocks_of c.step.new.self.blocks) (shown_by c.items.state.sides)
-          (shown_by c.step.new.self.sides) rows c.in-Done.row.items at.work c.requires.fine at.there c.items.invariant.reached done);
-      entries = omega arith;
+          (next (plan p) i (tables_of c.items.state.devices.items) (tables_of c.step.new.self.devices.items)
+          (current_of c.items.state.host.items c.items.state.devices.items)
+          (current_of c.step.new.self.host.items c.step.new.self.devices.items) rows c.in-Done.row.items at.work c.requires.fine at.there c.items.invariant.reached done);
+      entries = λ d.
+          let before = c.items.invariant.entries d in
+          let more = c.in_ok-row.ensures.entries d in
+          omega (arith, before, more);
       few = omega arith;
       lengths = same ∙ c.items.invariant.lengths;
     }
@@ -128,8 +134,8 @@ returns-clause-acts c =
     let rows = map row_items c.items.acts.items in
     let same = as_many (entries_of p) c.items-item-items.result.now (plan p).items c.items-item-items.ensures.shown in
     let last : length (plan p).items ≡ c.items.item-index = omega (arith, same, c.items-test.false, c.items.auto.item-index-end) in
-    subst (λ n. rows ≡ take n (acts_rows (plan p).items [])) (sym last)
-    (rows_before (plan p) c.items.item-index (blocks_of c.items.state.blocks) (shown_by c.items.state.sides) rows
+    subst (λ n. rows ≡ take n (acts_rows (plan p).items (λ d. []))) (sym last)
+    (rows_before (plan p) c.items.item-index (tables_of c.items.state.devices.items) (current_of c.items.state.host.items c.items.state.devices.items) rows
     c.items.invariant.reached)
 
 pub returns-clause-sound : goal.returns-clause-sound
@@ -137,7 +143,7 @@ returns-clause-sound c =
     let p = c.args.outlined.now in
     let same = as_many (entries_of p) c.items-item-items.result.now (plan p).items c.items-item-items.ensures.shown in
     let last : length (plan p).items ≤ c.items.item-index = omega (arith, same, c.items-test.false) in
-    none_refused (plan p) c.items.item-index (blocks_of c.items.state.blocks) (shown_by c.items.state.sides)
+    none_refused (plan p) c.items.item-index (tables_of c.items.state.devices.items) (current_of c.items.state.host.items c.items.state.devices.items)
     (map row_items c.items.acts.items) last c.items.invariant.reached
 
 pub returns-clause-current : goal.returns-clause-current
@@ -146,8 +152,8 @@ returns-clause-current c =
     let same = as_many (entries_of p) c.items-item-items.result.now (plan p).items c.items-item-items.ensures.shown in
     let last : length (plan p).items ≤ c.items.item-index = omega (arith, same, c.items-test.false) in
     c.in_ok-current.ensures
-    ∙ marked_at_end (plan p) c.items.item-index (blocks_of c.items.state.blocks) c.items.state.sides
-    (map row_items c.items.acts.items) c.items.invariant.lengths last c.items.invariant.reached
+    ∙ marked_at_end (plan p) c.items.item-index (tables_of c.items.state.devices.items) c.items.state.host.items
+    c.items.state.devices.items (map row_items c.items.acts.items) c.items.invariant.lengths last c.items.invariant.reached
 
 pub offset_bounds-found-len : goal.offset_bounds-found-len
 offset_bounds-found-len c = grind (arith, common_steps)

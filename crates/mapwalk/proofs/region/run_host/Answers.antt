@@ -1,4 +1,4 @@
-use Rattle.std.proofs.Common.{Option, ◌∙◌, subst}
+use Rattle.std.proofs.Common.{Option, refl, ◌∙◌, subst}
 use Rattle.ranges.specs.declared.cells.Footprint.{Footprint}
 use Rattle.mapwalk.specs.Regions.{AreTouches, IsFootprintOf}
 use Rattle.mapwalk.specs.Sides.{shown_by}
@@ -10,6 +10,18 @@ pub returns-then-is_none-clause-current : goal.returns-then-is_none-clause-curre
 returns-then-is_none-clause-current c entries w e t =
     let touches : AreTouches w c.in-Some.found = subst (λ (o : Option Footprint). IsFootprintOf w o) c.in-Some.is t in
     if_none c.host_cause-cause.result
-    (host_effect w c.in-Some.found (shown_by c.args.sides.now) (shown_by c.run_on_host.new.self)
+    (host_effect w c.in-Some.found (shown_by c.args.host.now c.args.device.now) (shown_by c.run_on.new.own c.run_on.new.other)
     ((shown_of entries c.args.item.now w e).kind ∙ c.requires.kind) touches
-    c.run_on_host.ensures.host c.run_on_host.ensures.device)
+    c.run_on.ensures.own c.run_on.ensures.other)
+
+pub returns-then-is_none-clause-cause : goal.returns-then-is_none-clause-cause
+returns-then-is_none-clause-cause c entries w e t =
+    let is = shown_of entries c.args.item.now w e in
+    c.host_cause-cause.ensures w (shown_by c.args.host.now c.args.device.now) (is.kind ∙ c.requires.kind) refl
+    (subst (λ (o : Option Footprint). IsFootprintOf w o) c.in-Some.is t)
+
+pub returns-else-is_none-clause-cause : goal.returns-else-is_none-clause-cause
+returns-else-is_none-clause-cause c entries w e t =
+    let is = shown_of entries c.args.item.now w e in
+    c.host_cause-cause.ensures w (shown_by c.args.host.now c.args.device.now) (is.kind ∙ c.requires.kind) refl
+    (subst (λ (o : Option Footprint). IsFootprintOf w o) c.in-Some.is t)

@@ -15,6 +15,7 @@ abbrev other : MapItem
 other = record {
   kind = To;
   always = false;
+  present = false;
   section = record { array = record { 0 = 0 }; first = 0; length = 0 };
   line = 0;
   column = 0;

@@ -15,7 +15,7 @@ returns-in-Absent-clause-copied c d sh =
     let h = subst (λ bs. IsAbsentAt bs s c.in-Absent.field-0) c.deref.ensures.value c.in-Absent.ensures in
     subst (λ o. IsSomeAnd o (Are c.args.host.now t))
     (sym (update_absent (item_from s) (memories c.args.host.now d)
-    (is_absent_at t s c.requires.section c.in-Absent.field-0 h d sh)))
+    (is_absent_at t s c.requires.section c.in-Absent.field-0 h d sh) refl))
     (record { host = refl; shown = sh })
 
 pub bring_out_at-requires-clause-inside : goal.bring_out_at-requires-clause-inside

@@ -4,7 +4,7 @@ use Rattle.std.proofs.lemmas.Option.{slice_get_within}
 use Rattle.base.specs.Map.{entry_copies}
 use Rattle.present.specs.declared.block.Block.{Block}
 use Rattle.present.specs.Found.{IsAbsentAt, IsInsideAt}
-use Rattle.present.specs.Change.{with_count}
+use Rattle.present.specs.Change.{Missing, with_count}
 use Rattle.present.proofs.Founds.{one_block}
 use Rattle.present.proofs.Entries.{count_here}
 use Rattle.present.proofs.Table.count.Goals as goal
@@ -26,12 +26,21 @@ pub set_count-requires : goal.set_count-requires
 set_count-requires c = slice_get_within c.args.self.now.blocks.items c.in-Inside.at c.count_of-count.ensures.block
     c.count_of-count.ensures.is
 
+pub returns-then-item-clause-fault : goal.returns-then-item-clause-fault
+returns-then-item-clause-fault c = Missing (record {
+  at = c.in-Absent.at;
+  absent = subst (λ bs. IsAbsentAt bs c.args.item.now.section c.in-Absent.at) c.deref.ensures.value
+      c.in-Absent.ensures;
+  with_present = c.if-item.true;
+})
+
 pub returns-in-Ok-clause-counted : goal.returns-in-Ok-clause-counted
 returns-in-Ok-clause-counted c =
     let t = c.args.self.now in
     record {
       absent = subst (λ bs. IsAbsentAt bs c.args.item.now.section c.in-Absent.at) c.deref.ensures.value
           c.in-Absent.ensures;
+      without_present = c.if-item.false;
       room = (let r = t.room in omega arith);
       creates = c.in-Ok.ensures.created;
       copies = c.copies_in.ensures;

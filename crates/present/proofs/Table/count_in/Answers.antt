@@ -1,10 +1,11 @@
-use Rattle.present.proofs.Rules.{done, done_room, counts, entry_fault, no_entry}
+use Rattle.present.proofs.Rules.{done, done_room, counts, entry_fault}
+use Rattle.present.proofs.Entries.{refused_entry}
 use Rattle.present.proofs.Table.count_in.Goals as goal
 
 pub returns-in-Err-clause-fault : goal.returns-in-Err-clause-fault
 returns-in-Err-clause-fault c =
     entry_fault c.args.self.now c.args.item.now _ c.requires.section
-    (no_entry c.args.self.now c.args.item.now c.requires.section)
+    (refused_entry c.args.self.now c.args.item.now c.requires.section)
     c.in-Err.fault c.in-Err.ensures.fault
 
 pub returns-in-Ok-clause-counted : goal.returns-in-Ok-clause-counted

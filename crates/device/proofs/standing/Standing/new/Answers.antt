@@ -10,7 +10,8 @@ returns-clause-start c =
     (record {
       zeros = c.in_ok-host.ensures.zeros;
       lengths = c.in_ok-host.ensures.lengths ∙ c.lengths.ensures.lengths;
-      empty = c.new-table.ensures.empty;
+      empty = c.new-devices.ensures.empty;
+      alike = c.new-devices.ensures.alike;
       graph = c.in_ok-graph.ensures;
       ended = refl;
       scalars = c.zeros.ensures;

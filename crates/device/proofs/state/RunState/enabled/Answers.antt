@@ -4,7 +4,7 @@ use Rattle.base.specs.Items.{plan}
 use Rattle.base.specs.Machine.{all_enabled}
 use Rattle.device.specs.Run.{Run, state_of}
 use Rattle.device.specs.Running.{run_of}
-use Rattle.device.proofs.Allowing.{none_allowed}
+use Rattle.device.proofs.Allowing.{none_next}
 use Rattle.device.proofs.Reaching.{all_events, over, place_below, same_tasks}
 use Rattle.device.proofs.Starts.{as_many}
 use Rattle.device.proofs.state.RunState.enabled.Goals as goal
@@ -12,7 +12,8 @@ use Rattle.device.proofs.state.RunState.enabled.Goals as goal
 pub returns-then-self : goal.returns-then-self
 returns-then-self c =
     c.new.ensures.items
-    ∙ sym (none_allowed _ _ (over (run_of c.self.inside) c.self.inside.standing c.self.invariant c.if-self.true))
+    ∙ sym (none_next (plan (run_of c.self.inside).program) (state_of (run_of c.self.inside))
+    (over (run_of c.self.inside) c.self.inside.standing c.self.invariant c.if-self.true))
     ∙ ap (λ (r : Run). all_enabled (plan r.program) (state_of r)) c.self.view_is
 
 pub all_allowed-requires-clause-tasks : goal.all_allowed-requires-clause-tasks

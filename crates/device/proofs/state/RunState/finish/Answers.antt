@@ -8,7 +8,7 @@ use Rattle.device.specs.Running.{IsRunning, run_of}
 use Rattle.device.specs.Standing.{issue_of}
 use Rattle.device.proofs.IssuedFrames.{can_close, inside_left}
 use Rattle.device.proofs.MayOpen.{same_but}
-use Rattle.device.proofs.Reaching.{goes_to, same_fresh}
+use Rattle.device.proofs.Reaching.{goes_to}
 use Rattle.device.proofs.state.RunState.finish.Goals as goal
 
 pub bounds-items-item : goal.bounds-items-item
@@ -69,16 +69,16 @@ invariant_of-self-in-Ok c =
       program = refl;
       input = refl;
       capacity = refl;
-      fresh = same_fresh s.standing.table c.close.new.self.table c.in-Ok.ensures.kept.fill;
+      fresh = c.in-Ok.ensures.kept.fresh;
       history = c.in_ok-note.ensures.noted;
     })
-    c.in-Ok.ensures.kept.capacity
+    c.in-Ok.ensures.kept
 
 pub returns-in-Ok-clause-closed : goal.returns-in-Ok-clause-closed
 returns-in-Ok-clause-closed c =
     let s = c.self.inside in
     same_but (run_of (record s { standing = c.close.new.self; history = c.note.new.history })) (after (run_of s) (event.Close c.args.item))
-    refl refl refl (same_fresh s.standing.table c.close.new.self.table c.in-Ok.ensures.kept.fill) c.in_ok-note.ensures.noted
+    refl refl refl c.in-Ok.ensures.kept.fresh c.in_ok-note.ensures.noted
     c.in-Ok.ensures.issued
     ∙ ap (λ r. after r (event.Close c.args.item)) c.self.view_is
 
@@ -86,13 +86,13 @@ pub invariant_of-self-in-Err : goal.invariant_of-self-in-Err
 invariant_of-self-in-Err c =
     let s = c.self.inside in
     let back = same_but (run_of (record s { standing = c.close.new.self; history = c.forget.new.history })) (run_of s) refl refl refl
-    (same_fresh s.standing.table c.close.new.self.table c.close.ensures.kept.fill)
+    c.close.ensures.kept.fresh
     (c.forget.ensures s.history.items (event.Close c.args.item) c.in_ok-note.ensures.noted)
     (ap (λ (h : Vec Held Global). map issue_of h.items) c.in-Err.ensures.held) in
     subst (λ r. IsRunning r c.close.new.self) (sym back) (record {
       reached = c.self.invariant.reached;
       at = c.in-Err.ensures.unchanged _ _ c.self.invariant.at;
-      room = c.close.ensures.kept.capacity ∙ c.self.invariant.room;
+      room = c.close.ensures.kept.room s.capacity c.self.invariant.room;
       stayed = c.self.invariant.stayed;
     })
 
@@ -100,7 +100,7 @@ pub returns-in-Err-clause-unchanged : goal.returns-in-Err-clause-unchanged
 returns-in-Err-clause-unchanged c =
     let s = c.self.inside in
     let back = same_but (run_of (record s { standing = c.close.new.self; history = c.forget.new.history })) (run_of s) refl refl refl
-    (same_fresh s.standing.table c.close.new.self.table c.close.ensures.kept.fill)
+    c.close.ensures.kept.fresh
     (c.forget.ensures s.history.items (event.Close c.args.item) c.in_ok-note.ensures.noted)
     (ap (λ (h : Vec Held Global). map issue_of h.items) c.in-Err.ensures.held) in
     back ∙ c.self.view_is

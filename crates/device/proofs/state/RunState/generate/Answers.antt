@@ -3,9 +3,11 @@ use Rattle.base.specs.declared.item.Event.TheVariants as event
 use Rattle.base.proofs.Runs.{enabled_Gen}
 use Rattle.base.specs.Items.{plan}
 use Rattle.device.specs.Run.{state_of}
+use Rattle.device.specs.Devices.{fresh_of}
 use Rattle.device.specs.Running.{run_of}
 use Rattle.device.proofs.Reaching.{asked, before, goes_on}
 use Rattle.std.proofs.lemmas.Grind.{common_steps}
+use Rattle.device.proofs.Tables.{kept_same}
 use Rattle.device.proofs.state.RunState.generate.Goals as goal
 
 pub generate-requires-clause-here : goal.generate-requires-clause-here
@@ -33,10 +35,10 @@ invariant_of-self-in-Ok c =
       program = refl;
       input = refl;
       capacity = refl;
-      fresh = ap (λ t. t.fresh) c.in-Ok.ensures.table;
+      fresh = ap fresh_of c.in-Ok.ensures.devices;
       history = c.in_ok-note.ensures.noted;
     })
-    (ap (λ t. t.capacity) c.in-Ok.ensures.table)
+    (kept_same c.self.inside.standing.devices c.generate.new.self.devices c.in-Ok.ensures.devices)
 
 pub invariant_of-self-in-Err : goal.invariant_of-self-in-Err
 invariant_of-self-in-Err c = grind (arith, common_steps)

@@ -1,11 +1,13 @@
-use Rattle.std.proofs.Common.{◌∙◌, refl, sym, ap, map, subst}
+use Rattle.std.proofs.Common.{◌≡◌, ◌∙◌, refl, sym, ap, map, length, subst, arith}
+use Rattle.std.proofs.lemmas.List.{length-map}
 use Rattle.base.specs.declared.item.Event.TheVariants as event
 use Rattle.device.specs.Run.{IsOpenFault, is_over, opened, state_of}
 use Rattle.device.specs.Running.{IsRunning, run_of}
-use Rattle.device.specs.Standing.{frame_parts, issue_of}
+use Rattle.device.specs.Standing.{Issue, frame_parts, issue_of, row_parts}
 use Rattle.device.proofs.MayOpen.{facts, has_room, inside_open, is_full, open_fault, same_but, same_work, unchanged}
 use Rattle.device.proofs.OpenedItems.{is_held, may_close}
-use Rattle.device.proofs.Reaching.{goes_to, same_fresh}
+use Rattle.device.proofs.Reaching.{goes_to}
+use Rattle.device.proofs.Tables.{own_table}
 use Rattle.device.proofs.state.RunState.open_with.Goals as goal
 
 pub bounds-items-item : goal.bounds-items-item
@@ -92,10 +94,10 @@ invariant_of-self-in-Ok-open c =
       program = refl;
       input = refl;
       capacity = refl;
-      fresh = same_fresh s.standing.table c.open.new.self.table c.in-Ok-open.ensures.kept.fill;
+      fresh = c.in-Ok-open.ensures.kept.fresh;
       history = c.in_ok-note.ensures.noted;
     })
-    c.in-Ok-open.ensures.kept.capacity
+    c.in-Ok-open.ensures.kept
 
 pub invariant_of-self-in-Err : goal.invariant_of-self-in-Err
 invariant_of-self-in-Err c =
@@ -104,10 +106,10 @@ invariant_of-self-in-Err c =
     c.items.ensures.shown c.index-items-item.is in
     let same = c.in-Err.ensures.unchanged in
     let back = same_but (run_of (record s { standing = c.open.new.self; history = c.forget.new.history })) (run_of s) refl refl refl
-    (same_fresh s.standing.table c.open.new.self.table same.table.fill)
+    c.open.ensures.kept.fresh
     (c.forget.ensures s.history.items (event.Open c.args.item) c.in_ok-note.ensures.noted)
     (ap (λ z. map issue_of z.held.items) same.rest) in
-    subst (λ r. IsRunning r c.open.new.self) (sym back) (unchanged (run_of s) s.standing c.open.new.self c.self.invariant same)
+    subst (λ r. IsRunning r c.open.new.self) (sym back) (unchanged (run_of s) c.index-items-item.result.device.number s.standing c.open.new.self c.self.invariant same)
 
 pub returns-in-Ok-open-clause-opened : goal.returns-in-Ok-open-clause-opened
 returns-in-Ok-open-clause-opened c =
@@ -119,7 +121,7 @@ returns-in-Ok-open-clause-opened c =
       is =
           same_but (run_of (record s { standing = c.open.new.self; history = c.note.new.history }))
           (opened (run_of s) c.args.item (frame_parts c.in-Ok-open.ensures.issued.frame)) refl refl refl
-          (same_fresh s.standing.table c.open.new.self.table c.in-Ok-open.ensures.kept.fill)
+          c.in-Ok-open.ensures.kept.fresh
           c.in_ok-note.ensures.noted c.in-Ok-open.ensures.issued.is
           ∙ ap (λ r. opened r c.args.item (frame_parts c.in-Ok-open.ensures.issued.frame)) c.self.view_is;
     }
@@ -129,16 +131,22 @@ returns-in-Ok-open-clause-room c =
     let s = c.self.inside in
     let f = facts s c.args.self.now c.args.item _ c.items.result.now c.index-items-item.result c.self.view_is c.self.invariant c.requires
     c.items.ensures.shown c.index-items-item.is in
-    ap (λ r. is_over r c.args.item) (sym c.self.view_is) ∙ has_room (run_of s) s.standing c.args.item c.index-items-item.result c.self.invariant f.item c.in-Ok-open.ensures.room
+    let it = c.index-items-item.result in
+    let own = own_table s.standing.devices c.self.invariant.at.alike it.device.number it.device.in_range in
+    ap (λ r. is_over r c.args.item) (sym c.self.view_is) ∙ has_room (run_of s) s.standing c.args.item c.index-items-item.result c.self.invariant f.item own.0 own.1
+    (λ e. c.in-Ok-open.ensures.room e own.0 own.1)
 
 pub returns-clause-fault : goal.returns-clause-fault
 returns-clause-fault c =
     let s = c.self.inside in
     let f = facts s c.args.self.now c.args.item _ c.items.result.now c.index-items-item.result c.self.view_is c.self.invariant c.requires
     c.items.ensures.shown c.index-items-item.is in
+    let it = c.index-items-item.result in
+    let own = own_table s.standing.devices c.self.invariant.at.alike it.device.number it.device.in_range in
     subst (λ r. IsOpenFault r c.args.item c.in-Err.fault) c.self.view_is
-    (open_fault (run_of s) c.args.item s.standing.table c.index-items-item.result.kind c.index-items-item.result.maps.items c.in-Err.fault
-    (is_full (run_of s) s.standing c.args.item c.index-items-item.result c.self.invariant f.item) c.in-Err.ensures.fault)
+    (open_fault (run_of s) c.args.item own.0 c.index-items-item.result.kind c.index-items-item.result.maps.items c.in-Err.fault
+    (is_full (run_of s) s.standing c.args.item c.index-items-item.result c.self.invariant f.item own.0 own.1)
+    (c.in-Err.ensures.fault own.0 own.1))
 
 pub returns-clause-unchanged : goal.returns-clause-unchanged
 returns-clause-unchanged c =
@@ -147,7 +155,7 @@ returns-clause-unchanged c =
     c.items.ensures.shown c.index-items-item.is in
     let same = c.in-Err.ensures.unchanged in
     let back = same_but (run_of (record s { standing = c.open.new.self; history = c.forget.new.history })) (run_of s) refl refl refl
-    (same_fresh s.standing.table c.open.new.self.table same.table.fill)
+    c.open.ensures.kept.fresh
     (c.forget.ensures s.history.items (event.Open c.args.item) c.in_ok-note.ensures.noted)
     (ap (λ z. map issue_of z.held.items) same.rest) in
     back ∙ c.self.view_is
@@ -163,7 +171,7 @@ job-requires-clause-open c =
       program = refl;
       input = refl;
       capacity = refl;
-      fresh = same_fresh s.standing.table c.open.new.self.table c.in-Ok-open.ensures.kept.fill;
+      fresh = c.in-Ok-open.ensures.kept.fresh;
       history = c.in_ok-note.ensures.noted;
     })
 
@@ -172,8 +180,8 @@ job-requires-clause-held c =
     let s = c.self.inside in
     let f = facts s c.args.self.now c.args.item _ c.items.result.now c.index-items-item.result c.self.view_is c.self.invariant c.requires
     c.items.ensures.shown c.index-items-item.is in
-    is_held c.index-items-item.result.kind c.in-Ok.frame c.in-Some.issued c.fill.new.frame c.args.item s.standing c.open.new.self
-    c.in-Ok-open.ensures.issued f.item.inside (rw c.in-Some.is at c.in-Ok-copy_if.ensures.same) c.fill.ensures.filled c.fill.ensures.rows
+    is_held c.index-items-item.result c.in-Ok.frame c.in-Some.issued c.fill.new.frame c.args.item s.standing c.open.new.self
+    c.table.result.now c.in-Ok-open.ensures.issued c.table.ensures f.item.inside (rw c.in-Some.is at c.in-Ok-copy_if.ensures.same) c.fill.ensures.filled c.fill.ensures.rows
 
 pub invariant_of-self-in_default-copy : goal.invariant_of-self-in_default-copy
 invariant_of-self-in_default-copy c =
@@ -189,10 +197,10 @@ invariant_of-self-in_default-copy c =
       program = refl;
       input = refl;
       capacity = refl;
-      fresh = same_fresh s.standing.table c.open.new.self.table c.in-Ok-open.ensures.kept.fill;
+      fresh = c.in-Ok-open.ensures.kept.fresh;
       history = c.in_ok-note.ensures.noted;
     })
-    c.in-Ok-open.ensures.kept.capacity
+    c.in-Ok-open.ensures.kept
 
 pub returns-in_default-copy-clause-opened : goal.returns-in_default-copy-clause-opened
 returns-in_default-copy-clause-opened c =
@@ -204,7 +212,7 @@ returns-in_default-copy-clause-opened c =
       is =
           same_but (run_of (record s { standing = c.open.new.self; history = c.note.new.history }))
           (opened (run_of s) c.args.item (frame_parts c.in-Ok-open.ensures.issued.frame)) refl refl refl
-          (same_fresh s.standing.table c.open.new.self.table c.in-Ok-open.ensures.kept.fill)
+          c.in-Ok-open.ensures.kept.fresh
           c.in_ok-note.ensures.noted c.in-Ok-open.ensures.issued.is
           ∙ ap (λ r. opened r c.args.item (frame_parts c.in-Ok-open.ensures.issued.frame)) c.self.view_is;
     }
@@ -214,4 +222,18 @@ returns-in_default-copy-clause-room c =
     let s = c.self.inside in
     let f = facts s c.args.self.now c.args.item _ c.items.result.now c.index-items-item.result c.self.view_is c.self.invariant c.requires
     c.items.ensures.shown c.index-items-item.is in
-    ap (λ r. is_over r c.args.item) (sym c.self.view_is) ∙ has_room (run_of s) s.standing c.args.item c.index-items-item.result c.self.invariant f.item c.in-Ok-open.ensures.room
+    let it = c.index-items-item.result in
+    let own = own_table s.standing.devices c.self.invariant.at.alike it.device.number it.device.in_range in
+    ap (λ r. is_over r c.args.item) (sym c.self.view_is) ∙ has_room (run_of s) s.standing c.args.item c.index-items-item.result c.self.invariant f.item own.0 own.1
+    (λ e. c.in-Ok-open.ensures.room e own.0 own.1)
+
+pub fill-requires : goal.fill-requires
+fill-requires c target =
+    let same : frame_parts c.in-Some.issued ≡ frame_parts c.in-Ok.frame =
+    rw c.in-Some.is at c.in-Ok-copy_if.ensures.same in
+    let rows : length (map row_parts c.in-Some.issued.rows.items) ≡ length (map row_parts c.in-Ok.frame.rows.items) =
+    ap (λ (p : Issue). length p.rows) same in
+    let left = length-map c.in-Some.issued.rows.items row_parts in
+    let right = length-map c.in-Ok.frame.rows.items row_parts in
+    let few = c.in-Ok.ensures.few target in
+    omega arith

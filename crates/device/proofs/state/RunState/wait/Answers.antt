@@ -1,7 +1,9 @@
 use Rattle.std.proofs.Common.{refl, ap}
 use Rattle.base.specs.declared.item.Event.TheVariants as event
+use Rattle.device.specs.Devices.{fresh_of}
 use Rattle.device.specs.Running.{run_of}
 use Rattle.device.proofs.Reaching.{asked, before, goes_on}
+use Rattle.device.proofs.Tables.{kept_same}
 use Rattle.device.proofs.state.RunState.wait.Goals as goal
 
 pub pass-requires-clause-here : goal.pass-requires-clause-here
@@ -23,7 +25,7 @@ invariant_of-self-2 c =
       program = refl;
       input = refl;
       capacity = refl;
-      fresh = ap (λ t. t.fresh) c.pass.ensures.table;
+      fresh = ap fresh_of c.pass.ensures.devices;
       history = c.in_ok-note.ensures.noted;
     })
-    (ap (λ t. t.capacity) c.pass.ensures.table)
+    (kept_same c.self.inside.standing.devices c.pass.new.self.devices c.pass.ensures.devices)

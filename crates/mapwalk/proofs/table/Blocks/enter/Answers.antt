@@ -19,8 +19,5 @@ invariant_of-self-in-Inside c =
           (sym (with_items_is c.args.self.now.blocks c.set_count.new.blocks (search (rules, places)))) ∙ e);
     }
 
-pub returns-in_ok-push-in-Absent-clause-blocks : goal.returns-in_ok-push-in-Absent-clause-blocks
-returns-in_ok-push-in-Absent-clause-blocks c = grind (arith, common_steps)
-
 pub returns-in-Inside-clause-blocks : goal.returns-in-Inside-clause-blocks
 returns-in-Inside-clause-blocks c = grind (arith, common_steps)

@@ -1,5 +1,0 @@
-use Rattle.word_headline.proofs.AllLaws.{laws}
-use Rattle.word_headline.proofs.keeps_the_laws.Goals as goal
-
-pub returns : goal.returns
-returns c = laws

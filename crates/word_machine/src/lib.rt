@@ -1,9 +1,0 @@
-// The machine word by word: each load, each store, each copied cell and each action on the table is an event.
-#![tactic(auto)]
-
-ghost use Rattle.word_machine.specs.Machine.{OneEventNext};
-
-/// Of an open item either an action or the close comes next, and never both.
-pub fn one_event_comes_next()
-    ensures { OneEventNext }
-{}
