@@ -4,7 +4,7 @@ use Rattle.std.specs.Prelude.{◌&&◌, ◌||◌, nat_le}
 use Rattle.std.specs.Str.{bytes_eq}
 use Rattle.std.proofs.lemmas.Bool.Decides.{nat_tests}
 use Rattle.base.specs.declared.fault.ReadCode.{ReadCode as Code}
-use Rattle.base.specs.declared.fault.ReadCode.TheVariants.{UnknownByte, Unexpected, Undeclared, AlreadyDeclared, BadNumber, BadLength, LoopNameAssigned, BadOperand, TooDeep, TooMany, UnknownDirective, UnknownClause, ClauseCount, BadMapType, BadBound, ArrayTwice, DirectiveInTarget, OuterAssigned, HostOnly, NoBody, DirectiveUnderIf}
+use Rattle.base.specs.declared.fault.ReadCode.TheVariants.{UnknownByte, Unexpected, Undeclared, AlreadyDeclared, BadNumber, BadLength, LoopNameAssigned, BadOperand, TooDeep, TooMany, UnknownDirective, UnknownClause, ClauseCount, BadMapType, BadBound, ArrayTwice, DirectiveInTarget, OuterAssigned, HostOnly, NoBody, DirectiveUnderIf, BadDevice}
 use Rattle.c_tokens.specs.declared.kind.Sign.TheVariants as sign
 use Rattle.c_grammar.specs.Terminal.{Terminal, Fixed, Mark, Name, Num, Line, Unknown, End, same}
 use Rattle.c_grammar.specs.Grammar.{Act, Plain, DeclaresGlobal, DeclaresLocal, DeclaresLoop, MakesArray, MakesScalar, Length, Limit, Step, Starts, StartsIf, Prints, Assigned, StartsBlock, Otherwise, Reads, Opens, Closes, Alone, Over, Operand, OpensBracket, ClosesBracket, Divisor, Count, Inner}
@@ -153,6 +153,7 @@ module _ (c : Context) (n : ℕ) (h : n ≤ c.statements) (t next : Terminal) wh
   plain_breaks DirectiveUnderIf Alone e = choice_same c.frames ∙ e
   plain_breaks DirectiveUnderIf Over e = choice_same c.frames ∙ e
   plain_breaks DirectiveUnderIf _ e = e
+  plain_breaks BadDevice _ e = e
   plain_breaks OuterAssigned Assigned e = outer_free (same (Mark sign.Equal) next) _
   plain_breaks OuterAssigned _ e = e
   plain_breaks HostOnly Prints e = not_inside c.frames
