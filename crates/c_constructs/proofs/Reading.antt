@@ -16,13 +16,14 @@ use Rattle.directives.specs.declared.tree.MotionClause.{MotionClause}
 use Rattle.directives.specs.Kinds.{seen_modifier, seen_map, seen_depend, seen_motion}
 use Rattle.directives.specs.Trees.{clause_of}
 use Rattle.base.specs.declared.tree.DeviceId.{DeviceId}
+use Rattle.base.specs.declared.tree.MapText.{MapText}
 use Rattle.base.specs.declared.tree.Tasking.{Tasking}
 use Rattle.base.specs.declared.tree.UpdateKind.{UpdateKind}
 use Rattle.base.specs.declared.tree.DependKind.{DependKind}
 use Rattle.c_constructs.specs.declared.clauses.Clauses.{Clauses}
-use Rattle.c_constructs.specs.Sections.{Grows, IsMapAt, IsUpdateAt, IsDependAt, given, all_given}
+use Rattle.c_constructs.specs.Sections.{Grows, IsMapAt, IsUpdateAt, IsDependAt, given, all_given, map_given}
 use Rattle.c_constructs.specs.Clauses.{HasType, HaveTypes, Reads}
-use Rattle.c_constructs.specs.Written.{Mapping, waits_in, device_from, is_always, is_present, mapping_of, seen_update, seen_depend as given_depend}
+use Rattle.c_constructs.specs.Written.{Mapping, waits_in, device_from, is_always, is_present, seen_update, seen_depend as given_depend}
 use Rattle.c_constructs.proofs.Growing.{grows_none}
 
 pub all_both : {X : Type 0} (f : Clause → List X) (xs ys : List Clause) →
@@ -61,18 +62,24 @@ mapping_same : (a a' p p' : Bool) (t t' : line.MapType) → a ≡ a' → p ≡ p
     (let w : Mapping = (a, p, t) in w) ≡ (a', p', t')
 mapping_same a a' p p' t t' e f g = rw (e, f, g) refl
 
-pub reads_maps : {K : Type 0} → (seen : K → line.MapType) (names : Names) (at : ℕ) (m : MapClause) (kind : K)
-    (always present : Bool) (old new : Clauses K) → seen kind ≡ seen_map m.map_type →
+-- the sections of a map clause, by what was found of its words
+pub maps_grow : {K : Type 0} → (seen : K → line.MapType) (names : Names) (at : ℕ) (m : MapClause) (kind : K)
+    (always present : Bool) (old new : List (MapText K)) → seen kind ≡ seen_map m.map_type →
     always ≡ list_any (λ n. is_always (seen_modifier n)) m.modifiers.items →
     present ≡ list_any (λ n. is_present (seen_modifier n)) m.modifiers.items →
-    Grows (IsMapAt seen names at) (given (always, present, seen kind) m.sections) old.maps.items new.maps.items →
+    Grows (IsMapAt seen names at) (given (always, present, seen kind) m.sections) old new →
+    Grows (IsMapAt seen names at) (map_given (Map m)) old new
+maps_grow seen names at m kind always present old new k e f g =
+    subst (λ (w : Mapping). Grows (IsMapAt seen names at) (given w m.sections) old new)
+    (mapping_same always _ present _ (seen kind) _ (e ∙ sym (any_seen is_always m.modifiers.items))
+    (f ∙ sym (any_seen is_present m.modifiers.items)) k) g
+
+pub reads_maps : {K : Type 0} → (seen : K → line.MapType) (names : Names) (at : ℕ) (m : MapClause)
+    (old new : Clauses K) → Grows (IsMapAt seen names at) (map_given (Map m)) old.maps.items new.maps.items →
     new.updates ≡ old.updates → new.tasking ≡ old.tasking → Reads seen names at (Map m ∷ []) old new
-reads_maps seen names at m kind always present old new k e f g u t = record {
+reads_maps seen names at m old new g u t = record {
   maps = subst (λ gs. Grows (IsMapAt seen names at) gs old.maps.items new.maps.items)
-      (sym (append-nil (given (mapping_of (map seen_modifier m.modifiers.items) (seen_map m.map_type)) m.sections)))
-      (subst (λ (w : Mapping). Grows (IsMapAt seen names at) (given w m.sections) old.maps.items new.maps.items)
-      (mapping_same always _ present _ (seen kind) _ (e ∙ sym (any_seen is_always m.modifiers.items))
-      (f ∙ sym (any_seen is_present m.modifiers.items)) k) g);
+      (sym (append-nil (map_given (Map m)))) g;
   updates = none_more (IsUpdateAt names at) old.updates.items new.updates.items (ap (λ us. us.items) u);
   depends = none_more (IsDependAt names at) old.tasking.depends.items new.tasking.depends.items
       (ap (λ (x : Tasking). x.depends.items) t);

@@ -3,12 +3,14 @@
 ghost use Rattle.std.specs.Prelude.{◌≡◌, ◌++◌, ◌∷◌, [], IfOk, OnOk};
 ghost use Rattle.std.specs.List.{list_any};
 ghost use Rattle.c_expressions.specs.Scopes.{names_of};
-ghost use Rattle.directives.specs.Names.{Uses, clause_names, each_names};
+ghost use Rattle.directives.specs.Names.{Uses, clause_names, each_names, sections_names};
 ghost use Rattle.directives.specs.Reading.{Outcome};
+ghost use Rattle.c_grammar.specs.LineRules.{IsAmong};
+ghost use Rattle.c_constructs.specs.Sections.{Grows, IsMapAt, map_given};
 ghost use Rattle.c_constructs.specs.Clauses.{AreRead, HasType, HaveTypes, Reads};
 ghost use Rattle.c_constructs.specs.Uses.{fault_in};
 ghost use Rattle.c_constructs.specs.Written.{is_always, is_present, seen_update, seen_depend as given_depend};
-ghost use Rattle.directives.specs.Kinds.{seen_depend, seen_modifier, seen_motion};
+ghost use Rattle.directives.specs.Kinds.{seen_depend, seen_map, seen_modifier, seen_motion};
 
 use crate::items::{depend_items, map_items, update_items};
 use crate::map_kind::MapKind;
@@ -64,6 +66,27 @@ fn update_kind(motion_type: MotionType) -> UpdateKind
     }
 }
 
+/// The map items of a clause.
+#[tactic(auto, using(directives::proofs::Outcomes::on_from))]
+fn map_clause<K: MapKind>(
+    scope: &Scope<'_>,
+    line: usize,
+    clause: &MapClause<'_>,
+    maps: &mut SmallVec<MapText<K>, 2>,
+) -> Result<(), DirectiveFault>
+    requires { IsAmong (seen_map clause.now.map_type) K.types }
+    ensures told { (us : Uses) → Outcome result (fault_in scope.now (sections_names clause.now.sections ++ us))
+        (fault_in scope.now us) }
+    ensures means { OnOk result (Grows (IsMapAt K.seen (names_of scope.now) line) (map_given (Clause.Map clause.now))
+        maps.old.items maps.new.items) }
+{
+    let kind = K::of(clause.map_type);
+    let always = is_always(clause);
+    let present = is_present(clause);
+    map_items(scope, line, kind, always, present, &clause.sections, maps)?;
+    Ok(())
+}
+
 /// One more clause.
 #[tactic(auto, using(directives::proofs::Outcomes::on_from))]
 fn clause<K: MapKind>(
@@ -78,20 +101,7 @@ fn clause<K: MapKind>(
     ensures means { OnOk result (Reads K.seen (names_of scope.now) line (clause.now ∷ []) read.old read.new) }
 {
     match clause {
-        Clause::Map(map) => {
-            let kind = K::of(map.map_type);
-            let always = is_always(map);
-            let present = is_present(map);
-            map_items(
-                scope,
-                line,
-                kind,
-                always,
-                present,
-                &map.sections,
-                &mut read.maps,
-            )?;
-        }
+        Clause::Map(map) => map_clause(scope, line, map, &mut read.maps)?,
         Clause::Depend(depend) => {
             let kind = depend_kind(depend.depend_type);
             depend_items(

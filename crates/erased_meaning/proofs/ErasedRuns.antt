@@ -82,8 +82,8 @@ module _ (lengths : List ℕ) (env : Env) (is js : Items) (b : Stmts) (ps : List
   runs (part.Block' c row ∷ qs) k = absurd k
   runs (part.Loop' a c row ∷ qs) k = absurd k
   runs (part.Target t r ∷ qs) k = absurd k
-  runs (part.Data' m c row ∷ qs) k = absurd k
-  runs (part.Alone t ∷ qs) k = absurd k
+  runs (part.Data' g c row ∷ qs) k = absurd k
+  runs (part.Alone at t ∷ qs) k = absurd k
 
 -- ---- the lengths of the arrays
 
@@ -110,8 +110,8 @@ is_one env is b (part.Host r ∷ x ∷ qs) h = absurd h
 is_one env is b (part.Block' c row ∷ qs) h = absurd h
 is_one env is b (part.Loop' a c row ∷ qs) h = absurd h
 is_one env is b (part.Target t r ∷ qs) h = absurd h
-is_one env is b (part.Data' m c row ∷ qs) h = absurd h
-is_one env is b (part.Alone t ∷ qs) h = absurd h
+is_one env is b (part.Data' g c row ∷ qs) h = absurd h
+is_one env is b (part.Alone at t ∷ qs) h = absurd h
 
 erased_is : (t : Text) (is js : Items) (p q : Program) → AreSafe (behind_globals t.globals no_front).env t.body → IsProgram is t p →
     IsProgram js (plain_tree t) q → IsErased p q

@@ -13,7 +13,7 @@ use Rattle.base.specs.Memory.{Memory, View, view_of}
 use Rattle.base.specs.Meaning.{Run, Plain, turn, turns_of, all_turns, run_stmt, run_row, run_list, after_region, run_kernel, erased_part, erased_row}
 use Rattle.c_grammar.specs.Lexeme.{Lexeme}
 use Rattle.c_grammar.specs.LineGrammar as line
-use Rattle.c_grammar.specs.LineGrammar.{LineText, line_slots, Clause, MapOf, DependOf, MotionOf, NoWait, ToDevice, FromDevice}
+use Rattle.c_grammar.specs.LineGrammar.{LineText, line_slots, Clause, MapOf, DependOf, MotionOf, NoWait, DeviceOf, ToDevice, FromDevice}
 use Rattle.c_grammar.specs.Lines.{kind_of, is_target}
 use Rattle.c_grammar.specs.Grammar.{Head, Stmt, Declare, Assign, Store, Repeat, Choose, ChooseElse, Show, Block, Directive, OverBlock, OverLoop, Stmts, Done, Then}
 use Rattle.c_expressions.specs.declared.scope.Meaning.TheVariants as meaning
@@ -35,11 +35,12 @@ lexemes t = map (λ x. x.0) (line_slots t)
 target_line : (cs : List Clause) → is_target (lexemes (record { kind = line.Target; clauses = cs })) ≡ true
 unfolding is_target kind_of
 target_line [] = refl
-target_line (MapOf a t is ∷ cs) = refl
+target_line (MapOf ms t is ∷ cs) = refl
 target_line (DependOf t is ∷ cs) = refl
-target_line (MotionOf ToDevice is ∷ cs) = refl
-target_line (MotionOf FromDevice is ∷ cs) = refl
+target_line (MotionOf ToDevice p is ∷ cs) = refl
+target_line (MotionOf FromDevice p is ∷ cs) = refl
 target_line (NoWait ∷ cs) = refl
+target_line (DeviceOf n ∷ cs) = refl
 
 data_line : (cs : List Clause) → is_target (lexemes (record { kind = line.Data; clauses = cs })) ≡ false
 unfolding is_target kind_of
@@ -150,8 +151,8 @@ module _ (lengths : List ℕ) (w : Memory) where
   none_left env (part.Block' c row ∷ ps) loops p q h e = absurd cc
   none_left env (part.Loop' b c row ∷ ps) loops p q h e = absurd cc
   none_left env (part.Target t d ∷ ps) loops p q h e = absurd cc
-  none_left env (part.Data' m c row ∷ ps) loops p q h e = absurd cc
-  none_left env (part.Alone d ∷ ps) loops p q h e = absurd cc
+  none_left env (part.Data' g c row ∷ ps) loops p q h e = absurd cc
+  none_left env (part.Alone at d ∷ ps) loops p q h e = absurd cc
 
   -- ---- blocks and loops
 
@@ -223,8 +224,8 @@ module _ (lengths : List ℕ) (w : Memory) where
   host_loop d b env is js (part.Block' c row ∷ ps) y loops p q h k e = absurd h
   host_loop d b env is js (part.Loop' a c row ∷ ps) y loops p q h k e = absurd h
   host_loop d b env is js (part.Target t r ∷ ps) y loops p q h k e = absurd h
-  host_loop d b env is js (part.Data' m c row ∷ ps) y loops p q h k e = absurd h
-  host_loop d b env is js (part.Alone t ∷ ps) y loops p q h k e = absurd h
+  host_loop d b env is js (part.Data' g c row ∷ ps) y loops p q h k e = absurd h
+  host_loop d b env is js (part.Alone at t ∷ ps) y loops p q h k e = absurd h
   host_loop d b env is js [] y loops p q h k e = absurd h
 
   -- ---- a part and what follows it
@@ -263,8 +264,8 @@ module _ (lengths : List ℕ) (w : Memory) where
   data_loop d b alike env is js (part.Host r ∷ ps) y loops p q safe o h k e = absurd h
   data_loop d b alike env is js (part.Block' c row ∷ ps) y loops p q safe o h k e = absurd h
   data_loop d b alike env is js (part.Target t r ∷ ps) y loops p q safe o h k e = absurd h
-  data_loop d b alike env is js (part.Data' m c row ∷ ps) y loops p q safe o h k e = absurd h
-  data_loop d b alike env is js (part.Alone t ∷ ps) y loops p q safe o h k e = absurd h
+  data_loop d b alike env is js (part.Data' g c row ∷ ps) y loops p q safe o h k e = absurd h
+  data_loop d b alike env is js (part.Alone at t ∷ ps) y loops p q safe o h k e = absurd h
   data_loop d b alike env is js [] y loops p q safe o h k e = absurd h
 
   -- the statements inside a statement with a directive
@@ -292,13 +293,13 @@ module _ (lengths : List ℕ) (w : Memory) where
   part_then (OverLoop l d b) alike ss env is js (part.Target t r) ys next loops p q safe o h k e follow =
       one_then (Repeat d (plain_stmts b)) (declared_in b) ss env js ys _ next loops q (more_plain _ _ env (declared_plain b)) k
       (λ y g. target_loop d b env (drop 1 is) js r y loops p q (safe.0 (is_target_line l h.0 h.1.kind)) o h.3 g e) follow
-  part_then (OverBlock l b) alike ss env is js (part.Data' m c row) ys next loops p q safe o h k e follow =
+  part_then (OverBlock l b) alike ss env is js (part.Data' g c row) ys next loops p q safe o h k e follow =
       one_then (Block (plain_stmts b)) (declared_in b) ss env js ys (erased_row row lengths loops p) next loops q (more_plain _ _ env (declared_plain b)) k
-      (λ y g. block_part b alike env (drop 2 is) js _ row y loops p q (safe.1 (is_data_line l h.0 h.1)) o h.4 g e) follow
-  part_then (OverLoop l d b) alike ss env is js (part.Data' m c row) ys next loops p q safe o h k e follow =
+      (λ y g. block_part b alike env (drop 2 is) js _ row y loops p q (safe.1 (is_data_line l h.0 h.1.kind)) o h.3 g e) follow
+  part_then (OverLoop l d b) alike ss env is js (part.Data' g c row) ys next loops p q safe o h k e follow =
       one_then (Repeat d (plain_stmts b)) (declared_in b) ss env js ys (erased_row row lengths loops p) next loops q (more_plain _ _ env (declared_plain b)) k
       (λ y g. subst (λ (u : Option Plain). BothEnd w env.names u (run_stmt y there loops q)) (sym (parts_row lengths _ row loops p))
-      (either y g h.3)) follow
+      (either y g h.2)) follow
     where
       either : (y : Statement) → IsStatement (plain_env env) js (Repeat d (plain_stmts b)) y →
           IsHostLoop env (drop 1 is) d b (items-the_row-Part _ row) ⊎
@@ -306,8 +307,8 @@ module _ (lengths : List ℕ) (w : Memory) where
           BothEnd w env.names (parts_run lengths (items-the_row-Part _ row) loops p) (run_stmt y there loops q)
       either y g (inl host) = host_loop d b env (drop 1 is) js (items-the_row-Part _ row) y loops p q host g e
       either y g (inr loop) =
-          data_loop d b alike env (drop (1 + head_size d) is) js (items-the_row-Part _ row) y loops p q (safe.1 (is_data_line l h.0 h.1)) o loop g e
-  part_then (Directive l) alike ss env is js (part.Alone t) ys next loops p q safe o h k e follow =
+          data_loop d b alike env (drop (1 + head_size d) is) js (items-the_row-Part _ row) y loops p q (safe.1 (is_data_line l h.0 h.1.kind)) o loop g e
+  part_then (Directive l) alike ss env is js (part.Alone at t) ys next loops p q safe o h k e follow =
       let none : env.scalars ≡ env.scalars + 0 = omega arith in
       follow js ys p q (subst (λ (n : ℕ). AreStatements (record (plain_env env) { scalars = n }) js (plain_stmts ss) ys) none k)
       (record { memory = e.memory; scalars = e.scalars; input = e.input; printed = e.printed })
@@ -377,8 +378,8 @@ module _ (lengths : List ℕ) (w : Memory) where
     pieces_then (part.Block' c row ∷ ps) [] p r q h l = part_case (part.Block' c row) ps (after_region p r) q h.1 h.2 (region_ends w env.names p r q l)
     pieces_then (part.Loop' a c row ∷ ps) [] p r q h l = part_case (part.Loop' a c row) ps (after_region p r) q h.1 h.2 (region_ends w env.names p r q l)
     pieces_then (part.Target t d ∷ ps) [] p r q h l = part_case (part.Target t d) ps (after_region p r) q h.1 h.2 (region_ends w env.names p r q l)
-    pieces_then (part.Data' m c row ∷ ps) [] p r q h l = part_case (part.Data' m c row) ps (after_region p r) q h.1 h.2 (region_ends w env.names p r q l)
-    pieces_then (part.Alone t ∷ ps) [] p r q h l = part_case (part.Alone t) ps (after_region p r) q h.1 h.2 (region_ends w env.names p r q l)
+    pieces_then (part.Data' g c row ∷ ps) [] p r q h l = part_case (part.Data' g c row) ps (after_region p r) q h.1 h.2 (region_ends w env.names p r q l)
+    pieces_then (part.Alone at t ∷ ps) [] p r q h l = part_case (part.Alone at t) ps (after_region p r) q h.1 h.2 (region_ends w env.names p r q l)
 
   pieces_done : RunsAlike Done
   pieces_done env is js (x ∷ xs) ps ys loops p r q safe o h k l = absurd cc

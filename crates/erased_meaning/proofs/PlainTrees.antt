@@ -63,8 +63,8 @@ not_mixed (part.Host r ∷ ps) h = not_mixed ps (no_parts_in r.place r.body.item
 not_mixed (part.Block' c row ∷ ps) h = absurd h
 not_mixed (part.Loop' a c row ∷ ps) h = absurd h
 not_mixed (part.Target t r ∷ ps) h = absurd h
-not_mixed (part.Data' m c row ∷ ps) h = absurd h
-not_mixed (part.Alone t ∷ ps) h = absurd h
+not_mixed (part.Data' g c row ∷ ps) h = absurd h
+not_mixed (part.Alone at t ∷ ps) h = absurd h
 
 mutual
   bare_no_parts : (b : Stmts) (env : Env) (is : Items) (ps : List Placed) → AreBare b → ArePieces env is b ps → NoParts ps
@@ -131,10 +131,10 @@ one_region b env is ps bare h l = go ps h l (bare_no_parts b env is (pieces_of p
     go (part.Host r ∷ part.Block' c row ∷ ps) h l n = absurd (no_parts_in r.place r.body.items _ n)
     go (part.Host r ∷ part.Loop' a c row ∷ ps) h l n = absurd (no_parts_in r.place r.body.items _ n)
     go (part.Host r ∷ part.Target t u ∷ ps) h l n = absurd (no_parts_in r.place r.body.items _ n)
-    go (part.Host r ∷ part.Data' m c row ∷ ps) h l n = absurd (no_parts_in r.place r.body.items _ n)
-    go (part.Host r ∷ part.Alone t ∷ ps) h l n = absurd (no_parts_in r.place r.body.items _ n)
+    go (part.Host r ∷ part.Data' g c row ∷ ps) h l n = absurd (no_parts_in r.place r.body.items _ n)
+    go (part.Host r ∷ part.Alone at t ∷ ps) h l n = absurd (no_parts_in r.place r.body.items _ n)
     go (part.Block' c row ∷ ps) h l n = absurd n
     go (part.Loop' a c row ∷ ps) h l n = absurd n
     go (part.Target t r ∷ ps) h l n = absurd n
-    go (part.Data' m c row ∷ ps) h l n = absurd n
-    go (part.Alone t ∷ ps) h l n = absurd n
+    go (part.Data' g c row ∷ ps) h l n = absurd n
+    go (part.Alone at t ∷ ps) h l n = absurd n

@@ -4,12 +4,10 @@ use Rattle.c_constructs.proofs.Reading.{reads_maps, reads_depends, reads_updates
 use Rattle.std.proofs.lemmas.Grind.{common_steps}
 use Rattle.c_constructs.proofs.clauses.clause.Goals as goal
 
-pub returns-in_ok-map_items-in-Map-clause-means : goal.returns-in_ok-map_items-in-Map-clause-means
-returns-in_ok-map_items-in-Map-clause-means g c = rw c.in-Map.is
-    (reads_maps g.K.MapKind.seen (names_of c.args.scope.now)
-    c.args.line c.in-Map.map c.of-kind.result c.is_always-always.result c.is_present-present.result c.args.read.now _
-    c.of-kind.ensures c.is_always-always.ensures c.is_present-present.ensures
-    c.in_ok-map_items-in-Map.ensures.means refl refl)
+pub returns-in_ok-map_clause-in-Map-clause-means : goal.returns-in_ok-map_clause-in-Map-clause-means
+returns-in_ok-map_clause-in-Map-clause-means g c = rw c.in-Map.is
+    (reads_maps g.K.MapKind.seen (names_of c.args.scope.now) c.args.line c.in-Map.map c.args.read.now _
+    c.in_ok-map_clause-in-Map.ensures.means refl refl)
 
 pub returns-in_ok-depend_items-in-Depend-clause-means : goal.returns-in_ok-depend_items-in-Depend-clause-means
 returns-in_ok-depend_items-in-Depend-clause-means g c = rw c.in-Depend.is (reads_depends g.K.MapKind.seen
@@ -29,8 +27,8 @@ pub returns-in-Device-clause-means : goal.returns-in-Device-clause-means
 returns-in-Device-clause-means g c = rw c.in-Device.is (reads_device g.K.MapKind.seen (names_of c.args.scope.now)
     c.args.line c.in-Device.device c.args.read.now _ refl refl refl refl refl)
 
-pub returns-in_err-map_items-in-Map-clause-told : goal.returns-in_err-map_items-in-Map-clause-told
-returns-in_err-map_items-in-Map-clause-told g c = grind (arith, common_steps)
+pub returns-in_err-map_clause-in-Map-clause-told : goal.returns-in_err-map_clause-in-Map-clause-told
+returns-in_err-map_clause-in-Map-clause-told g c = grind (arith, common_steps)
 
-pub returns-in_ok-map_items-in-Map-clause-told : goal.returns-in_ok-map_items-in-Map-clause-told
-returns-in_ok-map_items-in-Map-clause-told g c = grind (arith, common_steps)
+pub returns-in_ok-map_clause-in-Map-clause-told : goal.returns-in_ok-map_clause-in-Map-clause-told
+returns-in_ok-map_clause-in-Map-clause-told g c = grind (arith, common_steps)
