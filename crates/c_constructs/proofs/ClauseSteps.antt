@@ -9,8 +9,8 @@ use Rattle.directives.specs.Trees.{clause_of}
 use Rattle.c_constructs.specs.declared.clauses.Clauses.{Clauses}
 use Rattle.c_constructs.specs.Sections.{IsMapAt, IsUpdateAt, IsDependAt, Pairs, map_given, depend_given, motion_given, all_given}
 use Rattle.c_constructs.specs.Clauses.{AreRead, HasType, HaveTypes, Reads}
-use Rattle.c_constructs.specs.Written.{waits_in}
-use Rattle.c_constructs.proofs.Reading.{all_both, waits_both, type_at}
+use Rattle.c_constructs.specs.Written.{waits_in, device_from}
+use Rattle.c_constructs.proofs.Reading.{all_both, waits_both, device_both, type_at}
 
 read_then : {K : Type 0} → (seen : K → line.MapType) (names : Names) (at : ℕ) (xs ys : List Clause) (a b : Clauses K) →
     AreRead seen names at xs a → Reads seen names at ys a b → AreRead seen names at (xs ++ ys) b
@@ -22,6 +22,7 @@ read_then seen names at xs ys a b h i = record {
   depends = subst (λ gs. Pairs (IsDependAt names at) gs b.tasking.depends.items) (sym (all_both depend_given xs ys))
       (i.depends.more (all_given depend_given xs) h.depends);
   nowait = i.nowait ∙ ap (λ (w : Bool). w || waits_in (map clause_of ys)) h.nowait ∙ sym (waits_both xs ys);
+  device = i.device ∙ ap (λ (d : ℕ). device_from d (map clause_of ys)) h.device ∙ sym (device_both 0 xs ys);
 }
 
 pub read_next : {K : Type 0} → (seen : K → line.MapType) (names : Names) (at : ℕ) (xs : List Clause) (k : ℕ)

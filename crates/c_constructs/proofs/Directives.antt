@@ -89,4 +89,4 @@ over_types d e h = go d.kind refl e
 
 pub tasking : {K : Type 0} → (seen : K → line.MapType) (names : Names) (at : ℕ) (cs : List Clause) (r : Clauses K) →
     AreRead seen names at cs r → IsTaskingAt names at cs r.tasking
-tasking seen names at cs r h = record { nowait = h.nowait; depends = h.depends }
+tasking seen names at cs r h = record { nowait = h.nowait; depends = h.depends; device = h.device }

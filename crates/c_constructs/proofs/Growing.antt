@@ -49,21 +49,21 @@ grows_next {K = K} R kind first xs ys k d a b c e l j h i =
     subst (λ (us : List (Given K)). Grows R (given_one kind first ∷ us) a c) (sym more)
     (grows_then R (given_one kind first ∷ map (given_one kind) (take k xs)) (given_one kind d ∷ []) a b c h i)
 
-pub grows_map : {K : Type 0} → (seen : K → line.MapType) (names : Names) (at : ℕ) (kind : K) (always : Bool)
-    (s : Section) (t : SectionText) (old new : List (MapText K)) → IsSectionAt names at s t →
-    new ≡ old ++ record { kind = kind; always = always; section = t } ∷ [] →
-    Grows (IsMapAt seen names at) (given_one (always, seen kind) s ∷ []) old new
-grows_map seen names at kind always s t old new h e =
-    grows_one (IsMapAt seen names at) (given_one (always, seen kind) s)
-    (record { kind = kind; always = always; section = t }) old new (refl, h) e
+pub grows_map : {K : Type 0} → (seen : K → line.MapType) (names : Names) (at : ℕ) (kind : K)
+    (always present : Bool) (s : Section) (t : SectionText) (old new : List (MapText K)) → IsSectionAt names at s t →
+    new ≡ old ++ record { kind = kind; always = always; present = present; section = t } ∷ [] →
+    Grows (IsMapAt seen names at) (given_one (always, present, seen kind) s ∷ []) old new
+grows_map seen names at kind always present s t old new h e =
+    grows_one (IsMapAt seen names at) (given_one (always, present, seen kind) s)
+    (record { kind = kind; always = always; present = present; section = t }) old new (refl, h) e
 
-pub grows_update : (names : Names) (at : ℕ) (kind : UpdateKind) (s : Section) (t : SectionText)
+pub grows_update : (names : Names) (at : ℕ) (kind : UpdateKind) (present : Bool) (s : Section) (t : SectionText)
     (old new : List UpdateText) → IsSectionAt names at s t →
-    new ≡ old ++ record { kind = kind; section = t } ∷ [] →
-    Grows (IsUpdateAt names at) (given_one (seen_update kind) s ∷ []) old new
-grows_update names at kind s t old new h e =
-    grows_one (IsUpdateAt names at) (given_one (seen_update kind) s) (record { kind = kind; section = t }) old new
-    (refl, h) e
+    new ≡ old ++ record { kind = kind; present = present; section = t } ∷ [] →
+    Grows (IsUpdateAt names at) (given_one (present, seen_update kind) s ∷ []) old new
+grows_update names at kind present s t old new h e =
+    grows_one (IsUpdateAt names at) (given_one (present, seen_update kind) s)
+    (record { kind = kind; present = present; section = t }) old new (refl, h) e
 
 pub grows_depend : (names : Names) (at : ℕ) (kind : DependKind) (s : Section) (t : SectionText)
     (old new : List DependText) → IsSectionAt names at s t →

@@ -7,7 +7,7 @@ use Rattle.base.specs.declared.fault.ReadCode.TheVariants.{Undeclared, BadBound}
 use Rattle.c_grammar.specs.Lexeme.{Lexeme}
 use Rattle.c_grammar.specs.LineGrammar.{LineAct}
 use Rattle.c_grammar.specs.LineMachine.{LineSymbol, line_advance, line_start}
-use Rattle.c_grammar.specs.Lines.{Use, use_of, with_use, uses_on, uses_from, uses_of}
+use Rattle.c_grammar.specs.Lines.{Use, use_of, with_use, first_of as next_of, uses_on, uses_from, uses_of}
 use Rattle.c_grammar.specs.Terminal.{Terminal, Line}
 use Rattle.c_grammar.specs.Texts.{Item}
 use Rattle.c_grammar.specs.Grammar.{Act, for}
@@ -32,15 +32,15 @@ rises_with : (k : ℕ) (o : Option Use) (us : Uses) → Rises (k + 1) us → Ris
 rises_with k None us r = rises_from k (k + 1) us (omega arith) r
 rises_with k (Some u) us r = (omega arith, r)
 
-rises_on : (k : ℕ) (t : Lexeme) (o : Option ((Option Code × LineAct) × List LineSymbol))
-    (go : ℕ → List LineSymbol → Uses) → ((j : ℕ) (s : List LineSymbol) → Rises j (go j s)) → Rises k (uses_on k t o go)
-rises_on k t None go h = tt
-rises_on k t (Some m) go h = rises_with k (use_of t m.0.1) (go (k + 1) m.1) (h (k + 1) m.1)
+rises_on : (k : ℕ) (t next : Lexeme) (o : Option ((Option Code × LineAct) × List LineSymbol))
+    (go : ℕ → List LineSymbol → Uses) → ((j : ℕ) (s : List LineSymbol) → Rises j (go j s)) → Rises k (uses_on k t next o go)
+rises_on k t next None go h = tt
+rises_on k t next (Some m) go h = rises_with k (use_of t m.0.1 next) (go (k + 1) m.1) (h (k + 1) m.1)
 
 uses_rise : (ts : List Lexeme) (k : ℕ) (s : List LineSymbol) → Rises k (uses_from k s ts)
 unfolding uses_from
 uses_rise [] k s = tt
-uses_rise (t ∷ ts) k s = rises_on k t (line_advance s t) (λ k s. uses_from k s ts) (λ j s. uses_rise ts j s)
+uses_rise (t ∷ ts) k s = rises_on k t (next_of ts) (line_advance s t) (λ k s. uses_from k s ts) (λ j s. uses_rise ts j s)
 
 pub all_rise : (ts : List Lexeme) → Rises 0 (uses_of ts)
 unfolding uses_of

@@ -4,13 +4,14 @@ use Rattle.base.specs.declared.tree.Tasking.{Tasking}
 use Rattle.base.specs.declared.tree.MapText.{MapText}
 use Rattle.base.specs.declared.tree.RegionKind.{RegionKind}
 use Rattle.base.specs.declared.tree.Target.{Target}
+use Rattle.base.specs.declared.tree.Data.{Data}
 use Rattle.base.specs.declared.tree.Directive.{Directive}
 use Rattle.base.specs.declared.tree.Directive.TheVariants as directive
 use Rattle.c_grammar.specs.Lexeme.{Lexeme, Placed as PlacedLexeme, Ended, lexemes_of}
 use Rattle.c_grammar.specs.LineGrammar as line
 use Rattle.c_grammar.specs.Terminal.{Terminal, Line}
 use Rattle.c_grammar.specs.Texts.{Item}
-use Rattle.c_expressions.specs.Means.{Items, Names}
+use Rattle.c_expressions.specs.Means.{Items, Names, place_of}
 use Rattle.directives.specs.declared.tree.Directive.{Directive as Given}
 use Rattle.directives.specs.declared.tree.DirectiveKind.{DirectiveKind as GivenKind}
 use Rattle.directives.specs.declared.tree.DirectiveKind.TheVariants as kind
@@ -18,10 +19,10 @@ use Rattle.directives.specs.Cursor.{item_of, line_items}
 use Rattle.directives.specs.Kinds.{seen_kind}
 use Rattle.directives.specs.Spells.{SpellsLine, kinds_of, columns_of}
 use Rattle.directives.specs.Trees.{Spelling, text_of, head_marks, clauses_marks, line_marks}
-use Rattle.c_constructs.specs.Directives.{IsTaskingAt, IsAloneAt, IsTargetAt, AreRegionMapsAt}
+use Rattle.c_constructs.specs.Directives.{IsTaskingAt, IsAloneAt, IsTargetAt, IsDataAt, AreRegionMapsAt}
 use Rattle.c_constructs.specs.LineMeaning.{lexemes_on}
 use Rattle.c_constructs.specs.Sections.{all_given, map_given, depend_given, motion_given}
-use Rattle.c_constructs.specs.Written.{seen_region, seen_enter, seen_exit, maps_from, depends_from, motions_from, clauses_at, IsTasking, IsTarget, IsAlone, AreRegionMaps}
+use Rattle.c_constructs.specs.Written.{seen_region, seen_enter, seen_exit, maps_from, depends_from, motions_from, clauses_at, IsTasking, IsTarget, IsData, IsAlone, AreRegionMaps}
 use Rattle.c_constructs.proofs.Placing.{Placed, placed_fit, placed_behind, AreWritten}
 use Rattle.c_constructs.proofs.Matching.{maps_written, depends_written, motions_written, maps_placed, updates_placed, depends_placed}
 
@@ -91,9 +92,10 @@ tasking_means names i is d g p h = record {
   nowait = h.nowait;
   depends = depends_placed names i is (all_given depend_given d.clauses.items)
       (depends_from (clauses_at (text_of d)) (text_of d).clauses) g.depends.items (depends_at d i.columns p) h.depends;
+  device = h.device;
 }
 
-pub maps_mean : (names : Names) (i : Item Terminal) (is : Items) (d : Given) (ms : List (MapText RegionKind)) →
+maps_mean : (names : Names) (i : Item Terminal) (is : Items) (d : Given) (ms : List (MapText RegionKind)) →
     Placed (line_marks d) i.columns → AreRegionMapsAt names i.line d.clauses.items ms →
     AreRegionMaps names (i ∷ is) (text_of d) ms
 maps_mean names i is d ms p h =
@@ -101,11 +103,21 @@ maps_mean names i is d ms p h =
     (maps_from (clauses_at (text_of d)) (text_of d).clauses) ms (maps_at d i.columns p) h
 
 pub target_means : (names : Names) (i : Item Terminal) (is : Items) (d : Given) (g : Target) →
-    Placed (line_marks d) i.columns → IsTargetAt names i.line d g → IsTarget names (i ∷ is) (text_of d) g
+    Placed (line_marks d) i.columns → IsTargetAt names (place_of (i ∷ is)) d g → IsTarget names (i ∷ is) (text_of d) g
 target_means names i is d g p h = record {
   kind = h.kind;
+  place = h.place;
   maps = maps_mean names i is d g.maps.items p h.maps;
   tasking = tasking_means names i is d g.tasking p h.tasking;
+}
+
+pub data_means : (names : Names) (i : Item Terminal) (is : Items) (d : Given) (g : Data) →
+    Placed (line_marks d) i.columns → IsDataAt names (place_of (i ∷ is)) d g → IsData names (i ∷ is) (text_of d) g
+data_means names i is d g p h = record {
+  kind = h.kind;
+  place = h.place;
+  maps = maps_mean names i is d g.maps.items p h.maps;
+  device = h.device;
 }
 
 pub alone_means : (names : Names) (i : Item Terminal) (is : Items) (d : Given) (t : Directive) →

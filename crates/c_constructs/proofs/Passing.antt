@@ -1,5 +1,6 @@
 -- A directive's line that is read, and what comes behind it.
 use Rattle.std.proofs.Common.{◌≡◌, ℕ, ◌+◌, ◌<◌, Bool, true, false, List, ◌∷◌, Option, None, sym, ap, ◌∙◌, subst}
+use Rattle.base.specs.declared.tree.Place.{Place}
 use Rattle.base.specs.declared.tree.Directive.{Directive}
 use Rattle.base.specs.declared.tree.Directive.TheVariants as directive
 use Rattle.c_grammar.specs.Grammar.{Over, for}
@@ -12,7 +13,7 @@ use Rattle.c_grammar.specs.Texts.{Item}
 use Rattle.c_expressions.specs.declared.cursor.Cursor.{Cursor}
 use Rattle.c_expressions.specs.declared.scope.Scope.{Scope}
 use Rattle.c_expressions.specs.Cursor.{items, first_item, behind}
-use Rattle.c_expressions.specs.Means.{Items, Names}
+use Rattle.c_expressions.specs.Means.{Items, Names, place_of}
 use Rattle.c_expressions.specs.Reading.{run, took}
 use Rattle.c_expressions.specs.Scopes.{context_of}
 use Rattle.directives.specs.declared.fault.LineFault.{LineFault}
@@ -28,7 +29,7 @@ use Rattle.c_constructs.specs.Directives.{IsAloneAt, IsResolvedAt}
 use Rattle.c_constructs.specs.LineMeaning.{IsRead, Means, is_over, lexemes_on, scope_behind}
 use Rattle.c_constructs.specs.Steps.{act_of, one_more}
 use Rattle.c_constructs.specs.Uses.{fault_in}
-use Rattle.c_constructs.proofs.LineMeanings.{line_placed, line_tokens, alone_means, target_means, maps_mean}
+use Rattle.c_constructs.proofs.LineMeanings.{line_placed, line_tokens, alone_means, target_means, data_means}
 use Rattle.c_constructs.proofs.Placing.{Placed}
 use Rattle.c_constructs.proofs.Taken.{fault_on, named_line}
 
@@ -41,17 +42,17 @@ alone_holds names at d (directive.Exit maps g) h = ap holds_kind h.0
 alone_holds names at d (directive.Update sections g) h = ap holds_kind h.0
 alone_holds names at d (directive.Wait depends) h = ap holds_kind h.0
 
-resolved_holds : (names : Names) (at : ℕ) (d : Given) (r : Resolved) → IsResolvedAt names at d r →
+resolved_holds : (names : Names) (at : Place) (d : Given) (r : Resolved) → IsResolvedAt names at d r →
     holds_kind (seen_kind d.kind) ≡ is_over r
-resolved_holds names at d (resolved.Alone t) h = alone_holds names at d t h
+resolved_holds names at d (resolved.Alone place t) h = alone_holds names at.line d t h.1
 resolved_holds names at d (resolved.Over (construct.Target g)) h = ap holds_kind h.kind
-resolved_holds names at d (resolved.Over (construct.Data maps)) h = ap holds_kind h.0
+resolved_holds names at d (resolved.Over (construct.Data g)) h = ap holds_kind h.kind
 
 all_mean : (names : Names) (i : Item Terminal) (is : Items) (d : Given) (r : Resolved) →
-    Placed (line_marks d) i.columns → IsResolvedAt names i.line d r → Means names (i ∷ is) (text_of d) r
-all_mean names i is d (resolved.Alone t) p h = alone_means names i is d t p h
+    Placed (line_marks d) i.columns → IsResolvedAt names (place_of (i ∷ is)) d r → Means names (i ∷ is) (text_of d) r
+all_mean names i is d (resolved.Alone place t) p h = (h.0, alone_means names i is d t p h.1)
 all_mean names i is d (resolved.Over (construct.Target g)) p h = target_means names i is d g p h
-all_mean names i is d (resolved.Over (construct.Data maps)) p h = (h.0, maps_mean names i is d maps.items p h.1)
+all_mean names i is d (resolved.Over (construct.Data g)) p h = data_means names i is d g p h
 
 line_holds : (l : List ℕ) (column : ℕ) (d : Given) → IsInSource l column d →
     holds (kinds_of (lexemes_of l column)) ≡ holds_kind (seen_kind d.kind)
@@ -60,7 +61,7 @@ line_holds l column d k = ap holds_kind k.kind
 
 pub is_read : (names : Names) (i : Item Terminal) (is : Items) (l : List ℕ) (column : ℕ) (d : Given) (r : Resolved) →
     i.terminal ≡ Line (kinds_of (lexemes_of l column)) → i.columns ≡ columns_of (lexemes_of l column) →
-    SpellsLine l column d → IsInSource l column d → IsResolvedAt names i.line d r → IsRead names i is r
+    SpellsLine l column d → IsInSource l column d → IsResolvedAt names (place_of (i ∷ is)) d r → IsRead names i is r
 is_read names i is l column d r e cs s k h = record {
   line = record {
     text = text_of d;
@@ -68,7 +69,7 @@ is_read names i is l column d r e cs s k h = record {
     tokens = line_tokens l column d i.terminal e s;
   };
   words = ap (λ (t : Terminal). is_omp (lexemes_on t)) e ∙ k.words;
-  over = ap (λ (t : Terminal). holds (lexemes_on t)) e ∙ line_holds l column d k ∙ resolved_holds names i.line d r h;
+  over = ap (λ (t : Terminal). holds (lexemes_on t)) e ∙ line_holds l column d k ∙ resolved_holds names (place_of (i ∷ is)) d r h;
   means = all_mean names i is d r (subst (λ (ks : List ℕ). Placed (line_marks d) ks) (sym cs)
       (line_placed l column d s))
       h;
@@ -80,11 +81,11 @@ pub passes : (sc : Scope) (names : Names) (s : Stack) (line : List ℕ) (column 
     (t : Cursor) → (first_item t).terminal ≡ Line (kinds_of (lexemes_of line column)) →
     (first_item t).columns ≡ columns_of (lexemes_of line column) → sc.statements < max_statements →
     inside (context_of sc 0 0) ≡ false → under_if (context_of sc 0 0) ≡ false → line_answer line column ≡ None →
-    IsInSource line column d → fault_in sc (names_in d) ≡ None → IsResolvedAt names (first_item t).line d r →
+    IsInSource line column d → fault_in sc (names_in d) ≡ None → IsResolvedAt names (place_of (items t)) d r →
     took (context_of sc 0 0) (for (act_of (is_over r))) s (items t) ≡ run (context_of (scope_behind r sc) 0 0) s
     (behind t)
 unfolding enter is_target
-passes sc names s line column d (resolved.Alone a) t e cs h b g w known n m =
+passes sc names s line column d (resolved.Alone place a) t e cs h b g w known n m =
     named_line sc false s line column d t e cs h b g w known
     ∙ ap (λ (o : Option LineFault). fault_on (first_item t).line o
     (run (context_of (one_more sc) 0 0) s (behind t))) n
@@ -99,4 +100,4 @@ passes sc names s line column d (resolved.Over (construct.Data a)) t e cs h b g 
     ∙ ap (λ (o : Option LineFault). fault_on (first_item t).line o
     (run (enter (context_of sc 0 0) (Line (kinds_of (lexemes_of line column)), for Over)) s (behind t))) n
     ∙ ap (λ (b : Bool). run (context_of (record sc { statements = sc.statements + 1; target = b }) 0 0) s (behind t))
-    (ap is_target_kind known.kind ∙ ap is_target_kind m.0)
+    (ap is_target_kind known.kind ∙ ap is_target_kind m.kind)

@@ -66,16 +66,17 @@ len_more a [] = refl
 len_more a (x ∷ xs) = ap (λ (n : ℕ). suc n) (len_two (section_marks x) (each_behind sign.Comma section_marks xs)
     (line.item a (section_of x)) (line.more_items a (map section_of xs)) (len_section a x) (len_more a xs))
 
-pub len_sections : (a : line.LineAct) (s : Sections) → length (sections_marks s) ≡ length (line.items a (sections_of s))
+pub len_sections : (first a : line.LineAct) (s : Sections) →
+    length (sections_marks s) ≡ length (line.items_from first a (sections_of s))
 unfolding sections_marks
-len_sections a s =
+len_sections first a s =
     let more : Spelling = each_behind sign.Comma section_marks s.more.items in
     let last : Spelling = sign_mark sign.CloseParen ∷ [] in
     let slots = line.more_items a (map section_of s.more.items) in
     let ends = line.mark sign.CloseParen ∷ [] in
     ap length (append_assoc (section_marks s.first) more last)
-    ∙ len_two (section_marks s.first) (more ++ last) (line.item a (section_of s.first)) (slots ++ ends)
-    (len_section a s.first) (len_two more last slots ends (len_more a s.more.items) refl)
+    ∙ len_two (section_marks s.first) (more ++ last) (line.item first (section_of s.first)) (slots ++ ends)
+    (len_section first s.first) (len_two more last slots ends (len_more a s.more.items) refl)
 
 -- ---- the columns of tokens
 

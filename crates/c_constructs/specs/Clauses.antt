@@ -4,12 +4,12 @@ use Rattle.c_grammar.specs.LineGrammar as line
 use Rattle.c_grammar.specs.LineRules.{IsAmong}
 use Rattle.c_expressions.specs.Means.{Names}
 use Rattle.directives.specs.declared.tree.Clause.{Clause}
-use Rattle.directives.specs.declared.tree.Clause.TheVariants.{Map, Depend, Motion, NoWait}
+use Rattle.directives.specs.declared.tree.Clause.TheVariants.{Map, Depend, Motion, NoWait, Device}
 use Rattle.directives.specs.Kinds.{seen_map}
 use Rattle.directives.specs.Trees.{clause_of}
 use Rattle.c_constructs.specs.declared.clauses.Clauses.{Clauses}
 use Rattle.c_constructs.specs.Sections.{Grows, IsMapAt, IsUpdateAt, IsDependAt, Pairs, all_given, map_given, depend_given, motion_given}
-use Rattle.c_constructs.specs.Written.{waits_in}
+use Rattle.c_constructs.specs.Written.{waits_in, device_from, device_in}
 
 -- a map clause has one of these types
 abbrev pub HasType : List line.MapType → Clause → Type 0
@@ -17,6 +17,7 @@ HasType types (Map m) = IsAmong (seen_map m.map_type) types
 HasType types (Depend d) = Unit {0}
 HasType types (Motion m) = Unit {0}
 HasType types NoWait = Unit {0}
+HasType types (Device d) = Unit {0}
 
 abbrev pub HaveTypes : List line.MapType → List Clause → Type 0
 HaveTypes types [] = Unit {0}
@@ -30,6 +31,7 @@ pub record Reads {K : Type 0} (seen : K → line.MapType) (names : Names) (at : 
   pub depends : Grows (IsDependAt names at) (all_given depend_given cs) old.tasking.depends.items
       new.tasking.depends.items
   pub nowait : new.tasking.nowait ≡ (old.tasking.nowait || waits_in (map clause_of cs))
+  pub device : new.tasking.device.number ≡ device_from old.tasking.device.number (map clause_of cs)
 
 -- they mean this
 pub record AreRead {K : Type 0} (seen : K → line.MapType) (names : Names) (at : ℕ) (cs : List Clause) (r : Clauses K) :
@@ -38,3 +40,4 @@ pub record AreRead {K : Type 0} (seen : K → line.MapType) (names : Names) (at 
   pub updates : Pairs (IsUpdateAt names at) (all_given motion_given cs) r.updates.items
   pub depends : Pairs (IsDependAt names at) (all_given depend_given cs) r.tasking.depends.items
   pub nowait : r.tasking.nowait ≡ waits_in (map clause_of cs)
+  pub device : r.tasking.device.number ≡ device_in (map clause_of cs)

@@ -1,9 +1,11 @@
--- What the directive of a line means, each section at the column of its array's name.
+-- What the directive of a line means, whose # stands at a place: each section at the column of its array's name.
 use Rattle.std.specs.Prelude.{◌≡◌, ℕ, List, map}
 use Rattle.base.specs.declared.tree.MapText.{MapText}
 use Rattle.base.specs.declared.tree.RegionKind.{RegionKind}
 use Rattle.base.specs.declared.tree.Tasking.{Tasking}
+use Rattle.base.specs.declared.tree.Place.{Place}
 use Rattle.base.specs.declared.tree.Target.{Target}
+use Rattle.base.specs.declared.tree.Data.{Data}
 use Rattle.base.specs.declared.tree.Directive.{Directive}
 use Rattle.base.specs.declared.tree.Directive.TheVariants as directive
 use Rattle.c_grammar.specs.LineGrammar as line
@@ -17,11 +19,12 @@ use Rattle.c_constructs.specs.declared.resolved.Construct.TheVariants as constru
 use Rattle.c_constructs.specs.declared.resolved.Resolved.{Resolved}
 use Rattle.c_constructs.specs.declared.resolved.Resolved.TheVariants as resolved
 use Rattle.c_constructs.specs.Sections.{IsMapAt, IsUpdateAt, IsDependAt, Pairs, all_given, map_given, depend_given, motion_given}
-use Rattle.c_constructs.specs.Written.{seen_region, seen_enter, seen_exit, waits_in}
+use Rattle.c_constructs.specs.Written.{seen_region, seen_enter, seen_exit, waits_in, device_in}
 
 pub record IsTaskingAt (names : Names) (at : ℕ) (cs : List Clause) (g : Tasking) : Type 0 where
   pub nowait : g.nowait ≡ waits_in (map clause_of cs)
   pub depends : Pairs (IsDependAt names at) (all_given depend_given cs) g.depends.items
+  pub device : g.device.number ≡ device_in (map clause_of cs)
 
 abbrev pub AreRegionMapsAt : Names → ℕ → List Clause → List (MapText RegionKind) → Type 0
 AreRegionMapsAt names at cs ms = Pairs (IsMapAt seen_region names at) (all_given map_given cs) ms
@@ -43,16 +46,22 @@ IsAloneAt names at d (directive.Wait depends) =
     (seen_kind d.kind ≡ line.Wait) ×
     Pairs (IsDependAt names at) (all_given depend_given d.clauses.items) depends.items
 
-pub record IsTargetAt (names : Names) (at : ℕ) (d : Given) (g : Target) : Type 0 where
+pub record IsTargetAt (names : Names) (at : Place) (d : Given) (g : Target) : Type 0 where
   pub kind : seen_kind d.kind ≡ line.Target
-  pub maps : AreRegionMapsAt names at d.clauses.items g.maps.items
-  pub tasking : IsTaskingAt names at d.clauses.items g.tasking
+  pub place : g.place ≡ at
+  pub maps : AreRegionMapsAt names at.line d.clauses.items g.maps.items
+  pub tasking : IsTaskingAt names at.line d.clauses.items g.tasking
 
-abbrev pub IsConstructAt : Names → ℕ → Given → Construct → Type 0
+pub record IsDataAt (names : Names) (at : Place) (d : Given) (g : Data) : Type 0 where
+  pub kind : seen_kind d.kind ≡ line.Data
+  pub place : g.place ≡ at
+  pub maps : AreRegionMapsAt names at.line d.clauses.items g.maps.items
+  pub device : g.device.number ≡ device_in (map clause_of d.clauses.items)
+
+abbrev pub IsConstructAt : Names → Place → Given → Construct → Type 0
 IsConstructAt names at d (construct.Target g) = IsTargetAt names at d g
-IsConstructAt names at d (construct.Data maps) =
-    (seen_kind d.kind ≡ line.Data) × AreRegionMapsAt names at d.clauses.items maps.items
+IsConstructAt names at d (construct.Data g) = IsDataAt names at d g
 
-abbrev pub IsResolvedAt : Names → ℕ → Given → Resolved → Type 0
-IsResolvedAt names at d (resolved.Alone t) = IsAloneAt names at d t
+abbrev pub IsResolvedAt : Names → Place → Given → Resolved → Type 0
+IsResolvedAt names at d (resolved.Alone place t) = (place ≡ at) × IsAloneAt names at.line d t
 IsResolvedAt names at d (resolved.Over c) = IsConstructAt names at d c

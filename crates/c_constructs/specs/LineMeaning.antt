@@ -1,20 +1,19 @@
 -- What the line of a directive means that was read.
 use Rattle.std.specs.Prelude.{◌≡◌, ◌+◌, Bool, true, false, List, [], ◌∷◌, map}
 use Rattle.c_grammar.specs.Lexeme.{Lexeme}
-use Rattle.c_grammar.specs.LineGrammar as line
 use Rattle.c_grammar.specs.LineGrammar.{LineText, line_slots}
 use Rattle.c_grammar.specs.LineRules.{IsLine}
 use Rattle.c_grammar.specs.Lines.{holds, is_omp}
 use Rattle.c_grammar.specs.Terminal.{Terminal, Line}
 use Rattle.c_grammar.specs.Texts.{Item}
 use Rattle.c_expressions.specs.declared.scope.Scope.{Scope}
-use Rattle.c_expressions.specs.Means.{Items, Names}
+use Rattle.c_expressions.specs.Means.{Items, Names, place_of}
 use Rattle.c_constructs.specs.declared.resolved.Construct.{Construct}
 use Rattle.c_constructs.specs.declared.resolved.Construct.TheVariants as construct
 use Rattle.c_constructs.specs.declared.resolved.Resolved.{Resolved}
 use Rattle.c_constructs.specs.declared.resolved.Resolved.TheVariants as resolved
 use Rattle.c_constructs.specs.Steps.{one_more}
-use Rattle.c_constructs.specs.Written.{IsAlone, IsTarget, AreRegionMaps}
+use Rattle.c_constructs.specs.Written.{IsAlone, IsTarget, IsData}
 
 -- the tree of the line of a directive
 pub record LineOf (l : List Lexeme) : Type 0 where
@@ -29,14 +28,14 @@ lexemes_on _ = []
 
 -- a block or loop must follow the directive
 abbrev pub is_over : Resolved → Bool
-is_over (resolved.Alone d) = false
+is_over (resolved.Alone place d) = false
 is_over (resolved.Over c) = true
 
 -- the line that is the first of these tokens means this
 abbrev pub Means : Names → Items → LineText → Resolved → Type 0
-Means names is t (resolved.Alone d) = IsAlone names is t d
+Means names is t (resolved.Alone place d) = (place ≡ place_of is) × IsAlone names is t d
 Means names is t (resolved.Over (construct.Target g)) = IsTarget names is t g
-Means names is t (resolved.Over (construct.Data maps)) = (t.kind ≡ line.Data) × AreRegionMaps names is t maps.items
+Means names is t (resolved.Over (construct.Data g)) = IsData names is t g
 
 -- that is what the line of this token means, which the others follow
 pub record IsRead (names : Names) (item : Item Terminal) (behind : Items) (d : Resolved) : Type 0 where
@@ -48,9 +47,9 @@ pub record IsRead (names : Names) (item : Item Terminal) (behind : Items) (d : R
 -- the next block is that of a target
 abbrev pub is_target : Construct → Bool
 is_target (construct.Target g) = true
-is_target (construct.Data maps) = false
+is_target (construct.Data g) = false
 
 -- what is known behind the line: a statement more has begun, and a block or loop must follow
 abbrev pub scope_behind : Resolved → Scope → Scope
-scope_behind (resolved.Alone d) s = one_more s
+scope_behind (resolved.Alone place d) s = one_more s
 scope_behind (resolved.Over c) s = record s { statements = s.statements + 1; target = is_target c }

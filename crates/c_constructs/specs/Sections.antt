@@ -10,10 +10,10 @@ use Rattle.c_expressions.specs.Means.{Names, meaning_of}
 use Rattle.directives.specs.declared.tree.Section.{Section}
 use Rattle.directives.specs.declared.tree.Sections.{Sections}
 use Rattle.directives.specs.declared.tree.Clause.{Clause}
-use Rattle.directives.specs.declared.tree.Clause.TheVariants.{Map, Depend, Motion, NoWait}
-use Rattle.directives.specs.Kinds.{seen_map, seen_depend, seen_motion}
+use Rattle.directives.specs.declared.tree.Clause.TheVariants.{Map, Depend, Motion, NoWait, Device}
+use Rattle.directives.specs.Kinds.{seen_modifier, seen_map, seen_depend, seen_motion}
 use Rattle.directives.specs.Trees.{bounds_of}
-use Rattle.c_constructs.specs.Written.{AreBounds, seen_update, seen_depend as depend_kind}
+use Rattle.c_constructs.specs.Written.{AreBounds, Mapping, mapping_of, seen_update, seen_depend as depend_kind}
 
 -- what a section on that line means
 pub record IsSectionAt (names : Names) (line : ℕ) (s : Section) (t : SectionText) : Type 0 where
@@ -33,23 +33,26 @@ abbrev pub given : {K : Type 0} → K → Sections → List (Given K)
 given kind s = given_one kind s.first ∷ map (given_one kind) s.more.items
 
 -- those of each kind of clause, from left to right
-abbrev pub map_given : Clause → List (Given (Bool × line.MapType))
-map_given (Map m) = given (m.always, seen_map m.map_type) m.sections
+abbrev pub map_given : Clause → List (Given Mapping)
+map_given (Map m) = given (mapping_of (map seen_modifier m.modifiers.items) (seen_map m.map_type)) m.sections
 map_given (Depend d) = []
 map_given (Motion m) = []
 map_given NoWait = []
+map_given (Device d) = []
 
 abbrev pub depend_given : Clause → List (Given line.DependType)
 depend_given (Map m) = []
 depend_given (Depend d) = given (seen_depend d.depend_type) d.sections
 depend_given (Motion m) = []
 depend_given NoWait = []
+depend_given (Device d) = []
 
-abbrev pub motion_given : Clause → List (Given line.MotionType)
+abbrev pub motion_given : Clause → List (Given (Bool × line.MotionType))
 motion_given (Map m) = []
 motion_given (Depend d) = []
-motion_given (Motion m) = given (seen_motion m.motion_type) m.sections
+motion_given (Motion m) = given (m.present, seen_motion m.motion_type) m.sections
 motion_given NoWait = []
+motion_given (Device d) = []
 
 abbrev pub all_given : {X : Type 0} → (Clause → List X) → List Clause → List X
 all_given f [] = []
@@ -65,11 +68,11 @@ Pairs R _ _ = ⊥
 pub record Grows {X : Type 0} {Y : Type 0} (R : X → Y → Type 0) (xs : List X) (old new : List Y) : Type 0 where
   pub more : (gs : List X) → Pairs R gs old → Pairs R (gs ++ xs) new
 
-abbrev pub IsMapAt : {K : Type 0} → (K → line.MapType) → Names → ℕ → Given (Bool × line.MapType) → MapText K → Type 0
-IsMapAt seen names line g m = (g.kind ≡ (m.always, seen m.kind)) × IsSectionAt names line g.section m.section
+abbrev pub IsMapAt : {K : Type 0} → (K → line.MapType) → Names → ℕ → Given Mapping → MapText K → Type 0
+IsMapAt seen names line g m = (g.kind ≡ (m.always, m.present, seen m.kind)) × IsSectionAt names line g.section m.section
 
-abbrev pub IsUpdateAt : Names → ℕ → Given line.MotionType → UpdateText → Type 0
-IsUpdateAt names line g u = (g.kind ≡ seen_update u.kind) × IsSectionAt names line g.section u.section
+abbrev pub IsUpdateAt : Names → ℕ → Given (Bool × line.MotionType) → UpdateText → Type 0
+IsUpdateAt names line g u = (g.kind ≡ (u.present, seen_update u.kind)) × IsSectionAt names line g.section u.section
 
 abbrev pub IsDependAt : Names → ℕ → Given line.DependType → DependText → Type 0
 IsDependAt names line g d = (g.kind ≡ depend_kind d.kind) × IsSectionAt names line g.section d.section

@@ -1,5 +1,6 @@
 -- What the line of a directive means: its sections with their names resolved, each at the place of its array's name.
 use Rattle.std.specs.Prelude.{◌≡◌, ℕ, ◌+◌, Bool, true, false, List, [], ◌∷◌, ◌++◌, length, Option, Some, None}
+use Rattle.std.specs.List.{list_any}
 use Rattle.base.specs.declared.tree.Place.{Place}
 use Rattle.base.specs.declared.tree.Term.{Term as Product}
 use Rattle.base.specs.declared.tree.Term.TheVariants as product
@@ -20,13 +21,14 @@ use Rattle.base.specs.declared.tree.DependKind.{DependKind}
 use Rattle.base.specs.declared.tree.DependKind.TheVariants as ordered
 use Rattle.base.specs.declared.tree.Tasking.{Tasking}
 use Rattle.base.specs.declared.tree.Target.{Target}
+use Rattle.base.specs.declared.tree.Data.{Data}
 use Rattle.base.specs.declared.tree.Directive.{Directive}
 use Rattle.base.specs.declared.tree.Directive.TheVariants as directive
 use Rattle.c_grammar.specs.Source.{nth}
 use Rattle.c_grammar.specs.LineGrammar as line
-use Rattle.c_grammar.specs.LineGrammar.{Literal, Variable, Product as Times', MapOf, DependOf, MotionOf, NoWait, To, From, ToFrom, Alloc, Release, Delete, In, Out, InOut, ToDevice, FromDevice, LineText, clause, item, head, Maps, Depends}
+use Rattle.c_grammar.specs.LineGrammar.{Literal, Variable, Product as Times', MapOf, DependOf, MotionOf, NoWait, DeviceOf, Always, Present, To, From, ToFrom, Alloc, Release, Delete, In, Out, InOut, ToDevice, FromDevice, LineText, clause, item, head, Maps, Depends}
 use Rattle.c_expressions.specs.declared.scope.Meaning.TheVariants as meaning
-use Rattle.c_expressions.specs.Means.{Items, Names, meaning_of}
+use Rattle.c_expressions.specs.Means.{Items, Names, meaning_of, place_of}
 
 -- ---- sections
 
@@ -77,13 +79,30 @@ abbrev pub written : {K : Type 0} → K → ℕ → line.Items → List (Written
 written kind k is =
     record { kind = kind; section = is.0; token = k } ∷ written_more kind (k + length (item Maps is.0)) is.1
 
-abbrev pub type_at : Bool → ℕ → ℕ
-type_at false k = k + 4
-type_at true k = k + 6
+abbrev pub is_always : line.Modifier → Bool
+is_always Always = true
+is_always Present = false
 
-abbrev pub maps_from : ℕ → List line.Clause → List (Written (Bool × line.MapType))
+abbrev pub is_present : line.Modifier → Bool
+is_present Always = false
+is_present Present = true
+
+-- what a map clause says of each section: always, present, and its type
+abbrev pub Mapping : Type 0
+Mapping = Bool × Bool × line.MapType
+
+abbrev pub mapping_of : List line.Modifier → line.MapType → Mapping
+mapping_of ms t = (list_any is_always ms, list_any is_present ms, t)
+
+-- the first section of a map clause that begins at k
+abbrev pub mapped_at : List line.Modifier → ℕ → ℕ
+mapped_at [] k = k + 4
+mapped_at (m ∷ ms) k = mapped_at ms (k + 2)
+
+abbrev pub maps_from : ℕ → List line.Clause → List (Written Mapping)
 maps_from k [] = []
-maps_from k (MapOf a t is ∷ cs) = written (a, t) (type_at a k) is ++ maps_from (k + length (clause (MapOf a t is))) cs
+maps_from k (MapOf ms t is ∷ cs) =
+    written (mapping_of ms t) (mapped_at ms k) is ++ maps_from (k + length (clause (MapOf ms t is))) cs
 maps_from k (c ∷ cs) = maps_from (k + length (clause c)) cs
 
 abbrev pub depends_from : ℕ → List line.Clause → List (Written line.DependType)
@@ -91,15 +110,31 @@ depends_from k [] = []
 depends_from k (DependOf t is ∷ cs) = written t (k + 4) is ++ depends_from (k + length (clause (DependOf t is))) cs
 depends_from k (c ∷ cs) = depends_from (k + length (clause c)) cs
 
-abbrev pub motions_from : ℕ → List line.Clause → List (Written line.MotionType)
+-- the first section of a to or from clause that begins at k
+abbrev pub moved_at : Bool → ℕ → ℕ
+moved_at false k = k + 2
+moved_at true k = k + 4
+
+abbrev pub motions_from : ℕ → List line.Clause → List (Written (Bool × line.MotionType))
 motions_from k [] = []
-motions_from k (MotionOf t is ∷ cs) = written t (k + 2) is ++ motions_from (k + length (clause (MotionOf t is))) cs
+motions_from k (MotionOf t p is ∷ cs) =
+    written (p, t) (moved_at p k) is ++ motions_from (k + length (clause (MotionOf t p is))) cs
 motions_from k (c ∷ cs) = motions_from (k + length (clause c)) cs
 
 abbrev pub waits_in : List line.Clause → Bool
 waits_in [] = false
 waits_in (NoWait ∷ cs) = true
 waits_in (c ∷ cs) = waits_in cs
+
+-- the device of the last device clause, or that one
+abbrev pub device_from : ℕ → List line.Clause → ℕ
+device_from d [] = d
+device_from d (DeviceOf (Some n) ∷ cs) = device_from n cs
+device_from d (c ∷ cs) = device_from d cs
+
+-- without a clause it is device 0
+abbrev pub device_in : List line.Clause → ℕ
+device_in cs = device_from 0 cs
 
 -- the first token behind the directive's words
 abbrev pub clauses_at : LineText → ℕ
@@ -131,17 +166,17 @@ seen_depend ordered.In = In
 seen_depend ordered.Out = Out
 seen_depend ordered.InOut = InOut
 
-abbrev pub AreMaps : {K : Type 0} → (K → line.MapType) → Names → Items → List (Written (Bool × line.MapType)) →
+abbrev pub AreMaps : {K : Type 0} → (K → line.MapType) → Names → Items → List (Written Mapping) →
     List (MapText K) → Type 0
 AreMaps seen names is [] [] = Unit {0}
 AreMaps seen names is (w ∷ ws) (m ∷ ms) =
-    (w.kind ≡ (m.always, seen m.kind)) × IsSection names is w.token w.section m.section × AreMaps seen names is ws ms
+    (w.kind ≡ (m.always, m.present, seen m.kind)) × IsSection names is w.token w.section m.section × AreMaps seen names is ws ms
 AreMaps seen names is _ _ = ⊥
 
-abbrev pub AreUpdates : Names → Items → List (Written line.MotionType) → List UpdateText → Type 0
+abbrev pub AreUpdates : Names → Items → List (Written (Bool × line.MotionType)) → List UpdateText → Type 0
 AreUpdates names is [] [] = Unit {0}
 AreUpdates names is (w ∷ ws) (u ∷ us) =
-    (w.kind ≡ seen_update u.kind) × IsSection names is w.token w.section u.section × AreUpdates names is ws us
+    (w.kind ≡ (u.present, seen_update u.kind)) × IsSection names is w.token w.section u.section × AreUpdates names is ws us
 AreUpdates names is _ _ = ⊥
 
 abbrev pub AreDepends : Names → Items → List (Written line.DependType) → List DependText → Type 0
@@ -153,14 +188,24 @@ AreDepends names is _ _ = ⊥
 pub record IsTasking (names : Names) (is : Items) (t : LineText) (g : Tasking) : Type 0 where
   pub nowait : g.nowait ≡ waits_in t.clauses
   pub depends : AreDepends names is (depends_from (clauses_at t) t.clauses) g.depends.items
+  pub device : g.device.number ≡ device_in t.clauses
 
 abbrev pub AreRegionMaps : Names → Items → LineText → List (MapText RegionKind) → Type 0
 AreRegionMaps names is t ms = AreMaps seen_region names is (maps_from (clauses_at t) t.clauses) ms
 
 pub record IsTarget (names : Names) (is : Items) (t : LineText) (g : Target) : Type 0 where
   pub kind : t.kind ≡ line.Target
+  -- that of the line's #
+  pub place : g.place ≡ place_of is
   pub maps : AreRegionMaps names is t g.maps.items
   pub tasking : IsTasking names is t g.tasking
+
+pub record IsData (names : Names) (is : Items) (t : LineText) (g : Data) : Type 0 where
+  pub kind : t.kind ≡ line.Data
+  -- that of the line's #
+  pub place : g.place ≡ place_of is
+  pub maps : AreRegionMaps names is t g.maps.items
+  pub device : g.device.number ≡ device_in t.clauses
 
 -- a directive that stands alone
 abbrev pub IsAlone : Names → Items → LineText → Directive → Type 0

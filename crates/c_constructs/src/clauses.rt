@@ -1,19 +1,20 @@
 //! The clauses of a directive.
 
 ghost use Rattle.std.specs.Prelude.{◌≡◌, ◌++◌, ◌∷◌, [], IfOk, OnOk};
+ghost use Rattle.std.specs.List.{list_any};
 ghost use Rattle.c_expressions.specs.Scopes.{names_of};
 ghost use Rattle.directives.specs.Names.{Uses, clause_names, each_names};
 ghost use Rattle.directives.specs.Reading.{Outcome};
 ghost use Rattle.c_constructs.specs.Clauses.{AreRead, HasType, HaveTypes, Reads};
 ghost use Rattle.c_constructs.specs.Uses.{fault_in};
-ghost use Rattle.c_constructs.specs.Written.{seen_update, seen_depend as given_depend};
-ghost use Rattle.directives.specs.Kinds.{seen_depend, seen_motion};
+ghost use Rattle.c_constructs.specs.Written.{is_always, is_present, seen_update, seen_depend as given_depend};
+ghost use Rattle.directives.specs.Kinds.{seen_depend, seen_modifier, seen_motion};
 
 use crate::items::{depend_items, map_items, update_items};
 use crate::map_kind::MapKind;
-use base::tree::{DependKind, MapText, Tasking, UpdateKind, UpdateText};
+use base::tree::{DependKind, DeviceId, MapText, Tasking, UpdateKind, UpdateText};
 use c_expressions::Scope;
-use directives::{Clause, DependType, DirectiveFault, MotionType};
+use directives::{Clause, DependType, DirectiveFault, MapClause, Modifier, MotionType};
 use smallvec::SmallVec;
 
 /// What the clauses of a directive mean.
@@ -22,6 +23,26 @@ pub struct Clauses<K> {
     pub maps: SmallVec<MapText<K>, 2>,
     pub updates: SmallVec<UpdateText, 2>,
     pub tasking: Tasking,
+}
+
+/// Whether `always` is one of its modifiers.
+fn is_always(clause: &MapClause<'_>) -> bool
+    ensures { result ≡ list_any (λ m. is_always (seen_modifier m)) clause.now.modifiers.items }
+{
+    clause
+        .modifiers
+        .iter()
+        .any(|one| matches!(one, Modifier::Always))
+}
+
+/// Whether `present` is one of its modifiers.
+fn is_present(clause: &MapClause<'_>) -> bool
+    ensures { result ≡ list_any (λ m. is_present (seen_modifier m)) clause.now.modifiers.items }
+{
+    clause
+        .modifiers
+        .iter()
+        .any(|one| matches!(one, Modifier::Present))
 }
 
 fn depend_kind(depend_type: DependType) -> DependKind
@@ -59,7 +80,17 @@ fn clause<K: MapKind>(
     match clause {
         Clause::Map(map) => {
             let kind = K::of(map.map_type);
-            map_items(scope, line, kind, map.always, &map.sections, &mut read.maps)?;
+            let always = is_always(map);
+            let present = is_present(map);
+            map_items(
+                scope,
+                line,
+                kind,
+                always,
+                present,
+                &map.sections,
+                &mut read.maps,
+            )?;
         }
         Clause::Depend(depend) => {
             let kind = depend_kind(depend.depend_type);
@@ -73,10 +104,20 @@ fn clause<K: MapKind>(
         }
         Clause::Motion(motion) => {
             let kind = update_kind(motion.motion_type);
-            update_items(scope, line, kind, &motion.sections, &mut read.updates)?;
+            update_items(
+                scope,
+                line,
+                kind,
+                motion.present,
+                &motion.sections,
+                &mut read.updates,
+            )?;
         }
         Clause::NoWait => {
             read.tasking.nowait = true;
+        }
+        Clause::Device(device) => {
+            read.tasking.device = *device;
         }
     }
     Ok(())
@@ -99,6 +140,7 @@ pub fn all_clauses<K: MapKind>(
         tasking: Tasking {
             nowait: false,
             depends: SmallVec::new(scope.alloc),
+            device: DeviceId::default(),
         },
     };
     'clauses: for one in clauses {

@@ -21,18 +21,20 @@ fn map_item<K: MapKind>(
     line: usize,
     kind: K,
     always: bool,
+    present: bool,
     one: &Section<'_>,
     maps: &mut SmallVec<MapText<K>, 2>,
 ) -> Result<(), DirectiveFault>
     ensures told { (us : Uses) → Outcome result (fault_in scope.now (section_names one.now ++ us))
         (fault_in scope.now us) }
     ensures means { OnOk result (Grows (IsMapAt K.seen (names_of scope.now) line)
-        (given_one (always, K.seen kind) one.now ∷ []) maps.old.items maps.new.items) }
+        (given_one (always, present, K.seen kind) one.now ∷ []) maps.old.items maps.new.items) }
 {
     let section = section(scope, line, one)?;
     maps.push(MapText {
         kind,
         always,
+        present,
         section,
     })?;
     Ok(())
@@ -44,17 +46,18 @@ pub fn map_items<K: MapKind>(
     line: usize,
     kind: K,
     always: bool,
+    present: bool,
     sections: &Sections<'_>,
     maps: &mut SmallVec<MapText<K>, 2>,
 ) -> Result<(), DirectiveFault>
     ensures told { (us : Uses) → Outcome result (fault_in scope.now (sections_names sections.now ++ us))
         (fault_in scope.now us) }
     ensures means { OnOk result (Grows (IsMapAt K.seen (names_of scope.now) line)
-        (given (always, K.seen kind) sections.now) maps.old.items maps.new.items) }
+        (given (always, present, K.seen kind) sections.now) maps.old.items maps.new.items) }
 {
-    map_item(scope, line, kind, always, &sections.first, maps)?;
+    map_item(scope, line, kind, always, present, &sections.first, maps)?;
     'sections: for one in &sections.more {
-        map_item(scope, line, kind, always, one, maps)?;
+        map_item(scope, line, kind, always, present, one, maps)?;
     }
     Ok(())
 }
@@ -65,16 +68,21 @@ fn update_item(
     scope: &Scope<'_>,
     line: usize,
     kind: UpdateKind,
+    present: bool,
     one: &Section<'_>,
     updates: &mut SmallVec<UpdateText, 2>,
 ) -> Result<(), DirectiveFault>
     ensures told { (us : Uses) → Outcome result (fault_in scope.now (section_names one.now ++ us))
         (fault_in scope.now us) }
     ensures means { OnOk result (Grows (IsUpdateAt (names_of scope.now) line)
-        (given_one (seen_update kind) one.now ∷ []) updates.old.items updates.new.items) }
+        (given_one (present, seen_update kind) one.now ∷ []) updates.old.items updates.new.items) }
 {
     let section = section(scope, line, one)?;
-    updates.push(UpdateText { kind, section })?;
+    updates.push(UpdateText {
+        kind,
+        present,
+        section,
+    })?;
     Ok(())
 }
 
@@ -83,17 +91,18 @@ pub fn update_items(
     scope: &Scope<'_>,
     line: usize,
     kind: UpdateKind,
+    present: bool,
     sections: &Sections<'_>,
     updates: &mut SmallVec<UpdateText, 2>,
 ) -> Result<(), DirectiveFault>
     ensures told { (us : Uses) → Outcome result (fault_in scope.now (sections_names sections.now ++ us))
         (fault_in scope.now us) }
     ensures means { OnOk result (Grows (IsUpdateAt (names_of scope.now) line)
-        (given (seen_update kind) sections.now) updates.old.items updates.new.items) }
+        (given (present, seen_update kind) sections.now) updates.old.items updates.new.items) }
 {
-    update_item(scope, line, kind, &sections.first, updates)?;
+    update_item(scope, line, kind, present, &sections.first, updates)?;
     'sections: for one in &sections.more {
-        update_item(scope, line, kind, one, updates)?;
+        update_item(scope, line, kind, present, one, updates)?;
     }
     Ok(())
 }

@@ -24,6 +24,7 @@ ghost use Rattle.c_constructs.specs.Uses.{fault_in};
 
 use crate::line::{directive_at, refuse_inside, refuse_under, text_fault};
 use crate::resolved::{Construct, Resolved, alone_at, construct_at};
+use base::tree::Place;
 use c_expressions::{Cursor, ReadError, Scope, Terminal};
 use c_tokens::limits::MAX_STATEMENTS;
 use directives::{Directive, DirectiveFault, DirectiveKind};
@@ -39,20 +40,21 @@ fn has_block(kind: DirectiveKind) -> bool
     }
 }
 
-/// What a directive on that line of the source means.
+/// What a directive means, whose `#` stands at the place.
 fn resolved_at(
     scope: &Scope<'_>,
-    line: usize,
+    place: Place,
     directive: &Directive<'_>,
 ) -> Result<Resolved, DirectiveFault>
     requires { IsLine (text_of directive.now) }
     ensures told { Outcome result (fault_in scope.now (names_in directive.now)) None }
-    ensures means { IfOk result (λ r. IsResolvedAt (names_of scope.now) line directive.now r) }
+    ensures means { IfOk result (λ r. IsResolvedAt (names_of scope.now) place directive.now r) }
 {
     if has_block(directive.kind) {
-        return construct_at(scope, line, directive).map(Resolved::Over);
+        return construct_at(scope, place, directive).map(Resolved::Over);
     }
-    alone_at(scope, line, directive).map(Resolved::Alone)
+    let alone = alone_at(scope, place.line, directive)?;
+    Ok(Resolved::Alone(place, alone))
 }
 
 /// The directive of that line, which stands next, outside a target and under no `if`.
@@ -76,7 +78,7 @@ fn next_on_line<'a>(
 {
     let directive = directive_at(scope, tokens, line, column)?;
     let place = tokens.place();
-    match resolved_at(scope, place.line, &directive) {
+    match resolved_at(scope, place, &directive) {
         Ok(resolved) => Ok(resolved),
         Err(fault) => Err(text_fault(fault, place.line)),
     }
@@ -99,7 +101,7 @@ fn begin(scope: &mut Scope<'_>, resolved: &Resolved)
 {
     scope.statements += 1;
     match resolved {
-        Resolved::Alone(_) => {}
+        Resolved::Alone(_, _) => {}
         Resolved::Over(construct) => {
             scope.target = is_target(construct);
         }

@@ -14,23 +14,22 @@ ghost use Rattle.c_constructs.specs.Uses.{fault_in};
 
 use crate::clauses::{Clauses, all_clauses};
 use crate::map_kind::MapKind;
-use base::tree::{self, EnterKind, ExitKind, MapText, RegionKind, Target};
+use base::tree::{self, Data, EnterKind, ExitKind, Place, RegionKind, Target};
 use c_expressions::Scope;
 use directives::{Directive, DirectiveFault, DirectiveKind};
-use smallvec::SmallVec;
 
 /// A directive that is followed by a block or loop.
 #[derive(Drop)]
 pub enum Construct {
     Target(Target),
-    Data(SmallVec<MapText<RegionKind>, 2>),
+    Data(Data),
 }
 
 /// A directive with its names resolved.
 #[derive(Drop)]
 pub enum Resolved {
-    /// It stands alone.
-    Alone(tree::Directive),
+    /// It stands alone, at the place of its `#`.
+    Alone(Place, tree::Directive),
     /// A block or loop follows it.
     Over(Construct),
 }
@@ -87,23 +86,28 @@ pub fn alone_at(
     }
 }
 
-/// What a directive over a block or loop means, which stands on that line of the source.
+/// What a directive over a block or loop means, whose `#` stands at the place.
 pub fn construct_at(
     scope: &Scope<'_>,
-    line: usize,
+    place: Place,
     directive: &Directive<'_>,
 ) -> Result<Construct, DirectiveFault>
     requires line { IsLine (text_of directive.now) }
     requires kind { holds_kind (seen_kind directive.now.kind) ≡ true }
     ensures told { Outcome result (fault_in scope.now (names_in directive.now)) None }
-    ensures means { IfOk result (λ d. IsConstructAt (names_of scope.now) line directive.now d) }
+    ensures means { IfOk result (λ d. IsConstructAt (names_of scope.now) place directive.now d) }
 {
-    let read: Clauses<RegionKind> = clauses_of(scope, line, directive)?;
+    let read: Clauses<RegionKind> = clauses_of(scope, place.line, directive)?;
     if directive.kind == DirectiveKind::Target {
         return Ok(Construct::Target(Target {
+            place,
             maps: read.maps,
             tasking: read.tasking,
         }));
     }
-    Ok(Construct::Data(read.maps))
+    Ok(Construct::Data(Data {
+        place,
+        maps: read.maps,
+        device: read.tasking.device,
+    }))
 }

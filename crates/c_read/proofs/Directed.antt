@@ -2,6 +2,8 @@
 use Rattle.std.proofs.Common.{◌≡◌, ℕ, ◌+◌, Bool, true, false, List, [], ◌∷◌, ◌++◌, length, drop, Vec, Global, refl, sym, ap, subst, ◌∙◌, arith, inl, inr, ◌⊎◌}
 use Rattle.c_tokens.specs.declared.kind.Sign.TheVariants as sign
 use Rattle.base.specs.declared.tree.Bounds.{Bounds}
+use Rattle.base.specs.declared.tree.Data.{Data}
+use Rattle.base.specs.declared.tree.Place.{Place}
 use Rattle.base.specs.declared.tree.Region.{Region}
 use Rattle.base.specs.declared.tree.Directive.{Directive as Alone}
 use Rattle.base.specs.declared.tree.Target.{Target}
@@ -45,11 +47,11 @@ line_is End d = absurd cc
 
 -- ---- a directive that stands alone
 
-pub read_alone : (old new : Scope) (u u' : Cursor) (d : Alone) → is_directive (first_item u).terminal ≡ true →
-    behind u ≡ items u' → new ≡ scope_behind (resolved.Alone d) old →
-    IsRead (env_of old).names (first_item u) (behind u) (resolved.Alone d) →
-    IsPieceRead (env_of old) (env_of new) (items u) (items u') (piece.Part (part.Alone d))
-read_alone old new u u' d e b s r =
+pub read_alone : (old new : Scope) (u u' : Cursor) (at : Place) (d : Alone) → is_directive (first_item u).terminal ≡ true →
+    behind u ≡ items u' → new ≡ scope_behind (resolved.Alone at d) old →
+    IsRead (env_of old).names (first_item u) (behind u) (resolved.Alone at d) →
+    IsPieceRead (env_of old) (env_of new) (items u) (items u') (piece.Part (part.Alone at d))
+read_alone old new u u' at d e b s r =
     let l = lexemes_on (first_item u).terminal in
     record {
       text = Directive l;
@@ -57,7 +59,7 @@ read_alone old new u u' d e b s r =
       rest = drop_one u u' b;
       is_text = (r.words, r.over);
       fewer = behind_less u u' b;
-      means = (r.line, r.means);
+      means = (r.line, r.means.0, r.means.1);
       next_is = ap env_of s ∙ more_none (env_of old);
     }
 
@@ -174,12 +176,12 @@ read_region_loop old mid new u u' after g r x e d same line place one loops with
 
 -- ---- a target data
 
-pub read_data_block : (old mid new : Scope) (u u' : Cursor) (after : Items) (maps : _) (v : Vec Part Global) →
+pub read_data_block : (old mid new : Scope) (u u' : Cursor) (after : Items) (g : Data) (v : Vec Part Global) →
     is_directive (first_item u).terminal ≡ true → behind u ≡ items u' → env_of mid ≡ env_of old →
-    IsRead (env_of old).names (first_item u) (behind u) (resolved.Over (construct.Data maps)) → AreLongest false v.items →
+    IsRead (env_of old).names (first_item u) (behind u) (resolved.Over (construct.Data g)) → AreLongest false v.items →
     IsBlockRead (env_of mid) (env_of mid) (env_of new) (items u') after (pieces_of v.items) →
-    IsPieceRead (env_of old) (env_of new) (items u) after (piece.Part (DataOf maps v))
-read_data_block old mid new u u' after maps v e d same line longest q0 =
+    IsPieceRead (env_of old) (env_of new) (items u) after (piece.Part (DataOf g v))
+read_data_block old mid new u u' after g v e d same line longest q0 =
     let l = lexemes_on (first_item u).terminal in
     let hidden = items_hidden-the_row-Part-0 v in
     let q : IsBlockRead (env_of old) (env_of old) (env_of new) (items u') after (pieces_of v.items) =
@@ -192,8 +194,7 @@ read_data_block old mid new u u' after maps v e d same line longest q0 =
       fewer = omega (arith, behind_less u u' d, q.fewer);
       means = (
         line.line,
-        line.means.0,
-        line.means.1,
+        line.means,
         subst (λ (ps : List Part). AreLongest false ps) (sym hidden) longest,
         subst (λ (ps : List Part). ArePieces (env_of old) (drop 1 (behind u)) q.texts (pieces_of ps)) (sym hidden)
             (subst (λ (is : Items). ArePieces (env_of old) (drop 1 is) q.texts (pieces_of v.items)) (sym d) q.means),
@@ -215,16 +216,16 @@ data_loop env i is h b (piece.Part (part.Loop' bounds shape row)) ps a m =
 data_loop env i is h b (piece.Part (part.Host r)) ps a m = absurd m
 data_loop env i is h b (piece.Part (part.Block' shape row)) ps a m = absurd m
 data_loop env i is h b (piece.Part (part.Target t r)) ps a m = absurd m
-data_loop env i is h b (piece.Part (part.Data' maps shape row)) ps a m = absurd m
-data_loop env i is h b (piece.Part (part.Alone d)) ps a m = absurd m
+data_loop env i is h b (piece.Part (part.Data' d shape row)) ps a m = absurd m
+data_loop env i is h b (piece.Part (part.Alone at d)) ps a m = absurd m
 
-pub read_data_loop : (old mid new : Scope) (u u' : Cursor) (after : Items) (maps : _) (v : Vec Part Global) (p : Piece) →
+pub read_data_loop : (old mid new : Scope) (u u' : Cursor) (after : Items) (g : Data) (v : Vec Part Global) (p : Piece) →
     is_directive (first_item u).terminal ≡ true → behind u ≡ items u' → env_of mid ≡ env_of old →
-    IsRead (env_of old).names (first_item u) (behind u) (resolved.Over (construct.Data maps)) →
+    IsRead (env_of old).names (first_item u) (behind u) (resolved.Over (construct.Data g)) →
     AreAlone (place_of (items u')) p v.items → terminals (items u') ≡ Fixed For ∷ terminals (behind u') →
     IsLoopRead (env_of mid) (env_of new) (behind u') after p →
-    IsPieceRead (env_of old) (env_of new) (items u) after (piece.Part (DataOf maps v))
-read_data_loop old mid new u u' after maps v p e d same line one word q0 =
+    IsPieceRead (env_of old) (env_of new) (items u) after (piece.Part (DataOf g v))
+read_data_loop old mid new u u' after g v p e d same line one word q0 =
     let l = lexemes_on (first_item u).terminal in
     let hidden = items_hidden-the_row-Part-0 v in
     let q : IsLoopRead (env_of old) (env_of new) (behind u') after p =
@@ -240,8 +241,7 @@ read_data_loop old mid new u u' after maps v p e d same line one word q0 =
       fewer = omega (arith, behind_less u u' d, q.fewer);
       means = (
         line.line,
-        line.means.0,
-        line.means.1,
+        line.means,
         subst (λ (ps : List Part). DataMeans (behind u) q.head q.texts ps) (sym hidden)
             (subst (λ (is : Items). DataMeans is q.head q.texts v.items) (sym d)
             (data_loop (env_of old) (first_item u) (items u') q.head q.texts p v.items one (q.means (items u') refl))),

@@ -25,16 +25,16 @@ pieces_append (part.Host r ∷ ps) qs =
 pieces_append (part.Block' shape row ∷ ps) qs = ap (λ (us : List Placed). (None, piece.Part (part.Block' shape row)) ∷ us) (pieces_append ps qs)
 pieces_append (part.Loop' b shape row ∷ ps) qs = ap (λ (us : List Placed). (None, piece.Part (part.Loop' b shape row)) ∷ us) (pieces_append ps qs)
 pieces_append (part.Target t r ∷ ps) qs = ap (λ (us : List Placed). (None, piece.Part (part.Target t r)) ∷ us) (pieces_append ps qs)
-pieces_append (part.Data' m shape row ∷ ps) qs = ap (λ (us : List Placed). (None, piece.Part (part.Data' m shape row)) ∷ us) (pieces_append ps qs)
-pieces_append (part.Alone d ∷ ps) qs = ap (λ (us : List Placed). (None, piece.Part (part.Alone d)) ∷ us) (pieces_append ps qs)
+pieces_append (part.Data' d shape row ∷ ps) qs = ap (λ (us : List Placed). (None, piece.Part (part.Data' d shape row)) ∷ us) (pieces_append ps qs)
+pieces_append (part.Alone at d ∷ ps) qs = ap (λ (us : List Placed). (None, piece.Part (part.Alone at d)) ∷ us) (pieces_append ps qs)
 
 piece_alone : (p : Part) → is_host p ≡ false → pieces_of (p ∷ []) ≡ (None, piece.Part p) ∷ []
 piece_alone (part.Host r) e = absurd cc
 piece_alone (part.Block' shape row) e = refl
 piece_alone (part.Loop' b shape row) e = refl
 piece_alone (part.Target t r) e = refl
-piece_alone (part.Data' m shape row) e = refl
-piece_alone (part.Alone d) e = refl
+piece_alone (part.Data' d shape row) e = refl
+piece_alone (part.Alone at d) e = refl
 
 -- ---- the shape of parts
 
@@ -45,16 +45,16 @@ longest_then follows (part.Host r ∷ ps) qs h k = (h.0, h.1, longest_then true 
 longest_then follows (part.Block' shape row ∷ ps) qs h k = longest_then false ps qs h k
 longest_then follows (part.Loop' b shape row ∷ ps) qs h k = longest_then false ps qs h k
 longest_then follows (part.Target t r ∷ ps) qs h k = longest_then false ps qs h k
-longest_then follows (part.Data' m shape row ∷ ps) qs h k = longest_then false ps qs h k
-longest_then follows (part.Alone d ∷ ps) qs h k = longest_then false ps qs h k
+longest_then follows (part.Data' d shape row ∷ ps) qs h k = longest_then false ps qs h k
+longest_then follows (part.Alone at d ∷ ps) qs h k = longest_then false ps qs h k
 
 pub longest_alone : (follows : Bool) (p : Part) → is_host p ≡ false → AreLongest follows (p ∷ [])
 longest_alone follows (part.Host r) e = absurd cc
 longest_alone follows (part.Block' shape row) e = tt
 longest_alone follows (part.Loop' b shape row) e = tt
 longest_alone follows (part.Target t r) e = tt
-longest_alone follows (part.Data' m shape row) e = tt
-longest_alone follows (part.Alone d) e = tt
+longest_alone follows (part.Data' d shape row) e = tt
+longest_alone follows (part.Alone at d) e = tt
 
 ends_then : (b : Bool) (ps : List Part) (p : Part) → ends_host b (ps ++ p ∷ []) ≡ is_host p
 ends_then b [] p = refl
@@ -66,22 +66,22 @@ mixed_more (part.Host r ∷ ps) qs e = mixed_more ps qs e
 mixed_more (part.Block' shape row ∷ ps) qs e = refl
 mixed_more (part.Loop' b shape row ∷ ps) qs e = refl
 mixed_more (part.Target t r ∷ ps) qs e = refl
-mixed_more (part.Data' m shape row ∷ ps) qs e = refl
-mixed_more (part.Alone d ∷ ps) qs e = refl
+mixed_more (part.Data' d shape row ∷ ps) qs e = refl
+mixed_more (part.Alone at d ∷ ps) qs e = refl
 
 mixed_by : (ps : List Part) (p : Part) → is_host p ≡ false → are_mixed (ps ++ p ∷ []) ≡ true
 mixed_by [] (part.Host r) e = absurd cc
 mixed_by [] (part.Block' shape row) e = refl
 mixed_by [] (part.Loop' b shape row) e = refl
 mixed_by [] (part.Target t r) e = refl
-mixed_by [] (part.Data' m shape row) e = refl
-mixed_by [] (part.Alone d) e = refl
+mixed_by [] (part.Data' d shape row) e = refl
+mixed_by [] (part.Alone at d) e = refl
 mixed_by (part.Host r ∷ ps) p e = mixed_by ps p e
 mixed_by (part.Block' shape row ∷ ps) p e = refl
 mixed_by (part.Loop' b shape row ∷ ps) p e = refl
 mixed_by (part.Target t r ∷ ps) p e = refl
-mixed_by (part.Data' m shape row ∷ ps) p e = refl
-mixed_by (part.Alone d ∷ ps) p e = refl
+mixed_by (part.Data' d shape row ∷ ps) p e = refl
+mixed_by (part.Alone at d ∷ ps) p e = refl
 
 none_or : (ps : List Part) → are_mixed ps ≡ true → AreNoneOrMixed ps
 none_or [] e = tt

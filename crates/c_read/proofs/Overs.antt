@@ -1,5 +1,6 @@
 -- What is read behind the line of a directive.
 use Rattle.std.proofs.Common.{◌≡◌, true, false, Vec, Global, sym, ap, subst, inl, inr}
+use Rattle.base.specs.declared.tree.Data.{Data}
 use Rattle.base.specs.declared.tree.Region.{Region}
 use Rattle.base.specs.declared.tree.Target.{Target}
 use Rattle.base.specs.declared.tree.Part.{Part, Data as DataOf}
@@ -32,15 +33,15 @@ read_target old mid new u u' after g r e d same line place within (inl b) =
 read_target old mid new u u' after g r e d same line place within (inr x) =
     read_region_loop old mid new u u' after g r x.0 e d same line place x.1 x.2 within x.3
 
-read_data : (old mid new : Scope) (u u' : Cursor) (after : Items) (maps : _) (v : Vec Part Global) →
+read_data : (old mid new : Scope) (u u' : Cursor) (after : Items) (g : Data) (v : Vec Part Global) →
     is_directive (first_item u).terminal ≡ true → behind u ≡ items u' → env_of mid ≡ env_of old →
-    IsRead (env_of old).names (first_item u) (behind u) (resolved.Over (construct.Data maps)) → AreLongest false v.items →
+    IsRead (env_of old).names (first_item u) (behind u) (resolved.Over (construct.Data g)) → AreLongest false v.items →
     AreDataRead (env_of mid) (env_of new) (items u') after v.items →
-    IsPieceRead (env_of old) (env_of new) (items u) after (piece.Part (DataOf maps v))
-read_data old mid new u u' after maps v e d same line longest (inl b) =
-    read_data_block old mid new u u' after maps v e d same line longest b
-read_data old mid new u u' after maps v e d same line longest (inr x) =
-    read_data_loop old mid new u u' after maps v x.0 e d same line x.1 x.2 x.3
+    IsPieceRead (env_of old) (env_of new) (items u) after (piece.Part (DataOf g v))
+read_data old mid new u u' after g v e d same line longest (inl b) =
+    read_data_block old mid new u u' after g v e d same line longest b
+read_data old mid new u u' after g v e d same line longest (inr x) =
+    read_data_loop old mid new u u' after g v x.0 e d same line x.1 x.2 x.3
 
 pub read_over : (old mid new : Scope) (u u' : Cursor) (after : Items) (c : Construct) (p : Part) →
     is_directive (first_item u).terminal ≡ true → behind u ≡ items u' → mid ≡ scope_behind (resolved.Over c) old →
@@ -51,6 +52,6 @@ pub read_over : (old mid new : Scope) (u u' : Cursor) (after : Items) (c : Const
 read_over old mid new u u' after (construct.Target g) p e d s line within r =
     subst (λ (q : Part). IsPieceRead (env_of old) (env_of new) (items u) after (piece.Part q)) (sym r.1)
     (read_target old mid new u u' after g r.0 e d (ap env_of s) line r.2 within r.3)
-read_over old mid new u u' after (construct.Data maps) p e d s line within r =
+read_over old mid new u u' after (construct.Data g) p e d s line within r =
     subst (λ (q : Part). IsPieceRead (env_of old) (env_of new) (items u) after (piece.Part q)) (sym r.1)
-    (read_data old mid new u u' after maps r.0 e d (ap env_of s) line r.2 r.3)
+    (read_data old mid new u u' after g r.0 e d (ap env_of s) line r.2 r.3)

@@ -5,12 +5,11 @@ use Rattle.base.specs.declared.tree.Place.{Place}
 use Rattle.base.specs.declared.tree.Stmt.{Stmt as Statement}
 use Rattle.base.specs.declared.tree.Part.{Part, items-the_row-Part}
 use Rattle.base.specs.declared.tree.Part.TheVariants as part
-use Rattle.c_grammar.specs.LineGrammar.{Data}
 use Rattle.c_grammar.specs.Grammar.{Head, Stmt, Repeat, Block, Directive, OverBlock, OverLoop, Stmts, Done, Then}
 use Rattle.c_expressions.specs.Means.{Items, place_of}
 use Rattle.c_statements.specs.Statements.{Env, IsHead, IsStatement, AreStatements, behind, in_loop, stmt_size, head_size}
 use Rattle.c_constructs.specs.LineMeaning.{LineOf}
-use Rattle.c_constructs.specs.Written.{IsAlone, IsTarget, AreRegionMaps}
+use Rattle.c_constructs.specs.Written.{IsAlone, IsTarget, IsData}
 use Rattle.c_read.specs.declared.piece.Piece.{Piece}
 use Rattle.c_read.specs.declared.piece.Piece.TheVariants as piece
 
@@ -90,18 +89,19 @@ abbrev mutual
   IsPart env is (Repeat h b) (part.Loop' bounds shape row) =
       IsHead h bounds × AreMixed (items-the_row-Part _ row) ×
       ArePieces (in_loop h.name env) (drop (head_size h) is) b (pieces_of (items-the_row-Part _ row))
-  IsPart env is (Directive l) (part.Alone d) = (u : LineOf l) × IsAlone env.names is u.text d
+  IsPart env is (Directive l) (part.Alone place d) =
+      (u : LineOf l) × (place ≡ place_of is) × IsAlone env.names is u.text d
   IsPart env is (OverBlock l b) (part.Target t r) =
       (u : LineOf l) × IsTarget env.names is u.text t × (r.place ≡ place_of (drop 1 is)) ×
       AreStatements (in_target env) (drop 2 is) b r.body.items
   IsPart env is (OverLoop l h b) (part.Target t r) =
       (u : LineOf l) × IsTarget env.names is u.text t × (r.place ≡ place_of (drop 1 is)) ×
       AreStatements (in_target env) (drop 1 is) (Then (Repeat h b) Done) r.body.items
-  IsPart env is (OverBlock l b) (part.Data' maps shape row) =
-      (u : LineOf l) × (u.text.kind ≡ Data) × AreRegionMaps env.names is u.text maps.items ×
+  IsPart env is (OverBlock l b) (part.Data' d shape row) =
+      (u : LineOf l) × IsData env.names is u.text d ×
       AreLongest false (items-the_row-Part _ row) × ArePieces env (drop 2 is) b (pieces_of (items-the_row-Part _ row))
-  IsPart env is (OverLoop l h b) (part.Data' maps shape row) =
-      (u : LineOf l) × (u.text.kind ≡ Data) × AreRegionMaps env.names is u.text maps.items ×
+  IsPart env is (OverLoop l h b) (part.Data' d shape row) =
+      (u : LineOf l) × IsData env.names is u.text d ×
       (IsHostLoop env (drop 1 is) h b (items-the_row-Part _ row) ⊎
       OneLoop (λ bounds ps. IsHead h bounds × AreMixed ps ×
       ArePieces (in_loop h.name env) (drop (1 + head_size h) is) b (pieces_of ps)) (items-the_row-Part _ row))

@@ -104,11 +104,11 @@ pub record IsTargetNext (s : Scope) : Type 0 where
 -- behind the line of a directive that a block or loop must follow
 abbrev pub IsOverNext : Construct → Scope → Type 0
 IsOverNext (construct.Target g) s = IsTargetNext s
-IsOverNext (construct.Data maps) s = IsOutside s
+IsOverNext (construct.Data d) s = IsOutside s
 
 -- the part of such a directive, from behind its line on
 abbrev pub IsOverRead : Env → Env → Construct → Items → Items → Part → Type 0
 IsOverRead env next (construct.Target g) before after p =
     (r : Region) × (p ≡ part.Target g r) × (r.place ≡ place_of before) × IsRegionRead env next before after r.body.items
-IsOverRead env next (construct.Data maps) before after p =
-    (v : Vec Part Global) × (p ≡ DataOf maps v) × AreLongest false v.items × AreDataRead env next before after v.items
+IsOverRead env next (construct.Data d) before after p =
+    (v : Vec Part Global) × (p ≡ DataOf d v) × AreLongest false v.items × AreDataRead env next before after v.items

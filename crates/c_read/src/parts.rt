@@ -129,7 +129,7 @@ fn directed<'a>(scope: &mut Scope<'a>, tokens: &mut Cursor<'a>) -> Result<Part, 
 {
     let resolved = directive(scope, tokens)?;
     match resolved {
-        Resolved::Alone(directive) => Ok(Part::Alone(directive)),
+        Resolved::Alone(place, directive) => Ok(Part::Alone(place, directive)),
         Resolved::Over(construct) => {
             let part = over(scope, tokens, construct)?;
             Ok(part)
@@ -158,9 +158,9 @@ fn over<'a>(
             let region = region(scope, tokens)?;
             Ok(Part::Target(target, region))
         }
-        Construct::Data(maps) => {
+        Construct::Data(data) => {
             let parts = data_parts(scope, tokens)?;
-            Ok(Part::Data(maps, parts))
+            Ok(Part::Data(data, parts))
         }
     }
 }

@@ -1,19 +1,18 @@
 -- Accesses that are put together action by action.
-use Rattle.std.proofs.Common.{◌≡◌, ℕ, zero, suc, ◌+◌, ◌≤◌, false, List, [], ◌∷◌, ◌++◌, length, take, Option, Some, None, refl, sym, ap, ◌∙◌, subst, arith, append-nil, append_assoc, add-one}
+use Rattle.std.proofs.Common.{◌≡◌, ℕ, zero, suc, ◌+◌, ◌≤◌, Bool, false, List, [], ◌∷◌, ◌++◌, length, take, Option, Some, None, refl, sym, ap, ◌∙◌, subst, arith, append-nil, append_assoc, add-one}
 use Rattle.std.specs.Prelude.{OnOk, Result, Ok, Err, ◌||◌, min, slice_get}
 use Rattle.std.specs.List.{list_any}
 use Rattle.std.proofs.Math.Bool.{or-false}
 use Rattle.std.proofs.lemmas.List.Folds.{list_any-append}
 use Rattle.base.specs.declared.item.Cell.{Cell}
 use Rattle.base.specs.declared.item.MapItem.{MapItem}
-use Rattle.base.specs.declared.item.Loc.{Loc}
-use Rattle.base.specs.declared.item.Loc.TheVariants as loc
 use Rattle.base.specs.declared.item.ItemKind.{ItemKind}
 use Rattle.base.specs.declared.item.ItemKind.TheVariants.{Host, Target, Begin, End, Enter, Exit, Update, Wait}
 use Rattle.base.specs.declared.tree.Region.{Region}
 use Rattle.base.specs.Items.{Work}
 use Rattle.base.specs.Footprint.{Touch, touches_of}
-use Rattle.base.specs.Actions.{Action, HostRegion, Kernel, action_reads, action_writes, region_acts}
+use Rattle.base.specs.Actions.{Action, HostRegion, Kernel, Side, action_reads, action_writes, on_side, region_acts, side_of}
+use Rattle.base.specs.Actions.Side as side
 use Rattle.ranges.specs.declared.cells.Footprint.{Footprint}
 use Rattle.mapwalk.specs.declared.rows.Acts.{Acts}
 use Rattle.mapwalk.specs.Laws.{actions_of, entry_actions, exit_actions, update_actions}
@@ -26,8 +25,8 @@ use Rattle.mapcheck.specs.Accesses.{AreAccesses, GrowsBy, HasTouches}
 use Rattle.mapcheck.specs.Building.{ExtendsBy, part_actions, row_actions}
 
 pub extends_both : (xs ys : List Action) (a b c : Accesses) → ExtendsBy xs a b → ExtendsBy ys b c → ExtendsBy (xs ++ ys) a c
-extends_both xs ys a b c h k actions are =
-    subst (AreAccesses c) (append_assoc actions xs ys) (k (actions ++ xs) (h actions are))
+extends_both xs ys a b c h k d actions are =
+    subst (AreAccesses c d) (append_assoc actions xs ys) (k d (actions ++ xs) (h d actions are))
 
 pub on_ok : {A E P Q : Type 0} (r : Result A E) → (P → Q) → OnOk r P → OnOk r Q
 on_ok (Ok x) f h = f h
@@ -79,58 +78,65 @@ updates_are (m ∷ maps) (a ∷ row) = ap (λ xs. part_actions part.Update m a +
 
 -- a region with a footprint
 
-idle : (x : Action) (a : Accesses) (actions : List Action) → ((loc : Loc) (c : Cell) → action_reads x loc c ≡ false) →
-    ((loc : Loc) (c : Cell) → action_writes x loc c ≡ false) → AreAccesses a (actions ++ x ∷ []) → AreAccesses a (actions ++ [])
-idle x a actions r w h = subst (AreAccesses a) (sym (append-nil actions)) (record {
-  reads = λ loc c. h.reads loc c ∙ list_any-append (λ y. action_reads y loc c) actions (x ∷ [])
-      ∙ ap (λ b. list_any (λ y. action_reads y loc c) actions || (b || false)) (r loc c) ∙ or-false _;
-  writes = λ loc c. h.writes loc c ∙ list_any-append (λ y. action_writes y loc c) actions (x ∷ [])
-      ∙ ap (λ b. list_any (λ y. action_writes y loc c) actions || (b || false)) (w loc c) ∙ or-false _;
+on_idle : (o : Option Side) (f : Action → Side → Bool) (actions : List Action) (x : Action) → ((s : Side) → f x s ≡ false) →
+    on_side o (λ s. list_any (λ y. f y s) (actions ++ x ∷ [])) ≡ on_side o (λ s. list_any (λ y. f y s) actions)
+on_idle None f actions x none = refl
+on_idle (Some s) f actions x none =
+    list_any-append (λ y. f y s) actions (x ∷ [])
+    ∙ ap (λ b. list_any (λ y. f y s) actions || (b || false)) (none s) ∙ or-false (list_any (λ y. f y s) actions)
+
+idle : (x : Action) (a : Accesses) (d : ℕ) (actions : List Action) → ((s : Side) (c : Cell) → action_reads x s c ≡ false) →
+    ((s : Side) (c : Cell) → action_writes x s c ≡ false) → AreAccesses a d (actions ++ x ∷ []) → AreAccesses a d (actions ++ [])
+idle x a d actions r w h = subst (AreAccesses a d) (sym (append-nil actions)) (record {
+  device = h.device;
+  reads = λ l c. h.reads l c ∙ on_idle (side_of d l) (λ y s. action_reads y s c) actions x (λ s. r s c);
+  writes = λ l c. h.writes l c ∙ on_idle (side_of d l) (λ y s. action_writes y s c) actions x (λ s. w s c);
 })
+
+-- a region that touches nothing does nothing
+module _ (act : List Touch → Action) (w : Work) (f : Footprint) (old new : Accesses) (t : AreTouches w f)
+    (reads_none : (s : Side) (c : Cell) → action_reads (act []) s c ≡ false)
+    (writes_none : (s : Side) (c : Cell) → action_writes (act []) s c ≡ false)
+    (h : (touches : List Touch) → HasTouches f touches → GrowsBy (act touches) old new) where
+  with_region : ExtendsBy (region_acts act w []).actions old new
+  with_region = subst (λ xs. ExtendsBy xs old new) (sym (same_actions act w [])) (go w.region has)
+    where
+      has : HasTouches f (touches_with w w.region)
+      has = record { read = t.read; write = t.write }
+
+      go : (o : Option Region) → HasTouches f (touches_with w o) → ExtendsBy (actions_with act w o) old new
+      go (Some r) k d actions are = h (touches_of r w.loops) k d actions are
+      go None k d actions are = idle (act []) new d actions reads_none writes_none (h [] k d actions are)
 
 pub host_region : (w : Work) (f : Footprint) (old new : Accesses) → AreTouches w f →
     ((touches : List Touch) → HasTouches f touches → GrowsBy (HostRegion touches) old new) →
     ExtendsBy (region_acts HostRegion w []).actions old new
-host_region w f old new t h = subst (λ xs. ExtendsBy xs old new) (sym (same_actions HostRegion w [])) (go w.region has)
+host_region w f old new t h = with_region HostRegion w f old new t reads_none writes_none h
   where
-    has : HasTouches f (touches_with w w.region)
-    has = record { read = t.read; write = t.write }
+    reads_none : (s : Side) (c : Cell) → action_reads (HostRegion []) s c ≡ false
+    reads_none side.Host c = refl
+    reads_none side.Dev c = refl
+    reads_none side.Tab c = refl
 
-    go : (o : Option Region) → HasTouches f (touches_with w o) → ExtendsBy (actions_with HostRegion w o) old new
-    go (Some r) k actions are = h (touches_of r w.loops) k actions are
-    go None k actions are = idle (HostRegion []) new actions nothing nothing_written (h [] k actions are)
-      where
-        nothing : (loc : Loc) (c : Cell) → action_reads (HostRegion []) loc c ≡ false
-        nothing loc.Host c = refl
-        nothing loc.Dev c = refl
-        nothing loc.Tab c = refl
-
-        nothing_written : (loc : Loc) (c : Cell) → action_writes (HostRegion []) loc c ≡ false
-        nothing_written loc.Host c = refl
-        nothing_written loc.Dev c = refl
-        nothing_written loc.Tab c = refl
+    writes_none : (s : Side) (c : Cell) → action_writes (HostRegion []) s c ≡ false
+    writes_none side.Host c = refl
+    writes_none side.Dev c = refl
+    writes_none side.Tab c = refl
 
 pub kernel_region : (w : Work) (f : Footprint) (old new : Accesses) → AreTouches w f →
     ((touches : List Touch) → HasTouches f touches → GrowsBy (Kernel touches) old new) →
     ExtendsBy (region_acts Kernel w []).actions old new
-kernel_region w f old new t h = subst (λ xs. ExtendsBy xs old new) (sym (same_actions Kernel w [])) (go w.region has)
+kernel_region w f old new t h = with_region Kernel w f old new t reads_none writes_none h
   where
-    has : HasTouches f (touches_with w w.region)
-    has = record { read = t.read; write = t.write }
+    reads_none : (s : Side) (c : Cell) → action_reads (Kernel []) s c ≡ false
+    reads_none side.Host c = refl
+    reads_none side.Dev c = refl
+    reads_none side.Tab c = refl
 
-    go : (o : Option Region) → HasTouches f (touches_with w o) → ExtendsBy (actions_with Kernel w o) old new
-    go (Some r) k actions are = h (touches_of r w.loops) k actions are
-    go None k actions are = idle (Kernel []) new actions nothing nothing_written (h [] k actions are)
-      where
-        nothing : (loc : Loc) (c : Cell) → action_reads (Kernel []) loc c ≡ false
-        nothing loc.Host c = refl
-        nothing loc.Dev c = refl
-        nothing loc.Tab c = refl
-
-        nothing_written : (loc : Loc) (c : Cell) → action_writes (Kernel []) loc c ≡ false
-        nothing_written loc.Host c = refl
-        nothing_written loc.Dev c = refl
-        nothing_written loc.Tab c = refl
+    writes_none : (s : Side) (c : Cell) → action_writes (Kernel []) s c ≡ false
+    writes_none side.Host c = refl
+    writes_none side.Dev c = refl
+    writes_none side.Tab c = refl
 
 abbrev pub by_kind : Work → List Acts → List MapItem → ItemKind → List Action
 by_kind w row maps Host = (region_acts HostRegion w []).actions

@@ -3,8 +3,7 @@ use Rattle.std.proofs.Common.{◌≡◌, ℕ, zero, suc, ◌<◌, Bool, true, fa
 use Rattle.std.proofs.lemmas.Bool.{cases_eq}
 use Rattle.base.specs.Items.{Plan}
 use Rattle.base.specs.Order.{Before, through}
-use Rattle.order.specs.Rows.{leads_to}
-use Rattle.order.proofs.Befores.{LastStep, at_both, last_step, led}
+use Rattle.order.proofs.Befores.{LastStep, at_both, last_step, led, leads_to}
 
 abbrev pub Decided : Type 0 → Type 0
 Decided P = P ⊎ (P → ⊥)

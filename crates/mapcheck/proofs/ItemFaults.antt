@@ -35,6 +35,10 @@ shown_with entries item w e = go item.region e
     go None f = from None f
     go (Some k) f = inner (slice_get entries k) f
 
+-- its device is the item's
+pub device_shown : (entries : List Entry) (item : Item) (w : Work) → shown entries item ≡ Some w → w.device ≡ item.device.number
+device_shown entries item w e = ap (λ (v : Work). v.device) (shown_with entries item w e).is
+
 same_sections : (lengths : List ℕ) (entries : List Entry) (item : Item) (w : Work) → shown entries item ≡ Some w →
     section_faults lengths item.maps.items item.depends.items ≡ section_faults lengths w.maps w.depends
 same_sections lengths entries item w e = ap (λ (v : Work). section_faults lengths v.maps v.depends)

@@ -1,3 +1,4 @@
+pub mod Sides
 pub mod Collisions
 pub mod Decided
 pub mod Accepting

@@ -1,11 +1,13 @@
 -- Conflicts of two items whose accesses are known.
-use Rattle.std.proofs.Common.{◌≡◌, ℕ, ◌<◌, Bool, true, false, List, length, get_or, refl, sym, ◌∙◌, Option, Some, None}
+use Rattle.std.proofs.Common.{◌≡◌, ℕ, zero, suc, ◌<◌, Bool, true, false, List, [], ◌∷◌, length, arith, get_or, refl, sym, ◌∙◌, Option, Some, None}
 use Rattle.std.specs.Prelude.{slice_get}
-use Rattle.std.proofs.lemmas.Option.{slice_get_read}
+use Rattle.std.proofs.lemmas.Option.{slice_get_read, slice_get_within}
 use Rattle.base.specs.declared.item.Cell.{Cell}
-use Rattle.base.specs.Items.{Plan}
+use Rattle.base.specs.Items.{Work, Plan}
+use Rattle.base.specs.Map.{Block}
+use Rattle.base.specs.Memory.{changed}
 use Rattle.base.specs.Order.{Before}
-use Rattle.base.specs.Actions.{Stage, conflict, stages}
+use Rattle.base.specs.Actions.{Stage, acts_of, conflict, stages, stages_from}
 use Rattle.base.specs.Least.{IsLeast}
 use Rattle.mapcheck.specs.declared.accesses.Accesses.{Accesses}
 use Rattle.mapcheck.specs.Collisions.{IsLeastConflict}
@@ -35,3 +37,31 @@ least_unordered plan list i j a b o h lt p q a_is b_is after least =
     (least_asked (slice_get (stages plan) i) (slice_get (stages plan) j) a b o
     (h i a (slice_get_read list (length list) i a refl p a_is)) (h j b (slice_get_read list (length list) j b refl q b_is))
     least)
+
+-- ---- the items that have accesses
+
+pub stages_long : (works : List Work) (blocks : ℕ → List Block) → length (stages_from works blocks) ≡ length works
+stages_long [] blocks = refl
+stages_long (w ∷ works) blocks =
+    let next : ℕ → List Block = changed w.device (acts_of w (blocks w.device)).blocks blocks in
+    let rest : length (stages_from works next) ≡ length works = stages_long works next in
+    omega arith
+
+not_missing : {A : Type 0} (xs : List A) (k : ℕ) → k < length xs → slice_get xs k ≡ None → ⊥
+not_missing [] k lt e = absurd (omega arith)
+not_missing (x ∷ xs) zero lt e = cc
+not_missing (x ∷ xs) (suc k) lt e = not_missing xs k (omega arith) e
+
+pub item_there : (plan : Plan) (list : List Accesses) (k : ℕ) → AreOfItems plan list → k < length list → k < length plan.items
+item_there plan list k h lt = read (slice_get list k) refl
+  where
+    at_stage : (o : Option Stage) (a : Accesses) → slice_get (stages plan) k ≡ o → AreAccessesOf o a → k < length plan.items
+    at_stage None a e are = absurd are
+    at_stage (Some s) a e are =
+        let inside : k < length (stages plan) = slice_get_within (stages plan) k s e in
+        let long : length (stages plan) ≡ length plan.items = stages_long plan.items (λ d. []) in
+        omega arith
+
+    read : (o : Option Accesses) → slice_get list k ≡ o → k < length plan.items
+    read None e = absurd (not_missing list k lt e)
+    read (Some a) e = at_stage (slice_get (stages plan) k) a refl (h k a e)

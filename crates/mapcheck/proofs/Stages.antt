@@ -10,6 +10,7 @@ use Rattle.base.specs.declared.fault.RefusalCode.TheVariants.{OverlapsInPart}
 use Rattle.base.specs.declared.tree.Program.{Program}
 use Rattle.base.specs.Items.{Work, Plan, plan}
 use Rattle.base.specs.Map.{Block}
+use Rattle.base.specs.Memory.{changed}
 use Rattle.base.specs.Actions.{Stage, acts_of, stages, stages_from}
 use Rattle.base.specs.Accepted.{cause, current_before}
 use Rattle.mapwalk.specs.declared.rows.Acts.{Acts}
@@ -24,16 +25,11 @@ use Rattle.mapcheck.specs.Accesses.{AreAccesses}
 use Rattle.mapcheck.specs.Third.{AreFirstRows, AreOfFirst, NoneAlone}
 use Rattle.mapcheck.specs.Unordered.{AreAccessesOf}
 
-pub rows_long : (works : List Work) (blocks : List Block) → length (acts_rows works blocks) ≡ length works
+pub rows_long : (works : List Work) (blocks : ℕ → List Block) → length (acts_rows works blocks) ≡ length works
 rows_long [] blocks = refl
 rows_long (w ∷ works) blocks =
-    let rest : length (acts_rows works (acts_of w blocks).blocks) ≡ length works = rows_long works (acts_of w blocks).blocks in
-    omega arith
-
-pub stages_long : (works : List Work) (blocks : List Block) → length (stages_from works blocks) ≡ length works
-stages_long [] blocks = refl
-stages_long (w ∷ works) blocks =
-    let rest : length (stages_from works (acts_of w blocks).blocks) ≡ length works = stages_long works (acts_of w blocks).blocks in
+    let next : ℕ → List Block = changed w.device (acts_of w (blocks w.device)).blocks blocks in
+    let rest : length (acts_rows works next) ≡ length works = rows_long works next in
     omega arith
 
 take_less : {A : Type 0} (n : ℕ) (xs : List A) → length (take n xs) ≤ length xs
@@ -53,44 +49,44 @@ get_taken (suc n) (y ∷ xs) (suc i) x e = get_taken n xs i x e
 pub rows_inside : (plan : Plan) (rows : List (Vec Acts Global)) → AreFirstRows plan rows → length rows ≤ length plan.items
 rows_inside plan rows h =
     let one : length (map row_items rows) ≡ length rows = length-map rows row_items in
-    let two : length (map row_items rows) ≡ length (take (length rows) (acts_rows plan.items [])) = ap (λ xs. length xs) h in
-    let three : length (take (length rows) (acts_rows plan.items [])) ≤ length (acts_rows plan.items []) =
-    take_less (length rows) (acts_rows plan.items []) in
-    let four : length (acts_rows plan.items []) ≡ length plan.items = rows_long plan.items [] in
+    let two : length (map row_items rows) ≡ length (take (length rows) (acts_rows plan.items (λ d. []))) = ap (λ xs. length xs) h in
+    let three : length (take (length rows) (acts_rows plan.items (λ d. []))) ≤ length (acts_rows plan.items (λ d. [])) =
+    take_less (length rows) (acts_rows plan.items (λ d. [])) in
+    let four : length (acts_rows plan.items (λ d. [])) ≡ length plan.items = rows_long plan.items (λ d. []) in
     omega arith
 
 pub row_at : (plan : Plan) (rows : List (Vec Acts Global)) (i : ℕ) (row : Vec Acts Global) → AreFirstRows plan rows →
-    i < length rows → row ≡ get_or rows i row → slice_get (acts_rows plan.items []) i ≡ Some row.items
+    i < length rows → row ≡ get_or rows i row → slice_get (acts_rows plan.items (λ d. [])) i ≡ Some row.items
 row_at plan rows i row h lt is =
-    get_taken (length rows) (acts_rows plan.items []) i row.items
+    get_taken (length rows) (acts_rows plan.items (λ d. [])) i row.items
     (ap (λ xs. slice_get xs i) (sym h)
     ∙ slice_get-map row_items rows i
     ∙ ap (option_map row_items) (slice_get-get_or rows i row lt ∙ ap (λ (x : Vec Acts Global). Some x) (sym is)))
 
-record StageAt (works : List Work) (blocks : List Block) (i : ℕ) (w : Work) : Type 0 where
+record StageAt (works : List Work) (blocks : ℕ → List Block) (i : ℕ) (w : Work) : Type 0 where
   stage : Stage
   there : slice_get (stages_from works blocks) i ≡ Some stage
   work : stage.work ≡ w
 
-stage_at : (works : List Work) (blocks : List Block) (i : ℕ) (w : Work) → slice_get works i ≡ Some w → StageAt works blocks i w
+stage_at : (works : List Work) (blocks : ℕ → List Block) (i : ℕ) (w : Work) → slice_get works i ≡ Some w → StageAt works blocks i w
 stage_at [] blocks i w e = absurd cc
 stage_at (x ∷ works) blocks zero w e =
-    let a = acts_of x blocks in
+    let a = acts_of x (blocks x.device) in
     record { stage = record { work = x; actions = a.actions; met = a.met }; there = refl; work = same_Some x w e }
 stage_at (x ∷ works) blocks (suc i) w e =
-    let rest = stage_at works (acts_of x blocks).blocks i w e in
+    let rest = stage_at works (changed x.device (acts_of x (blocks x.device)).blocks blocks) i w e in
     record { stage = rest.stage; there = rest.there; work = rest.work }
 
 -- the accesses of an item that is not refused by itself
 pub accesses_at : (p : Program) (n i : ℕ) (w : Work) (row : List Acts) (a : Accesses) → HasNoRangeFault (plan p) →
-    NoneAlone (plan p) n → i < n → slice_get (plan p).items i ≡ Some w → slice_get (acts_rows (plan p).items []) i ≡ Some row →
-    AreAccesses a (actions_of w row) → AreAccessesOf (slice_get (stages (plan p)) i) a
+    NoneAlone (plan p) n → i < n → slice_get (plan p).items i ≡ Some w → slice_get (acts_rows (plan p).items (λ d. [])) i ≡ Some row →
+    AreAccesses a w.device (actions_of w row) → AreAccessesOf (slice_get (stages (plan p)) i) a
 accesses_at p n i w row a none alone lt there spelled are =
-    let at = stage_at (plan p).items [] i w there in
+    let at = stage_at (plan p).items (λ d. []) i w there in
     subst (λ o. AreAccessesOf o a) (sym at.there)
-    (subst (AreAccesses a)
+    (subst (λ (v : Work). AreAccesses a v.device at.stage.actions) (sym at.work) (subst (AreAccesses a w.device)
     (sym (stages_are_spelled p i at.stage row (current_before (plan p) i) none at.there spelled (clean at.stage at.there)
-    ∙ ap (λ v. actions_of v row) at.work)) are)
+    ∙ ap (λ v. actions_of v row) at.work)) are))
   where
     clean : (s : Stage) → slice_get (stages (plan p)) i ≡ Some s →
         (c : Cell) → cause OverlapsInPart s (current_before (plan p) i) c ≡ false

@@ -1,6 +1,6 @@
 -- The first fault of the third pass.
 use Rattle.std.proofs.Common.{◌≡◌, ◌≢◌, ℕ, ◌+◌, ◌<◌, ◌≤◌, Bool, true, false, List, [], ◌⊎◌, inl, inr, length, take, map, Option, Some, None, refl, sym, ap, ◌∙◌, subst, arith, ⊎_elim, true≢false, length-take-le}
-use Rattle.std.specs.Prelude.{is_some, slice_get, Vec}
+use Rattle.std.specs.Prelude.{slice_get, Vec}
 use Rattle.std.specs.declared.alloc.Global.{Global}
 use Rattle.std.proofs.lemmas.Bool.{cases_eq, cases_lt}
 use Rattle.std.proofs.lemmas.Bool.Decides.{nat_tests}
@@ -10,7 +10,7 @@ use Rattle.base.specs.declared.item.Cell.{Cell}
 use Rattle.base.specs.declared.tree.ArrayId.{ArrayId}
 use Rattle.base.specs.declared.fault.Refusal.{Refusal}
 use Rattle.base.specs.declared.fault.RefusalCode.{RefusalCode}
-use Rattle.base.specs.declared.fault.RefusalCode.TheVariants.{OverlapsInPart, ExitOfAbsent, UpdateOfAbsent, Unmapped, HostNotCurrent, DeviceNotCurrent, Conflict}
+use Rattle.base.specs.declared.fault.RefusalCode.TheVariants.{OverlapsInPart, ExitOfAbsent, UpdateOfAbsent, NotPresent, Unmapped, HostNotCurrent, DeviceNotCurrent, Conflict}
 use Rattle.base.specs.Items.{Plan}
 use Rattle.base.specs.Actions.{Stage, stages}
 use Rattle.base.specs.Accepted.{Conflicts, Fault, IsFault, IsFirstFault, IsRefusal, Order, Range, Refused, fault_key, key_less, refusal_rank}
@@ -18,12 +18,12 @@ use Rattle.order.specs.Built.{HasNoClash}
 use Rattle.mapwalk.specs.declared.rows.Acts.{Acts}
 use Rattle.mapwalk.specs.Acts.{acts_rows}
 use Rattle.mapwalk.specs.Walk.{HasNoRangeFault, IsFirstAlone, IsFirstRefusal, IsSound, items_before, row_items}
-use Rattle.mapcheck.proofs.Pairs.{asked}
-use Rattle.mapcheck.specs.Third.{AreMarked, IsConflictIn, IsFirstIn, IsPassed, NoConflictBelow, NoneAlone}
-use Rattle.mapcheck.specs.Unordered.{IsConflictOf, IsFirstConflict}
+use Rattle.mapcheck.proofs.Pairs.{asked, stages_long}
+use Rattle.mapcheck.specs.Third.{AreMarked, IsPassed, NoneAlone}
+use Rattle.mapcheck.specs.Unordered.{IsFirstIn, NoConflictBelow}
 use Rattle.mapcheck.proofs.Accepting.{faultless}
 use Rattle.mapcheck.proofs.FirstFaults.{nothing_in}
-use Rattle.mapcheck.proofs.Stages.{rows_long, stages_long}
+use Rattle.mapcheck.proofs.Stages.{rows_long}
 
 earlier_key : (g r : Refusal) → g.item < r.item → key_less (fault_key (Refused g)) (fault_key (Refused r)) ≡ true
 earlier_key g r lt = grind (arith, nat_tests)
@@ -39,6 +39,7 @@ low_rank : (code : RefusalCode) → code ≢ Conflict → refusal_rank code < 8
 low_rank OverlapsInPart h = omega arith
 low_rank ExitOfAbsent h = omega arith
 low_rank UpdateOfAbsent h = omega arith
+low_rank NotPresent h = omega arith
 low_rank Unmapped h = omega arith
 low_rank HostNotCurrent h = omega arith
 low_rank DeviceNotCurrent h = omega arith
@@ -53,6 +54,7 @@ split plan g h = go g.code g.other h
     go OverlapsInPart None h = inl refl
     go ExitOfAbsent None h = inl refl
     go UpdateOfAbsent None h = inl refl
+    go NotPresent None h = inl refl
     go Unmapped None h = inl refl
     go HostNotCurrent None h = inl refl
     go DeviceNotCurrent None h = inl refl
@@ -60,6 +62,7 @@ split plan g h = go g.code g.other h
     go OverlapsInPart (Some i) h = absurd h
     go ExitOfAbsent (Some i) h = absurd h
     go UpdateOfAbsent (Some i) h = absurd h
+    go NotPresent (Some i) h = absurd h
     go Unmapped (Some i) h = absurd h
     go HostNotCurrent (Some i) h = absurd h
     go DeviceNotCurrent (Some i) h = absurd h
@@ -78,7 +81,7 @@ conflict_inside plan i j c h =
     go (Some s) None e k = no_false k
     go (Some s) (Some t) e k =
         let lt : j < length (stages plan) = slice_get_within (stages plan) j t e in
-        let long : length (stages plan) ≡ length plan.items = stages_long plan.items [] in omega arith
+        let long : length (stages plan) ≡ length plan.items = stages_long plan.items (λ d. []) in omega arith
 
 refused_inside : (plan : Plan) (g : Refusal) → g.code ≡ Conflict → IsFault plan (Refused g) → g.item < length plan.items
 refused_inside plan g e h = go g.code g.other e h
@@ -90,6 +93,7 @@ refused_inside plan g e h = go g.code g.other e h
     go OverlapsInPart o e h = absurd cc
     go ExitOfAbsent o e h = absurd cc
     go UpdateOfAbsent o e h = absurd cc
+    go NotPresent o e h = absurd cc
     go Unmapped o e h = absurd cc
     go HostNotCurrent o e h = absurd cc
     go DeviceNotCurrent o e h = absurd cc
@@ -101,11 +105,11 @@ none_alone plan (Some r) first sound g lt alone fault =
     true≢false (sym (earlier_key g r lt) ∙ first.first g alone fault)
 
 -- how many rows there are
-pub rows_count : (plan : Plan) (n : ℕ) (rows : List (Vec Acts Global)) → map row_items rows ≡ take n (acts_rows plan.items []) →
+pub rows_count : (plan : Plan) (n : ℕ) (rows : List (Vec Acts Global)) → map row_items rows ≡ take n (acts_rows plan.items (λ d. [])) →
     n ≤ length plan.items → length rows ≡ n
 rows_count plan n rows e h =
     sym (length-map rows row_items) ∙ ap (λ xs. length xs) e
-    ∙ length-take-le n (acts_rows plan.items []) (let long = rows_long plan.items [] in omega (arith, long, h))
+    ∙ length-take-le n (acts_rows plan.items (λ d. [])) (let long = rows_long plan.items (λ d. []) in omega (arith, long, h))
 
 stage_inside : (plan : Plan) (j : ℕ) (f : Stage → Bool) →
     elim (slice_get (stages plan) j) as (λ z. Bool) [ None ↦ false | Some s ↦ f s ] ≡ true → j < length plan.items
@@ -116,7 +120,7 @@ stage_inside plan j f h = go (slice_get (stages plan) j) refl h
     go None e k = no_false k
     go (Some s) e k =
         let lt : j < length (stages plan) = slice_get_within (stages plan) j s e in
-        let long : length (stages plan) ≡ length plan.items = stages_long plan.items [] in omega arith
+        let long : length (stages plan) ≡ length plan.items = stages_long plan.items (λ d. []) in omega arith
 
 alone_inside : (plan : Plan) (r : Refusal) → r.other ≡ None → IsFault plan (Refused r) → r.item < length plan.items
 alone_inside plan r e h = go r.code r.other e h
@@ -127,6 +131,7 @@ alone_inside plan r e h = go r.code r.other e h
     go OverlapsInPart None e h = stage_inside plan r.item _ h
     go ExitOfAbsent None e h = stage_inside plan r.item _ h
     go UpdateOfAbsent None e h = stage_inside plan r.item _ h
+    go NotPresent None e h = stage_inside plan r.item _ h
     go Unmapped None e h = stage_inside plan r.item _ h
     go HostNotCurrent None e h = stage_inside plan r.item _ h
     go DeviceNotCurrent None e h = stage_inside plan r.item _ h
@@ -187,24 +192,3 @@ module _ (plan : Plan) (fine : HasNoRangeFault plan) (clashes : HasNoClash plan)
           (λ (code : g.code ≡ Conflict).
           below g.item (let lt = refused_inside plan g code fault in omega (arith, lt, e)) g code refl fault)
           (split plan g fault)
-
--- one item more without a conflict
-pub none_below_more : (plan : Plan) (n : ℕ) (o : Option Refusal) → NoConflictBelow plan n → IsConflictOf plan n o → o ≡ None →
-    NoConflictBelow plan (n + 1)
-none_below_more plan n o below h e j lt =
-    ⊎_elim (λ (same : j ≡ n). subst (λ k. IsConflictOf plan k None) (sym same) (subst (IsConflictOf plan n) e h))
-    (λ (other : j ≡ n → ⊥). below j (omega (arith, lt, other))) (cases_eq j n)
-
-pub not_some : (o : Option Refusal) → is_some o ≡ false → o ≡ None
-not_some None e = refl
-not_some (Some r) e = absurd cc
-
--- the first item that has a conflict
-pub found_first : (plan : Plan) (n i : ℕ) (o : Option Refusal) → NoConflictBelow plan i → i < n → is_some o ≡ true →
-    IsConflictOf plan i o → IsConflictIn plan n o
-found_first plan n i None below lt e h = absurd cc
-found_first plan n i (Some r) below lt e h = record {
-  inside = let same = h.item in omega (arith, same, lt);
-  below = subst (NoConflictBelow plan) (sym h.item) below;
-  first = subst (λ k. IsFirstConflict plan k r) (sym h.item) h;
-}

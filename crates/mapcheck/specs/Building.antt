@@ -1,5 +1,5 @@
 -- How the accesses of an item are put together.
-use Rattle.std.specs.Prelude.{List, [], ◌∷◌, ◌++◌}
+use Rattle.std.specs.Prelude.{ℕ, List, [], ◌∷◌, ◌++◌}
 use Rattle.base.specs.declared.item.MapItem.{MapItem}
 use Rattle.base.specs.Actions.{Action, Counts, Creates, CopiesIn, CopiesOut, Removes, only_if}
 use Rattle.mapwalk.specs.declared.rows.Acts.{Acts}
@@ -10,7 +10,8 @@ use Rattle.mapcheck.specs.Accesses.{AreAccesses}
 
 -- the accesses of these actions are added
 abbrev pub ExtendsBy : List Action → Accesses → Accesses → Type 0
-ExtendsBy more old new = (actions : List Action) → AreAccesses old actions → AreAccesses new (actions ++ more)
+ExtendsBy more old new =
+    (d : ℕ) (actions : List Action) → AreAccesses old d actions → AreAccesses new d (actions ++ more)
 
 -- one map item
 abbrev pub part_actions : Part → MapItem → Acts → List Action

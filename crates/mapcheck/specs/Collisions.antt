@@ -22,4 +22,5 @@ some_collide first second c = list_any (λ a. collides a second c) first
 
 -- the least cell on which two stages with these accesses conflict
 abbrev pub IsLeastConflict : Accesses → Accesses → Option Cell → Type 0
-IsLeastConflict a b found = (s t : Stage) → AreAccesses a s.actions → AreAccesses b t.actions → IsLeast (conflict s t) found
+IsLeastConflict a b found =
+    (s t : Stage) → AreAccesses a s.work.device s.actions → AreAccesses b t.work.device t.actions → IsLeast (conflict s t) found

@@ -13,7 +13,7 @@ use Rattle.mapwalk.specs.declared.rows.Acts.{Acts}
 use Rattle.mapwalk.specs.Acts.{acts_rows}
 use Rattle.mapwalk.specs.Walk.{array_number, row_items}
 use Rattle.mapcheck.specs.declared.accesses.Accesses.{Accesses}
-use Rattle.mapcheck.specs.Unordered.{AreOfItems, IsConflictOf, IsFirstConflict}
+use Rattle.mapcheck.specs.Unordered.{AreOfItems}
 
 -- these are the rows of the first items
 abbrev pub AreFirstRows : Plan → List (Vec Acts Global) → Type 0
@@ -27,20 +27,6 @@ NoneAlone plan n = (g : Refusal) → g.item < n → g.other ≡ None → IsFault
 pub record AreOfFirst (plan : Plan) (n : ℕ) (list : List Accesses) : Type 0 where
   pub count : length list ≡ n
   pub are : AreOfItems plan list
-
--- none of the first items is refused for a conflict
-abbrev pub NoConflictBelow : Plan → ℕ → Type 0
-NoConflictBelow plan n = (j : ℕ) → j < n → IsConflictOf plan j None
-
--- of the first items the first conflict
-pub record IsFirstIn (plan : Plan) (n : ℕ) (r : Refusal) : Type 0 where
-  pub inside : r.item < n
-  pub below : NoConflictBelow plan r.item
-  pub first : IsFirstConflict plan r.item r
-
-abbrev pub IsConflictIn : Plan → ℕ → Option Refusal → Type 0
-IsConflictIn plan n None = NoConflictBelow plan n
-IsConflictIn plan n (Some r) = IsFirstIn plan n r
 
 -- the arrays of which each cell is current on the host at the end, in ascending order
 abbrev pub AreMarked : Plan → List ArrayId → Type 0

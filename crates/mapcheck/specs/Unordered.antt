@@ -1,5 +1,5 @@
 -- Conflicts of items of which neither is before the other.
-use Rattle.std.specs.Prelude.{ℕ, ◌≡◌, false, List, if◌then◌else◌, Option, Some, None, slice_get}
+use Rattle.std.specs.Prelude.{ℕ, ◌≡◌, ◌<◌, ◌≤◌, false, List, if◌then◌else◌, Option, Some, None, slice_get}
 use Rattle.base.specs.declared.item.Cell.{Cell}
 use Rattle.base.specs.declared.fault.Refusal.{Refusal}
 use Rattle.base.specs.declared.fault.RefusalCode.TheVariants.{Conflict}
@@ -12,7 +12,7 @@ use Rattle.mapcheck.specs.Accesses.{AreAccesses}
 
 abbrev pub AreAccessesOf : Option Stage → Accesses → Type 0
 AreAccessesOf None a = ⊥
-AreAccessesOf (Some s) a = AreAccesses a s.actions
+AreAccessesOf (Some s) a = AreAccesses a s.work.device s.actions
 
 -- the accesses of the first items
 abbrev pub AreOfItems : Plan → List Accesses → Type 0
@@ -35,6 +35,28 @@ abbrev pub earlier : Option Refusal → Refusal → Refusal
 earlier None next = next
 earlier (Some first) next = if is_less next.cell first.cell then next else first
 
+-- of the conflicts of item j with the items below i the first one
+pub record IsFirstBelow (plan : Plan) (i j : ℕ) (r : Refusal) : Type 0 where
+  pub other : ℕ
+  pub below : other < i
+  pub is : r ≡ conflict_of j r.cell other
+  pub holds : IsUnordered plan other j r.cell
+  pub least : (k : ℕ) (d : Cell) → k < i → IsUnordered plan k j d → is_less d r.cell ≡ false
+  pub first : (k : ℕ) (d : Cell) → k < i → IsUnordered plan k j d → is_less r.cell d ≡ false → other ≤ k
+
+-- if there is one
+abbrev pub IsFoundBelow : Plan → ℕ → ℕ → Option Refusal → Type 0
+IsFoundBelow plan i j None = (k : ℕ) (d : Cell) → k < i → IsUnordered plan k j d → ⊥
+IsFoundBelow plan i j (Some r) = IsFirstBelow plan i j r
+
+abbrev pub IsFoundThere : Plan → ℕ → ℕ → Option (Option Refusal) → Type 0
+IsFoundThere plan i j None = Unit {0}
+IsFoundThere plan i j (Some found) = IsFoundBelow plan i j found
+
+-- the same of each item
+abbrev pub AreFoundBelow : Plan → ℕ → List (Option Refusal) → Type 0
+AreFoundBelow plan i found = (j : ℕ) → IsFoundThere plan i j (slice_get found j)
+
 -- item j is refused for this conflict, and for none before it: the least cell, and then the least other item
 pub record IsFirstConflict (plan : Plan) (j : ℕ) (r : Refusal) : Type 0 where
   pub code : r.code ≡ Conflict
@@ -47,3 +69,17 @@ pub record IsFirstConflict (plan : Plan) (j : ℕ) (r : Refusal) : Type 0 where
 abbrev pub IsConflictOf : Plan → ℕ → Option Refusal → Type 0
 IsConflictOf plan j None = (g : Refusal) → g.code ≡ Conflict → g.item ≡ j → IsFault plan (Refused g) → ⊥
 IsConflictOf plan j (Some r) = IsFirstConflict plan j r
+
+-- none of the first items is refused for a conflict
+abbrev pub NoConflictBelow : Plan → ℕ → Type 0
+NoConflictBelow plan n = (j : ℕ) → j < n → IsConflictOf plan j None
+
+-- of the first items the first conflict
+pub record IsFirstIn (plan : Plan) (n : ℕ) (r : Refusal) : Type 0 where
+  pub inside : r.item < n
+  pub below : NoConflictBelow plan r.item
+  pub first : IsFirstConflict plan r.item r
+
+abbrev pub IsConflictIn : Plan → ℕ → Option Refusal → Type 0
+IsConflictIn plan n None = NoConflictBelow plan n
+IsConflictIn plan n (Some r) = IsFirstIn plan n r

@@ -24,10 +24,11 @@ pub struct Access<'f> {
     pub cells: Cells<'f>,
 }
 
-/// What an item reads and writes, at each location. Footprints can be shared with other items. Where a call that adds
-/// to it answers an error, it is as it was.
+/// What an item reads and writes, at each location: on the host, on its device, and in this device's table. Footprints
+/// can be shared with other items. Where a call that adds to it answers an error, it is as it was.
 #[derive(Drop)]
 pub struct Accesses<'f> {
+    pub device: u8,
     pub list: Vec<Access<'f>>,
 }
 
@@ -56,16 +57,18 @@ fn write<'f>(loc: Loc, cells: Cells<'f>) -> Access<'f>
 }
 
 impl<'f> Accesses<'f> {
-    /// Of nothing.
-    pub fn new(alloc: Global) -> Accesses<'f>
-        ensures { AreAccesses result [] }
+    /// Of nothing, by an item of this device.
+    pub fn new(alloc: Global, device: u8) -> Accesses<'f>
+        ensures { AreAccesses result device [] }
     {
         Accesses {
+            device,
             list: Vec::new(alloc),
         }
     }
 
     fn add(&mut self, more: &[Access<'f>]) -> Result<(), AllocError>
+        ensures device { self.new.device ≡ self.old.device }
         ensures ok { OnOk result (self.new.list.items ≡ self.old.list.items ++ more.now) }
         ensures err { OnErr result (self.new.list.items ≡ self.old.list.items) }
     {
@@ -78,9 +81,9 @@ impl<'f> Accesses<'f> {
         ensures err { OnErr result (IsKept self.old self.new) }
     {
         let access = if rests {
-            read(Loc::Tab, Cells::Section(block))
+            read(Loc::Tab(self.device), Cells::Section(block))
         } else {
-            write(Loc::Tab, Cells::Section(block))
+            write(Loc::Tab(self.device), Cells::Section(block))
         };
         self.add(&[access])
     }
@@ -90,16 +93,16 @@ impl<'f> Accesses<'f> {
         ensures ok { OnOk result (GrowsBy (Creates created) self.old self.new) }
         ensures err { OnErr result (IsKept self.old self.new) }
     {
-        self.add(&[write(Loc::Dev, Cells::Section(created))])
+        self.add(&[write(Loc::Dev(self.device), Cells::Section(created))])
     }
 
-    /// The section is copied to the device.
+    /// The section is copied to the item's device.
     pub fn add_copy_in(&mut self, section: Section) -> Result<(), AllocError>
         ensures ok { OnOk result (GrowsBy (CopiesIn section) self.old self.new) }
         ensures err { OnErr result (IsKept self.old self.new) }
     {
         let cells = Cells::Section(section);
-        self.add(&[read(Loc::Host, cells), write(Loc::Dev, cells)])
+        self.add(&[read(Loc::Host, cells), write(Loc::Dev(self.device), cells)])
     }
 
     /// The section is copied to the host.
@@ -108,7 +111,7 @@ impl<'f> Accesses<'f> {
         ensures err { OnErr result (IsKept self.old self.new) }
     {
         let cells = Cells::Section(section);
-        self.add(&[read(Loc::Dev, cells), write(Loc::Host, cells)])
+        self.add(&[read(Loc::Dev(self.device), cells), write(Loc::Host, cells)])
     }
 
     /// The block is removed.
@@ -116,7 +119,7 @@ impl<'f> Accesses<'f> {
         ensures ok { OnOk result (GrowsBy (Removes block) self.old self.new) }
         ensures err { OnErr result (IsKept self.old self.new) }
     {
-        self.add(&[write(Loc::Dev, Cells::Section(block))])
+        self.add(&[write(Loc::Dev(self.device), Cells::Section(block))])
     }
 
     /// A region with this footprint runs on the host.
@@ -130,14 +133,14 @@ impl<'f> Accesses<'f> {
         ])
     }
 
-    /// A region with this footprint runs on the device.
+    /// A region with this footprint runs on the item's device.
     pub fn add_kernel(&mut self, footprint: &'f Footprint) -> Result<(), AllocError>
         ensures ok { OnOk result ((touches : List Touch) → HasTouches footprint.now touches → GrowsBy (Kernel touches) self.old self.new) }
         ensures err { OnErr result (IsKept self.old self.new) }
     {
         self.add(&[
-            read(Loc::Dev, Cells::Set(&footprint.read)),
-            write(Loc::Dev, Cells::Set(&footprint.write)),
+            read(Loc::Dev(self.device), Cells::Set(&footprint.read)),
+            write(Loc::Dev(self.device), Cells::Set(&footprint.write)),
         ])
     }
 }

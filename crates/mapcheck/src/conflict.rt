@@ -1,14 +1,14 @@
 // The least cell on which two items conflict.
 
-ghost use Rattle.std.specs.Prelude.{◌&&◌};
+ghost use Rattle.std.specs.Prelude.{◌≡◌, ◌&&◌};
 ghost use Rattle.base.specs.Least.{IsLeast};
 ghost use Rattle.base.specs.Memory.{is_in};
-ghost use Rattle.mapcheck.specs.Accesses.{has_cell};
+ghost use Rattle.mapcheck.specs.Accesses.{has_cell, same_loc};
 ghost use Rattle.mapcheck.specs.Collisions.{IsLeastConflict, collide, collides};
 ghost use Rattle.ranges.specs.Cells.{has};
 
 use crate::accesses::{Access, Accesses, Cells};
-use base::item::{Cell, Section};
+use base::item::{Cell, Loc, Section};
 use base::least::{first_shared, lesser};
 use base::tree::ArrayId;
 use ranges::CellSet;
@@ -54,11 +54,22 @@ fn least_common(left: Cells<'_>, right: Cells<'_>) -> Option<Cell>
     }
 }
 
+// Whether two locations are one.
+fn same_loc(left: Loc, right: Loc) -> bool
+    ensures { result ≡ same_loc left right }
+{
+    match (left, right) {
+        (Loc::Host, Loc::Host) => true,
+        (Loc::Dev(one), Loc::Dev(other)) | (Loc::Tab(one), Loc::Tab(other)) => one == other,
+        _ => false,
+    }
+}
+
 // The least cell on which two accesses conflict.
 fn least_of_two(left: &Access<'_>, right: &Access<'_>) -> Option<Cell>
     ensures { IsLeast (collide left.now right.now) result }
 {
-    if left.loc == right.loc && (left.writes || right.writes) {
+    if same_loc(left.loc, right.loc) && (left.writes || right.writes) {
         least_common(left.cells, right.cells)
     } else {
         None

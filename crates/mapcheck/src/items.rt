@@ -154,9 +154,9 @@ impl<'f> Accesses<'f> {
         row: &[Acts],
         found: &'f Option<Footprint>,
     ) -> Result<Accesses<'f>, AllocError>
-        ensures { (entries : List Entry) (w : Work) → shown entries item.now ≡ Some w → IsFootprintOf w found.now → IfOk result (λ a. AreAccesses a (actions_of w row.now)) }
+        ensures { (entries : List Entry) (w : Work) → shown entries item.now ≡ Some w → IsFootprintOf w found.now → IfOk result (λ a. AreAccesses a w.device (actions_of w row.now)) }
     {
-        let mut accesses = Accesses::new(alloc);
+        let mut accesses = Accesses::new(alloc, item.device.number);
         accesses.add_item(item, row, found)?;
         Ok(accesses)
     }

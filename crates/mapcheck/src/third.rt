@@ -4,8 +4,8 @@ ghost use Rattle.std.specs.Prelude.{◌≡◌, ◌≤◌, IfOk, IfErr, OnOk, len
 ghost use Rattle.base.specs.Items.{plan};
 ghost use Rattle.base.specs.Limits.{most_items};
 ghost use Rattle.mapcheck.specs.Passes.{IsCheckFault};
-ghost use Rattle.mapcheck.specs.Third.{AreFirstRows, AreOfFirst, IsConflictIn, IsPassed, NoneAlone};
-ghost use Rattle.mapcheck.specs.Unordered.{AreOfItems};
+ghost use Rattle.mapcheck.specs.Third.{AreFirstRows, AreOfFirst, IsPassed, NoneAlone};
+ghost use Rattle.mapcheck.specs.Unordered.{IsConflictIn};
 ghost use Rattle.mapwalk.specs.Footprints.{AreFootprints};
 ghost use Rattle.mapwalk.specs.Walk.{HasNoRangeFault};
 ghost use Rattle.order.specs.Built.{HasNoClash};
@@ -42,21 +42,6 @@ fn accesses_of<'f>(
     Ok(list)
 }
 
-// The conflict of the first of the items that is refused for one.
-fn first_of_all(order: &Order<'_>, accesses: &[Accesses<'_>]) -> Option<Refusal>
-    requires few { length accesses.now ≤ most_items }
-    requires accesses { AreOfItems (plan order.now) accesses.now }
-    ensures { IsConflictIn (plan order.now) (length accesses.now) result }
-{
-    'items: for item in 0..accesses.len() as u32 {
-        let conflict = first_conflict(order, accesses, item);
-        if conflict.is_some() {
-            return conflict;
-        }
-    }
-    None
-}
-
 // The first conflict of the items that are not refused by themselves, or want of memory.
 fn conflict_among(
     alloc: Global,
@@ -73,7 +58,7 @@ fn conflict_among(
     ensures { IfOk result (IsConflictIn (plan outlined.now) (length acts.now)) }
 {
     let accesses = accesses_of(alloc, outlined, acts, found)?;
-    Ok(first_of_all(order, &accesses))
+    first_conflict(alloc, order, &accesses)
 }
 
 /// The arrays marked current, where no item is refused. The error is the first refusal, which is by an item alone or for

@@ -1,4 +1,4 @@
--- The first step from an item.
+-- The first step from an item, and the last step to one.
 use Rattle.std.proofs.Common.{◌≡◌, ℕ, zero, suc, ◌<◌, Bool, true, false, List, [], ◌∷◌, length, get_or, refl, sym, ap, ap₂, ◌∙◌, subst, inl, inr, ◌⊎◌, ⊎_elim, Option, Some, None, arith}
 use Rattle.std.specs.Prelude.{slice_get, option_map, not, ◌||◌, ◌&&◌, ◌==◌, nat_lt}
 use Rattle.std.specs.List.{list_any}
@@ -112,6 +112,40 @@ first_step plan i j (through i' k j' first second) =
       leads = step.leads;
       reached = inr (⊎_elim (λ (same : k ≡ step.to). subst (λ m. Before plan m j) same second)
           (λ (later : Before plan step.to k). through step.to k j later second) step.reached);
+    }
+
+-- the last step to an item
+pub record LastStep (plan : Plan) (i j : ℕ) : Type 0 where
+  pub from : ℕ
+  pub leads : Leads plan from j
+  pub reached : (i ≡ from) ⊎ Before plan i from
+
+pub last_step : (plan : Plan) (i j : ℕ) → Before plan i j → LastStep plan i j
+last_step plan i j (in_line i' j' lt inside first) = record {
+  from = i;
+  leads = record {
+    earlier = lt;
+    leads = in_line_asked (slice_get plan.items i) (slice_get plan.items j) first (is_there plan.items j inside);
+  };
+  reached = inl refl;
+}
+last_step plan i j (after_predecessor i' j' h) =
+    let both = and_parts (nat_lt i j) (at_both plan i j is_predecessor) h in
+    record {
+      from = i;
+      leads = record {
+        earlier = ltb-true i j both.0;
+        leads = predecessor_asked (slice_get plan.items i) (slice_get plan.items j) both.1;
+      };
+      reached = inl refl;
+    }
+last_step plan i j (through i' k j' first second) =
+    let last = last_step plan k j second in
+    record {
+      from = last.from;
+      leads = last.leads;
+      reached = inr (⊎_elim (λ (same : k ≡ last.from). subst (λ m. Before plan i m) same first)
+          (λ (later : Before plan k last.from). through i k last.from first later) last.reached);
     }
 
 -- which of the two it is

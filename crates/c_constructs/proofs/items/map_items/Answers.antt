@@ -35,7 +35,7 @@ sections-preserved g c = record {
       c.sections.one-index _ c.one-item.result us _ c.deref-one-items.ensures.value c.sections-test.true c.one-item.is
       (c.sections.invariant.read us) (c.in_ok-map_item-2.ensures.told
       (each_names section_names (drop (c.sections.one-index + 1) c.args.sections.now.more.items) ++ us));
-  means = grows_next (IsMapAt g.K.MapKind.seen (names_of c.args.scope.now) c.args.line) (c.args.always, g.K.MapKind.seen c.args.kind) c.args.sections.now.first
+  means = grows_next (IsMapAt g.K.MapKind.seen (names_of c.args.scope.now) c.args.line) (c.args.always, c.args.present, g.K.MapKind.seen c.args.kind) c.args.sections.now.first
       c.args.sections.now.more.items c.deref-one-items.result.now c.sections.one-index c.one-item.result
       c.args.maps.now.items c.sections.maps.items c.map_item-in-sections.new.maps.items c.deref-one-items.ensures.value
       c.sections-test.true c.one-item.is c.sections.invariant.means c.in_ok-map_item-2.ensures.means;
@@ -48,6 +48,6 @@ returns-clause-told g c = λ us. all_read section_names c.args.scope.now c.args.
 
 pub returns-clause-means : goal.returns-clause-means
 returns-clause-means g c =
-    grows_all (IsMapAt g.K.MapKind.seen (names_of c.args.scope.now) c.args.line) (c.args.always, g.K.MapKind.seen c.args.kind) c.args.sections.now.first
+    grows_all (IsMapAt g.K.MapKind.seen (names_of c.args.scope.now) c.args.line) (c.args.always, c.args.present, g.K.MapKind.seen c.args.kind) c.args.sections.now.first
     c.args.sections.now.more.items c.deref-one-items.result.now c.sections.one-index c.args.maps.now.items
     c.sections.maps.items c.deref-one-items.ensures.value c.sections-test.false c.sections.invariant.means

@@ -10,7 +10,7 @@ invariant-sections g l = record {
   read : (us : Uses) → fault_in l.scope (sections_names l.sections ++ us) ≡ fault_in l.scope
       (each_names section_names (drop l.one-index l.sections.more.items) ++ us);
   means : Grows (IsMapAt g.K.MapKind.seen (names_of l.scope) l.line)
-      (given_one (l.always, g.K.MapKind.seen l.kind) l.sections.first ∷
-      map (given_one (l.always, g.K.MapKind.seen l.kind)) (take l.one-index l.sections.more.items)) l.fn.maps.items
+      (given_one (l.always, l.present, g.K.MapKind.seen l.kind) l.sections.first ∷
+      map (given_one (l.always, l.present, g.K.MapKind.seen l.kind)) (take l.one-index l.sections.more.items)) l.fn.maps.items
       l.maps.items;
 }

@@ -36,7 +36,7 @@ sections-preserved c = record {
       c.sections.one-index _ c.one-item.result us _ c.deref-one-items.ensures.value c.sections-test.true c.one-item.is
       (c.sections.invariant.read us) (c.in_ok-update_item-2.ensures.told
       (each_names section_names (drop (c.sections.one-index + 1) c.args.sections.now.more.items) ++ us));
-  means = grows_next (IsUpdateAt (names_of c.args.scope.now) c.args.line) (seen_update c.args.kind) c.args.sections.now.first
+  means = grows_next (IsUpdateAt (names_of c.args.scope.now) c.args.line) (c.args.present, seen_update c.args.kind) c.args.sections.now.first
       c.args.sections.now.more.items c.deref-one-items.result.now c.sections.one-index c.one-item.result
       c.args.updates.now.items c.sections.updates.items c.update_item-in-sections.new.updates.items c.deref-one-items.ensures.value
       c.sections-test.true c.one-item.is c.sections.invariant.means c.in_ok-update_item-2.ensures.means;
@@ -49,6 +49,6 @@ returns-clause-told c = λ us. all_read section_names c.args.scope.now c.args.se
 
 pub returns-clause-means : goal.returns-clause-means
 returns-clause-means c =
-    grows_all (IsUpdateAt (names_of c.args.scope.now) c.args.line) (seen_update c.args.kind) c.args.sections.now.first
+    grows_all (IsUpdateAt (names_of c.args.scope.now) c.args.line) (c.args.present, seen_update c.args.kind) c.args.sections.now.first
     c.args.sections.now.more.items c.deref-one-items.result.now c.sections.one-index c.args.updates.now.items
     c.sections.updates.items c.deref-one-items.ensures.value c.sections-test.false c.sections.invariant.means

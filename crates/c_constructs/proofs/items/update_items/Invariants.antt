@@ -10,6 +10,6 @@ abbrev pub invariant-sections : goal.invariant-sections
 invariant-sections l = record {
   read : (us : Uses) → fault_in l.scope (sections_names l.sections ++ us) ≡ fault_in l.scope
       (each_names section_names (drop l.one-index l.sections.more.items) ++ us);
-  means : Grows (IsUpdateAt (names_of l.scope) l.line) (given_one (seen_update l.kind) l.sections.first ∷
-      map (given_one (seen_update l.kind)) (take l.one-index l.sections.more.items)) l.fn.updates.items l.updates.items;
+  means : Grows (IsUpdateAt (names_of l.scope) l.line) (given_one (l.present, seen_update l.kind) l.sections.first ∷
+      map (given_one (l.present, seen_update l.kind)) (take l.one-index l.sections.more.items)) l.fn.updates.items l.updates.items;
 }

@@ -51,7 +51,7 @@ looped-returns-clause-tree t c = read_loop (env_of c.args.scope.now) (env_of c.b
 
 pub directed-returns-in-Alone-clause-tree : goal.directed-returns-in-Alone-clause-tree
 directed-returns-in-Alone-clause-tree t c =
-    read_alone c.args.scope.now c.directive.new.scope c.args.tokens.now c.directive.new.tokens c.in-Alone.directive
+    read_alone c.args.scope.now c.directive.new.scope c.args.tokens.now c.directive.new.tokens c.in-Alone.place c.in-Alone.directive
     c.requires.line c.in_ok-resolved.ensures.taken
     (c.in_ok-resolved.ensures.scope ∙ ap (λ (r : Resolved). scope_behind r c.args.scope.now) c.in-Alone.is)
     (subst (λ (r : Resolved). IsRead (env_of c.args.scope.now).names (first_item c.args.tokens.now) (behind c.args.tokens.now) r)
@@ -75,7 +75,7 @@ over-returns-in_ok-region-in-Target-clause-tree t c =
 pub over-returns-in_ok-parts-in-Data-clause-tree : goal.over-returns-in_ok-parts-in-Data-clause-tree
 over-returns-in_ok-parts-in-Data-clause-tree t c =
     subst (λ (k : Construct). IsOverRead (env_of c.args.scope.now) (env_of c.data_parts.new.scope) k (items c.args.tokens.now)
-    (items c.data_parts.new.tokens) (DataOf c.in-Data.maps c.in_ok-parts-in-Data.parts)) (sym c.in-Data.is)
+    (items c.data_parts.new.tokens) (DataOf c.in-Data.data c.in_ok-parts-in-Data.parts)) (sym c.in-Data.is)
     (c.in_ok-parts-in-Data.parts, refl, c.in_ok-parts-in-Data.ensures.longest, c.in_ok-parts-in-Data.ensures.tree)
 
 pub gather-pieces-init : goal.gather-pieces-init

@@ -55,7 +55,7 @@ rows-preserved c =
     (one_item (plan p) i c.rows.list.items accesses c.rows.invariant
     (accesses_at p (length c.args.acts.now) i at.work c.index-acts-number.result.items accesses c.requires.fine c.requires.alone
     c.rows-test.true at.there row
-    (subst (λ (xs : List Acts). AreAccesses accesses (actions_of at.work xs)) c.deref.ensures.value
+    (subst (λ (xs : List Acts). AreAccesses accesses at.work.device (actions_of at.work xs)) c.deref.ensures.value
     (c.in_ok-of_item.ensures (entries_of p) at.work at.is found.touches))))
 
 pub returns-clause-few : goal.returns-clause-few

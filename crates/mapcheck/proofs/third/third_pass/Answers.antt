@@ -5,7 +5,8 @@ use Rattle.base.specs.declared.fault.Refusal.{Refusal}
 use Rattle.base.specs.Items.{plan}
 use Rattle.mapwalk.specs.declared.rows.Acts.{Acts}
 use Rattle.mapwalk.specs.Walk.{AreMarked, IsFirstRefusal, IsSound, items_before}
-use Rattle.mapcheck.specs.Third.{IsConflictIn, NoneAlone}
+use Rattle.mapcheck.specs.Third.{NoneAlone}
+use Rattle.mapcheck.specs.Unordered.{IsConflictIn}
 use Rattle.mapcheck.proofs.ThirdFaults.{alone_first, before_inside, conflict_first, none_alone, passed, rows_count}
 use Rattle.std.proofs.lemmas.Grind.{common_steps}
 use Rattle.mapcheck.proofs.third.third_pass.Goals as goal

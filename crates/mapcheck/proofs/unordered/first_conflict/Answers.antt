@@ -1,28 +1,41 @@
-use Rattle.std.proofs.Common.{◌+◌, ◌≤◌, sym, ap, ◌∙◌, subst, Option, Some, arith}
-use Rattle.base.specs.declared.item.Cell.{Cell}
-use Rattle.base.specs.declared.fault.Refusal.{Refusal}
+use Rattle.std.proofs.Common.{◌≡◌, ◌+◌, ◌<◌, ◌≤◌, length, sym, ◌∙◌, arith}
 use Rattle.base.specs.Items.{plan}
-use Rattle.mapcheck.specs.Unordered.{IsLeastUnordered}
-use Rattle.mapcheck.proofs.Firsts.{IsFoundBelow, all_looked, none_found, one_found}
+use Rattle.mapcheck.specs.Unordered.{IsConflictOf}
+use Rattle.mapcheck.proofs.Firsts.{all_looked, first_with, found_there, none_below_more, not_some}
 use Rattle.mapcheck.proofs.unordered.first_conflict.Goals as goal
-use Rattle.mapcheck.proofs.unordered.first_conflict.Goals.{in-Some, in_default}
 
-pub others-preserved : goal.others-preserved
-others-preserved c =
+pub items-init : goal.items-init
+items-init c = record {
+  many = c.in_ok-found.ensures.many;
+  found = c.in_ok-found.ensures.found (plan c.args.order.now);
+  none = λ j lt. absurd (omega (arith, lt));
+}
+
+pub items-preserved : goal.items-preserved
+items-preserved c =
     let p = plan c.args.order.now in
-    let found_by : Option Cell → Type 0 = λ o. IsLeastUnordered p c.others.other c.args.item o in
-    let next : Option Refusal → Type 0 = λ o. IsFoundBelow p (c.others.other + 1) c.args.item o in
-    elim c.match-least_unordered.branch [
-      | in-Some w ↦ subst next (sym (w.found-is ∙ ap (λ (r : Refusal). Some r) w.earlier.ensures))
-          (one_found p c.others.other c.args.item c.others.found w.in-Some.cell c.others.invariant
-          (subst found_by w.in-Some.is c.least_unordered.ensures))
-      | in_default w ↦ subst next (sym w.found-is)
-          (none_found p c.others.other c.args.item c.others.found c.others.invariant
-          (subst found_by w.in_default.is c.least_unordered.ensures))
-    ]
+    let item = c.items.item in
+    let o = c.index.result.now in
+    let many : length c.items.found.items ≡ length c.args.accesses.now = c.items.invariant.many in
+    let test : item < length c.args.accesses.now = omega arith in
+    let here : IsConflictOf p item o = all_looked p item item o (omega arith)
+    (found_there p item c.items.found.items item o c.items.invariant.found (omega (arith, many, test)) c.index.ensures) in
+    record {
+      many = c.add_conflicts.ensures.many ∙ many;
+      found = c.add_conflicts.ensures.found;
+      none = none_below_more p item o c.items.invariant.none here (not_some o (sym c.is_some.ensures ∙ c.if-is_some.false));
+    }
+
+pub returns-then-is_some : goal.returns-then-is_some
+returns-then-is_some c =
+    let p = plan c.args.order.now in
+    let item = c.items.item in
+    let o = c.index.result.now in
+    let many : length c.items.found.items ≡ length c.args.accesses.now = c.items.invariant.many in
+    let test : item < length c.args.accesses.now = omega arith in
+    first_with p (length c.args.accesses.now) item o c.items.invariant.none test (sym c.is_some.ensures ∙ c.if-is_some.true)
+    (all_looked p item item o (omega arith)
+    (found_there p item c.items.found.items item o c.items.invariant.found (omega (arith, many, test)) c.index.ensures))
 
 pub returns : goal.returns
-returns c =
-    let high : c.others.other ≤ c.args.item = c.others.auto.other-end in
-    let low : c.args.item ≤ c.others.other = c.others-test.false in
-    all_looked (plan c.args.order.now) c.others.other c.args.item c.others.found (omega arith) c.others.invariant
+returns c = λ j lt. c.items.invariant.none j (omega (arith, lt, c.items-test.false))

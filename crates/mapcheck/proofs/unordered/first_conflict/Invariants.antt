@@ -1,6 +1,11 @@
+use Rattle.std.proofs.Common.{◌≡◌, length}
 use Rattle.base.specs.Items.{plan}
-use Rattle.mapcheck.proofs.Firsts.{IsFoundBelow}
+use Rattle.mapcheck.specs.Unordered.{AreFoundBelow, NoConflictBelow}
 use Rattle.mapcheck.proofs.unordered.first_conflict.Given as goal
 
-abbrev pub invariant-others : goal.invariant-others
-invariant-others l = IsFoundBelow (plan l.order) l.other l.item l.found
+abbrev pub invariant-items : goal.invariant-items
+invariant-items l = record {
+  many : length l.found.items ≡ length l.accesses;
+  found : AreFoundBelow (plan l.order) l.item l.found.items;
+  none : NoConflictBelow (plan l.order) l.item;
+}
