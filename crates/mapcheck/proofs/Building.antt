@@ -11,8 +11,7 @@ use Rattle.base.specs.declared.item.ItemKind.TheVariants.{Host, Target, Begin, E
 use Rattle.base.specs.declared.tree.Region.{Region}
 use Rattle.base.specs.Items.{Work}
 use Rattle.base.specs.Footprint.{Touch, touches_of}
-use Rattle.base.specs.Actions.{Action, HostRegion, Kernel, Side, action_reads, action_writes, on_side, region_acts, side_of}
-use Rattle.base.specs.Actions.Side as side
+use Rattle.base.specs.Actions.{Action, HostRegion, Kernel, Side, Host as OnHost, Dev as OnDevice, Tab as InTable, action_reads, action_writes, on_side, region_acts, side_of}
 use Rattle.ranges.specs.declared.cells.Footprint.{Footprint}
 use Rattle.mapwalk.specs.declared.rows.Acts.{Acts}
 use Rattle.mapwalk.specs.Laws.{actions_of, entry_actions, exit_actions, update_actions}
@@ -114,14 +113,14 @@ pub host_region : (w : Work) (f : Footprint) (old new : Accesses) → AreTouches
 host_region w f old new t h = with_region HostRegion w f old new t reads_none writes_none h
   where
     reads_none : (s : Side) (c : Cell) → action_reads (HostRegion []) s c ≡ false
-    reads_none side.Host c = refl
-    reads_none side.Dev c = refl
-    reads_none side.Tab c = refl
+    reads_none OnHost c = refl
+    reads_none OnDevice c = refl
+    reads_none InTable c = refl
 
     writes_none : (s : Side) (c : Cell) → action_writes (HostRegion []) s c ≡ false
-    writes_none side.Host c = refl
-    writes_none side.Dev c = refl
-    writes_none side.Tab c = refl
+    writes_none OnHost c = refl
+    writes_none OnDevice c = refl
+    writes_none InTable c = refl
 
 pub kernel_region : (w : Work) (f : Footprint) (old new : Accesses) → AreTouches w f →
     ((touches : List Touch) → HasTouches f touches → GrowsBy (Kernel touches) old new) →
@@ -129,14 +128,14 @@ pub kernel_region : (w : Work) (f : Footprint) (old new : Accesses) → AreTouch
 kernel_region w f old new t h = with_region Kernel w f old new t reads_none writes_none h
   where
     reads_none : (s : Side) (c : Cell) → action_reads (Kernel []) s c ≡ false
-    reads_none side.Host c = refl
-    reads_none side.Dev c = refl
-    reads_none side.Tab c = refl
+    reads_none OnHost c = refl
+    reads_none OnDevice c = refl
+    reads_none InTable c = refl
 
     writes_none : (s : Side) (c : Cell) → action_writes (Kernel []) s c ≡ false
-    writes_none side.Host c = refl
-    writes_none side.Dev c = refl
-    writes_none side.Tab c = refl
+    writes_none OnHost c = refl
+    writes_none OnDevice c = refl
+    writes_none InTable c = refl
 
 abbrev pub by_kind : Work → List Acts → List MapItem → ItemKind → List Action
 by_kind w row maps Host = (region_acts HostRegion w []).actions

@@ -9,7 +9,7 @@ use Rattle.base.specs.declared.item.Loc.{Loc}
 use Rattle.base.specs.declared.item.Loc.TheVariants as loc
 use Rattle.base.specs.declared.item.Section.{Section}
 use Rattle.base.specs.Memory.{is_in}
-use Rattle.base.specs.Footprint.{Touch, reads, writes}
+use Rattle.base.specs.Footprint.{Touch}
 use Rattle.base.specs.Actions.{Action, Counts, Creates, CopiesIn, CopiesOut, HostRegion, Kernel, Removes, Side, Host, Dev, Tab, action_reads, action_writes, on_side, side_of}
 use Rattle.ranges.specs.declared.cells.Footprint.{Footprint}
 use Rattle.ranges.specs.Cells.{has}

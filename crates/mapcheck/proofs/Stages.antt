@@ -6,7 +6,7 @@ use Rattle.std.proofs.lemmas.Bool.{cases_eq, false_from_ne_true}
 use Rattle.std.proofs.lemmas.List.{length-map}
 use Rattle.std.proofs.lemmas.Option.{same_Some, slice_get-get_or, slice_get_within, slice_get-map}
 use Rattle.base.specs.declared.item.Cell.{Cell}
-use Rattle.base.specs.declared.fault.RefusalCode.TheVariants.{OverlapsInPart}
+use Rattle.base.specs.declared.fault.RefusalCode.TheVariants.{OverlapsInPart, NotPresent}
 use Rattle.base.specs.declared.tree.Program.{Program}
 use Rattle.base.specs.Items.{Work, Plan, plan}
 use Rattle.base.specs.Map.{Block}
@@ -85,14 +85,20 @@ accesses_at p n i w row a none alone lt there spelled are =
     let at = stage_at (plan p).items (λ d. []) i w there in
     subst (λ o. AreAccessesOf o a) (sym at.there)
     (subst (λ (v : Work). AreAccesses a v.device at.stage.actions) (sym at.work) (subst (AreAccesses a w.device)
-    (sym (stages_are_spelled p i at.stage row (current_before (plan p) i) none at.there spelled (clean at.stage at.there)
+    (sym (stages_are_spelled p i at.stage row (current_before (plan p) i) none at.there spelled (part at.stage at.there) (present at.stage at.there)
     ∙ ap (λ v. actions_of v row) at.work)) are))
   where
-    clean : (s : Stage) → slice_get (stages (plan p)) i ≡ Some s →
+    part : (s : Stage) → slice_get (stages (plan p)) i ≡ Some s →
         (c : Cell) → cause OverlapsInPart s (current_before (plan p) i) c ≡ false
-    clean s e c = false_from_ne_true (cause OverlapsInPart s (current_before (plan p) i) c) (λ t.
+    part s e c = false_from_ne_true (cause OverlapsInPart s (current_before (plan p) i) c) (λ t.
         alone (record { code = OverlapsInPart; item = i; cell = c; other = None }) lt refl
         (on_stage_is (plan p) i s (λ x. cause OverlapsInPart x (current_before (plan p) i) c) e ∙ t))
+
+    present : (s : Stage) → slice_get (stages (plan p)) i ≡ Some s →
+        (c : Cell) → cause NotPresent s (current_before (plan p) i) c ≡ false
+    present s e c = false_from_ne_true (cause NotPresent s (current_before (plan p) i) c) (λ t.
+        alone (record { code = NotPresent; item = i; cell = c; other = None }) lt refl
+        (on_stage_is (plan p) i s (λ x. cause NotPresent x (current_before (plan p) i) c) e ∙ t))
 
 pub one_item : (plan : Plan) (n : ℕ) (list : List Accesses) (a : Accesses) → AreOfFirst plan n list →
     AreAccessesOf (slice_get (stages plan) n) a → AreOfFirst plan (n + 1) (list ++ a ∷ [])

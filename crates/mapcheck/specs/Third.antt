@@ -1,5 +1,5 @@
 -- What the third pass finds.
-use Rattle.std.specs.Prelude.{ℕ, ◌≡◌, ◌<◌, List, [], Option, Some, None, Vec, map, filter, take, length}
+use Rattle.std.specs.Prelude.{ℕ, ◌≡◌, ◌<◌, List, [], None, Vec, map, filter, take, length}
 use Rattle.std.specs.List.{range_with_len}
 use Rattle.std.specs.declared.alloc.Global.{Global}
 use Rattle.base.specs.declared.fault.Refusal.{Refusal}
@@ -17,7 +17,7 @@ use Rattle.mapcheck.specs.Unordered.{AreOfItems}
 
 -- these are the rows of the first items
 abbrev pub AreFirstRows : Plan → List (Vec Acts Global) → Type 0
-AreFirstRows plan rows = map row_items rows ≡ take (length rows) (acts_rows plan.items [])
+AreFirstRows plan rows = map row_items rows ≡ take (length rows) (acts_rows plan.items (λ d. []))
 
 -- none of the first items is refused by itself
 abbrev pub NoneAlone : Plan → ℕ → Type 0

@@ -87,13 +87,12 @@ impl<'a> Accepted<'a> {
 
 /// Decides in three passes whether a program is accepted. The fault is the first one: of the first pass the range fault
 /// of the least item (E302, E303, E301); of the second the least pair of depend items that overlap in part (E505); of
-/// the third the refusal of the least item, by its code, its cell and the other item (E501 to E503, E509, E504, E506 to E508).
-/// `OutOfMemory` is answered where an allocation fails.
+/// the third the refusal of the least item, by its code, its cell and the other item (E501 to E503, E509, E504, E506 to
+/// E508). `OutOfMemory` is answered where an allocation fails.
 ///
-/// It takes time for each turn of a region that is walked for its footprint, once for all items of a region that names no
-/// loop around it; for each cell that an item's region touches, and for each pair of items of which the later stands below the place from
-/// which all follow the earlier; and memory for the cells that each
-/// item's region touches.
+/// It takes time for each turn of a region that is walked for its footprint, once for all items of a region that names
+/// no loop around it; for each cell that an item's region touches, and for each pair of items of which the later stands
+/// below the place from which all follow the earlier; and memory for the cells that each item's region touches.
 pub fn check<'a>(alloc: Global, outlined: &'a Outlined<'a>) -> Result<Accepted<'a>, CheckFault>
     ensures accepted { IfOk result (λ a. a ≡ outlined.now) }
     ensures fault { IfErr result (IsCheckFault (plan outlined.now)) }

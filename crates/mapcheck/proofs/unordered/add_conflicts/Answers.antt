@@ -1,8 +1,7 @@
-use Rattle.std.proofs.Common.{◌≡◌, ◌+◌, ◌<◌, ◌≤◌, length, min, refl, ◌∙◌, arith}
+use Rattle.std.proofs.Common.{◌≡◌, ◌<◌, ◌≤◌, length, refl, ◌∙◌, arith}
 use Rattle.std.specs.Prelude.{slice_set}
 use Rattle.std.proofs.lemmas.List.{length-set}
 use Rattle.base.specs.Items.{plan}
-use Rattle.base.specs.Limits.{most_items}
 use Rattle.mapcheck.proofs.Firsts.{asked_all, asked_none, asked_one}
 use Rattle.mapcheck.proofs.Pairs.{item_there}
 use Rattle.mapcheck.proofs.unordered.add_conflicts.Goals as goal

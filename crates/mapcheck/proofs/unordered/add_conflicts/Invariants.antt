@@ -1,4 +1,4 @@
-use Rattle.std.proofs.Common.{◌≡◌, ◌≤◌, length}
+use Rattle.std.proofs.Common.{◌≡◌, length}
 use Rattle.base.specs.Items.{plan}
 use Rattle.mapcheck.proofs.Firsts.{AreAsked}
 use Rattle.mapcheck.proofs.unordered.add_conflicts.Given as goal

@@ -1,4 +1,4 @@
-use Rattle.std.proofs.Common.{◌≡◌, ◌+◌, ◌<◌, ◌≤◌, length, sym, ◌∙◌, arith}
+use Rattle.std.proofs.Common.{◌≡◌, ◌<◌, length, sym, ◌∙◌, arith}
 use Rattle.base.specs.Items.{plan}
 use Rattle.mapcheck.specs.Unordered.{IsConflictOf}
 use Rattle.mapcheck.proofs.Firsts.{all_looked, first_with, found_there, none_below_more, not_some}

@@ -1,4 +1,4 @@
-use Rattle.std.proofs.Common.{sym, ap, ◌∙◌, ◌+◌, subst, Option, Some, None}
+use Rattle.std.proofs.Common.{sym, ◌+◌, subst, Option, Some}
 use Rattle.base.specs.declared.item.Cell.{Cell}
 use Rattle.base.specs.declared.fault.Refusal.{Refusal}
 use Rattle.base.specs.Items.{plan}
