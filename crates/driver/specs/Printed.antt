@@ -21,7 +21,7 @@ pub record IsInput (known : Option (List ℕ)) (input : List ℕ) : Type 0 where
   pub left : IfSome known (λ xs. bytes ≡ xs)
   pub numbers : input_of bytes ≡ Some input
 
--- what is answered on an input by choices, on a device with room for so many cells
+-- what is answered on an input by choices, on devices each with room for so many cells
 abbrev pub by_list : List ℕ → ℕ → List ℕ → Answers
 by_list choices capacity input = by_choices input choices capacity
 

@@ -13,6 +13,7 @@ use Rattle.base.proofs.item.Event.TheSendSync as event
 use Rattle.base.proofs.item.Item.TheSendSync as item
 use Rattle.base.proofs.tree.Bounds.TheSendSync as bounds
 use Rattle.base.proofs.tree.Directive.TheSendSync as directive
+use Rattle.base.proofs.tree.Place.TheSendSync as place
 use Rattle.base.proofs.tree.Target.TheSendSync as target
 use Rattle.base.proofs.tree.Expr.TheLaws.TheKnot as expressions
 use Rattle.base.proofs.tree.Stmt.TheLaws.TheKnot as statements
@@ -42,7 +43,7 @@ part_sync =
     recorded_sync (part.the_field).row _ _ (part.the_type).to_one
     (parts.sync-Part region_field_sync (λ h s. search (crossing.crosses, sendable) depth 60 fits 20000)
     bounds.the_field_sync target.the_field_sync (search (crossing.crosses, sendable) depth 60 fits 20000)
-    directive.the_field_sync)
+    place.the_field_sync directive.the_field_sync)
 
 pub program_sync : IsSync program.the_row
 program_sync =

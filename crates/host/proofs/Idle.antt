@@ -6,7 +6,7 @@ use Rattle.std.proofs.lemmas.Bool.Decides.{nat_tests}
 use Rattle.std.proofs.lemmas.List.{length-map}
 use Rattle.std.proofs.lemmas.Option.{slice_get-map, slice_get_within}
 use Rattle.base.specs.declared.item.Event.{Event}
-use Rattle.base.specs.declared.item.Event.TheVariants.{Gen, Open, Close, Wait, End}
+use Rattle.base.specs.declared.item.Event.TheVariants.{Gen, Open, Step, Close, Wait, End}
 use Rattle.base.specs.declared.item.Item.{Item}
 use Rattle.base.specs.declared.item.ItemKind.{ItemKind}
 use Rattle.base.specs.declared.item.ItemKind.TheVariants as kind
@@ -201,6 +201,7 @@ host_idle p s items o alike is none = at
     at : IsHostIdle p s
     at (Gen i) h = absurd (generated i h)
     at (Open i) h = opened i h
+    at (Step i) h = absurd (cc h)
     at (Close i) h = refl
     at (Wait i) h = absurd (passed i h)
     at End h = absurd (ended h)

@@ -1,7 +1,7 @@
 -- What is for workers to do, and what for the host.
 use Rattle.std.specs.Prelude.{◌≡◌, ℕ, Bool, true, false, ◌||◌, Option, Some, None, slice_get, if◌then◌else◌}
 use Rattle.base.specs.declared.item.Event.{Event}
-use Rattle.base.specs.declared.item.Event.TheVariants.{Gen, Open, Close, Wait, End}
+use Rattle.base.specs.declared.item.Event.TheVariants.{Gen, Open, Step, Close, Wait, End}
 use Rattle.base.specs.declared.item.Item.{Item}
 use Rattle.base.specs.declared.item.ItemKind.{ItemKind}
 use Rattle.base.specs.declared.item.ItemKind.TheVariants as kind
@@ -13,6 +13,7 @@ use Rattle.base.specs.Machine.{State, enabled, on_item}
 abbrev pub is_for_workers : Plan → Event → Bool
 is_for_workers p (Gen i) = false
 is_for_workers p (Open i) = on_item p i false (λ w. w.deferred || is_target w.kind)
+is_for_workers p (Step i) = false
 is_for_workers p (Close i) = true
 is_for_workers p (Wait i) = false
 is_for_workers p End = false

@@ -5,7 +5,7 @@ use Rattle.base.specs.contracts.tree.Program as program_code
 use Rattle.base.specs.declared.tree.Program.{Program}
 use Rattle.device.specs.Run.{Run}
 
--- the program, its whole input, and how many cells the device has room for
+-- the program, its whole input, and how many cells each device has room for
 pub record Start : Type 0 where
   pub program : Program
   pub input : List ℕ

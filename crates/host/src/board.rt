@@ -27,7 +27,7 @@ use std::marker::PhantomData;
 #[derive(Drop)]
 pub enum Stop {
     OutOfMemory,
-    /// The opening of this item would create more cells than the device has room for.
+    /// The opening of this item would create more cells than its device has room for.
     DeviceFull(u32),
     /// What was computed is not what was asked for.
     Stranger,

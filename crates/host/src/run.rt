@@ -41,12 +41,12 @@ fn run_from<'a, B: Origin + Send, R: Threads + Wait + Sync, G: Gate + Sync>(
     board.into_inner().answer(alloc)
 }
 
-/// Runs an accepted program on this input by worker threads, on a device with room for `capacity` cells. The calling
+/// Runs an accepted program on this input by worker threads, on devices each with room for `capacity` cells. The calling
 /// thread is the host; targets and deferred items are for the workers. The answer has the values of the arrays that are
-/// marked current, and after none of its events are more than `capacity` cells in use.
+/// marked current, and after none of its events are more than `capacity` cells of a device in use.
 ///
 /// The first fault stops all threads, which are joined, and is answered: `DeviceFull` where an opening would create more
-/// cells than the device has room for, `OutOfMemory`, `ThreadNotStarted` where the runtime does not start a worker, or
+/// cells than its device has room for, `OutOfMemory`, `ThreadNotStarted` where the runtime does not start a worker, or
 /// `Stranger`. `OtherState` is for a state that has not ended, though nothing stopped it.
 pub fn run_threads<R: Threads + Wait + Sync, G: Gate + Sync>(
     rt: &R,

@@ -61,7 +61,7 @@ impl<'a> Image<'a> {
         let _marked = &self.marked;
     }
 
-    /// The items, in program order; at most 4,096.
+    /// The items, in program order; at most 65,536.
     pub fn items(&self) -> &'a [Item]
         ensures shown { all_shown (entries_of self.now) result.now ≡ as_shown (plan self.now).items }
         ensures few { length result.now ≤ most_items }

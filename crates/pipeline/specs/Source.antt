@@ -20,7 +20,7 @@ use Rattle.mapcheck.specs.Passes.{IsCheckFault}
 use Rattle.pipeline.specs.Checking.{IsRefused}
 
 -- what is answered of programs, and why they have no answer: by choices, or on threads; and no event of an answer leaves
--- more cells in use than the device has room for
+-- more cells of a device in use than there is room for
 abbrev pub Answers : Type 1
 Answers = Program → Answer → Type 0
 

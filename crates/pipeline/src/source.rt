@@ -56,7 +56,7 @@ fn run_outlined(
     }
 }
 
-/// Runs a source on a host memory and a device memory that has room for `capacity` cells.
+/// Runs a source on a host memory and devices, each of which has room for `capacity` cells.
 ///
 /// `input` has the numbers that the program reads. At each step the next choice picks among the enabled events: the one
 /// at its place modulo their number, and the first when the choices are used up. The answer has the output's bytes, the

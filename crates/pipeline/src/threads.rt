@@ -64,8 +64,8 @@ fn run_outlined_on_threads<T: Threads + Wait + Sync>(
     }
 }
 
-/// Runs a source by worker threads, on a host memory and a device memory that has room for `capacity` cells. Which events
-/// happen when is left to the threads. The answer and the faults are otherwise those of `run_source`.
+/// Runs a source by worker threads, on a host memory and devices, each of which has room for `capacity` cells. Which
+/// events happen when is left to the threads. The answer and the faults are otherwise those of `run_source`.
 #[tactic(auto, using(crate::proofs::Runs::short_too, crate::proofs::Listings::outline_fault))]
 pub fn run_source_on_threads<T: Threads + Wait + Sync>(
     rt: &T,

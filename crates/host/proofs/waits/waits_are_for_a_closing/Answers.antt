@@ -1,6 +1,6 @@
 use Rattle.std.proofs.Common.{◌≡◌, ℕ, true, false}
 use Rattle.base.specs.declared.item.Event.{Event}
-use Rattle.base.specs.declared.item.Event.TheVariants.{Gen, Open, Close, Wait, End}
+use Rattle.base.specs.declared.item.Event.TheVariants.{Gen, Open, Step, Close, Wait, End}
 use Rattle.base.specs.Items.{plan}
 use Rattle.base.specs.Machine.{enabled}
 use Rattle.headline.proofs.NeverStuck.{a_run_goes_on}
@@ -16,6 +16,7 @@ waits r h going host workers =
         (i : ℕ) × (enabled (plan r.program) (state_of r) (Close i) ≡ true)
     go (Gen i) q = let bad : false ≡ true = host (Gen i) q in absurd cc
     go (Open i) q = absurd (cc (host (Open i) q, workers i q))
+    go (Step i) q = absurd (cc q)
     go (Close i) q = (i, q)
     go (Wait i) q = let bad : false ≡ true = host (Wait i) q in absurd cc
     go End q = let bad : false ≡ true = host End q in absurd cc
