@@ -11,7 +11,7 @@ use std::test::Fail;
 const LONG_CHAIN: &str = "\
 uint64_t A[8];
 int main(void) {
-for (uint64_t i = 0; i < 16384; i += 1) {
+for (uint64_t i = 0; i < 4200; i += 1) {
 #pragma omp target nowait depend(inout: A[0:1])
 { }
 }
@@ -21,16 +21,16 @@ for (uint64_t i = 0; i < 16384; i += 1) {
 // Whether an item comes behind those before it, and not behind itself.
 fn is_in_turn(order: &Order<'_>, item: u32) -> bool {
     (item == 0 || order.before(0, item))
-        && (item == 16383 || order.before(item, 16383))
+        && (item == 4199 || order.before(item, 4199))
         && !order.before(item, item)
-        && !order.before(16383, item)
-        && !order.before(item, 16384)
-        && !order.before(16384, item)
+        && !order.before(4199, item)
+        && !order.before(item, 4200)
+        && !order.before(4200, item)
         && order.after_all(item) == item + 1
 }
 
 fn is_chain(order: &Order<'_>) -> bool {
-    for item in 0..16384 {
+    for item in 0..4200 {
         if !is_in_turn(order, item) {
             return false;
         }
@@ -40,7 +40,7 @@ fn is_chain(order: &Order<'_>) -> bool {
 
 fn is_ordered(alloc: Global, outlined: &Outlined<'_>) -> Result<bool, Fail> {
     footprints_of(alloc, outlined, &repeats(alloc, outlined)?)?;
-    Ok(outlined.items().len() == 16384 && is_chain(&order_of(alloc, outlined)?))
+    Ok(outlined.items().len() == 4200 && is_chain(&order_of(alloc, outlined)?))
 }
 
 // Each task waits for the one before it.
