@@ -36,16 +36,21 @@ say() {
     tail -1 "$folder/err"
 }
 
-for source in steps waits chains; do
-    for items in 16384 32768 65536; do
-        echo "$source, $items items"
-        "$source" "$items" > "$folder/source.c"
-        for command in list check step run; do
-            say "ompc $command" "$ompc" "$command" "$folder/source.c"
-        done
+# that source of that many items, by each command
+measure() {
+    echo "$1, $2 items"
+    "$1" "$2" > "$folder/source.c"
+    for command in list check step run; do
+        say "ompc $command" "$ompc" "$command" "$folder/source.c"
     done
+}
+
+for source in steps waits; do
+    for items in 16384 32768 65536; do measure "$source" "$items"; done
     if command -v clang > /dev/null && clang -O2 -include stdint.h -Dprint= -fopenmp -fopenmp-targets=x86_64-pc-linux-gnu \
         -o "$folder/offload" "$folder/source.c" 2> /dev/null; then
         say 'clang -fopenmp-targets' "$folder/offload"
     fi
 done
+# of these the check looks at each pair
+for items in 2048 4096 8192; do measure chains "$items"; done
