@@ -13,7 +13,9 @@ $ ompc check update_alone.c
 ! E503 item 0 A[0]
 [1]
 
-# as many items as there may be, and two more
+# more items than 4,096, as many as there may be, and two more
+$ ompc check waits_4097.c
+accepted
 $ ompc check many_kernels.c
 accepted
 current A
