@@ -225,7 +225,12 @@ fn are_apart(run: &mut RunState<'_>) -> bool {
 // Nothing is on the second device before it is entered there, and then each counts for itself.
 fn are_entered(run: &mut RunState<'_>) -> bool {
     let first = [Event::Open(0), Event::Close(0)];
-    let second = [Event::Open(1), Event::Close(1), Event::Gen(2), Event::Open(2)];
+    let second = [
+        Event::Open(1),
+        Event::Close(1),
+        Event::Gen(2),
+        Event::Open(2),
+    ];
     happen_all(run, first.as_slice())
         && run.count(FIRST, cell(0, 0)) == Some(1)
         && run.count(SECOND, cell(0, 0)) == None
