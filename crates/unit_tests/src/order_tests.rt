@@ -26,7 +26,7 @@ fn is_in_turn(order: &Order<'_>, item: u32) -> bool {
         && !order.before(4199, item)
         && !order.before(item, 4200)
         && !order.before(4200, item)
-        && order.after_all(item) == item + 1
+        && item.checked_add(1) == Some(order.after_all(item))
 }
 
 fn is_chain(order: &Order<'_>) -> bool {
