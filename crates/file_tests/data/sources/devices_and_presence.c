@@ -7,5 +7,5 @@ int main(void) {
 #pragma omp target device(2) map(present, tofrom: A) nowait
 { A[0] = present[1]; }
 }
-#pragma omp target update to(present: A) from(present, A[0:1]) device(1)
+#pragma omp target update to(present: A) from(present[2:3]) device(1)
 }
