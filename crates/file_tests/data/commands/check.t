@@ -150,7 +150,7 @@ $ ompc list host_beside_a_copy_out.c
 ! E508 item 2 A[6] with item 1
 [1]
 
-# more than 4,096 items
+# more than 65,536 items
 $ ompc check one_item_more.c
 ! E401
 [1]
