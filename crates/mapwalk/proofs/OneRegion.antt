@@ -9,8 +9,8 @@ use Rattle.base.specs.Items.{Plan, Work}
 use Rattle.outline.specs.declared.RegionEntry.{RegionEntry}
 use Rattle.outline.specs.Regions.{Entry, entry_of}
 use Rattle.outline.specs.Shown.{all_shown, as_shown, shown, work_with}
-use Rattle.regions.specs.Unread.{reads_outer}
-use Rattle.regions.proofs.Unread.{unread_loops_decide_nothing}
+use Rattle.regions.specs.Deciding.{AgreeWhereDeciding}
+use Rattle.regions.proofs.Undeciding.{undeciding_loops_decide_nothing}
 use Rattle.mapwalk.specs.Repeats.{AreFirstRepeats, IsRepeat, TouchAlike}
 use Rattle.mapwalk.proofs.Prints.{get_before, get_last}
 use Rattle.mapwalk.proofs.Touched.{same_work, shown_is}
@@ -26,16 +26,14 @@ same_region (Some n) k differs e f = go (n == k) refl
     go true same = ap (λ (a : ℕ). Some a) (eqb-true n k same)
     go false other = absurd (let d : not (n == k) ≡ false = sym e ∙ f in cc)
 
--- two items of one region, which names none of the loops around it
+-- two items of one region, around which the loops that decide have the same values
 pub one_region : (lengths : List ℕ) (regions : List RegionEntry) (entries : List Entry) (earlier item : Item) (k : ℕ)
     (e : RegionEntry) (v w : Work) → map entry_of regions ≡ entries → earlier.region ≡ Some k → item.region ≡ Some k →
-    slice_get regions k ≡ Some e → length earlier.loops.values.items ≡ length item.loops.values.items →
-    reads_outer (length item.loops.values.items) e.region.now ≡ false → shown entries earlier ≡ Some v →
+    slice_get regions k ≡ Some e → AgreeWhereDeciding e.region.now item.loops.values.items earlier.loops.values.items → shown entries earlier ≡ Some v →
     shown entries item ≡ Some w → TouchAlike lengths v w
-one_region lengths regions entries earlier item k e v w are first second held many none is_v is_w =
+one_region lengths regions entries earlier item k e v w are first second held agree is_v is_w =
     let r = e.region.now in
-    let law = unread_loops_decide_nothing r (length item.loops.values.items) item.loops.values.items
-    earlier.loops.values.items refl many none in
+    let law = undeciding_loops_decide_nothing r item.loops.values.items earlier.loops.values.items agree in
     let one = same_work (work_with earlier (Some r)) v (shown entries earlier)
     (shown_is regions entries earlier k e are first held) is_v in
     let two = same_work (work_with item (Some r)) w (shown entries item)

@@ -23,7 +23,3 @@ pub record AreFirstRepeats (plan : Plan) (n : ℕ) (repeats : List (Option ℕ))
 -- for each item
 abbrev pub AreRepeats : Plan → List (Option ℕ) → Type 0
 AreRepeats plan repeats = AreFirstRepeats plan (length plan.items) repeats
-
--- these are numbers of the first n items
-abbrev pub AreBelow : ℕ → List (Option ℕ) → Type 0
-AreBelow n last = (r k : ℕ) → slice_get last r ≡ Some (Some k) → k < n

@@ -1,18 +1,20 @@
 // Items whose regions touch what the region of an earlier item touches.
 
-ghost use Rattle.std.specs.Prelude.{◌≡◌, ◌+◌, ◌<◌, IfOk, IfSome, IsTrue, Some, length};
+ghost use Rattle.std.specs.Prelude.{◌≡◌, ◌<◌, IfOk, IfSome, IsTrue, Some, length};
 ghost use Rattle.base.specs.Items.{Work, plan};
 ghost use Rattle.base.specs.Meaning.{lengths_of};
-ghost use Rattle.mapwalk.specs.Repeats.{AreBelow, AreRepeats, IsRepeat, TouchAlike};
+ghost use Rattle.mapwalk.specs.Repeats.{AreRepeats, IsRepeat, TouchAlike};
 ghost use Rattle.outline.specs.Regions.{entries_of};
 ghost use Rattle.outline.specs.Shown.{shown};
 
 use base::item::Item;
 use outline::Outlined;
-use regions::names_outer_loop;
+use regions::{agree_where_deciding, deciding_loops, marked_values};
 use std::alloc::{AllocError, Global};
+use std::collections::BTreeMap;
 
-// Whether two items are known to touch alike: their regions are one, under as many loops, of which it names none.
+// Whether two items are known to touch alike: their regions are one, under as many loops, of which those that decide
+// what it touches have the same values.
 fn touch_alike(outlined: &Outlined<'_>, earlier: &Item, item: &Item) -> bool
     ensures { (v w : Work) → shown (entries_of outlined.now) earlier.now ≡ Some v → shown (entries_of outlined.now) item.now ≡ Some w → IsTrue result → TouchAlike (lengths_of outlined.now) v w }
 {
@@ -22,62 +24,80 @@ fn touch_alike(outlined: &Outlined<'_>, earlier: &Item, item: &Item) -> bool
     let Some(entry) = outlined.regions().get(number as usize) else {
         return false;
     };
-    let loops = item.loops.values.len();
-    if earlier.region != Some(number) || earlier.loops.values.len() != loops {
+    if earlier.region != Some(number) {
         return false;
     }
-    !names_outer_loop(loops, entry.region)
+    agree_where_deciding(entry.region, &item.loops.values, &earlier.loops.values)
 }
 
-// The last item so far with the region of an item, where the two are known to touch alike.
-fn earlier_alike(outlined: &Outlined<'_>, last: &[Option<usize>], number: usize) -> Option<usize>
-    requires inside { number < length (plan outlined.now).items }
-    requires last { AreBelow number last.now }
+// This earlier item, where it and an item are known to touch alike.
+fn if_alike(outlined: &Outlined<'_>, earlier: Option<usize>, number: usize) -> Option<usize>
+    requires { number < length (plan outlined.now).items }
     ensures { IfSome result (IsRepeat (plan outlined.now) number) }
 {
+    let Some(earlier) = earlier else {
+        return None;
+    };
     let items = outlined.items();
-    let Some(region) = items[number].region else {
-        return None;
-    };
-    let Some(known) = last.get(region as usize) else {
-        return None;
-    };
-    let Some(earlier) = *known else {
-        return None;
-    };
-    if touch_alike(outlined, &items[earlier], &items[number]) {
+    if earlier < number && touch_alike(outlined, &items[earlier], &items[number]) {
         Some(earlier)
     } else {
         None
     }
 }
 
-// Keeps that an item is the last one with its region.
-fn note(last: &mut Vec<Option<usize>>, region: Option<u32>, number: usize)
-    requires { AreBelow number last.old.items }
-    ensures { AreBelow (number + 1) last.new.items }
-{
-    let Some(region) = region else {
-        return;
-    };
-    if (region as usize) < last.len() {
-        last[region as usize] = Some(number);
+// For each region that nothing is kept of it yet.
+fn no_marks(alloc: Global, outlined: &Outlined<'_>) -> Result<Vec<Vec<bool>>, AllocError> {
+    let mut marks = Vec::new(alloc);
+    for _ in outlined.regions() {
+        marks.push(Vec::new(alloc))?;
     }
+    Ok(marks)
+}
+
+// What two items have in common that are likely to touch alike: the region, and the values of the loops that decide what
+// it touches. Which loops decide is kept for each region. Nothing rests on it, since two items are tested again.
+fn key_of(
+    alloc: Global,
+    outlined: &Outlined<'_>,
+    marks: &mut Vec<Vec<bool>>,
+    item: &Item,
+) -> Result<Option<Vec<u64>>, AllocError> {
+    let Some(number) = item.region else {
+        return Ok(None);
+    };
+    let Some(entry) = outlined.regions().get(number as usize) else {
+        return Ok(None);
+    };
+    let Some(known) = marks.get_mut(number as usize) else {
+        return Ok(None);
+    };
+    let loops = item.loops.values.as_slice();
+    if known.len() != loops.len() {
+        *known = deciding_loops(alloc, loops.len(), entry.region)?;
+    }
+    let mut key = marked_values(alloc, known, loops)?;
+    key.push(u64::from(number))?;
+    Ok(Some(key))
 }
 
 /// For each item an earlier one whose region touches the same cells and has the same faults of range, or none where
-/// that is not known. It is known of a region that names no loop around it, from its second item on.
+/// that is not known. It is known where an earlier item has the same region and the same values of those loops around
+/// it that the region names in a subscript or a condition.
 pub fn repeats(alloc: Global, outlined: &Outlined<'_>) -> Result<Vec<Option<usize>>, AllocError>
     ensures { IfOk result (λ all. AreRepeats (plan outlined.now) all.items) }
 {
-    // Of each region the last item so far.
-    let mut last = Vec::new(alloc);
-    last.resize(outlined.regions().len(), None)?;
+    let mut marks = no_marks(alloc, outlined)?;
+    // The last item so far with each key.
+    let mut last = BTreeMap::new(alloc);
     let items = outlined.items();
     let mut all = Vec::new(alloc);
     'items: for number in 0..items.len() {
-        all.push(earlier_alike(outlined, &last, number))?;
-        note(&mut last, items[number].region, number);
+        let earlier = match key_of(alloc, outlined, &mut marks, &items[number])? {
+            Some(key) => last.insert(key, number)?,
+            None => None,
+        };
+        all.push(if_alike(outlined, earlier, number))?;
     }
     Ok(all)
 }

@@ -1,16 +1,16 @@
-use Rattle.regions.proofs.UnreadRows.{reads_Block, reads_in_Loop, reads_in_If}
+use Rattle.regions.proofs.DecidingRows.{decides_Block, decides_in_Loop, decides_in_If}
 use Rattle.std.proofs.Common.{arith}
 use Rattle.std.proofs.lemmas.Grind.{common_steps}
-use Rattle.regions.proofs.outer.+named.Goals as goal
+use Rattle.regions.proofs.deciding.+deciding.Goals as goal
 
 pub in_stmt-returns-in-Loop : goal.in_stmt-returns-in-Loop
 in_stmt-returns-in-Loop t c =
-    reads_in_Loop _ _ c.in-Loop.field-0 c.in-Loop.body _ _ c.in-Loop.is c.deref-in-Loop.ensures.value
+    decides_in_Loop _ _ c.in-Loop.field-0 c.in-Loop.body _ _ c.in-Loop.is c.deref-in-Loop.ensures.value
     c.in_all-in-Loop.ensures
 
 pub in_stmt-returns-in-If : goal.in_stmt-returns-in-If
 in_stmt-returns-in-If t c =
-    reads_in_If _ _ c.in-If.c c.in-If.first c.in-If.second _ _ _ _ _ c.in-If.is c.deref-in-If.ensures.value
+    decides_in_If _ _ c.in-If.c c.in-If.first c.in-If.second _ _ _ _ _ c.in-If.is c.deref-in-If.ensures.value
     c.deref-in-If-2.ensures.value c.in_expr-in-If.ensures c.in_all-in-If.ensures c.in_all-in-If-2.ensures
 
 pub in_all-returns-then-in_stmt : goal.in_all-returns-then-in_stmt
@@ -23,4 +23,4 @@ pub in_all-returns : goal.in_all-returns
 in_all-returns t c = grind (arith, common_steps)
 
 pub in_stmt-returns-in-Block : goal.in_stmt-returns-in-Block
-in_stmt-returns-in-Block t c = grind (arith, reads_Block)
+in_stmt-returns-in-Block t c = grind (arith, decides_Block)
