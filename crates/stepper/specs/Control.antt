@@ -1,0 +1,103 @@
+-- What is left of an open item, and the region where it stands.
+use Rattle.std.specs.Prelude.{ℕ, ◌≡◌, ◌+◌, ◌<◌, zero, suc, Bool, true, false, List, [], ◌∷◌, Option, Some, None, slice_index}
+use Rattle.base.specs.declared.item.MapItem.{MapItem}
+use Rattle.base.specs.declared.tree.Source.{Source}
+use Rattle.base.specs.declared.tree.Stmt.{Stmt}
+use Rattle.base.specs.Meaning.{Run}
+use Rattle.fine_machine.specs.Left.{Left, Finished, Asks, Side, OnHost, OnDevice, Request, Answer, source_left, stmt_left}
+use Rattle.fine_machine.specs.Left as left
+use Rattle.present.specs.Blocks.{IsSection}
+use Rattle.stepper.specs.declared.action.Action.{Action}
+use Rattle.stepper.specs.declared.action.Action.TheVariants as action
+use Rattle.stepper.specs.declared.control.Control.{Control}
+use Rattle.stepper.specs.declared.frame.Frame.{Frame}
+use Rattle.stepper.specs.declared.frame.Frame.TheVariants as frame
+use Rattle.stepper.specs.Rest.{frames_of, rest_of, top}
+use Rattle.stepper.specs.Weight.{frame_weight, source_weight, stmt_weight, weight}
+
+abbrev pub side_of : Bool → Side
+side_of true = OnHost
+side_of false = OnDevice
+
+abbrev pub run_of : Control → Run
+run_of c =
+    record { scalars = slice_index c.scalars.value; stores = []; input = c.input.now; printed = c.printed.items }
+
+abbrev pub stack_of : Control → List Frame
+stack_of c = frames_of c.frames
+
+-- with these parts before those of its own
+abbrev pub left_with : List Frame → Control → Left
+left_with frames c = rest_of (side_of c.on_host) frames c.loops.items c.number (run_of c)
+
+abbrev pub left_of : Control → Left
+left_of c = left_with (stack_of c) c
+
+abbrev pub is_some_left : List MapItem → Bool
+is_some_left [] = false
+is_some_left (item ∷ rest) = true
+
+abbrev pub is_positive : ℕ → Bool
+is_positive zero = false
+is_positive (suc n) = true
+
+-- a part whose next step is an action on the memories
+abbrev pub is_action : Frame → Bool
+is_action (frame.Load a) = true
+is_action (frame.Store a i) = true
+is_action (frame.Entries maps) = is_some_left maps.items.now
+is_action (frame.Exits maps) = is_some_left maps.items.now
+is_action (frame.CopyIn cells) = is_positive cells.count
+is_action (frame.CopyOut cells) = is_positive cells.count
+is_action (frame.Remove held) = true
+is_action _ = false
+
+abbrev pub stops_at : Option Frame → Bool
+stops_at None = true
+stops_at (Some f) = is_action f
+
+-- an action comes next, or nothing is left
+abbrev pub IsStopped : Control → Type 0
+IsStopped c = stops_at (top (stack_of c)) ≡ true
+
+-- a part that was taken off, and is no action, is done
+pub record Takes (f : Frame) (old new : Control) : Type 0 where
+  pub left : left_of new ≡ left_with (f ∷ stack_of old) old
+  pub weight : weight (stack_of new) < frame_weight f + weight (stack_of old)
+
+-- a source, or a statement, is begun
+pub record BeginsSource (v : Source) (f : Frame) (old new : Control) : Type 0 where
+  pub left : left_of new ≡ source_left v (side_of old.on_host) old.loops.items (run_of old)
+      (λ n t. rest_of (side_of old.on_host) (f ∷ stack_of old) old.loops.items n t)
+  pub weight : weight (stack_of new) ≡ (frame_weight f + weight (stack_of old)) + source_weight v
+
+pub record BeginsStmt (s : Stmt) (old new : Control) : Type 0 where
+  pub left : left_of new ≡ stmt_left s (side_of old.on_host) old.loops.items (run_of old)
+      (λ t. rest_of (side_of old.on_host) (stack_of old) old.loops.items 0 t)
+  pub weight : weight (stack_of new) ≡ weight (stack_of old) + stmt_weight s
+
+-- the action as the machine has it
+abbrev pub request_of : Side → Action → Request
+request_of side (action.Load c) = left.Load side c
+request_of side (action.Store c n) = left.Store side c n
+request_of side (action.Enter item) = left.Enter item
+request_of side (action.Leave item) = left.Leave item
+request_of side (action.Remove section) = left.Remove section
+request_of side (action.CopyIn c) = left.CopyIn c
+request_of side (action.CopyOut c) = left.CopyOut c
+
+-- the sections of an action on a table lie in a device
+abbrev pub HasSection : Action → Type 0
+HasSection (action.Enter item) = IsSection item.section
+HasSection (action.Leave item) = IsSection item.section
+HasSection (action.Remove section) = IsSection section
+HasSection _ = Unit {0}
+
+-- this action comes next, or none where nothing is left
+abbrev pub IsNext : Control → Option Action → Type 0
+IsNext c None = left_of c ≡ Finished (run_of c)
+IsNext c (Some a) = HasSection a × ((k : Answer → Left) × (left_of c ≡ Asks (request_of (side_of c.on_host) a) k))
+
+-- what is left after an action's answer
+abbrev pub Answers : Answer → Control → Control → Type 0
+Answers r old new = (request : Request) (k : Answer → Left) → left_of old ≡ Asks request k → left_of new ≡ k r

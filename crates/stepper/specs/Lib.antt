@@ -1,0 +1,5 @@
+pub mod Rest
+pub mod Weight
+pub mod Begin
+pub mod Control
+pub mod Acting

@@ -1,0 +1,16 @@
+//! The fine-grained machine by choices: each load, each store, each copied cell and each action on a table by itself.
+#![tactic(auto)]
+
+
+
+
+
+mod act;
+mod action;
+mod begin;
+mod control;
+mod frame;
+mod frames;
+mod maps;
+mod take;
+mod turns;
