@@ -1,1 +1,5 @@
 mod Began
+mod Sources
+mod StmtRests
+mod Stmts
+mod Takes

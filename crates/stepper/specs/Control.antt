@@ -1,10 +1,12 @@
 -- What is left of an open item, and the region where it stands.
 use Rattle.std.specs.Prelude.{ℕ, ◌≡◌, ◌+◌, ◌<◌, zero, suc, Bool, true, false, List, [], ◌∷◌, Option, Some, None, slice_index}
+use Rattle.std.specs.Borrow.{Bor}
 use Rattle.base.specs.declared.item.MapItem.{MapItem}
+use Rattle.base.specs.declared.tree.Expr.{Expr}
 use Rattle.base.specs.declared.tree.Source.{Source}
 use Rattle.base.specs.declared.tree.Stmt.{Stmt}
 use Rattle.base.specs.Meaning.{Run}
-use Rattle.fine_machine.specs.Left.{Left, Finished, Asks, Side, OnHost, OnDevice, Request, Answer, source_left, stmt_left}
+use Rattle.fine_machine.specs.Left.{Left, Finished, Asks, Side, OnHost, OnDevice, Request, Answer, expr_left, source_left, stmt_left}
 use Rattle.fine_machine.specs.Left as left
 use Rattle.present.specs.Blocks.{IsSection}
 use Rattle.stepper.specs.declared.action.Action.{Action}
@@ -12,8 +14,9 @@ use Rattle.stepper.specs.declared.action.Action.TheVariants as action
 use Rattle.stepper.specs.declared.control.Control.{Control}
 use Rattle.stepper.specs.declared.frame.Frame.{Frame}
 use Rattle.stepper.specs.declared.frame.Frame.TheVariants as frame
+use Rattle.stepper.specs.declared.turns.Turns.{Turns}
 use Rattle.stepper.specs.Rest.{frames_of, rest_of, top}
-use Rattle.stepper.specs.Weight.{frame_weight, source_weight, stmt_weight, weight}
+use Rattle.stepper.specs.Weight.{expr_weight, frame_weight, source_weight, stmt_weight, weight}
 
 abbrev pub side_of : Bool → Side
 side_of true = OnHost
@@ -71,10 +74,28 @@ pub record BeginsSource (v : Source) (f : Frame) (old new : Control) : Type 0 wh
       (λ n t. rest_of (side_of old.on_host) (f ∷ stack_of old) old.loops.items n t)
   pub weight : weight (stack_of new) ≡ (frame_weight f + weight (stack_of old)) + source_weight v
 
+-- an expression is begun
+pub record BeginsAt (e : Expr) (f : Frame) (old new : Control) : Type 0 where
+  pub left : left_of new ≡ expr_left e (side_of old.on_host) old.loops.items (run_of old).scalars
+      (λ n. rest_of (side_of old.on_host) (f ∷ stack_of old) old.loops.items n (run_of old))
+  pub weight : weight (stack_of new) ≡ (frame_weight f + weight (stack_of old)) + expr_weight e
+
 pub record BeginsStmt (s : Stmt) (old new : Control) : Type 0 where
   pub left : left_of new ≡ stmt_left s (side_of old.on_host) old.loops.items (run_of old)
       (λ t. rest_of (side_of old.on_host) (stack_of old) old.loops.items 0 t)
   pub weight : weight (stack_of new) ≡ weight (stack_of old) + stmt_weight s
+
+-- some statements, or the turns of a loop, that were taken off are done
+abbrev pub TakesRest : List Stmt → Control → Control → Type 0
+TakesRest all old new = (xs : Bor (List Stmt)) → xs.now ≡ all → Takes (frame.Rest xs) old new
+
+abbrev pub TakesTurns : Turns → List Stmt → Control → Control → Type 0
+TakesTurns turns body old new = (xs : Bor (List Stmt)) → xs.now ≡ body → Takes (frame.Turns turns xs) old new
+
+-- the left operand decides, or the right one is evaluated to a truth value
+abbrev pub TakesRight : Bool → ℕ → Expr → Control → Control → Type 0
+TakesRight true value e old new = new ≡ record old { number = value }
+TakesRight false value e old new = BeginsAt e frame.Truth old new
 
 -- the action as the machine has it
 abbrev pub request_of : Side → Action → Request

@@ -1,10 +1,11 @@
 -- What is left of an open item, as the fine-grained machine has it.
-use Rattle.std.specs.Prelude.{ℕ, ◌≡◌, zero, suc, ◌+◌, ◌-◌, ◌*◌, Bool, true, false, not, List, [], ◌∷◌, ◌++◌, reverse, take, drop, length, Option, Some, None, slice_index}
+use Rattle.std.specs.Prelude.{ℕ, ◌≡◌, zero, suc, not, List, [], ◌∷◌, ◌++◌, reverse, Option, Some, None, slice_index}
 use Rattle.base.specs.declared.item.Cell.{Cell}
 use Rattle.base.specs.declared.tree.ArrayId.{ArrayId}
 use Rattle.base.specs.Value.{flag, is_zero, unary, binary, shifted, divided}
 use Rattle.base.specs.Meaning.{Run, printed}
 use Rattle.fine_machine.specs.Left.{Left, Finished, Asks, Side, Load, Store, Remove, CopyIn, CopyOut, assigned, expr_left, source_left, list_left, turns_left, each_left, entry_left, exit_left, cells_left}
+use Rattle.kernel.specs.Machine.{front_of}
 use Rattle.stepper.specs.declared.frame.Frame.{Frame}
 use Rattle.stepper.specs.declared.frame.Frame.TheVariants as frame
 use Rattle.stepper.specs.declared.frames.Frames.{Frames}
@@ -21,10 +22,6 @@ top (f ∷ rest) = Some f
 abbrev pub Popped : List Frame → Option Frame → List Frame → Type 0
 Popped old None new = (old ≡ []) × (new ≡ [])
 Popped old (Some f) new = old ≡ f ∷ new
-
--- the values of the loops without that of the innermost one
-abbrev pub without_last : List ℕ → List ℕ
-without_last loops = take (length loops - 1) loops
 
 abbrev pub at_index : ArrayId → ℕ → Cell
 at_index a i = record { array = a; index = i }
@@ -66,8 +63,8 @@ rest_of side (frame.Choose first second ∷ rest) loops n s =
 rest_of side (frame.Rest all ∷ rest) loops n s = list_left all.now side loops s (λ t. rest_of side rest loops 0 t)
 rest_of side (frame.Turns turns body ∷ rest) loops n s =
     turns_left turns.left turns.next turns.step
-    (λ v. list_left body.now side (without_last loops ++ v ∷ [])) s
-    (λ t. rest_of side rest (without_last loops) 0 t)
+    (λ v. list_left body.now side (front_of loops ++ v ∷ [])) s
+    (λ t. rest_of side rest (front_of loops) 0 t)
 rest_of side (frame.Entries maps ∷ rest) loops n s = each_left entry_left maps.items.now (λ u. rest_of side rest loops 0 s)
 rest_of side (frame.Exits maps ∷ rest) loops n s = each_left exit_left maps.items.now (λ u. rest_of side rest loops 0 s)
 rest_of side (frame.CopyIn cells ∷ rest) loops n s =

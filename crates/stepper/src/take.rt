@@ -1,7 +1,10 @@
 // What an open item does without an action on the memories.
 
-ghost use Rattle.std.specs.Prelude.{◌≡◌, false, OnOk};
-ghost use Rattle.stepper.specs.Control.{BeginsSource, BeginsStmt, IsStopped, Takes, is_action, left_of};
+ghost use Rattle.std.specs.Prelude.{◌≡◌, ◌+◌, ◌<◌, false, OnOk, slice_index};
+ghost use Rattle.base.specs.Meaning;
+ghost use Rattle.base.specs.Meaning.{set_scalar};
+ghost use Rattle.kernel.specs.Machine.{front_of};
+ghost use Rattle.stepper.specs.Control.{BeginsAt, BeginsSource, BeginsStmt, Takes, TakesRest, TakesRight, TakesTurns, is_action};
 
 use crate::begin::begin_expr;
 use crate::control::Control;
@@ -13,7 +16,7 @@ use std::alloc::AllocError;
 
 // The turns of a loop.
 fn turns_of(bounds: Bounds) -> Turns
-    ensures left { result.left ≡ Rattle.base.specs.Meaning.turns_of bounds }
+    ensures left { result.left ≡ Meaning.turns_of bounds }
     ensures next { result.next ≡ bounds.first }
     ensures step { result.step ≡ bounds.step }
 {
@@ -22,6 +25,35 @@ fn turns_of(bounds: Bounds) -> Turns
         next: bounds.first,
         step: bounds.step,
     }
+}
+
+// The turns of a loop after the next one.
+fn after(turns: Turns) -> Turns
+    requires { 0 < turns.left }
+    ensures left { result.left + 1 ≡ turns.left }
+    ensures next { result.next ≡ turns.next + turns.step }
+    ensures step { result.step ≡ turns.step }
+{
+    Turns {
+        left: turns.left - 1,
+        next: turns.next + turns.step,
+        step: turns.step,
+    }
+}
+
+// A scalar has another number.
+fn assign(scalars: &mut [u64; 256], x: u8, number: u64)
+    ensures { slice_index scalars.new ≡ set_scalar x number (slice_index scalars.old) }
+{
+    scalars[x as usize] = number;
+}
+
+// The innermost loop is left.
+fn leave_loop(loops: &mut Vec<u64>)
+    ensures { loops.new.items ≡ front_of loops.old.items }
+{
+    let count = loops.len();
+    loops.truncate(count.saturating_sub(1));
 }
 
 // Whether a part is an action.
@@ -59,6 +91,7 @@ impl<'p> Control<'p> {
 
     // An expression's value goes to a part.
     fn begin(&mut self, e: &'p Expr, frame: Frame<'p>) -> Result<(), AllocError>
+        ensures { OnOk result (BeginsAt e.now frame.entry self.old self.new) }
     {
         self.frames.push(frame)?;
         self.number = begin_expr(&mut self.frames, e, &self.loops, &self.scalars)?;
@@ -80,5 +113,91 @@ impl<'p> Control<'p> {
             }
             Stmt::If(c, first, second) => self.begin(c, Frame::Choose(first, second)),
         }
+    }
+}
+
+impl<'p> Control<'p> {
+    // The right operand of an operator is evaluated, unless the left one decides.
+    fn take_right(&mut self, decides: bool, value: u64, e: &'p Expr) -> Result<(), AllocError>
+        ensures { OnOk result (TakesRight decides value e.now self.old self.new) }
+    {
+        if decides {
+            self.number = value;
+            return Ok(());
+        }
+        self.begin(e, Frame::Truth)
+    }
+
+    // The next of some statements is begun.
+    fn take_first(&mut self, all: &'p [Stmt]) -> Result<(), AllocError>
+        ensures { OnOk result (TakesRest all.now self.old self.new) }
+    {
+        match all {
+            [] => {
+                self.number = 0;
+                Ok(())
+            }
+            [first, rest @ ..] => {
+                self.frames.push(Frame::Rest(rest))?;
+                self.begin_stmt(first)
+            }
+        }
+    }
+
+    // The next turn of a loop is begun, or the loop is left.
+    fn take_turn(&mut self, turns: Turns, body: &'p [Stmt]) -> Result<(), AllocError>
+        ensures { OnOk result (TakesTurns turns body.now self.old self.new) }
+    {
+        leave_loop(&mut self.loops);
+        if turns.left == 0 {
+            self.number = 0;
+            return Ok(());
+        }
+        self.loops.push(turns.next)?;
+        self.frames.push(Frame::Turns(after(turns), body))?;
+        self.frames.push(Frame::Rest(body))
+    }
+
+    // Does a part that was taken off and is no action.
+    pub fn take(&mut self, frame: Frame<'p>) -> Result<(), AllocError>
+        requires { is_action frame ≡ false }
+        ensures { OnOk result (Takes frame.entry self.old self.new) }
+    {
+        match frame {
+            Frame::Unary(op) => self.number = of_one(op, self.number),
+            Frame::Both(op, left) => self.number = of_both(op, left, self.number),
+            Frame::Truth => self.number = flag(self.number != 0),
+            Frame::Shift(op, n) => self.number = of_shift(op, self.number, n),
+            Frame::Divide(op, n) => self.number = of_division(op, self.number, n),
+            Frame::Right(op, e) => return self.begin(e, Frame::Both(op, self.number)),
+            Frame::AndRight(e) => return self.take_right(self.number == 0, 0, e),
+            Frame::OrRight(e) => return self.take_right(self.number != 0, 1, e),
+            Frame::Subscript(array, v) => {
+                return self.begin_source(v, Frame::Store(array, self.number));
+            }
+            Frame::Assign(x) => {
+                assign(&mut self.scalars, x.0, self.number);
+                self.number = 0;
+            }
+            Frame::Print => {
+                self.printed.push(self.number)?;
+                self.number = 0;
+            }
+            Frame::Choose(first, second) => {
+                let all = if self.number == 0 { second } else { first };
+                return self.frames.push(Frame::Rest(all));
+            }
+            Frame::Rest(all) => return self.take_first(all),
+            Frame::Turns(turns, body) => return self.take_turn(turns, body),
+            // Those with a cell or a map item are actions.
+            Frame::Entries(_) => self.number = 0,
+            Frame::Exits(_) => self.number = 0,
+            Frame::CopyIn(_) => self.number = 0,
+            Frame::CopyOut(_) => self.number = 0,
+            Frame::Load(_) => {}
+            Frame::Store(_, _) => {}
+            Frame::Remove(_) => {}
+        }
+        Ok(())
     }
 }
