@@ -3,3 +3,5 @@ mod Sources
 mod StmtRests
 mod Stmts
 mod Takes
+mod Nexts
+mod Answered

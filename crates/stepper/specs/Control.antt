@@ -1,12 +1,14 @@
 -- What is left of an open item, and the region where it stands.
 use Rattle.std.specs.Prelude.{ℕ, ◌≡◌, ◌+◌, ◌<◌, zero, suc, Bool, true, false, List, [], ◌∷◌, Option, Some, None, slice_index}
 use Rattle.std.specs.Borrow.{Bor}
+use Rattle.base.specs.declared.item.Cell.{Cell}
 use Rattle.base.specs.declared.item.MapItem.{MapItem}
+use Rattle.base.specs.declared.item.Section.{Section}
 use Rattle.base.specs.declared.tree.Expr.{Expr}
 use Rattle.base.specs.declared.tree.Source.{Source}
 use Rattle.base.specs.declared.tree.Stmt.{Stmt}
 use Rattle.base.specs.Meaning.{Run}
-use Rattle.fine_machine.specs.Left.{Left, Finished, Asks, Side, OnHost, OnDevice, Request, Answer, expr_left, source_left, stmt_left}
+use Rattle.fine_machine.specs.Left.{Left, Finished, Asks, Side, OnHost, OnDevice, Request, Answer, left_if, section_left, expr_left, source_left, stmt_left}
 use Rattle.fine_machine.specs.Left as left
 use Rattle.present.specs.Blocks.{IsSection}
 use Rattle.stepper.specs.declared.action.Action.{Action}
@@ -14,6 +16,7 @@ use Rattle.stepper.specs.declared.action.Action.TheVariants as action
 use Rattle.stepper.specs.declared.control.Control.{Control}
 use Rattle.stepper.specs.declared.frame.Frame.{Frame}
 use Rattle.stepper.specs.declared.frame.Frame.TheVariants as frame
+use Rattle.stepper.specs.declared.maps.Maps.{Maps}
 use Rattle.stepper.specs.declared.turns.Turns.{Turns}
 use Rattle.stepper.specs.Rest.{frames_of, rest_of, top}
 use Rattle.stepper.specs.Weight.{expr_weight, frame_weight, source_weight, stmt_weight, weight}
@@ -62,6 +65,12 @@ stops_at (Some f) = is_action f
 -- an action comes next, or nothing is left
 abbrev pub IsStopped : Control → Type 0
 IsStopped c = stops_at (top (stack_of c)) ≡ true
+
+-- a part was taken off, which is no action
+pub record IsPending (f : Frame) (old new : Control) : Type 0 where
+  pub quiet : is_action f ≡ false
+  pub left : left_with (f ∷ stack_of new) new ≡ left_of old
+  pub weight : weight (stack_of old) ≡ frame_weight f + weight (stack_of new)
 
 -- a part that was taken off, and is no action, is done
 pub record Takes (f : Frame) (old new : Control) : Type 0 where
@@ -119,6 +128,32 @@ abbrev pub IsNext : Control → Option Action → Type 0
 IsNext c None = left_of c ≡ Finished (run_of c)
 IsNext c (Some a) = HasSection a × ((k : Answer → Left) × (left_of c ≡ Asks (request_of (side_of c.on_host) a) k))
 
+-- what is left after an action is what followed from its answer
+abbrev pub IsAnswered : Left → Answer → Left → Type 0
+IsAnswered old r new = (request : Request) (k : Answer → Left) → old ≡ Asks request k → new ≡ k r
+
 -- what is left after an action's answer
 abbrev pub Answers : Answer → Control → Control → Type 0
-Answers r old new = (request : Request) (k : Answer → Left) → left_of old ≡ Asks request k → left_of new ≡ k r
+Answers r old new = IsAnswered (left_of old) r (left_of new)
+
+-- the first of some entries was counted
+abbrev pub AnswersEntry : Maps → Bool → Control → Control → Type 0
+AnswersEntry maps copies old new = (n : ℕ) (removes : Bool) → is_some_left maps.items.now ≡ true →
+    IsAnswered (left_with (frame.Entries maps ∷ stack_of old) old)
+    (record { number = n; copies = copies; removes = removes }) (left_of new)
+
+-- the first of some exits was counted
+abbrev pub AnswersExit : Maps → Bool → Bool → Control → Control → Type 0
+AnswersExit maps copies removes old new = (n : ℕ) → is_some_left maps.items.now ≡ true →
+    IsAnswered (left_with (frame.Exits maps ∷ stack_of old) old)
+    (record { number = n; copies = copies; removes = removes }) (left_of new)
+
+-- the cells of a section are copied before what was left, if so told
+abbrev pub CopiesBefore : (Cell → Request) → Bool → Section → Control → Control → Type 0
+CopiesBefore ask copies s old new =
+    left_of new ≡ left_if copies (section_left ask s) (λ u. left_of old)
+
+-- the first of some map items, and the others
+pub record Splits (maps : Maps) (item : MapItem) (rest : Maps) : Type 0 where
+  pub items : maps.items.now ≡ item ∷ rest.items.now
+  pub section : IsSection item.section

@@ -7,6 +7,7 @@
 
 mod act;
 mod action;
+mod advance;
 mod begin;
 mod control;
 mod frame;

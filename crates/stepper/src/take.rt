@@ -57,7 +57,7 @@ fn leave_loop(loops: &mut Vec<u64>)
 }
 
 // Whether a part is an action.
-fn is_action(frame: &Frame<'_>) -> bool
+pub fn is_action(frame: &Frame<'_>) -> bool
     ensures { result ≡ is_action frame.now }
 {
     match frame {
