@@ -1,1 +1,3 @@
 mod Began
+mod HostCells
+mod SingleActs

@@ -1,10 +1,13 @@
 -- What a single action does to the table and the host memory that the code keeps.
-use Rattle.std.specs.Prelude.{ℕ, ◌≡◌, Bool, List, [], ◌∷◌, Option, Some, None, IsSomeAnd}
+use Rattle.std.specs.Prelude.{ℕ, ◌≡◌, Bool, true, false, List, [], ◌∷◌, Option, Some, None, IsSomeAnd}
+use Rattle.base.specs.declared.item.Cell.{Cell}
 use Rattle.base.specs.declared.item.MapItem.{MapItem}
+use Rattle.base.specs.declared.item.Section.{Section}
 use Rattle.base.specs.declared.fault.RunFault.{RunFault}
 use Rattle.base.specs.declared.fault.RunFault.TheVariants as fault
 use Rattle.base.specs.declared.memory.Memory.{Memory as Arrays}
 use Rattle.base.specs.Arrays.{lengths_of}
+use Rattle.base.specs.Memory.{is_cell}
 use Rattle.base.specs.Map.{Device}
 use Rattle.fine_machine.specs.Action.{act}
 use Rattle.fine_machine.specs.Left.{Answer}
@@ -17,6 +20,17 @@ use Rattle.stepper.specs.Control.{request_of, side_of}
 
 abbrev pub answer_of : Given → Answer
 answer_of r = record { number = r.number; copies = r.copies; removes = r.removes }
+
+-- a number was loaded, or 0 where nothing was; or an entry or an exit decided this
+abbrev pub gives : ℕ → Given
+gives n = record { number = n; copies = false; removes = false }
+
+abbrev pub decides : Bool → Bool → Given
+decides copies removes = record { number = 0; copies = copies; removes = removes }
+
+-- a cell as a section
+abbrev pub alone : Cell → Section
+alone c = record { array = c.array; first = c.index; length = 1 }
 
 -- something holds of the map item of an entry
 abbrev pub OnEntry : Action → (MapItem → Type 0) → Type 0
@@ -57,3 +71,8 @@ IsActFault on_host a t host fault.Stranger = ⊥
 IsActFault on_host a t host fault.ThreadNotStarted = ⊥
 IsActFault on_host a t host fault.OtherState = ⊥
 IsActFault on_host a t host fault.RangeRefused = ⊥
+
+-- a cell that is copied to the host lies in its array there
+abbrev pub InHost : Action → Arrays → Type 0
+InHost (action.CopyOut c) host = is_cell (lengths_of host) c ≡ true
+InHost _ host = Unit {0}

@@ -1,16 +1,198 @@
 // A single action on the memories.
 
-ghost use Rattle.std.specs.Prelude.{◌≡◌, IfErr, IfOk, OnErr, OnOk};
-ghost use Rattle.base.specs.Arrays.{lengths_of};
-ghost use Rattle.present.specs.Table.{IsKept, IsUnchanged};
-ghost use Rattle.stepper.specs.Acting.{Acts, CountsOn, FitsIn, IsActFault};
+ghost use Rattle.std.specs.Prelude.{◌≡◌, IfErr, IfOk, OnErr, OnOk, Bool, true, false, [], ◌∷◌, if◌then◌else◌};
+ghost use Rattle.base.specs.Arrays.{lengths_of, memory_of};
+ghost use Rattle.base.specs.Memory.{is_cell, same_cell};
+ghost use Rattle.base.specs.declared.memory.Memory.{Memory as Arrays};
+ghost use Rattle.present.specs.Blocks.{IsSection};
+ghost use Rattle.present.specs.Table.{CountFits, HasRoom, IsKept, IsUnchanged};
+ghost use Rattle.present.specs.declared.Table.{Table as Blocks};
+ghost use Rattle.stepper.specs.Acting.{Acts, CountsOn, FitsIn, InHost, IsActFault, alone, decides, gives};
 ghost use Rattle.stepper.specs.Control.{HasSection};
+ghost use Rattle.stepper.specs.declared.action.Action.TheVariants as action;
 
 use crate::action::{Action, Given};
 use base::fault::RunFault;
 use base::item::{Cell, MapItem, Section};
 use base::memory::Memory;
 use present::Table;
+
+// The answer that is a number, 0 where nothing was loaded.
+fn gives(number: u64) -> Given
+    ensures { result ≡ gives number }
+{
+    Given {
+        number,
+        copies: false,
+        removes: false,
+    }
+}
+
+// The answer of an entry or an exit.
+fn decides(copies: bool, removes: bool) -> Given
+    ensures { result ≡ decides copies removes }
+{
+    Given {
+        number: 0,
+        copies,
+        removes,
+    }
+}
+
+// Whether a cell lies in its array.
+fn has_cell(host: &Memory, cell: Cell) -> bool
+    ensures { result ≡ is_cell (lengths_of host.now) cell }
+{
+    cell.index < host.length(cell.array)
+}
+
+// A cell as a section.
+fn alone(cell: Cell) -> Section
+    ensures { result ≡ alone cell }
+{
+    Section {
+        array: cell.array,
+        first: cell.index,
+        length: 1,
+    }
+}
+
+// The number of a cell, 0 where the memory does not have it.
+fn number_of(host: &Memory, cell: Cell) -> u64
+    ensures { result ≡ memory_of host.now cell }
+{
+    if !has_cell(host, cell) {
+        return 0;
+    }
+    host.section(&alone(cell))[0]
+}
+
+// A cell takes a number.
+fn set_number(host: &mut Memory, cell: Cell, number: u64)
+    requires { is_cell (lengths_of host.old) cell ≡ true }
+    ensures set { memory_of host.new ≡ (λ d. if same_cell cell d then number else memory_of host.old d) }
+    ensures lengths { lengths_of host.new ≡ lengths_of host.old }
+{
+    host.set_section(&alone(cell), &[number]);
+}
+
+fn load_on_host(host: &Memory, cell: Cell) -> Result<Given, RunFault>
+    ensures done { IfOk result (λ r. (t : Blocks) → Acts true (action.Load cell) r t host.now t host.now) }
+    ensures fault { IfErr result (λ f. (t : Blocks) → IsActFault true (action.Load cell) t host.now f) }
+{
+    if has_cell(host, cell) {
+        Ok(gives(number_of(host, cell)))
+    } else {
+        Err(RunFault::Absent)
+    }
+}
+
+fn load_on_device(table: &Table, cell: Cell) -> Result<Given, RunFault>
+    ensures done { IfOk result (λ r. (h : Arrays) → Acts false (action.Load cell) r table.now h table.now h) }
+    ensures fault { IfErr result (λ f. (h : Arrays) → IsActFault false (action.Load cell) table.now h f) }
+{
+    match table.load(cell) {
+        None => Err(RunFault::Absent),
+        Some(number) => Ok(gives(number)),
+    }
+}
+
+fn store_on_host(host: &mut Memory, cell: Cell, number: u64) -> Result<Given, RunFault>
+    ensures done { IfOk result (λ r. (t : Blocks) → Acts true (action.Store cell number) r t host.old t host.new) }
+    ensures fault { IfErr result (λ f. (t : Blocks) → IsActFault true (action.Store cell number) t host.old f) }
+    ensures unchanged { OnErr result (host.new ≡ host.old) }
+    ensures lengths { lengths_of host.new ≡ lengths_of host.old }
+{
+    if !has_cell(host, cell) {
+        return Err(RunFault::Absent);
+    }
+    set_number(host, cell, number);
+    Ok(gives(0))
+}
+
+fn store_on_device(table: &mut Table, cell: Cell, number: u64) -> Result<Given, RunFault>
+    ensures done { IfOk result (λ r. (h : Arrays) → Acts false (action.Store cell number) r table.old h table.new h) }
+    ensures fault { IfErr result (λ f. (h : Arrays) → IsActFault false (action.Store cell number) table.old h f) }
+    ensures unchanged { OnErr result (IsUnchanged table.old table.new) }
+    ensures kept { IsKept table.old table.new }
+{
+    if table.store(cell, number) {
+        Ok(gives(0))
+    } else {
+        Err(RunFault::Absent)
+    }
+}
+
+// The creation and the count of an entry.
+fn enter(table: &mut Table, item: &MapItem) -> Result<Given, RunFault>
+    requires section { IsSection item.now.section }
+    requires count { CountFits table.old 1 item.now.section }
+    ensures done { IfOk result (λ r. (s : Bool) (h : Arrays) → Acts s (action.Enter item.now) r table.old h table.new h) }
+    ensures room { OnOk result (HasRoom table.old (item.now ∷ [])) }
+    ensures fault { IfErr result (λ f. (s : Bool) (h : Arrays) → IsActFault s (action.Enter item.now) table.old h f) }
+    ensures unchanged { OnErr result (IsUnchanged table.old table.new) }
+    ensures kept { IsKept table.old table.new }
+{
+    match table.count_in(item) {
+        Err(fault) => Err(fault),
+        Ok(copies) => Ok(decides(copies, false)),
+    }
+}
+
+// The count of an exit.
+fn leave(table: &mut Table, item: &MapItem) -> Result<Given, RunFault>
+    requires { IsSection item.now.section }
+    ensures done { IfOk result (λ r. (s : Bool) (h : Arrays) → Acts s (action.Leave item.now) r table.old h table.new h) }
+    ensures fault { IfErr result (λ f. (s : Bool) (h : Arrays) → IsActFault s (action.Leave item.now) table.old h f) }
+    ensures unchanged { OnErr result (IsUnchanged table.old table.new) }
+    ensures kept { IsKept table.old table.new }
+{
+    match table.count_out(item) {
+        Err(fault) => Err(fault),
+        Ok((copies, removes)) => Ok(decides(copies, removes)),
+    }
+}
+
+// The block that contains the section loses its storage.
+fn remove(table: &mut Table, section: &Section) -> Given
+    requires { IsSection section.now }
+    ensures done { (s : Bool) (h : Arrays) → Acts s (action.Remove section.now) result table.old h table.new h }
+    ensures kept { IsKept table.old table.new }
+{
+    table.remove(section);
+    gives(0)
+}
+
+// A cell of the device takes the number that it has on the host.
+fn copy_in(table: &mut Table, host: &Memory, cell: Cell) -> Result<Given, RunFault>
+    ensures done { IfOk result (λ r. (s : Bool) → Acts s (action.CopyIn cell) r table.old host.now table.new host.now) }
+    ensures fault { IfErr result (λ f. (s : Bool) → IsActFault s (action.CopyIn cell) table.old host.now f) }
+    ensures unchanged { OnErr result (IsUnchanged table.old table.new) }
+    ensures kept { IsKept table.old table.new }
+{
+    if table.store(cell, number_of(host, cell)) {
+        Ok(gives(0))
+    } else {
+        Err(RunFault::Absent)
+    }
+}
+
+// A cell of the host takes the number that it has on the device.
+fn copy_out(table: &Table, host: &mut Memory, cell: Cell) -> Result<Given, RunFault>
+    requires { is_cell (lengths_of host.old) cell ≡ true }
+    ensures done { IfOk result (λ r. (s : Bool) → Acts s (action.CopyOut cell) r table.now host.old table.now host.new) }
+    ensures fault { IfErr result (λ f. (s : Bool) → IsActFault s (action.CopyOut cell) table.now host.old f) }
+    ensures unchanged { OnErr result (host.new ≡ host.old) }
+    ensures lengths { lengths_of host.new ≡ lengths_of host.old }
+{
+    match table.load(cell) {
+        None => Err(RunFault::Absent),
+        Some(number) => {
+            set_number(host, cell, number);
+            Ok(gives(0))
+        }
+    }
+}
 
 /// Does an action of an item that works on the host, or on the device of this table. The error is `DeviceFull` where an
 /// entry would create more cells than there is room for, `Absent` where a cell is not there, a section overlaps a block
@@ -23,6 +205,7 @@ pub fn act(
 ) -> Result<Given, RunFault>
     requires section { HasSection action }
     requires count { CountsOn action table.old }
+    requires in_host { InHost action host.old }
     ensures done { IfOk result (λ r. Acts on_host action r table.old host.old table.new host.new) }
     ensures room { OnOk result (FitsIn action table.old) }
     ensures fault { IfErr result (IsActFault on_host action table.old host.old) }
@@ -30,6 +213,25 @@ pub fn act(
     ensures lengths { lengths_of host.new ≡ lengths_of host.old }
     ensures kept { IsKept table.old table.new }
 {
-    let _ = (table, host, on_host, action);
-    Err(RunFault::OutOfMemory)
+    match action {
+        Action::Load(cell) => {
+            if on_host {
+                load_on_host(host, cell)
+            } else {
+                load_on_device(table, cell)
+            }
+        }
+        Action::Store(cell, number) => {
+            if on_host {
+                store_on_host(host, cell, number)
+            } else {
+                store_on_device(table, cell, number)
+            }
+        }
+        Action::Enter(item) => enter(table, &item),
+        Action::Leave(item) => leave(table, &item),
+        Action::Remove(section) => Ok(remove(table, &section)),
+        Action::CopyIn(cell) => copy_in(table, host, cell),
+        Action::CopyOut(cell) => copy_out(table, host, cell),
+    }
 }
