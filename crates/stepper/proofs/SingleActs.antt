@@ -18,7 +18,7 @@ use Rattle.stepper.specs.Acting.{Acts, answer_of, gives}
 
 module _ (host after : Arrays) (c : Cell) (n : ℕ) (t : Table)
     (set : memory_of after ≡ (λ d. if same_cell c d then n else memory_of host d)) (g : Given) (is : g ≡ gives 0) where
-  Leads : Answer × Memories → Type 0
+  abbrev Leads : Answer × Memories → Type 0
   Leads p = (p.0 ≡ answer_of g) × Are after t p.1
 
   leads : (d : Device) → Shows t d → Leads (loaded 0, with_host c n (memories host d))
