@@ -1,8 +1,7 @@
 -- One cell of the host memory.
-use Rattle.std.proofs.Common.{◌≡◌, ◌⊎◌, ℕ, zero, suc, ◌+◌, ◌-◌, ◌<◌, ◌≤◌, ◌==◌, ◌∷◌, [], Bool, true, false, List, map, length, Option, Some, refl, sym, ◌∙◌, ap, inl, inr, subst, arith, Vec, Global}
-use Rattle.std.specs.Prelude.{if◌then◌else◌, nat_le, nat_lt, slice_get, slice_index, slice_index_or, slice_range, unwrap_or}
-use Rattle.std.proofs.lemmas.Bool.{and_parts, and_from, eqb-true, eq-eqb, ltb-true, ltb-false, cases_Bool}
-use Rattle.std.proofs.lemmas.Option.{get_or_from_slice_get, slice_get_past, slice_get_within}
+use Rattle.std.proofs.Common.{◌≡◌, ◌⊎◌, ℕ, zero, suc, ◌+◌, ◌-◌, ◌==◌, ◌∷◌, [], Bool, true, false, List, map, length, Some, refl, sym, ◌∙◌, ap, inl, inr, arith, Vec, Global}
+use Rattle.std.specs.Prelude.{if◌then◌else◌, nat_lt, slice_get, slice_index, slice_range}
+use Rattle.std.proofs.lemmas.Bool.{and_parts, and_from, eqb-true, eq-eqb, ltb-true, cases_Bool}
 use mathlib.Core.Path.{fun_ext}
 use Rattle.base.specs.declared.item.Cell.{Cell}
 use Rattle.base.specs.declared.item.Section.{Section}
@@ -16,7 +15,8 @@ use Rattle.stepper.specs.Acting.{alone}
 pub length_at : (m : Arrays) (a : ℕ) → slice_index (lengths_of m) a ≡ length (row_of m a)
 length_at m a = go m.arrays.items a
   where
-    go : (rows : List (Vec ℕ Global)) (a : ℕ) → slice_index (map length_of rows) a ≡ length (items_of (slice_get rows a))
+    go : (rows : List (Vec ℕ Global)) (a : ℕ) →
+        slice_index (map length_of rows) a ≡ length (items_of (slice_get rows a))
     go [] a = refl
     go (x ∷ rows) zero = refl
     go (x ∷ rows) (suc a) = go rows a

@@ -1,7 +1,6 @@
 -- What a single action does, from what the calls on the two memories do.
-use Rattle.std.proofs.Common.{◌≡◌, ℕ, Bool, true, Option, Some, Result, IfOk, refl, sym, ◌∙◌, subst}
+use Rattle.std.proofs.Common.{◌≡◌, ℕ, Bool, true, Option, Some, refl, sym, ◌∙◌, subst}
 use Rattle.std.specs.Prelude.{IsSomeAnd, if◌then◌else◌, option_map}
-use Rattle.std.proofs.lemmas.Result.{IfOk-weaker}
 use Rattle.base.specs.declared.item.Cell.{Cell}
 use Rattle.base.specs.declared.memory.Memory.{Memory as Arrays}
 use Rattle.base.specs.Arrays.{lengths_of, memory_of}
@@ -9,12 +8,12 @@ use Rattle.base.specs.Map.{Device, Memories}
 use Rattle.base.specs.Memory.{is_cell, same_cell}
 use Rattle.fine_machine.specs.Action.{loaded, on_cell, with_host}
 use Rattle.fine_machine.specs.Left.{Answer}
+use Rattle.fine_machine.specs.Left as left
 use Rattle.present.specs.Table.{Are, Shows, memories, number_at}
 use Rattle.present.specs.declared.Table.{Table}
-use Rattle.stepper.specs.declared.action.Action.{Action}
-use Rattle.stepper.specs.declared.action.Action.TheVariants as action
 use Rattle.stepper.specs.declared.action.Given.{Given}
-use Rattle.stepper.specs.Acting.{Acts, answer_of, gives}
+use Rattle.stepper.specs.Control.{side_of}
+use Rattle.stepper.specs.Acting.{IsDone, answer_of, gives}
 
 module _ (host after : Arrays) (c : Cell) (n : ℕ) (t : Table)
     (set : memory_of after ≡ (λ d. if same_cell c d then n else memory_of host d)) (g : Given) (is : g ≡ gives 0) where
@@ -26,20 +25,15 @@ module _ (host after : Arrays) (c : Cell) (n : ℕ) (t : Table)
       subst (λ (x : Given). (loaded 0 ≡ answer_of x) × Are after t (with_host c n (memories host d))) (sym is)
       (refl, record { host = sym set; shown = sh })
 
-  pub stores_on_host : is_cell (lengths_of host) c ≡ true → Acts true (action.Store c n) g t host t after
-  stores_on_host e d sh =
-      subst (λ (b : Bool). IsSomeAnd (on_cell b (loaded 0, with_host c n (memories host d))) Leads) (sym e) (leads d sh)
+  pub stores_on_host : (on_host : Bool) → on_host ≡ true → is_cell (lengths_of host) c ≡ true →
+      IsDone (left.Store (side_of on_host) c n) g t host t after
+  stores_on_host on_host h e =
+      subst (λ b. IsDone (left.Store (side_of b) c n) g t host t after) (sym h)
+      (λ d sh. subst (λ (b : Bool). IsSomeAnd (on_cell b (loaded 0, with_host c n (memories host d))) Leads) (sym e)
+      (leads d sh))
 
-  pub copies_out : (s : Bool) → number_at t c ≡ Some n → Acts s (action.CopyOut c) g t host t after
-  copies_out s e d sh =
+  pub copies_out : number_at t c ≡ Some n → IsDone (left.CopyOut c) g t host t after
+  copies_out e d sh =
       subst
       (λ (o : Option ℕ). IsSomeAnd (option_map (λ k. (loaded 0, with_host c k (memories host d))) o) Leads)
       (sym (sh.numbers c ∙ e)) (leads d sh)
-
--- what is shown of the action that came
-pub acted : {E : Type 0} (P : Given → Type 0) (r : Result Given E) (on_host : Bool) (a b : Action) (t : Table)
-    (host : Arrays) (t' : Table) (host' : Arrays) → a ≡ b →
-    ((g : Given) → P g → Acts on_host b g t host t' host') →
-    IfOk r P → IfOk r (λ g. Acts on_host a g t host t' host')
-acted P r on_host a b t host t' host' is h =
-    IfOk-weaker r P _ (λ g p. subst (λ x. Acts on_host x g t host t' host') (sym is) (h g p))

@@ -1,5 +1,5 @@
 -- What a single action does to the table and the host memory that the code keeps.
-use Rattle.std.specs.Prelude.{ℕ, ◌≡◌, Bool, true, false, List, [], ◌∷◌, Option, Some, None, IsSomeAnd}
+use Rattle.std.specs.Prelude.{ℕ, ◌≡◌, Bool, true, false, [], ◌∷◌, None, IsSomeAnd}
 use Rattle.base.specs.declared.item.Cell.{Cell}
 use Rattle.base.specs.declared.item.MapItem.{MapItem}
 use Rattle.base.specs.declared.item.Section.{Section}
@@ -10,7 +10,7 @@ use Rattle.base.specs.Arrays.{lengths_of}
 use Rattle.base.specs.Memory.{is_cell}
 use Rattle.base.specs.Map.{Device}
 use Rattle.fine_machine.specs.Action.{act}
-use Rattle.fine_machine.specs.Left.{Answer}
+use Rattle.fine_machine.specs.Left.{Answer, Request}
 use Rattle.present.specs.Table.{Are, CountFits, HasNoRoom, HasRoom, Shows, fill_of, memories}
 use Rattle.present.specs.declared.Table.{Table}
 use Rattle.stepper.specs.declared.action.Action.{Action}
@@ -37,18 +37,25 @@ abbrev pub OnEntry : Action → (MapItem → Type 0) → Type 0
 OnEntry (action.Enter item) holds = holds item
 OnEntry _ holds = Unit {0}
 
+-- a request, on each device that the old table shows, gives this and leads to what the new one shows
+abbrev pub IsDone : Request → Given → Table → Arrays → Table → Arrays → Type 0
+IsDone request r old host new after =
+    (d : Device) → Shows old d →
+    IsSomeAnd (act (lengths_of host) (fill_of old) request (memories host d))
+    (λ p. (p.0 ≡ answer_of r) × Are after new p.1)
+
+-- a request fails on each device that the table shows
+abbrev pub IsRefused : Request → Table → Arrays → Type 0
+IsRefused request t host =
+    (d : Device) → Shows t d → act (lengths_of host) (fill_of t) request (memories host d) ≡ None
+
 -- the action, on each device that the old table shows, gives this and leads to what the new one shows
 abbrev pub Acts : Bool → Action → Given → Table → Arrays → Table → Arrays → Type 0
-Acts on_host a r old host new after =
-    (d : Device) → Shows old d →
-    IsSomeAnd (act (lengths_of host) (fill_of old) (request_of (side_of on_host) a) (memories host d))
-    (λ p. (p.0 ≡ answer_of r) × Are after new p.1)
+Acts on_host a r old host new after = IsDone (request_of (side_of on_host) a) r old host new after
 
 -- the action fails on each device that the table shows
 abbrev pub ActFails : Bool → Action → Table → Arrays → Type 0
-ActFails on_host a t host =
-    (d : Device) → Shows t d →
-    act (lengths_of host) (fill_of t) (request_of (side_of on_host) a) (memories host d) ≡ None
+ActFails on_host a t host = IsRefused (request_of (side_of on_host) a) t host
 
 -- there is no room for what an entry creates
 abbrev pub IsOver : Action → Table → Type 0

@@ -5,11 +5,11 @@ ghost use Rattle.base.specs.Arrays.{lengths_of, memory_of};
 ghost use Rattle.base.specs.Memory.{is_cell, same_cell};
 ghost use Rattle.base.specs.declared.memory.Memory.{Memory as Arrays};
 ghost use Rattle.present.specs.Blocks.{IsSection};
-ghost use Rattle.present.specs.Table.{CountFits, HasRoom, IsKept, IsUnchanged};
-ghost use Rattle.present.specs.declared.Table.{Table as Blocks};
-ghost use Rattle.stepper.specs.Acting.{Acts, CountsOn, FitsIn, InHost, IsActFault, alone, decides, gives};
-ghost use Rattle.stepper.specs.Control.{HasSection};
+ghost use Rattle.present.specs.Table.{CountFits, HasRoom, IsAbsent, IsKept, IsUnchanged};
+ghost use Rattle.stepper.specs.Acting.{Acts, CountsOn, FitsIn, InHost, IsActFault, IsDone, IsRefused, alone, decides, gives};
+ghost use Rattle.stepper.specs.Control.{HasSection, side_of};
 ghost use Rattle.stepper.specs.declared.action.Action.TheVariants as action;
+ghost use Rattle.fine_machine.specs.Left as left;
 
 use crate::action::{Action, Given};
 use base::fault::RunFault;
@@ -76,10 +76,18 @@ fn set_number(host: &mut Memory, cell: Cell, number: u64)
     host.set_section(&alone(cell), &[number]);
 }
 
-fn load_on_host(host: &Memory, cell: Cell) -> Result<Given, RunFault>
-    ensures done { IfOk result (λ r. (t : Blocks) → Acts true (action.Load cell) r t host.now t host.now) }
-    ensures fault { IfErr result (λ f. (t : Blocks) → IsActFault true (action.Load cell) t host.now f) }
+// The number of a cell, on the host or on the device.
+fn load(table: &Table, host: &Memory, on_host: bool, cell: Cell) -> Result<Given, RunFault>
+    ensures done { IfOk result (λ r. IsDone (left.Load (side_of on_host) cell) r
+        table.now host.now table.now host.now) }
+    ensures fault { IfErr result (IsAbsent (IsRefused (left.Load (side_of on_host) cell) table.now host.now)) }
 {
+    if !on_host {
+        return match table.load(cell) {
+            None => Err(RunFault::Absent),
+            Some(number) => Ok(gives(number)),
+        };
+    }
     if has_cell(host, cell) {
         Ok(gives(number_of(host, cell)))
     } else {
@@ -87,22 +95,28 @@ fn load_on_host(host: &Memory, cell: Cell) -> Result<Given, RunFault>
     }
 }
 
-fn load_on_device(table: &Table, cell: Cell) -> Result<Given, RunFault>
-    ensures done { IfOk result (λ r. (h : Arrays) → Acts false (action.Load cell) r table.now h table.now h) }
-    ensures fault { IfErr result (λ f. (h : Arrays) → IsActFault false (action.Load cell) table.now h f) }
-{
-    match table.load(cell) {
-        None => Err(RunFault::Absent),
-        Some(number) => Ok(gives(number)),
-    }
-}
-
-fn store_on_host(host: &mut Memory, cell: Cell, number: u64) -> Result<Given, RunFault>
-    ensures done { IfOk result (λ r. (t : Blocks) → Acts true (action.Store cell number) r t host.old t host.new) }
-    ensures fault { IfErr result (λ f. (t : Blocks) → IsActFault true (action.Store cell number) t host.old f) }
-    ensures unchanged { OnErr result (host.new ≡ host.old) }
+// A cell takes a number, on the host or on the device.
+fn store(
+    table: &mut Table,
+    host: &mut Memory,
+    on_host: bool,
+    cell: Cell,
+    number: u64,
+) -> Result<Given, RunFault>
+    ensures done { IfOk result (λ r. IsDone (left.Store (side_of on_host) cell number) r
+        table.old host.old table.new host.new) }
+    ensures fault { IfErr result (IsAbsent (IsRefused (left.Store (side_of on_host) cell number) table.old host.old)) }
+    ensures unchanged { OnErr result (IsUnchanged table.old table.new × (host.new ≡ host.old)) }
     ensures lengths { lengths_of host.new ≡ lengths_of host.old }
+    ensures kept { IsKept table.old table.new }
 {
+    if !on_host {
+        return if table.store(cell, number) {
+            Ok(gives(0))
+        } else {
+            Err(RunFault::Absent)
+        };
+    }
     if !has_cell(host, cell) {
         return Err(RunFault::Absent);
     }
@@ -110,24 +124,11 @@ fn store_on_host(host: &mut Memory, cell: Cell, number: u64) -> Result<Given, Ru
     Ok(gives(0))
 }
 
-fn store_on_device(table: &mut Table, cell: Cell, number: u64) -> Result<Given, RunFault>
-    ensures done { IfOk result (λ r. (h : Arrays) → Acts false (action.Store cell number) r table.old h table.new h) }
-    ensures fault { IfErr result (λ f. (h : Arrays) → IsActFault false (action.Store cell number) table.old h f) }
-    ensures unchanged { OnErr result (IsUnchanged table.old table.new) }
-    ensures kept { IsKept table.old table.new }
-{
-    if table.store(cell, number) {
-        Ok(gives(0))
-    } else {
-        Err(RunFault::Absent)
-    }
-}
-
 // The creation and the count of an entry.
 fn enter(table: &mut Table, item: &MapItem) -> Result<Given, RunFault>
     requires section { IsSection item.now.section }
     requires count { CountFits table.old 1 item.now.section }
-    ensures done { IfOk result (λ r. (s : Bool) (h : Arrays) → Acts s (action.Enter item.now) r table.old h table.new h) }
+    ensures done { IfOk result (λ r. (h : Arrays) → IsDone (left.Enter item.now) r table.old h table.new h) }
     ensures room { OnOk result (HasRoom table.old (item.now ∷ [])) }
     ensures fault { IfErr result (λ f. (s : Bool) (h : Arrays) → IsActFault s (action.Enter item.now) table.old h f) }
     ensures unchanged { OnErr result (IsUnchanged table.old table.new) }
@@ -142,7 +143,7 @@ fn enter(table: &mut Table, item: &MapItem) -> Result<Given, RunFault>
 // The count of an exit.
 fn leave(table: &mut Table, item: &MapItem) -> Result<Given, RunFault>
     requires { IsSection item.now.section }
-    ensures done { IfOk result (λ r. (s : Bool) (h : Arrays) → Acts s (action.Leave item.now) r table.old h table.new h) }
+    ensures done { IfOk result (λ r. (h : Arrays) → IsDone (left.Leave item.now) r table.old h table.new h) }
     ensures fault { IfErr result (λ f. (s : Bool) (h : Arrays) → IsActFault s (action.Leave item.now) table.old h f) }
     ensures unchanged { OnErr result (IsUnchanged table.old table.new) }
     ensures kept { IsKept table.old table.new }
@@ -156,7 +157,7 @@ fn leave(table: &mut Table, item: &MapItem) -> Result<Given, RunFault>
 // The block that contains the section loses its storage.
 fn remove(table: &mut Table, section: &Section) -> Given
     requires { IsSection section.now }
-    ensures done { (s : Bool) (h : Arrays) → Acts s (action.Remove section.now) result table.old h table.new h }
+    ensures done { (h : Arrays) → IsDone (left.Remove section.now) result table.old h table.new h }
     ensures kept { IsKept table.old table.new }
 {
     table.remove(section);
@@ -165,8 +166,8 @@ fn remove(table: &mut Table, section: &Section) -> Given
 
 // A cell of the device takes the number that it has on the host.
 fn copy_in(table: &mut Table, host: &Memory, cell: Cell) -> Result<Given, RunFault>
-    ensures done { IfOk result (λ r. (s : Bool) → Acts s (action.CopyIn cell) r table.old host.now table.new host.now) }
-    ensures fault { IfErr result (λ f. (s : Bool) → IsActFault s (action.CopyIn cell) table.old host.now f) }
+    ensures done { IfOk result (λ r. IsDone (left.CopyIn cell) r table.old host.now table.new host.now) }
+    ensures fault { IfErr result (IsAbsent (IsRefused (left.CopyIn cell) table.old host.now)) }
     ensures unchanged { OnErr result (IsUnchanged table.old table.new) }
     ensures kept { IsKept table.old table.new }
 {
@@ -180,8 +181,8 @@ fn copy_in(table: &mut Table, host: &Memory, cell: Cell) -> Result<Given, RunFau
 // A cell of the host takes the number that it has on the device.
 fn copy_out(table: &Table, host: &mut Memory, cell: Cell) -> Result<Given, RunFault>
     requires { is_cell (lengths_of host.old) cell ≡ true }
-    ensures done { IfOk result (λ r. (s : Bool) → Acts s (action.CopyOut cell) r table.now host.old table.now host.new) }
-    ensures fault { IfErr result (λ f. (s : Bool) → IsActFault s (action.CopyOut cell) table.now host.old f) }
+    ensures done { IfOk result (λ r. IsDone (left.CopyOut cell) r table.now host.old table.now host.new) }
+    ensures fault { IfErr result (IsAbsent (IsRefused (left.CopyOut cell) table.now host.old)) }
     ensures unchanged { OnErr result (host.new ≡ host.old) }
     ensures lengths { lengths_of host.new ≡ lengths_of host.old }
 {
@@ -196,7 +197,7 @@ fn copy_out(table: &Table, host: &mut Memory, cell: Cell) -> Result<Given, RunFa
 
 /// Does an action of an item that works on the host, or on the device of this table. The error is `DeviceFull` where an
 /// entry would create more cells than there is room for, `Absent` where a cell is not there, a section overlaps a block
-/// in part, or an entry's is to be present and is absent, or `OutOfMemory`.
+/// in part, or an entry's is to be present and is absent, or `OutOfMemory`, of an entry alone.
 pub fn act(
     table: &mut Table,
     host: &mut Memory,
@@ -214,20 +215,8 @@ pub fn act(
     ensures kept { IsKept table.old table.new }
 {
     match action {
-        Action::Load(cell) => {
-            if on_host {
-                load_on_host(host, cell)
-            } else {
-                load_on_device(table, cell)
-            }
-        }
-        Action::Store(cell, number) => {
-            if on_host {
-                store_on_host(host, cell, number)
-            } else {
-                store_on_device(table, cell, number)
-            }
-        }
+        Action::Load(cell) => load(table, host, on_host, cell),
+        Action::Store(cell, number) => store(table, host, on_host, cell, number),
         Action::Enter(item) => enter(table, &item),
         Action::Leave(item) => leave(table, &item),
         Action::Remove(section) => Ok(remove(table, &section)),

@@ -1,4 +1,4 @@
-use Rattle.std.proofs.Common.{sym, ◌∙◌, subst, refl}
+use Rattle.std.proofs.Common.{sym, ◌∙◌, subst}
 use Rattle.base.specs.Arrays.{IsWithin, memory_of}
 use Rattle.stepper.proofs.HostCells.{cell_within, set_alone}
 use Rattle.stepper.proofs.act.set_number.Goals as goal
@@ -9,4 +9,5 @@ set_section-requires-clause-within c =
 
 pub returns-clause-set : goal.returns-clause-set
 returns-clause-set c =
-    c.set_section.ensures.set ∙ set_alone (memory_of c.args.host.now) c.args.cell c.args.number c.alone.result c.alone.ensures
+    c.set_section.ensures.set
+    ∙ set_alone (memory_of c.args.host.now) c.args.cell c.args.number c.alone.result c.alone.ensures
