@@ -69,9 +69,14 @@ FitsIn a t = OnEntry a (λ item. HasRoom t (item ∷ []))
 abbrev pub CountsOn : Action → Table → Type 0
 CountsOn a t = OnEntry a (λ item. CountFits t 1 item.section)
 
--- why an action is not done: for want of memory, for want of room, or it fails
+-- an action that may take memory
+abbrev pub Creates : Action → Type 0
+Creates (action.Enter item) = Unit {0}
+Creates _ = ⊥
+
+-- why an action is not done: for want of memory or of room, which an entry alone takes, or it fails
 abbrev pub IsActFault : Bool → Action → Table → Arrays → RunFault → Type 0
-IsActFault on_host a t host fault.OutOfMemory = Unit {0}
+IsActFault on_host a t host fault.OutOfMemory = Creates a
 IsActFault on_host a t host fault.DeviceFull = IsOver a t
 IsActFault on_host a t host fault.Absent = FitsIn a t × ActFails on_host a t host
 IsActFault on_host a t host fault.Stranger = ⊥

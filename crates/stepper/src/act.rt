@@ -1,6 +1,6 @@
 // A single action on the memories.
 
-ghost use Rattle.std.specs.Prelude.{◌≡◌, IfErr, IfOk, OnErr, OnOk, Bool, true, false, [], ◌∷◌, if◌then◌else◌};
+ghost use Rattle.std.specs.Prelude.{◌≡◌, IfErr, IfOk, OnErr, OnOk, Bool, true, [], ◌∷◌, if◌then◌else◌};
 ghost use Rattle.base.specs.Arrays.{lengths_of, memory_of};
 ghost use Rattle.base.specs.Memory.{is_cell, same_cell};
 ghost use Rattle.base.specs.declared.memory.Memory.{Memory as Arrays};
