@@ -5,3 +5,5 @@ mod Stmts
 mod Takes
 mod Nexts
 mod Answered
+mod HostCells
+mod SingleActs
