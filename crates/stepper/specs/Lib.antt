@@ -3,3 +3,4 @@ pub mod Weight
 pub mod Begin
 pub mod Control
 pub mod Acting
+pub mod Opening

@@ -13,5 +13,6 @@ mod control;
 mod frame;
 mod frames;
 mod maps;
+mod open;
 mod take;
 mod turns;
