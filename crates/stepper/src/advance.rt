@@ -168,7 +168,9 @@ impl<'p> Control<'p> {
                 self.number = given.number;
                 Ok(())
             }
-            _ => Ok(()),
+            Frame::Store(_, _) => Ok(()),
+            Frame::Remove(_) => Ok(()),
+            _ => unreachable!(),
         }
     }
 }
