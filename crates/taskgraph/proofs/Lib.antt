@@ -24,3 +24,5 @@ pub mod Fresh
 pub mod FreeTasks
 pub mod FreeGraph
 pub mod NextTask
+pub mod Rows
+pub mod Those

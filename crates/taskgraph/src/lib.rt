@@ -14,6 +14,7 @@ use std::alloc::{AllocError, Global};
 use std::marker::Model;
 
 mod cover;
+mod marks;
 
 /// How far an item is.
 #[derive(Clone, Copy)]
