@@ -25,4 +25,7 @@ pub mod FreeTasks
 pub mod FreeGraph
 pub mod NextTask
 pub mod Rows
+pub mod NthMarks
+pub mod NextMarks
+pub mod FirstOf
 pub mod Those

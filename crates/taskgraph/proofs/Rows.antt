@@ -1,13 +1,12 @@
 -- What the counts of rows tell of the marked items.
-use Rattle.std.proofs.Common.{◌≡◌, ◌⊎◌, inl, inr, ℕ, zero, suc, ◌+◌, ◌*◌, ◌-◌, ◌/◌, ◌<◌, ◌≤◌, Bool, true, false, List, [], ◌∷◌, ◌++◌, Option, Some, None, length, min, replicate, refl, sym, ap, subst, ◌∙◌, arith}
-use Rattle.std.specs.Prelude.{slice_get, slice_index, is_some}
+use Rattle.std.proofs.Common.{◌≡◌, ◌⊎◌, inl, inr, ℕ, ◌+◌, ◌*◌, ◌-◌, ◌/◌, ◌<◌, ◌≤◌, Bool, true, false, List, ◌++◌, length, min, replicate, sym, ap, ◌∙◌, arith}
+use Rattle.std.specs.Prelude.{slice_index}
 use Rattle.std.specs.List.{slice_set}
 use Rattle.std.proofs.lemmas.Bool.{cases_eq, cases_lt}
-use Rattle.std.proofs.lemmas.List.{append-nil, get_or_past, get_or-replicate, get_or-set_other, get_or-set_same, length-append, length-replicate, length-set}
-use Rattle.std.proofs.lemmas.Option.{slice_get-get_or, slice_get_past}
-use Rattle.taskgraph.specs.Marks.{AreCounted, IsNext, all_marked, is_marked, those_from}
+use Rattle.std.proofs.lemmas.List.{append-nil, get_or_past, get_or-replicate, get_or-set_other, get_or-set_same, length-replicate, length-set}
+use Rattle.taskgraph.specs.Marks.{AreCounted, all_marked, is_marked, those_from}
 use Rattle.taskgraph.specs.Waiting.{one_if}
-use Rattle.taskgraph.proofs.Those.{IsFirstOf, around, changed, first_of, get_left, get_right, none, none_of, parts, parts_at, same}
+use Rattle.taskgraph.proofs.Those.{around, changed, none, parts, same}
 
 -- past the last item none is marked
 pub past : (marks : List Bool) (i : ℕ) → length marks ≤ i → is_marked marks i ≡ false
@@ -89,8 +88,14 @@ module _ (marks : List Bool) (counts : List ℕ) (len i v m : ℕ) (x : Bool) (h
         enough = omega (arith, long, rows, h.enough);
         few = omega (arith, long, rows, h.few);
         each = λ r inside. each_row r (omega (arith, rows, inside)) (cases_eq r (i / 256));
-        all = omega (arith, whole, all, is, h.all,
-            changed (is_marked marks) (is_marked new) 0 (length marks) i (omega arith) (omega arith) others);
+        all = omega (
+          arith,
+          whole,
+          all,
+          is,
+          h.all,
+          changed (is_marked marks) (is_marked new) 0 (length marks) i (omega arith) (omega arith) others,
+        );
       }
 
 -- none is marked at first
@@ -112,91 +117,3 @@ counted_new n rows enough few =
     unmarked : (i : ℕ) → (i < n) ⊎ (n ≤ i) → is_marked (replicate n false) i ≡ false
     unmarked i (inl lt) = get_or-replicate n i false false lt
     unmarked i (inr le) = past (replicate n false) i (omega (arith, length-replicate n false, le))
-
--- ---- the marked item at a place
-
-module _ (marks : List Bool) (counts : List ℕ) (len r left place : ℕ) (h : AreCounted marks counts len)
-    (up_to : left + length (those_from (is_marked marks) 0 (256 * r)) ≡ place) where
-  one_row : those_from (is_marked marks) 0 (256 * (r + 1))
-      ≡ those_from (is_marked marks) 0 (256 * r) ++ those_from (is_marked marks) (256 * r) 256
-  one_row = let next : 256 * (r + 1) ≡ 256 * r + 256 = omega arith in
-      ap (those_from (is_marked marks) 0) next ∙ parts_at (is_marked marks) 0 (256 * r) 256 (256 * r) (omega arith)
-
-  -- it is in this row
-  pub at_row : r < length counts → left < slice_index counts r →
-      slice_get (those_from (is_marked marks) (256 * r) 256) left ≡ slice_get (all_marked marks) place
-  at_row inside lt =
-      let rest = 256 * (length counts - (r + 1)) in
-      let whole : 256 * length counts ≡ 256 * (r + 1) + rest = omega arith in
-      let front = those_from (is_marked marks) 0 (256 * r) in
-      let here = those_from (is_marked marks) (256 * r) 256 in
-      let after = those_from (is_marked marks) (256 * (r + 1)) rest in
-      let long : length (front ++ here) ≡ length front + length here = length-append front here in
-      let split : all_marked marks ≡ (front ++ here) ++ after =
-      sym (cut marks 0 (length marks) (256 * length counts) h.enough (omega arith))
-      ∙ ap (those_from (is_marked marks) 0) whole ∙ parts_at (is_marked marks) 0 (256 * (r + 1)) rest (256 * (r + 1)) (omega arith)
-      ∙ ap (λ l. l ++ after) one_row in
-      let few : left < length here = omega (arith, lt, h.each r inside) in
-      sym (ap (λ l. slice_get l place) split ∙ get_left (front ++ here) after place (omega (arith, long, few, up_to))
-      ∙ get_right front here left place up_to)
-
-  -- it is past this row
-  pub past_row : r < length counts → slice_index counts r ≤ left →
-      (left - slice_index counts r) + length (those_from (is_marked marks) 0 (256 * (r + 1))) ≡ place
-  past_row inside le =
-      let long = ap (λ (l : List ℕ). length l) one_row
-      ∙ length-append (those_from (is_marked marks) 0 (256 * r)) (those_from (is_marked marks) (256 * r) 256) in
-      omega (arith, long, h.each r inside, up_to, le)
-
-  -- it is past the last row
-  pub past_all : length counts ≤ r → slice_get (all_marked marks) place ≡ None
-  past_all le =
-      let whole = ap (λ (l : List ℕ). length l) (cut marks 0 (length marks) (256 * r) (omega (arith, le, h.enough)) (omega arith)) in
-      slice_get_past (all_marked marks) place (omega (arith, whole, up_to))
-
--- ---- the next marked item
-
--- the first of a range before which there is none
-pub next_in : (marks : List Bool) (from s n : ℕ) (o : Option ℕ) → from ≤ s →
-    ((j : ℕ) → from ≤ j → j < s → is_marked marks j ≡ false) →
-    o ≡ slice_get (those_from (is_marked marks) s n) 0 → is_some o ≡ true → IsNext marks from o
-next_in marks from s n None le before e some = absurd (cc some)
-next_in marks from s n (Some i) le before e some =
-    let f = first_of (is_marked marks) s n i (sym e) in
-    (omega (arith, le, f.from), f.yes, λ j l lt. go j l lt f (cases_lt j s))
-  where
-    go : (j : ℕ) → from ≤ j → j < i → IsFirstOf (is_marked marks) s n i → (j < s) ⊎ (s ≤ j) → is_marked marks j ≡ false
-    go j l lt f (inl less) = before j l less
-    go j l lt f (inr more) = f.below j more lt
-
-some_first : {A : Type 0} (xs : List A) → 1 ≤ length xs → is_some (slice_get xs 0) ≡ true
-some_first [] le = absurd (omega arith)
-some_first (x ∷ xs) le = refl
-
--- a row that is counted has one
-pub next_in_row : (marks : List Bool) (counts : List ℕ) (len from r : ℕ) (o : Option ℕ) → AreCounted marks counts len →
-    from ≤ 256 * r → ((j : ℕ) → from ≤ j → j < 256 * r → is_marked marks j ≡ false) → r < length counts →
-    0 < slice_index counts r → o ≡ slice_get (those_from (is_marked marks) (256 * r) 256) 0 → IsNext marks from o
-next_in_row marks counts len from r o h le before inside pos e =
-    let l = those_from (is_marked marks) (256 * r) 256 in
-    next_in marks from (256 * r) 256 o le before e
-    (ap (λ (o : Option ℕ). is_some o) e ∙ some_first l (omega (arith, pos, h.each r inside)))
-
-none_long : (l : List ℕ) → length l ≡ 0 → slice_get l 0 ≡ None
-none_long l e = slice_get_past l 0 (omega (arith, e))
-
--- another row in which none is marked
-pub none_in_row : (marks : List Bool) (counts : List ℕ) (len from r : ℕ) → AreCounted marks counts len →
-    ((j : ℕ) → from ≤ j → j < 256 * r → is_marked marks j ≡ false) → r < length counts → slice_index counts r ≡ 0 →
-    (j : ℕ) → from ≤ j → j < 256 * (r + 1) → is_marked marks j ≡ false
-none_in_row marks counts len from r h before inside empty j le lt = go (cases_lt j (256 * r))
-  where
-    go : (j < 256 * r) ⊎ (256 * r ≤ j) → is_marked marks j ≡ false
-    go (inl less) = before j le less
-    go (inr more) =
-        none_of (is_marked marks) (256 * r) 256 (none_long _ (sym (h.each r inside) ∙ empty)) j more (omega arith)
-
--- the rest of a row in which none is marked
-pub none_here : (marks : List Bool) (s n : ℕ) → slice_get (those_from (is_marked marks) s n) 0 ≡ None →
-    (j : ℕ) → s ≤ j → j < s + n → is_marked marks j ≡ false
-none_here marks s n e j le lt = none_of (is_marked marks) s n e j le lt

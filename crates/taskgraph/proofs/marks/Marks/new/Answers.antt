@@ -1,4 +1,4 @@
-use Rattle.std.proofs.Common.{◌≡◌, ℕ, List, Bool, ◌+◌, ◌*◌, ◌/◌, ◌%◌, ◌<◌, ◌≤◌, false, min, replicate, subst, sym, arith}
+use Rattle.std.proofs.Common.{◌≡◌, ℕ, List, Bool, false, replicate, subst, sym, arith}
 use Rattle.std.proofs.lemmas.Grind.{common_steps, div_ceil_times}
 use Rattle.taskgraph.specs.Marks.{AreCounted}
 use Rattle.taskgraph.proofs.Rows.{counted_new}

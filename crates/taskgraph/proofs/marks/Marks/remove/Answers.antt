@@ -1,7 +1,6 @@
-use Rattle.std.proofs.Common.{◌≡◌, ◌+◌, ◌-◌, ◌*◌, ◌/◌, ◌<◌, ◌≤◌, List, Bool, false, true, length, ap, subst, sym, ◌∙◌, arith}
-use Rattle.std.specs.Prelude.{slice_index}
+use Rattle.std.proofs.Common.{◌≡◌, ◌-◌, ◌*◌, ◌/◌, List, Bool, false, true, length, ap, subst, sym, ◌∙◌, arith}
 use Rattle.std.proofs.lemmas.Grind.{get_or_default_zero}
-use Rattle.taskgraph.specs.Marks.{all_marked, is_marked, those_from}
+use Rattle.taskgraph.specs.Marks.{is_marked}
 use Rattle.taskgraph.specs.Waiting.{one_if}
 use Rattle.taskgraph.proofs.Rows.{counted_here, counted_set, marked_inside, row_inside}
 use Rattle.taskgraph.proofs.marks.Marks.remove.Goals as goal
