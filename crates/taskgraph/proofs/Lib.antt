@@ -21,7 +21,8 @@ pub mod Standing
 pub mod Parts
 pub mod ClosedGraph
 pub mod Fresh
-pub mod FreeTasks
+pub mod FreeMarks
+pub mod Choosable
 pub mod FreeGraph
 pub mod NextTask
 pub mod Rows

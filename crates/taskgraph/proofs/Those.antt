@@ -1,9 +1,11 @@
 -- The items of a range of which a question is answered yes: in two parts, and where one answer changes.
-use Rattle.std.proofs.Common.{◌≡◌, ℕ, zero, suc, ◌+◌, ◌-◌, ◌<◌, ◌≤◌, Bool, true, false, List, [], ◌∷◌, ◌++◌, Some, length, refl, sym, ap, ◌∙◌, cond, arith}
+use Rattle.std.proofs.Common.{◌≡◌, ◌⊎◌, inl, inr, ℕ, zero, suc, ◌+◌, ◌-◌, ◌<◌, ◌≤◌, Bool, true, false, List, [], ◌∷◌, ◌++◌, Some, length, refl, sym, ap, ◌∙◌, cond, arith}
 use Rattle.std.specs.Prelude.{filter, slice_get}
 use Rattle.std.specs.List.{range_with_len}
-use Rattle.std.proofs.lemmas.List.{length-append}
+use Rattle.std.proofs.lemmas.Bool.{cases_lt}
+use Rattle.std.proofs.lemmas.List.{append-nil, length-append}
 use Rattle.std.proofs.lemmas.List.Elements.{filter-append}
+use Rattle.std.proofs.lemmas.Option.{slice_get_past}
 use Rattle.taskgraph.specs.Marks.{those_from}
 use Rattle.taskgraph.specs.Waiting.{one_if}
 
@@ -54,9 +56,13 @@ small p s (suc n) = go (p s) (small p (s + 1) n)
     go true le = omega (arith, le)
     go false le = omega (arith, le)
 
-one_long : (x : Bool) (i : ℕ) → length (cond x (i ∷ []) []) ≡ one_if x
+pub one_long : (x : Bool) (i : ℕ) → length (cond x (i ∷ []) []) ≡ one_if x
 one_long true i = refl
 one_long false i = refl
+
+pub one_small : (x : Bool) → one_if x ≤ 1
+one_small true = omega arith
+one_small false = omega arith
 
 -- those around one item, by their number
 pub around : (p : ℕ → Bool) (s i n : ℕ) → s ≤ i → i < s + n →
@@ -94,6 +100,25 @@ pub get_right : {A : Type 0} (xs ys : List A) (k m : ℕ) → k + length xs ≡ 
 get_right [] ys k m e = let f : m ≡ k = omega arith in ap (slice_get ys) f
 get_right (x ∷ xs) ys k zero e = absurd (omega arith)
 get_right (x ∷ xs) ys k (suc m) e = get_right xs ys k m (omega arith)
+
+-- a list with one more at its end, at that place
+pub get_last : (xs all : List ℕ) (x k : ℕ) → k ≡ length xs → all ≡ xs ++ x ∷ [] → Some x ≡ slice_get all k
+get_last xs all x k e h = sym (ap (λ l. slice_get l k) h ∙ get_right xs (x ∷ []) 0 k (omega (arith, e)))
+
+-- and with one more or none, at another place, or where there is none
+pub get_else : (xs all : List ℕ) (may : Bool) (x k : ℕ) → all ≡ xs ++ cond may (x ∷ []) [] →
+    (may ≡ false) ⊎ (k ≡ length xs → ⊥) → slice_get xs k ≡ slice_get all k
+get_else xs all may x k h (inl off) =
+    sym (ap (λ l. slice_get l k) (h ∙ ap (λ y. xs ++ cond y (x ∷ []) []) off ∙ append-nil xs))
+get_else xs all may x k h (inr other) = go (cases_lt k (length xs))
+  where
+    go : (k < length xs) ⊎ (length xs ≤ k) → slice_get xs k ≡ slice_get all k
+    go (inl lt) = sym (ap (λ l. slice_get l k) h ∙ get_left xs (cond may (x ∷ []) []) k lt)
+    go (inr le) =
+        let long = ap (λ (l : List ℕ). length l) h ∙ length-append xs (cond may (x ∷ []) []) in
+        let one = one_long may x in
+        slice_get_past xs k le
+        ∙ sym (slice_get_past all k (omega (arith, long, one, one_small may, le, other)))
 
 -- after one more item, with so many of those before it left
 pub after_one : (p : ℕ → Bool) (s i left more k : ℕ) (x : Bool) → s ≤ i → p i ≡ x → more + one_if x ≡ left →

@@ -82,6 +82,27 @@ impl Marks {
         self.len -= 1;
     }
 
+    /// Marks an item where that holds.
+    pub fn insert_if(&mut self, item: usize, holds: bool)
+        requires inside { item < length self.old }
+        requires fresh { is_marked self.old item ≡ false }
+        ensures { self.new ≡ slice_set self.old item holds }
+    {
+        if holds {
+            self.insert(item);
+        }
+    }
+
+    /// Takes a mark away where there is one.
+    pub fn remove_if(&mut self, item: usize, holds: bool)
+        requires { is_marked self.old item ≡ holds }
+        ensures { self.new ≡ slice_set self.old item false }
+    {
+        if holds {
+            self.remove(item);
+        }
+    }
+
     /// How many items are marked.
     pub fn len(&self) -> usize
         ensures { result ≡ length (all_marked self.now) }
