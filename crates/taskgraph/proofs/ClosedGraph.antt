@@ -18,7 +18,7 @@ use Rattle.taskgraph.proofs.Parts.{asked_at}
 use Rattle.taskgraph.proofs.Kept.{may_close}
 use Rattle.taskgraph.proofs.Closes.{in_count, opened_at}
 use Rattle.taskgraph.proofs.Events.{host_closed, task_closed}
-use Rattle.taskgraph.proofs.FreeGraph.{closed_open, closed_ready}
+use Rattle.taskgraph.proofs.FreeGraph.{closed_open, closed_free}
 use Rattle.taskgraph.proofs.Standing.{place_after, closed}
 
 -- what the order asks of one of the tasks
@@ -78,7 +78,7 @@ host_with ts ss place starts ends counts first next i os rs t g a e d f =
     record {
       graph = host_left ts ss place starts ends counts first next i t g.graph a e d f;
       opened = closed_open (board_of ts ss place) starts ends counts first i (place + 1) os rs g a;
-      ready = closed_ready (board_of ts ss place) starts ends counts first i os rs g a;
+      ready = closed_free (board_of ts ss place) starts ends counts first i os rs g a;
     }
 
 -- and where it is, they are those by the counts that were taken down

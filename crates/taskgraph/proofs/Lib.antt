@@ -23,6 +23,8 @@ pub mod ClosedGraph
 pub mod Fresh
 pub mod FreeMarks
 pub mod Choosable
+pub mod AllOpenings
+pub mod Before
 pub mod FreeGraph
 pub mod NextTask
 pub mod Rows

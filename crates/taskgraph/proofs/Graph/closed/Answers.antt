@@ -12,7 +12,7 @@ use Rattle.taskgraph.specs.Board.{Board, Stands, allows, task_facts, work_of}
 use Rattle.taskgraph.specs.Waiting.{AreClosed, IsFirst, IsGraphWith, AreFree, board_of, counted_in, one_if}
 use Rattle.taskgraph.proofs.Events.{closed_below}
 use Rattle.taskgraph.proofs.ClosedGraph.{as_many, in_counts, host_with, task_with, host_follows, task_follows, host_here, written_back}
-use Rattle.taskgraph.proofs.FreeGraph.{closed_ready, is_opened}
+use Rattle.taskgraph.proofs.FreeGraph.{closed_free, is_opened}
 use Rattle.taskgraph.proofs.Kept.{may_close}
 use Rattle.taskgraph.proofs.Graph.closed.Goals as goal
 
@@ -348,7 +348,7 @@ release-requires-clause-ready c =
     let asked : allows (board_of ts ss p) (Close i) ≡ true =
     subst (λ (x : Board). allows x (Close i) ≡ true) (sym c.self.view_is) c.requires in
     let rs = c.self.inside.ready_items in
-    let free = closed_ready (board_of ts ss p) c.self.inside.starts.items c.self.inside.ends.items c.self.inside.missing.items
+    let free = closed_free (board_of ts ss p) c.self.inside.starts.items c.self.inside.ends.items c.self.inside.missing.items
     c.self.inside.first i c.self.inside.open_items rs c.self.invariant asked in
     same_free ts c.deref.result.now (slice_set ss i stage.Closed) c.deref-then-index-2.result.now c.deref_mut.result.now rs
     (sym c.deref.ensures.value) (sym c.deref-then-index-2.ensures.value)

@@ -10,7 +10,8 @@ use Rattle.taskgraph.specs.declared.Task.{Task}
 use Rattle.taskgraph.specs.Board.{Board, task_facts, allows}
 use Rattle.taskgraph.specs.Waiting.{IsGraphWith, board_of, is_free}
 use Rattle.taskgraph.proofs.ClosedGraph.{facts_at}
-use Rattle.taskgraph.proofs.FreeGraph.{generated_with, not_ready}
+use Rattle.taskgraph.proofs.Before.{not_ready}
+use Rattle.taskgraph.proofs.FreeGraph.{generated_with}
 use Rattle.taskgraph.proofs.Kept.{may_generate}
 use Rattle.taskgraph.proofs.Graph.generate.Goals as goal
 

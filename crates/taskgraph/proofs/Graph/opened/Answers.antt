@@ -7,7 +7,8 @@ use Rattle.taskgraph.specs.declared.Stage.TheVariants as stage
 use Rattle.taskgraph.specs.declared.Task.{Task}
 use Rattle.taskgraph.specs.Board.{Board, task_facts, allows}
 use Rattle.taskgraph.proofs.ClosedGraph.{facts_at}
-use Rattle.taskgraph.proofs.FreeGraph.{not_open, opened_with, ready_where}
+use Rattle.taskgraph.proofs.Before.{not_open, ready_where}
+use Rattle.taskgraph.proofs.FreeGraph.{opened_with}
 use Rattle.taskgraph.proofs.Kept.{may_open}
 use Rattle.taskgraph.specs.Waiting.{IsGraphWith, board_of}
 use Rattle.std.proofs.lemmas.Grind.{common_steps}

@@ -4,7 +4,7 @@ use Rattle.base.specs.declared.item.Event.TheVariants.{Open}
 use Rattle.taskgraph.specs.Board.{Board, all_openings, allows}
 use Rattle.taskgraph.specs.Marks.{all_marked}
 use Rattle.taskgraph.specs.Waiting.{board_of}
-use Rattle.taskgraph.proofs.Choosable.{openings}
+use Rattle.taskgraph.proofs.AllOpenings.{openings}
 use Rattle.taskgraph.proofs.Those.{get_else, get_last}
 use Rattle.taskgraph.proofs.Graph.opening_at.Goals.{else-place-len-via-then-place-len+else-may_open, else-place-len-via-else-place-len}
 use Rattle.taskgraph.proofs.Graph.opening_at.Goals as goal

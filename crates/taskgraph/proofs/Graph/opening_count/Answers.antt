@@ -4,7 +4,7 @@ use Rattle.base.specs.declared.item.Event.TheVariants.{Open}
 use Rattle.taskgraph.specs.Board.{Board, all_openings, allows, task_facts}
 use Rattle.taskgraph.specs.Marks.{all_marked, is_marked}
 use Rattle.taskgraph.specs.Waiting.{board_of, one_if}
-use Rattle.taskgraph.proofs.Choosable.{openings}
+use Rattle.taskgraph.proofs.AllOpenings.{openings}
 use Rattle.taskgraph.proofs.Those.{one_long, one_small, small}
 use Rattle.taskgraph.proofs.Graph.opening_count.Goals as goal
 
