@@ -25,3 +25,4 @@ pub mod FrameParts
 pub mod IssuedFrames
 pub mod OpenedItems
 pub mod NextTasks
+pub mod AtPlace

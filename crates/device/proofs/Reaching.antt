@@ -15,7 +15,8 @@ use Rattle.device.specs.declared.state.RunState.TheInside.{Inside}
 use Rattle.device.specs.Standing.{IsAt, Follows, place_of}
 use Rattle.device.specs.declared.standing.Standing.{Standing}
 use Rattle.device.specs.Devices.{AreKept, HaveRoom, fresh_of}
-use Rattle.taskgraph.specs.Board.{allows, item_facts}
+use Rattle.taskgraph.specs.Board.{Facts, allows, facts_of, item_facts}
+use Rattle.std.proofs.lemmas.List.{length-map}
 use Rattle.base.specs.declared.item.Item.{Item}
 use Rattle.outline.specs.Regions.{Entry}
 use Rattle.outline.specs.Shown.{all_shown, as_shown}
@@ -51,6 +52,10 @@ same_events r now h is e =
 pub same_tasks : (r : run.Run) (now : Standing) (entries : List Entry) (its : List Item) → IsRunning r now →
     all_shown entries its ≡ as_shown (plan r.program).items → now.graph.tasks ≡ map item_facts its
 same_tasks r now entries its h e = sym h.at.graph.items ∙ all_facts entries its (plan r.program).items e
+
+pub as_many_tasks : (r : run.Run) (now : Standing) → IsRunning r now → length now.graph.tasks ≡ length (plan r.program).items
+as_many_tasks r now h =
+    sym (ap (λ (fs : List Facts). length fs) h.at.graph.items) ∙ length-map (plan r.program).items facts_of
 
 -- all that is allowed is all that may happen
 pub all_events : (r : run.Run) (now : Standing) (n : ℕ) → IsRunning r now → now.ended ≡ false →

@@ -13,7 +13,7 @@ use std::alloc::{AllocError, Global};
 use taskgraph::Graph;
 
 // Whether the order of the items allows an event.
-fn is_allowed(graph: &Graph, event: Event) -> bool
+pub(crate) fn is_allowed(graph: &Graph, event: Event) -> bool
     ensures { result ≡ allows graph.now event }
 {
     match event {

@@ -9,6 +9,7 @@ pub use crate::standing::{Held, Standing};
 pub use crate::state::RunState;
 pub use crate::turns::Turn;
 
+mod allowed;
 mod answer;
 mod choosing;
 mod close;

@@ -1,13 +1,15 @@
 // A run by choices to its end.
 
-ghost use Rattle.std.specs.Prelude.{◌≡◌, ◌%◌, drop, length, slice_get, IfErr, IfOk, OnOk};
-ghost use Rattle.base.specs.Machine.{first_or_zero};
+ghost use Rattle.std.specs.Prelude.{◌≡◌, drop, length, slice_get, IfErr, OnOk};
+ghost use Rattle.base.specs.Items.{plan};
+ghost use Rattle.base.specs.Machine.{all_enabled, first_or_zero};
 ghost use Rattle.device.specs.Choosing.{IsPlayed, IsStopped, most_events, next_by};
+ghost use Rattle.device.specs.Run.{state_of};
 
+use crate::allowed::{allowed_count, nth_allowed};
 use crate::state::RunState;
 use base::fault::RunFault;
 use base::item::Event;
-use std::alloc::AllocError;
 
 // The choice of a turn, 0 past the last.
 fn choice_at(choices: &[u32], turn: usize) -> u32
@@ -19,16 +21,6 @@ fn choice_at(choices: &[u32], turn: usize) -> u32
     }
 }
 
-// The event at the place that a choice gives, counted around.
-fn pick(events: &[Event], choice: u32) -> Option<Event>
-    ensures { result ≡ slice_get events.now (choice % length events.now) }
-{
-    if events.is_empty() {
-        return None;
-    }
-    Some(events[choice as usize % events.len()])
-}
-
 impl<'a> RunState<'a> {
     // No run of the program has more events.
     fn most_events(&self) -> usize
@@ -37,13 +29,38 @@ impl<'a> RunState<'a> {
         3 * self.image.items().len() + 1
     }
 
+    // How many events may happen next.
+    fn enabled_count(&self) -> usize
+        ensures { result ≡ length (all_enabled (plan self.now.program) (state_of self.now)) }
+    {
+        if self.standing.ended {
+            return 0;
+        }
+        let _items = self.image.items();
+        allowed_count(&self.standing.graph)
+    }
+
+    // Of the events that may happen next, in the order of `enabled`, the one at a place.
+    fn nth_enabled(&self, place: usize) -> Option<Event>
+        ensures { result ≡ slice_get (all_enabled (plan self.now.program) (state_of self.now)) place }
+    {
+        if self.standing.ended {
+            return None;
+        }
+        let _items = self.image.items();
+        nth_allowed(&self.standing.graph, place)
+    }
+
     // The event that the choices take next in this turn.
-    fn next_event(&self, choices: &[u32], turn: usize) -> Result<Option<Event>, AllocError>
-        ensures { IfOk result (λ event. event ≡ next_by self.now (drop turn choices.now)) }
+    fn next_event(&self, choices: &[u32], turn: usize) -> Option<Event>
+        ensures { result ≡ next_by self.now (drop turn choices.now) }
     {
         let choice = choice_at(choices, turn);
-        let events = self.enabled()?;
-        Ok(pick(&events, choice))
+        let count = self.enabled_count();
+        if count == 0 {
+            return None;
+        }
+        self.nth_enabled(choice as usize % count)
     }
 
     /// The run goes on to its end: of the events that may happen next, in the order of `enabled`, each choice in turn
@@ -57,10 +74,7 @@ impl<'a> RunState<'a> {
         let most = self.most_events();
         for turn in 0..most {
             self.is_reached();
-            let Ok(next) = self.next_event(choices, turn) else {
-                return Err(RunFault::OutOfMemory);
-            };
-            let Some(event) = next else {
+            let Some(event) = self.next_event(choices, turn) else {
                 return Ok(());
             };
             match self.take(event) {

@@ -1,5 +1,5 @@
 -- A graph of which an item is closed, from its fields.
-use Rattle.std.proofs.Common.{◌≡◌, ℕ, ◌+◌, ◌<◌, ◌≤◌, Bool, true, false, List, ◌++◌, length, map, take, drop, get_or, Some, sym, ap, subst, ◌∙◌, arith}
+use Rattle.std.proofs.Common.{◌≡◌, ℕ, ◌+◌, ◌<◌, ◌≤◌, Bool, true, false, List, ◌++◌, length, map, take, drop, get_or, Some, sym, ap, ◌∙◌, arith}
 use Rattle.std.specs.Prelude.{slice_get, slice_index, option_map}
 use Rattle.std.specs.List.{slice_set}
 use Rattle.std.proofs.Math.Seq.{take-append_seam}
@@ -13,12 +13,12 @@ use Rattle.taskgraph.specs.declared.Stage.{Stage}
 use Rattle.taskgraph.specs.declared.Stage.TheVariants as stage
 use Rattle.taskgraph.specs.declared.Task.{Task}
 use Rattle.taskgraph.specs.Board.{Facts, Stands, task_facts, work_of, plan_in, allows}
-use Rattle.taskgraph.specs.Waiting.{IsCounted, IsFirst, IsGraph, IsGraphWith, board_of, count_free, counted_in, one_if}
+use Rattle.taskgraph.specs.Waiting.{IsCounted, IsFirst, IsGraph, IsGraphWith, AreFree, board_of, counted_in, one_if}
 use Rattle.taskgraph.proofs.Parts.{asked_at}
 use Rattle.taskgraph.proofs.Kept.{may_close}
 use Rattle.taskgraph.proofs.Closes.{in_count, opened_at}
 use Rattle.taskgraph.proofs.Events.{host_closed, task_closed}
-use Rattle.taskgraph.proofs.FreeGraph.{closed_keeps}
+use Rattle.taskgraph.proofs.FreeGraph.{closed_open, closed_free}
 use Rattle.taskgraph.proofs.Standing.{place_after, closed}
 
 -- what the order asks of one of the tasks
@@ -68,32 +68,33 @@ task_left ts ss place starts ends counts less first next i t g a e d long taken 
     (λ j lt. taken j (omega (arith, lt, length-map ts task_facts)))
     (λ v q. ap (λ (w : Facts). w.deferred) (same_Some v (task_facts t) (sym q ∙ facts_at ts i t e)) ∙ d) f
 
--- and how many of its items are ready: as many where the item is not deferred
-pub host_with : (ts : List Task) (ss : List Stage) (place : ℕ) (starts ends counts : List ℕ) (first next ready i : ℕ) (t : Task) →
-    IsGraphWith (board_of ts ss place) starts ends counts first ready → allows (board_of ts ss place) (Close i) ≡ true →
+-- with its marks: where the item is not deferred, those of the ready items stay
+pub host_with : (ts : List Task) (ss : List Stage) (place : ℕ) (starts ends counts : List ℕ) (first next i : ℕ)
+    (os rs : List Bool) (t : Task) →
+    IsGraphWith (board_of ts ss place) starts ends counts first os rs → allows (board_of ts ss place) (Close i) ≡ true →
     slice_get ts i ≡ Some t → t.deferred ≡ false → IsFirst (board_of ts (slice_set ss i stage.Closed) (place + 1)) next →
-    IsGraphWith (board_of ts (slice_set ss i stage.Closed) (place + 1)) starts ends counts next ready
-host_with ts ss place starts ends counts first next ready i t g a e d f =
+    IsGraphWith (board_of ts (slice_set ss i stage.Closed) (place + 1)) starts ends counts next (slice_set os i false) rs
+host_with ts ss place starts ends counts first next i os rs t g a e d f =
     record {
       graph = host_left ts ss place starts ends counts first next i t g.graph a e d f;
-      free = closed_keeps (board_of ts ss place) starts ends counts first ready i g a;
+      opened = closed_open (board_of ts ss place) starts ends counts first i (place + 1) os rs g a;
+      ready = closed_free (board_of ts ss place) starts ends counts first i os rs g a;
     }
 
--- and where it is, as many more as the counts that went down to none
-pub task_with : (ts : List Task) (ss : List Stage) (place : ℕ) (starts ends counts less : List ℕ)
-    (first next ready added i : ℕ) (t : Task) →
-    IsGraphWith (board_of ts ss place) starts ends counts first ready → allows (board_of ts ss place) (Close i) ≡ true →
+-- and where it is, they are those by the counts that were taken down
+pub task_with : (ts : List Task) (ss : List Stage) (place : ℕ) (starts ends counts less : List ℕ) (first next i : ℕ)
+    (os rs freed : List Bool) (t : Task) →
+    IsGraphWith (board_of ts ss place) starts ends counts first os rs → allows (board_of ts ss place) (Close i) ≡ true →
     slice_get ts i ≡ Some t → t.deferred ≡ true → length less ≡ length ts →
     ((j : ℕ) → j < length ts → slice_index less j + one_if (counted_in ts starts i j) ≡ slice_index counts j) →
-    count_free (slice_set ss i stage.Closed) counts (length ts) + added ≡ count_free (slice_set ss i stage.Closed) less (length ts) →
+    AreFree (map task_facts ts) (slice_set ss i stage.Closed) less freed →
     IsFirst (board_of ts (slice_set ss i stage.Closed) place) next →
-    IsGraphWith (board_of ts (slice_set ss i stage.Closed) place) starts ends less next (ready + added)
-task_with ts ss place starts ends counts less first next ready added i t g a e d long taken more f =
-    let kept = closed_keeps (board_of ts ss place) starts ends counts first ready i g a in
+    IsGraphWith (board_of ts (slice_set ss i stage.Closed) place) starts ends less next (slice_set os i false) freed
+task_with ts ss place starts ends counts less first next i os rs freed t g a e d long taken free f =
     record {
       graph = task_left ts ss place starts ends counts less first next i t g.graph a e d long taken f;
-      free = subst (λ n. ready + added ≡ count_free (slice_set ss i stage.Closed) less n) (sym (length-map ts task_facts))
-          (omega (arith, more, subst (λ n. ready ≡ count_free (slice_set ss i stage.Closed) counts n) (length-map ts task_facts) kept));
+      opened = closed_open (board_of ts ss place) starts ends counts first i place os rs g a;
+      ready = free;
     }
 
 pub host_follows : (ts : List Task) (ss : List Stage) (place : ℕ) (starts counts : List ℕ) (i : ℕ) (t : Task) →

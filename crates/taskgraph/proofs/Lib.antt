@@ -21,6 +21,14 @@ pub mod Standing
 pub mod Parts
 pub mod ClosedGraph
 pub mod Fresh
-pub mod FreeTasks
+pub mod FreeMarks
+pub mod Choosable
+pub mod AllOpenings
+pub mod Before
 pub mod FreeGraph
 pub mod NextTask
+pub mod Rows
+pub mod NthMarks
+pub mod NextMarks
+pub mod FirstOf
+pub mod Those

@@ -1,6 +1,6 @@
 -- A task graph as a state of the machine with two memories.
-use Rattle.std.specs.Prelude.{◌≡◌, ℕ, ◌<◌, ◌≤◌, Bool, true, false, List, [], map, Some, None, length}
-use Rattle.std.specs.List.{slice_index_or}
+use Rattle.std.specs.Prelude.{◌≡◌, ℕ, ◌<◌, ◌≤◌, Bool, true, false, List, [], filter, map, Some, None, length}
+use Rattle.std.specs.List.{range_with_len, slice_index_or}
 use Rattle.base.specs.declared.item.Event.{Event}
 use Rattle.base.specs.declared.item.Event.TheVariants.{Open, Close}
 use Rattle.base.specs.declared.item.Item.{Item}
@@ -93,6 +93,16 @@ pub record IsNextTask (p : Plan) (s : State) (n i : ℕ) : Type 0 where
 -- from item n on there is none
 abbrev pub HasNoTask : Plan → State → ℕ → Type 0
 HasNoTask p s n = (j : ℕ) → n ≤ j → IsTask p s j → ⊥
+
+-- ---- what may be closed, and what may be opened
+
+-- the items that may be closed next, ascending
+abbrev pub all_closings : Board → List ℕ
+all_closings b = filter (λ i. allows b (Close i)) (range_with_len 0 (length b.tasks))
+
+-- the items that may be opened next, ascending
+abbrev pub all_openings : Board → List ℕ
+all_openings b = filter (λ i. allows b (Open i)) (range_with_len 0 (length b.tasks))
 
 -- the tasks before any event
 abbrev pub untouched : List Facts → Board

@@ -2,3 +2,4 @@ pub mod Board
 pub mod Cover
 pub mod Waiting
 pub mod Laws
+pub mod Marks

@@ -4,6 +4,7 @@ use Rattle.std.specs.List.{slice_index_or}
 use Rattle.base.specs.Items.{Work, Plan}
 use Rattle.base.specs.Machine.{is_closed, is_empty, is_open, is_wait, is_waiting, on_item, precedes}
 use Rattle.taskgraph.specs.Board.{Facts, Board, plan_in, state_in, stage_at, condition_of, untouched, task_facts}
+use Rattle.taskgraph.specs.Marks.{is_marked}
 use Rattle.taskgraph.specs.declared.Task.{Task}
 use Rattle.taskgraph.specs.declared.Stage.{Stage}
 use Rattle.taskgraph.specs.declared.Stage.TheVariants as stage
@@ -131,25 +132,36 @@ pub record IsGraph (b : Board) (ss es counts : List ℕ) (n : ℕ) : Type 0 wher
 abbrev pub begins : Facts → Stage → Bool → Bool
 begins f st here = if is_wait f.kind then here else ((f.deferred || here) && is_waiting f.deferred (condition_of st))
 
--- ---- how many are ready
+-- ---- which are marked as open, and which as ready
 
--- a deferred item at that stage, of which so many counted predecessors are left, is ready
-abbrev pub is_free : Stage → ℕ → Bool
-is_free st missing = is_waiting true (condition_of st) && (missing == 0)
+-- the marks of so many items, set where the question is answered yes
+pub record AreMarks (n : ℕ) (p : ℕ → Bool) (marks : List Bool) : Type 0 where
+  pub long : length marks ≡ n
+  pub each : (i : ℕ) → is_marked marks i ≡ p i
 
--- item j is ready
-abbrev pub is_free_at : List Stage → List ℕ → ℕ → Bool
-is_free_at stages counts j = is_free (slice_index_or stages j stage.Untouched) (slice_index counts j)
+-- an item at that stage, of which so many counted predecessors are left, is deferred and may be opened
+abbrev pub is_free : Facts → Stage → ℕ → Bool
+is_free f st missing =
+    (f.deferred && not (is_wait f.kind)) && (is_waiting true (condition_of st) && (missing == 0))
 
--- how many of the first n items are ready
-unfoldable pub count_free : List Stage → List ℕ → ℕ → ℕ
-count_free stages counts zero = 0
-count_free stages counts (suc n) = count_free stages counts n + one_if (is_free_at stages counts n)
+abbrev pub is_free_at : List Facts → List Stage → List ℕ → ℕ → Bool
+is_free_at tasks stages counts i =
+    elim (slice_get tasks i) [
+      | None ↦ false
+      | Some f ↦ is_free f (slice_index_or stages i stage.Untouched) (slice_index counts i)
+    ]
 
--- a graph so many of whose items are ready
-pub record IsGraphWith (b : Board) (ss es counts : List ℕ) (n ready : ℕ) : Type 0 where
+abbrev pub AreFree : List Facts → List Stage → List ℕ → List Bool → Type 0
+AreFree tasks stages counts marks = AreMarks (length tasks) (is_free_at tasks stages counts) marks
+
+abbrev pub is_open_in : Board → ℕ → Bool
+is_open_in b i = is_open ((state_in b).condition i)
+
+-- a graph of which these items are open, and these deferred ones may be opened
+pub record IsGraphWith (b : Board) (ss es counts : List ℕ) (n : ℕ) (os rs : List Bool) : Type 0 where
   pub graph : IsGraph b ss es counts n
-  pub free : ready ≡ count_free b.stages counts (length b.tasks)
+  pub opened : AreMarks (length b.tasks) (is_open_in b) os
+  pub ready : AreFree b.tasks b.stages counts rs
 
 -- ---- of tasks
 

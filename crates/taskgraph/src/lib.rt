@@ -5,15 +5,17 @@ ghost use Rattle.std.specs.Prelude.{◌≡◌, ◌+◌, ◌<◌, ◌≤◌, ◌&
 ghost use Rattle.base.specs.Machine.{is_closed, is_empty, is_predecessor, is_waiting};
 ghost use Rattle.taskgraph.specs.Board.{condition_of, item_facts, task_facts, untouched, work_of};
 ghost use Rattle.taskgraph.specs.Laws.{AllowedIsEnabled};
-ghost use Rattle.taskgraph.specs.Waiting.{AreCounts, AreEnds, AreStarts, AreUntouched, AreClosed, IsExtended, IsFirst, IsStart, begins, board_of, count_free, counted_in, held_by, is_bare, is_free, one_if, plan_for};
+ghost use Rattle.taskgraph.specs.Waiting.{AreCounts, AreEnds, AreFree, AreStarts, AreUntouched, AreClosed, IsExtended, IsFirst, IsStart, begins, board_of, counted_in, held_by, is_bare, is_free, one_if, plan_for};
 
 use crate::cover::covers;
+use crate::marks::Marks;
 use base::depend::match_some;
 use base::item::{Depend, Item, ItemKind};
 use std::alloc::{AllocError, Global};
 use std::marker::Model;
 
 mod cover;
+mod marks;
 
 /// How far an item is.
 #[derive(Clone, Copy)]
@@ -57,8 +59,10 @@ pub struct Graph {
     missing: Vec<usize>,
     /// The lowest item that is deferred and not closed, or `place` where none is before it.
     first: usize,
-    /// How many deferred items are ready: it saves looking for one where there is none.
-    free: usize,
+    /// The items that are open.
+    open_items: Marks,
+    /// The deferred items that may be opened.
+    ready_items: Marks,
     place: usize,
 }
 
@@ -71,7 +75,7 @@ impl Model for Graph {
 
     ghost view = { λ g. record { tasks = map task_facts g.tasks.items; stages = g.stages.items; place = g.place } };
 
-    ghost invariant = { λ g. IsGraphWith (record { tasks = map task_facts g.tasks.items; stages = g.stages.items; place = g.place }) g.starts.items g.ends.items g.missing.items g.first g.free };
+    ghost invariant = { λ g. IsGraphWith (record { tasks = map task_facts g.tasks.items; stages = g.stages.items; place = g.place }) g.starts.items g.ends.items g.missing.items g.first g.open_items g.ready_items };
 }
 
 fn is_wait(task: &Task) -> bool
@@ -252,29 +256,23 @@ fn one_if(holds: bool) -> usize
     if holds { 1 } else { 0 }
 }
 
-/// Whether an item at that stage was generated, and not opened yet.
-fn is_generated(stage: Stage) -> bool
-    ensures { result ≡ is_waiting true (condition_of stage) }
+/// Whether an item at that stage with so many predecessors left is deferred and may be opened.
+fn is_freed(task: &Task, stage: Stage, missing: usize) -> bool
+    ensures { result ≡ is_free (task_facts task.now) stage missing }
 {
-    stage == Stage::Generated
+    task.deferred && !is_wait(task) && stage == Stage::Generated && missing == 0
 }
 
-/// Whether a deferred item at that stage with so many predecessors left is ready.
-fn is_freed(stage: Stage, missing: usize) -> bool
-    ensures { result ≡ is_free stage missing }
-{
-    missing == 0 && is_generated(stage)
-}
-
-/// Takes the item from the counts of later ones, which lie before `end`. The answer is how many more items are ready now.
+/// Takes the item from the counts of later ones, which lie before `end`, and marks those that are ready now.
 fn release(
     tasks: &[Task],
     starts: &[usize],
     stages: &[Stage],
     missing: &mut [usize],
+    ready: &mut Marks,
     item: usize,
     end: usize,
-) -> usize
+)
     requires inside { item < length tasks.now }
     requires end { end ≤ length tasks.now }
     requires starts { length starts.now ≡ length tasks.now }
@@ -282,18 +280,18 @@ fn release(
     requires same { length missing.old ≡ length tasks.now }
     requires past { (j : ℕ) → j < length tasks.now → counted_in tasks.now starts.now item j ≡ true → j < end }
     requires counted { (j : ℕ) → j < length tasks.now → one_if (counted_in tasks.now starts.now item j) ≤ slice_index missing.old j }
+    requires ready { AreFree (map task_facts tasks.now) stages.now missing.old ready.old }
     ensures same { length missing.new ≡ length tasks.now }
     ensures taken { (j : ℕ) → j < length tasks.now → slice_index missing.new j + one_if (counted_in tasks.now starts.now item j) ≡ slice_index missing.old j }
-    ensures free { count_free stages.now missing.old (length tasks.now) + result ≡ count_free stages.now missing.new (length tasks.now) }
+    ensures ready { AreFree (map task_facts tasks.now) stages.now missing.new ready.new }
 {
-    let mut free = 0;
     'later: for later in item + 1..end {
         if is_counted(tasks, starts, item, later) {
             missing[later] -= 1;
-            free += one_if(is_freed(stages[later], missing[later]));
+            let freed = is_freed(&tasks[later], stages[later], missing[later]);
+            ready.insert_if(later, freed);
         }
     }
-    free
 }
 
 /// Whether an item is deferred and not closed.
@@ -334,10 +332,10 @@ fn may_begin(task: &Task, stage: Stage, here: bool) -> bool
 }
 
 impl Graph {
-    ghost use Rattle.std.specs.Prelude.{◌≡◌, ◌<◌, ◌≤◌, ℕ, ◌||◌, IfOk, IfNone, IfSome, length, true, false};
+    ghost use Rattle.std.specs.Prelude.{◌≡◌, ◌<◌, ◌≤◌, ℕ, ◌||◌, IfOk, IfNone, IfSome, length, slice_get, true, false};
     ghost use Rattle.base.specs.declared.item.Event.TheVariants.{Gen, Open, Close, Wait, End};
     ghost use Rattle.base.specs.Machine.{is_open, is_wait, on_item};
-    ghost use Rattle.taskgraph.specs.Board.{HasNoTask, IsNew, IsNextTask, IsSettled, Follows, allows, plan_in, state_in};
+    ghost use Rattle.taskgraph.specs.Board.{HasNoTask, IsNew, IsNextTask, IsSettled, Follows, all_closings, all_openings, allows, plan_in, state_in};
 
     /// The graph of these items, none of which has begun.
     pub fn new(alloc: Global, items: &[Item]) -> Result<Graph, AllocError>
@@ -348,6 +346,8 @@ impl Graph {
         let starts = starts_of(alloc, &tasks)?;
         let ends = ends_of(alloc, &tasks, &starts)?;
         let missing = counts_of(alloc, &tasks, &starts)?;
+        let open_items = Marks::new(alloc, tasks.len())?;
+        let ready_items = Marks::new(alloc, tasks.len())?;
         Ok(Graph {
             tasks,
             stages,
@@ -355,7 +355,8 @@ impl Graph {
             ends,
             missing,
             first: 0,
-            free: 0,
+            open_items,
+            ready_items,
             place: 0,
         })
     }
@@ -449,7 +450,8 @@ impl Graph {
     {
         self.stages[item] = Stage::Generated;
         self.place += 1;
-        self.free += one_if(self.missing[item] == 0);
+        let freed = is_freed(&self.tasks[item], Stage::Generated, self.missing[item]);
+        self.ready_items.insert_if(item, freed);
     }
 
     /// The item is opened.
@@ -458,7 +460,9 @@ impl Graph {
         ensures { Follows self.old (Open item) self.new }
     {
         self.stages[item] = Stage::Open;
-        self.free -= one_if(self.tasks[item].deferred);
+        self.open_items.insert(item);
+        let deferred = self.tasks[item].deferred;
+        self.ready_items.remove_if(item, deferred);
     }
 
     /// The open item is closed; the host moves on where the item is not deferred.
@@ -467,18 +471,19 @@ impl Graph {
         ensures { Follows self.old (Close item) self.new }
     {
         self.stages[item] = Stage::Closed;
+        self.open_items.remove(item);
         if self.tasks[item].deferred {
             let end = self.ends[item];
-            let free = release(
+            release(
                 &self.tasks,
                 &self.starts,
                 &self.stages,
                 &mut self.missing,
+                &mut self.ready_items,
                 item,
                 end,
             );
             self.first = first_left(&self.tasks, &self.stages, self.first, self.place);
-            self.free += free;
             return;
         }
         self.place += 1;
@@ -512,21 +517,42 @@ impl Graph {
         self.first
     }
 
-    /// The lowest deferred item, from one on, that may be opened next. Where one is ready it looks at those from `first` to
-    /// the host's place, and else at none.
+    /// The lowest deferred item, from one on, that may be opened next.
     pub fn next_task(&self, from: usize) -> Option<usize>
         ensures next { IfSome result (IsNextTask (plan_in self.now) (state_in self.now) from) }
         ensures none { IfNone result (HasNoTask (plan_in self.now) (state_in self.now) from) }
     {
-        if self.free == 0 {
-            return None;
+        self.ready_items.next(from)
+    }
+
+    /// How many items may be closed next.
+    pub fn closing_count(&self) -> usize
+        ensures { result ≡ length (all_closings self.now) }
+    {
+        self.open_items.len()
+    }
+
+    /// Of the items that may be closed next, ascending, the one at a place.
+    pub fn closing_at(&self, place: usize) -> Option<usize>
+        ensures { result ≡ slice_get (all_closings self.now) place }
+    {
+        self.open_items.nth(place)
+    }
+
+    /// How many items may be opened next.
+    pub fn opening_count(&self) -> usize
+        ensures { result ≡ length (all_openings self.now) }
+    {
+        self.ready_items.len() + one_if(self.may_open(self.place))
+    }
+
+    /// Of the items that may be opened next, ascending, the one at a place. The deferred ones lie below the host's place.
+    pub fn opening_at(&self, place: usize) -> Option<usize>
+        ensures { result ≡ slice_get (all_openings self.now) place }
+    {
+        if place == self.ready_items.len() && self.may_open(self.place) {
+            return Some(self.place);
         }
-        let start = if from < self.first { self.first } else { from };
-        for item in start..self.place {
-            if is_generated(self.stages[item]) && self.may_open(item) {
-                return Some(item);
-            }
-        }
-        None
+        self.ready_items.nth(place)
     }
 }

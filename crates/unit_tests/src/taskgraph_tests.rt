@@ -256,3 +256,63 @@ fn a_task_waits_for_all_before_the_last(rt: HostRuntime) -> Result<(), Fail> {
     assert!(rt; generates_all(&mut graph, 3) && run_in_order(&mut graph, 3) && is_last(&mut graph));
     Ok(())
 }
+
+// All of the 600 tasks may be opened, and behind them the item of the host.
+fn are_openings(graph: &Graph) -> bool {
+    graph.opening_count() == 601
+        && graph.opening_at(0) == Some(0)
+        && graph.opening_at(256) == Some(256)
+        && graph.opening_at(599) == Some(599)
+        && graph.opening_at(600) == Some(600)
+        && graph.opening_at(601).is_none()
+        && graph.closing_count() == 0
+        && graph.closing_at(0).is_none()
+}
+
+// Three of them are open, in the first row, the second and the third.
+fn are_opened(graph: &mut Graph) -> bool {
+    opens(graph, 300)
+        && opens(graph, 0)
+        && opens(graph, 599)
+        && graph.closing_count() == 3
+        && graph.closing_at(0) == Some(0)
+        && graph.closing_at(1) == Some(300)
+        && graph.closing_at(2) == Some(599)
+        && graph.closing_at(3).is_none()
+}
+
+// The others may be opened: before the 299th of them lie 298 items from 1 on.
+fn are_left(graph: &Graph) -> bool {
+    graph.opening_count() == 598
+        && graph.opening_at(0) == Some(1)
+        && graph.opening_at(298) == Some(299)
+        && graph.opening_at(299) == Some(301)
+        && graph.opening_at(597) == Some(600)
+        && graph.next_task(300) == Some(301)
+        && graph.next_task(599).is_none()
+}
+
+// One is closed, and the host opens its item.
+fn is_one_closed(graph: &mut Graph) -> bool {
+    closes(graph, 300)
+        && opens(graph, 600)
+        && graph.closing_count() == 3
+        && graph.closing_at(1) == Some(599)
+        && graph.closing_at(2) == Some(600)
+        && graph.opening_count() == 597
+        && graph.opening_at(597).is_none()
+}
+
+/// 600 tasks that wait for none, and an item of the host.
+#[test]
+fn what_may_happen_is_found_by_its_place(rt: HostRuntime) -> Result<(), Fail> {
+    let mut rows = Vec::new(rt.alloc());
+    for _ in 0..600 {
+        rows.push(task(&[]))?;
+    }
+    rows.push(at_once(ItemKind::Host, &[]))?;
+    let mut graph = graph_of(rt.alloc(), &rows)?;
+    assert!(rt; generates_all(&mut graph, 600) && are_openings(&graph));
+    assert!(rt; are_opened(&mut graph) && are_left(&graph) && is_one_closed(&mut graph));
+    Ok(())
+}

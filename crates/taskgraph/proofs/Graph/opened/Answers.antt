@@ -1,16 +1,16 @@
-use Rattle.std.proofs.Common.{◌≡◌, ◌-◌, ◌≤◌, ℕ, List, Some, true, get_or, sym, ap, subst, ◌∙◌, arith}
+use Rattle.std.proofs.Common.{◌≡◌, ◌<◌, List, Bool, Some, length, false, true, sym, ap, subst, ◌∙◌, arith}
 use Rattle.std.specs.List.{slice_set}
 use Rattle.std.proofs.lemmas.Option.{slice_get-get_or}
 use Rattle.std.proofs.lemmas.List.{length-map}
 use Rattle.base.specs.declared.item.Event.TheVariants.{Open}
-use Rattle.taskgraph.specs.declared.Stage.{Stage}
 use Rattle.taskgraph.specs.declared.Stage.TheVariants as stage
 use Rattle.taskgraph.specs.declared.Task.{Task}
 use Rattle.taskgraph.specs.Board.{Board, task_facts, allows}
 use Rattle.taskgraph.proofs.ClosedGraph.{facts_at}
+use Rattle.taskgraph.proofs.Before.{not_open, ready_where}
 use Rattle.taskgraph.proofs.FreeGraph.{opened_with}
 use Rattle.taskgraph.proofs.Kept.{may_open}
-use Rattle.taskgraph.specs.Waiting.{IsGraphWith, board_of, one_if}
+use Rattle.taskgraph.specs.Waiting.{IsGraphWith, board_of}
 use Rattle.std.proofs.lemmas.Grind.{common_steps}
 use Rattle.taskgraph.proofs.Graph.opened.Goals as goal
 
@@ -29,32 +29,48 @@ index-requires c =
     let m = may_open b c.args.item asked in
     omega (arith, m.inside, length-map ts task_facts)
 
--- the graph with one less that is ready where the item is deferred
-fewer : (ts : List Task) (ss : List Stage) (starts ends counts : List ℕ) (place first ready item : ℕ) (t : Task) (taken : ℕ) →
-    IsGraphWith (board_of ts ss place) starts ends counts first ready → allows (board_of ts ss place) (Open item) ≡ true →
-    t ≡ get_or ts item t → taken ≡ one_if t.deferred →
-    (taken ≤ ready) × IsGraphWith (board_of ts (slice_set ss item stage.Open) place) starts ends counts first (ready - taken)
-fewer ts ss starts ends counts place first ready item t taken g a e f =
-    let m = may_open (board_of ts ss place) item a in
-    let at = facts_at ts item t (slice_get-get_or ts item t (omega (arith, m.inside, length-map ts task_facts)) ∙ ap (λ (x : Task). Some x) (sym e)) in
-    subst (λ n. (n ≤ ready) × IsGraphWith (board_of ts (slice_set ss item stage.Open) place) starts ends counts first (ready - n)) (sym f)
-    (opened_with (board_of ts ss place) starts ends counts first ready item (task_facts t) g a at)
+pub insert-requires-clause-inside : goal.insert-requires-clause-inside
+insert-requires-clause-inside c =
+    let g = c.self.inside in
+    let i = c.args.item in
+    let b = board_of g.tasks.items g.stages.items g.place in
+    let asked : allows b (Open i) ≡ true = subst (λ (x : Board). allows x (Open i) ≡ true) (sym c.self.view_is) c.requires in
+    let m = may_open b i asked in
+    omega (arith, m.inside, c.self.invariant.opened.long)
+
+pub insert-requires-clause-fresh : goal.insert-requires-clause-fresh
+insert-requires-clause-fresh c =
+    let g = c.self.inside in
+    let i = c.args.item in
+    let b = board_of g.tasks.items g.stages.items g.place in
+    let asked : allows b (Open i) ≡ true = subst (λ (x : Board). allows x (Open i) ≡ true) (sym c.self.view_is) c.requires in
+    not_open b g.starts.items g.ends.items g.missing.items g.first i g.open_items g.ready_items c.self.invariant asked
+
+pub remove_if-requires : goal.remove_if-requires
+remove_if-requires c =
+    let g = c.self.inside in
+    let i = c.args.item in
+    let b = board_of g.tasks.items g.stages.items g.place in
+    let asked : allows b (Open i) ≡ true = subst (λ (x : Board). allows x (Open i) ≡ true) (sym c.self.view_is) c.requires in
+    let m = may_open b i asked in
+    let t = c.index.result.now in
+    let inside : i < length g.tasks.items = omega (arith, m.inside, length-map g.tasks.items task_facts) in
+    let facts = facts_at g.tasks.items i t (slice_get-get_or g.tasks.items i t inside ∙ ap (λ (x : Task). Some x) (sym c.index.ensures)) in
+    ready_where b g.starts.items g.ends.items g.missing.items g.first i g.open_items g.ready_items (task_facts t)
+    c.self.invariant asked facts
 
 pub invariant_of-self : goal.invariant_of-self
 invariant_of-self c =
-    let b = board_of c.self.inside.tasks.items c.self.inside.stages.items c.self.inside.place in
-    let asked : allows b (Open c.args.item) ≡ true = subst (λ (x : Board). allows x (Open c.args.item) ≡ true) (sym c.self.view_is) c.requires in
-    (fewer c.self.inside.tasks.items c.self.inside.stages.items c.self.inside.starts.items c.self.inside.ends.items
-    c.self.inside.missing.items c.self.inside.place c.self.inside.first c.self.inside.free c.args.item c.index.result.now c.one_if.result
-    c.self.invariant asked c.index.ensures c.one_if.ensures).1
-
-pub overflow_sub-self : goal.overflow_sub-self
-overflow_sub-self c =
-    let b = board_of c.self.inside.tasks.items c.self.inside.stages.items c.self.inside.place in
-    let asked : allows b (Open c.args.item) ≡ true = subst (λ (x : Board). allows x (Open c.args.item) ≡ true) (sym c.self.view_is) c.requires in
-    (fewer c.self.inside.tasks.items c.self.inside.stages.items c.self.inside.starts.items c.self.inside.ends.items
-    c.self.inside.missing.items c.self.inside.place c.self.inside.first c.self.inside.free c.args.item c.index.result.now c.one_if.result
-    c.self.invariant asked c.index.ensures c.one_if.ensures).0
+    let g = c.self.inside in
+    let i = c.args.item in
+    let b = board_of g.tasks.items g.stages.items g.place in
+    let asked : allows b (Open i) ≡ true = subst (λ (x : Board). allows x (Open i) ≡ true) (sym c.self.view_is) c.requires in
+    let now = board_of g.tasks.items (slice_set g.stages.items i stage.Open) g.place in
+    subst (λ (l : List Bool). IsGraphWith now g.starts.items g.ends.items g.missing.items g.first c.insert.new.self l)
+    (sym c.remove_if.ensures)
+    (subst (λ (l : List Bool). IsGraphWith now g.starts.items g.ends.items g.missing.items g.first l
+    (slice_set g.ready_items i false)) (sym c.insert.ensures)
+    (opened_with b g.starts.items g.ends.items g.missing.items g.first i g.open_items g.ready_items c.self.invariant asked))
 
 pub returns : goal.returns
 returns c = grind (arith, common_steps)

@@ -61,7 +61,7 @@ invariant_of-self c =
     let b = board_of ts ss p in
     let asked : allows b (Wait c.args.item) ≡ true = subst (λ (x : Board). allows x (Wait c.args.item) ≡ true) (sym c.self.view_is) c.requires in
     passed_with b c.self.inside.starts.items c.self.inside.ends.items c.self.inside.missing.items c.self.inside.first
-    c.first_left-self-inside.result c.self.inside.free c.args.item c.self.invariant asked
+    c.first_left-self-inside.result c.args.item c.self.inside.open_items c.self.inside.ready_items c.self.invariant asked
     (subst (λ (xs : List Task). IsFirst (board_of xs (slice_set ss c.args.item stage.Passed) (p + 1)) c.first_left-self-inside.result)
     c.deref.ensures.value
     (subst (λ (xs : List Stage). IsFirst (board_of c.deref.result.now xs (p + 1)) c.first_left-self-inside.result)

@@ -1,5 +1,4 @@
 use Rattle.std.proofs.Common.{sym, ◌∙◌, subst, arith}
-use Rattle.base.specs.declared.fault.RunFault.TheVariants as fault
 use Rattle.device.specs.Choosing.{IsStopped}
 use Rattle.device.specs.Run.{Run}
 use Rattle.device.proofs.Choices.{comes_from, ends_at_most, ends_here, may_happen, one_more_choice, stops, why}
@@ -8,30 +7,26 @@ use Rattle.device.proofs.state.RunState.play_choices.Goals as goal
 pub loop-turn-init : goal.loop-turn-init
 loop-turn-init c = comes_from c.args.choices.now c.args.self.now
 
-pub returns-in_default-clause-stopped : goal.returns-in_default-clause-stopped
-returns-in_default-clause-stopped c =
-    stops c.loop-turn.turn c.args.choices.now c.args.self.now c.loop-turn.self c.loop-turn.invariant fault.OutOfMemory tt
-
 pub loop-turn-preserved : goal.loop-turn-preserved
 loop-turn-preserved c =
     one_more_choice c.loop-turn.turn c.args.choices.now c.args.self.now c.loop-turn.self c.take.new.self c.in-Some.event
-    c.loop-turn.invariant (sym c.in-Ok.ensures ∙ c.in-Some.is) c.in-Ok-take.ensures.taken
+    c.loop-turn.invariant (sym c.next_event.ensures ∙ c.in-Some.is) c.in-Ok.ensures.taken
 
-pub returns-in_default-next-clause-played : goal.returns-in_default-next-clause-played
-returns-in_default-next-clause-played c =
+pub returns-in_default-clause-played : goal.returns-in_default-clause-played
+returns-in_default-clause-played c =
     let most = c.most_events-most.ensures in
     let below = c.loop-turn-test.true in
     ends_here c.loop-turn.turn c.args.choices.now c.args.self.now c.loop-turn.self c.loop-turn.invariant
-    c.is_reached.ensures.reached (omega arith) (sym c.in-Ok.ensures ∙ c.in_default-next.is)
+    c.is_reached.ensures.reached (omega arith) (sym c.next_event.ensures ∙ c.in_default.is)
 
 pub take-requires : goal.take-requires
 take-requires c =
     may_happen c.loop-turn.turn c.args.choices.now c.args.self.now c.loop-turn.self c.loop-turn.invariant c.in-Some.event
-    (sym c.in-Ok.ensures ∙ c.in-Some.is)
+    (sym c.next_event.ensures ∙ c.in-Some.is)
 
 pub returns-in-Err-clause-stopped : goal.returns-in-Err-clause-stopped
 returns-in-Err-clause-stopped c =
-    let next = sym c.in-Ok.ensures ∙ c.in-Some.is in
+    let next = sym c.next_event.ensures ∙ c.in-Some.is in
     subst (λ (r : Run). IsStopped c.args.choices.now c.args.self.now r c.in-Err.fault) (sym c.in-Err.ensures.unchanged)
     (stops c.loop-turn.turn c.args.choices.now c.args.self.now c.loop-turn.self c.loop-turn.invariant c.in-Err.fault
     (why c.loop-turn.turn c.args.choices.now c.args.self.now c.loop-turn.self c.loop-turn.invariant c.in-Some.event next
