@@ -4,3 +4,4 @@ pub mod Begin
 pub mod Control
 pub mod Acting
 pub mod Opening
+pub mod Standing

@@ -1,0 +1,119 @@
+-- The state of the fine-grained machine that the code's values show.
+use Rattle.std.specs.Prelude.{◌≡◌, ◌+◌, ◌<◌, ℕ, Bool, true, false, List, Option, Some, None, length, slice_get, slice_index}
+use Rattle.base.specs.declared.item.Event.{Event}
+use Rattle.base.specs.declared.item.Event.TheVariants.{Open}
+use Rattle.base.specs.declared.item.Item.{Item}
+use Rattle.base.specs.declared.item.ItemKind.{ItemKind}
+use Rattle.base.specs.declared.tree.Region.{Region}
+use Rattle.base.specs.declared.fault.RunFault.{RunFault}
+use Rattle.base.specs.declared.fault.RunFault.TheVariants as fault
+use Rattle.base.specs.Arrays.{memory_of, lengths_of}
+use Rattle.base.specs.Memory.{Scalars}
+use Rattle.base.specs.Items.{Work, Plan}
+use Rattle.base.specs.Map.{Fill}
+use Rattle.base.specs.Machine.{deferred_closed}
+use Rattle.fine_machine.specs.Left.{Left}
+use Rattle.fine_machine.specs.Machine.{State, Condition, Untouched, Generated, Opened, Closed, Passed, as_whole, enabled, step}
+use Rattle.taskgraph.specs.Board.{Stands}
+use Rattle.device.specs.Devices.{AreAlike, ShowAll, fresh_of}
+use Rattle.device.specs.Moves.{CountsAtMost}
+use Rattle.stepper.specs.declared.standing.Slot.{Slot}
+use Rattle.stepper.specs.declared.standing.Slot.TheVariants as slot
+use Rattle.stepper.specs.declared.standing.Standing.{Standing}
+use Rattle.stepper.specs.declared.control.Control.{Control}
+use Rattle.stepper.specs.Control.{IsStopped, left_of}
+use Rattle.stepper.specs.Opening.{InArrays, IsWork, StaysInside}
+
+abbrev pub IsCaptured : Scalars → Option Slot → Type 0
+IsCaptured captured (Some (slot.Captured scalars)) = captured ≡ slice_index scalars
+IsCaptured captured (Some slot.Nothing) = ⊥
+IsCaptured captured (Some (slot.Opened control)) = ⊥
+IsCaptured captured None = ⊥
+
+-- what is left of an open item, which stands before an action or at its end
+pub record IsControl (lengths : List ℕ) (left : Left) (control : Control) : Type 0 where
+  pub is : left ≡ left_of control
+  pub stopped : IsStopped control
+  pub inside : StaysInside lengths left
+
+abbrev pub IsOpen : List ℕ → Left → Option Slot → Type 0
+IsOpen lengths left (Some (slot.Opened control)) = IsControl lengths left control
+IsOpen lengths left (Some (slot.Captured scalars)) = ⊥
+IsOpen lengths left (Some slot.Nothing) = ⊥
+IsOpen lengths left None = ⊥
+
+-- what is kept for an item is what its condition has
+abbrev pub Keeps : List ℕ → Condition → Option Slot → Type 0
+Keeps lengths Untouched o = Unit {0}
+Keeps lengths (Generated captured) o = IsCaptured captured o
+Keeps lengths (Opened left) o = IsOpen lengths left o
+Keeps lengths Closed o = Unit {0}
+Keeps lengths Passed o = Unit {0}
+
+-- the host's place, which the end takes one further
+abbrev pub place_of : Bool → ℕ → ℕ
+place_of true place = place + 1
+place_of false place = place
+
+-- the code's values show this state
+pub record IsAt (plan : Plan) (now : Standing) (s : State) : Type 0 where
+  pub host : s.memories.host ≡ memory_of now.host
+  pub lengths : lengths_of now.host ≡ plan.lengths
+  pub devices : ShowAll now.devices s.memories.devices
+  pub alike : AreAlike now.devices
+  pub counts : (d : ℕ) → CountsAtMost now.entered (s.memories.devices d).blocks
+  pub graph : Stands plan (record (as_whole s) { place = now.graph.place }) now.graph
+  pub place : s.place ≡ place_of now.ended now.graph.place
+  pub ended : now.ended ≡ true → (now.graph.place ≡ length plan.items) × (deferred_closed plan (as_whole s) ≡ true)
+  pub scalars : s.scalars ≡ slice_index now.scalars
+  pub input : s.input ≡ now.input.now
+  pub output : s.output ≡ now.output.items
+  pub slots : length now.slots.items ≡ length plan.items
+  pub kept : (i : ℕ) → i < length plan.items → Keeps plan.lengths (s.condition i) (slice_get now.slots.items i)
+
+-- each item's storage is created with what the tables fill it with
+abbrev pub fill_from : Standing → ℕ → Fill
+fill_from now i = λ c. fresh_of now.devices
+
+-- where an event may happen in a state that is shown, the state after it is shown
+abbrev pub Follows : Standing → Event → Standing → Type 0
+Follows old e new = (plan : Plan) (s t : State) → IsAt plan old s → enabled plan s e ≡ true →
+    step plan (fill_from old) s e ≡ Some t → IsAt plan new t
+
+-- an event fails in each state that is shown in which it may happen
+abbrev pub FailsAt : Standing → Event → Type 0
+FailsAt now e = (plan : Plan) (s : State) → IsAt plan now s → enabled plan s e ≡ true →
+    step plan (fill_from now) s e ≡ None
+
+-- this item of the plan, with its region in full, works on this device, and its sections lie in their arrays
+pub record IsItem (plan : Plan) (i : ℕ) (it : Item) (r : Option Region) : Type 0 where
+  pub work : Work
+  pub is : slice_get plan.items i ≡ Some work
+  pub same : IsWork it r work
+  pub deferred : work.deferred ≡ it.deferred
+  pub device : work.device ≡ it.device.number
+  pub inside : InArrays plan.lengths it.maps.items
+
+-- the same, of such an item
+abbrev pub FollowsOf : Item → Option Region → ℕ → Standing → Event → Standing → Type 0
+FollowsOf it r i old e new = (plan : Plan) (s t : State) → IsItem plan i it r → IsAt plan old s → enabled plan s e ≡ true →
+    step plan (fill_from old) s e ≡ Some t → IsAt plan new t
+
+abbrev pub FailsOf : Item → Option Region → ℕ → Standing → Event → Type 0
+FailsOf it r i now e = (plan : Plan) (s : State) → IsItem plan i it r → IsAt plan now s → enabled plan s e ≡ true →
+    step plan (fill_from now) s e ≡ None
+
+-- why an item is not opened: for want of memory, or it fails
+abbrev pub IsOpenFault : Item → Option Region → ℕ → Standing → RunFault → Type 0
+IsOpenFault it r i now fault.OutOfMemory = Unit {0}
+IsOpenFault it r i now fault.Absent = FailsOf it r i now (Open i)
+IsOpenFault it r i now fault.DeviceFull = ⊥
+IsOpenFault it r i now fault.Stranger = ⊥
+IsOpenFault it r i now fault.ThreadNotStarted = ⊥
+IsOpenFault it r i now fault.OtherState = ⊥
+IsOpenFault it r i now fault.RangeRefused = ⊥
+
+-- the same, of an item of this kind
+abbrev pub FollowsOfKind : ItemKind → ℕ → Standing → Event → Standing → Type 0
+FollowsOfKind kind i old e new = (plan : Plan) (s t : State) (w : Work) → slice_get plan.items i ≡ Some w → w.kind ≡ kind →
+    IsAt plan old s → enabled plan s e ≡ true → step plan (fill_from old) s e ≡ Some t → IsAt plan new t

@@ -1,0 +1,33 @@
+// Where an item is closed in a run.
+
+ghost use Rattle.std.specs.Prelude.{◌≡◌, ◌<◌, false, true, OnOk, length};
+ghost use Rattle.base.specs.declared.item.Event.TheVariants as event;
+ghost use Rattle.taskgraph.specs.Board.{allows};
+ghost use Rattle.stepper.specs.Standing.{FollowsOfKind};
+
+use crate::standing::{Slot, Standing};
+use base::item::ItemKind;
+use kernel::Scalars;
+use std::alloc::{AllocError, Global};
+use std::mem::replace;
+
+impl<'p> Standing<'p> {
+    /// Closes an item of which nothing is left: what a host region did to the scalars and the input is the host's, and
+    /// its numbers are printed.
+    pub fn close(&mut self, alloc: Global, kind: ItemKind, item: u32) -> Result<(), AllocError>
+        requires here { allows self.old.graph (event.Close item) ≡ true }
+        requires inside { item < length self.old.slots.items }
+        requires going { self.old.ended ≡ false }
+        ensures closed { OnOk result (FollowsOfKind kind item self.old (event.Close item) self.new) }
+        ensures devices { OnOk result (self.new.devices ≡ self.old.devices) }
+    {
+        let slot = replace(&mut self.slots[item as usize], Slot::Nothing);
+        if let (ItemKind::Host, Slot::Opened(control)) = (kind, slot) {
+            self.scalars = Scalars::new(alloc, &control.scalars)?;
+            self.output.extend_from_slice(&control.printed)?;
+            self.input = control.input;
+        }
+        self.graph.closed(item as usize);
+        Ok(())
+    }
+}
