@@ -1,7 +1,7 @@
 -- The state of the fine-grained machine that the code's values show.
-use Rattle.std.specs.Prelude.{◌≡◌, ◌+◌, ◌<◌, ℕ, Bool, true, false, List, Option, Some, None, length, slice_get, slice_index}
+use Rattle.std.specs.Prelude.{◌≡◌, ◌+◌, ◌<◌, ℕ, Bool, true, false, nat_lt, List, [], ◌∷◌, Option, Some, None, length, slice_get, slice_index}
 use Rattle.base.specs.declared.item.Event.{Event}
-use Rattle.base.specs.declared.item.Event.TheVariants.{Open}
+use Rattle.base.specs.declared.item.Event.TheVariants.{Open, Step}
 use Rattle.base.specs.declared.item.Item.{Item}
 use Rattle.base.specs.declared.item.ItemKind.{ItemKind}
 use Rattle.base.specs.declared.tree.Region.{Region}
@@ -10,18 +10,25 @@ use Rattle.base.specs.declared.fault.RunFault.TheVariants as fault
 use Rattle.base.specs.Arrays.{memory_of, lengths_of}
 use Rattle.base.specs.Memory.{Scalars}
 use Rattle.base.specs.Items.{Work, Plan}
-use Rattle.base.specs.Map.{Fill}
+use Rattle.base.specs.Map.{Block, Fill, in_use, need}
 use Rattle.base.specs.Machine.{deferred_closed}
-use Rattle.fine_machine.specs.Left.{Left}
-use Rattle.fine_machine.specs.Machine.{State, Condition, Untouched, Generated, Opened, Closed, Passed, as_whole, enabled, step}
+use Rattle.fine_machine.specs.Left.{Left, Asks, Finished, Request, Enter, Load, Store, Leave, Remove, CopyIn, CopyOut}
+use Rattle.fine_machine.specs.Machine.{State, Condition, Untouched, Generated, Opened, Closed, Passed, as_whole, device_of, enabled, step}
 use Rattle.taskgraph.specs.Board.{Stands}
-use Rattle.device.specs.Devices.{AreAlike, ShowAll, fresh_of}
+use Rattle.present.specs.declared.Table.{Table}
+use Rattle.base.specs.declared.memory.Memory.{Memory as Arrays}
+use Rattle.device.specs.declared.devices.Devices.{Devices}
+use Rattle.device.specs.Devices.{AreAlike, Becomes, ShowAll, fresh_of}
 use Rattle.device.specs.Moves.{CountsAtMost}
+use Rattle.stepper.specs.declared.action.Action.{Action}
+use Rattle.stepper.specs.declared.action.Action.TheVariants as action
+use Rattle.stepper.specs.declared.action.Given.{Given}
+use Rattle.stepper.specs.Acting.{Acts}
 use Rattle.stepper.specs.declared.standing.Slot.{Slot}
 use Rattle.stepper.specs.declared.standing.Slot.TheVariants as slot
 use Rattle.stepper.specs.declared.standing.Standing.{Standing}
 use Rattle.stepper.specs.declared.control.Control.{Control}
-use Rattle.stepper.specs.Control.{IsStopped, left_of}
+use Rattle.stepper.specs.Control.{IsNext, IsStopped, left_of, run_of}
 use Rattle.stepper.specs.Opening.{InArrays, IsWork, StaysInside}
 
 abbrev pub IsCaptured : Scalars → Option Slot → Type 0
@@ -117,3 +124,99 @@ IsOpenFault it r i now fault.RangeRefused = ⊥
 abbrev pub FollowsOfKind : ItemKind → ℕ → Standing → Event → Standing → Type 0
 FollowsOfKind kind i old e new = (plan : Plan) (s t : State) (w : Work) → slice_get plan.items i ≡ Some w → w.kind ≡ kind →
     IsAt plan old s → enabled plan s e ≡ true → step plan (fill_from old) s e ≡ Some t → IsAt plan new t
+
+-- an item works on this device
+abbrev pub IsOnDevice : Plan → ℕ → ℕ → Type 0
+IsOnDevice plan i d = (w : Work) → slice_get plan.items i ≡ Some w → w.device ≡ d
+
+-- an action comes next for the item
+abbrev pub IsActing : Option Slot → Type 0
+IsActing (Some (slot.Opened control)) = IsStopped control → (a : Action) × IsNext control (Some a)
+IsActing (Some (slot.Captured scalars)) = ⊥
+IsActing (Some slot.Nothing) = ⊥
+IsActing None = ⊥
+
+-- an open item stands before an action or at its end
+abbrev pub IsReady : Option Slot → Type 0
+IsReady (Some (slot.Opened control)) = IsStopped control
+IsReady (Some (slot.Captured scalars)) = ⊥
+IsReady (Some slot.Nothing) = ⊥
+IsReady None = ⊥
+
+-- nothing is left of the item, or it is not open
+abbrev pub IsAtRest : Option Slot → Type 0
+IsAtRest (Some (slot.Opened control)) = IsStopped control → left_of control ≡ Finished (run_of control)
+IsAtRest (Some (slot.Captured scalars)) = Unit {0}
+IsAtRest (Some slot.Nothing) = Unit {0}
+IsAtRest None = Unit {0}
+
+-- the action that an open item asks for next
+abbrev pub asked : Condition → Option Request
+asked (Opened (Asks request k)) = Some request
+asked (Opened (Finished run)) = None
+asked Untouched = None
+asked (Generated captured) = None
+asked Closed = None
+asked Passed = None
+
+-- how many cells an action needs beyond those in use
+abbrev pub needs : Request → List Block → ℕ
+needs (Enter item) blocks = need (item ∷ []) blocks
+needs (Load side c) blocks = 0
+needs (Store side c n) blocks = 0
+needs (Leave item) blocks = 0
+needs (Remove s) blocks = 0
+needs (CopyIn c) blocks = 0
+needs (CopyOut c) blocks = 0
+
+-- the next action of an item would create more cells than its device has room for
+abbrev pub is_over : ℕ → Plan → State → ℕ → Bool
+is_over capacity plan s i = elim (asked (s.condition i)) [
+  | None ↦ false
+  | Some request ↦
+    let blocks = (s.memories.devices (device_of plan i)).blocks in nat_lt capacity (in_use blocks + needs request blocks)
+]
+
+abbrev pub FollowsOn : ℕ → ℕ → Standing → Standing → Type 0
+FollowsOn d i old new = (plan : Plan) (s t : State) → IsOnDevice plan i d → IsAt plan old s →
+    enabled plan s (Step i) ≡ true → step plan (fill_from old) s (Step i) ≡ Some t → IsAt plan new t
+
+-- the next action of an item has room, or has none
+abbrev pub HasRoomAt : ℕ → ℕ → ℕ → Standing → Bool → Type 0
+HasRoomAt capacity d i now over = (plan : Plan) (s : State) → IsOnDevice plan i d → IsAt plan now s →
+    enabled plan s (Step i) ≡ true → is_over capacity plan s i ≡ over
+
+abbrev pub FailsOn : ℕ → ℕ → Standing → Type 0
+FailsOn d i now = (plan : Plan) (s : State) → IsOnDevice plan i d → IsAt plan now s →
+    enabled plan s (Step i) ≡ true → step plan (fill_from now) s (Step i) ≡ None
+
+-- why an action is not done: for want of memory, for want of room, or it fails
+abbrev pub IsStepFault : ℕ → ℕ → ℕ → Standing → RunFault → Type 0
+IsStepFault capacity d i now fault.OutOfMemory = Unit {0}
+IsStepFault capacity d i now fault.DeviceFull = HasRoomAt capacity d i now true
+IsStepFault capacity d i now fault.Absent = HasRoomAt capacity d i now false × FailsOn d i now
+IsStepFault capacity d i now fault.Stranger = ⊥
+IsStepFault capacity d i now fault.ThreadNotStarted = ⊥
+IsStepFault capacity d i now fault.OtherState = ⊥
+IsStepFault capacity d i now fault.RangeRefused = ⊥
+
+-- an entry was counted
+abbrev pub HasCounted : Action → Standing → Standing → Type 0
+HasCounted (action.Enter item) old new = new ≡ record old { entered = old.entered + 1 }
+HasCounted _ old new = new ≡ old
+
+-- a state is shown in which the item's next action may happen
+pub record IsShown (d i : ℕ) (now : Standing) : Type 0 where
+  pub plan : Plan
+  pub state : State
+  pub device : IsOnDevice plan i d
+  pub at : IsAt plan now state
+  pub may : enabled plan state (Step i) ≡ true
+
+-- an action was done on the host memory and a device, and gave this
+pub record ActsOn (d : ℕ) (on_host : Bool) (a : Action) (r : Given) (old : Devices) (host : Arrays) (new : Devices)
+    (host' : Arrays) : Type 0 where
+  pub after : Table
+  pub becomes : Becomes d old new after
+  pub acts : Acts on_host a r becomes.before host after host'
+  pub lengths : lengths_of host' ≡ lengths_of host

@@ -70,8 +70,7 @@ impl<'p> Control<'p> {
 
     /// The action that comes next, or none where nothing is left.
     pub fn next(&self) -> Option<Action>
-        requires { IsStopped self.now }
-        ensures { IsNext self.now result }
+        ensures { IsStopped self.now → IsNext self.now result }
     {
         let number = self.number;
         match self.frames.top()? {

@@ -17,5 +17,6 @@ mod closing;
 mod open;
 mod opening;
 mod standing;
+mod stepping;
 mod take;
 mod turns;

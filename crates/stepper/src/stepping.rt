@@ -1,0 +1,116 @@
+// A single action of an open item in a run.
+
+ghost use Rattle.std.specs.Prelude.{◌≡◌, ◌<◌, ℕ, false, true, IfErr, IfOk, OnOk, length, slice_get};
+ghost use Rattle.device.specs.Devices.{AreKept, HaveRoom, OnTable};
+ghost use Rattle.stepper.specs.Acting.{CountsOn, FitsIn, InHost, IsActFault, answer_of};
+ghost use Rattle.stepper.specs.Control.{Answers, HasSection, IsStopped};
+ghost use Rattle.stepper.specs.Standing.{ActsOn, FollowsOn, HasCounted, HasRoomAt, IsActing, IsAtRest, IsReady, IsShown, IsStepFault};
+
+use crate::act::act;
+use crate::action::{Action, Given};
+use crate::control::Control;
+use crate::standing::{Slot, Standing};
+use base::fault::RunFault;
+use base::memory::Memory;
+use base::tree::DeviceId;
+use device::Devices;
+use std::alloc::AllocError;
+use std::mem::replace;
+
+// Does an action on the host memory and a device.
+fn act_on(
+    devices: &mut Devices,
+    host: &mut Memory,
+    device: DeviceId,
+    on_host: bool,
+    action: Action,
+) -> Result<Given, RunFault>
+    requires section { HasSection action }
+    requires inside { InHost action host.old }
+    requires counts { OnTable devices.old device.number (CountsOn action) }
+    ensures done { IfOk result (λ r. ActsOn device.number on_host action r devices.old host.old devices.new host.new) }
+    ensures room { OnOk result (OnTable devices.old device.number (FitsIn action)) }
+    ensures fault { IfErr result (λ f. OnTable devices.old device.number (λ t. IsActFault on_host action t host.old f)) }
+    ensures kept { AreKept devices.old devices.new }
+{
+    act(
+        &mut devices.tables[device.number as usize],
+        host,
+        on_host,
+        action,
+    )
+}
+
+impl<'p> Standing<'p> {
+    /// Whether an item is open and an action comes next for it.
+    pub fn is_acting(&self, item: u32) -> bool
+        ensures acting { result ≡ true → IsActing (slice_get self.now.slots.items item) }
+        ensures rest { result ≡ false → IsAtRest (slice_get self.now.slots.items item) }
+    {
+        match self.slots.get(item as usize) {
+            Some(Slot::Opened(control)) => control.next().is_some(),
+            _ => false,
+        }
+    }
+
+    // An entry is counted before it is done.
+    fn count(&mut self, action: Action) -> Result<(), RunFault>
+        ensures counted { OnOk result (HasCounted action self.old self.new) }
+        ensures fault { IfErr result (λ f. f ≡ RunFault.OutOfMemory) }
+    {
+        if let Action::Enter(_) = action {
+            if self.entered == u64::MAX {
+                return Err(RunFault::OutOfMemory);
+            }
+            self.entered += 1;
+        }
+        Ok(())
+    }
+
+    /// Does the next action of an open item on the host memory and its device. The error is `DeviceFull` where an entry
+    /// would create more cells than the device has room for, `Absent` where the action fails, or `OutOfMemory`.
+    pub fn step(&mut self, device: DeviceId, item: u32) -> Result<(), RunFault>
+        requires inside { item < length self.old.slots.items }
+        requires ready { IsReady (slice_get self.old.slots.items item) }
+        requires acting { IsActing (slice_get self.old.slots.items item) }
+        requires going { self.old.ended ≡ false }
+        requires shown { IsShown device.number item self.old }
+        ensures stepped { OnOk result (FollowsOn device.number item self.old self.new) }
+        ensures room { (capacity : ℕ) → HaveRoom self.old.devices capacity → OnOk result (HasRoomAt capacity device.number item self.old false) }
+        ensures fault { (capacity : ℕ) → HaveRoom self.old.devices capacity → IfErr result (IsStepFault capacity device.number item self.old) }
+        ensures kept { AreKept self.old.devices self.new.devices }
+    {
+        let slot = replace(&mut self.slots[item as usize], Slot::Nothing);
+        let Slot::Opened(mut control) = slot else {
+            unreachable!()
+        };
+        let Some(action) = control.next() else {
+            unreachable!()
+        };
+        self.count(action)?;
+        let given = act_on(
+            &mut self.devices,
+            &mut self.host,
+            device,
+            control.on_host,
+            action,
+        )?;
+        match proceed(&mut control, given) {
+            Ok(()) => {
+                self.slots[item as usize] = Slot::Opened(control);
+                Ok(())
+            }
+            Err(_) => Err(RunFault::OutOfMemory),
+        }
+    }
+}
+
+// An action is answered, and what comes before the next one is done.
+fn proceed(control: &mut Control<'_>, given: Given) -> Result<(), AllocError>
+    requires { IsStopped control.old }
+    ensures answered { OnOk result (Answers (answer_of given) control.old control.new) }
+    ensures stopped { OnOk result (IsStopped control.new) }
+{
+    control.answer(given)?;
+    control.advance()
+}
