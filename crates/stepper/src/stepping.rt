@@ -1,8 +1,8 @@
 // A single action of an open item in a run.
 
-ghost use Rattle.std.specs.Prelude.{◌≡◌, ◌<◌, ℕ, false, true, IfErr, IfOk, OnOk, length, slice_get};
+ghost use Rattle.std.specs.Prelude.{◌≡◌, ◌+◌, ◌<◌, ◌^◌, ℕ, false, true, IfErr, IfOk, OnOk, length, slice_get};
 ghost use Rattle.device.specs.Devices.{AreKept, HaveRoom, OnTable};
-ghost use Rattle.stepper.specs.Acting.{CountsOn, FitsIn, InHost, IsActFault, answer_of};
+ghost use Rattle.stepper.specs.Acting.{CountsOn, FitsIn, InHost, IsActFault, OnEntry, answer_of};
 ghost use Rattle.stepper.specs.Control.{Answers, HasSection, IsStopped};
 ghost use Rattle.stepper.specs.Standing.{ActsOn, FollowsOn, HasCounted, HasRoomAt, IsActing, IsAtRest, IsReady, IsShown, IsStepFault};
 
@@ -56,6 +56,7 @@ impl<'p> Standing<'p> {
     // An entry is counted before it is done.
     fn count(&mut self, action: Action) -> Result<(), RunFault>
         ensures counted { OnOk result (HasCounted action self.old self.new) }
+        ensures fits { OnOk result (OnEntry action (λ item. self.old.entered + 1 < 2 ^ 64)) }
         ensures fault { IfErr result (λ f. f ≡ RunFault.OutOfMemory) }
     {
         if let Action::Enter(_) = action {
