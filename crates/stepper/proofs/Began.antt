@@ -45,9 +45,9 @@ pub begun : {E : Type 0} {f : Frame} {b e' : Expr} (r : Result ℕ E) (l : Leads
 begun {E} {f} {b} {e'} r l e a loops scalars old mid new is a_is mid_is h =
     IfOk-weaker r _ _
     (λ first begins.
-      subst (λ x. BeginsExpr x loops scalars old first new) (sym is)
-      (began l loops scalars old mid new first mid_is
-      (subst (λ x. BeginsExpr x loops scalars mid first new) a_is begins))) h
+    subst (λ x. BeginsExpr x loops scalars old first new) (sym is)
+    (began l loops scalars old mid new first mid_is
+    (subst (λ x. BeginsExpr x loops scalars mid first new) a_is begins))) h
 
 pub leads_Cell : (array : ArrayId) (place : Place) (b : Box Expr Global) → Leads (frame.Load array) b.value (Cell array place b)
 unfolding rest_of

@@ -34,7 +34,7 @@ unfolding weight
 pending_of c f frames None is p quiet = absurd (grind (arith, begins_with (stack_of c) f is, p.0))
 pending_of c f frames (Some g) is p quiet =
     let e : stack_of c ≡ f ∷ frames_of frames =
-        p ∙ ap (λ h. h ∷ frames_of frames) (grind (arith, begins_with (stack_of c) f is, p)) in record {
+    p ∙ ap (λ h. h ∷ frames_of frames) (grind (arith, begins_with (stack_of c) f is, p)) in record {
       quiet = quiet;
       left = ap (λ fs. left_with fs c) (sym e);
       weight = ap weight e;

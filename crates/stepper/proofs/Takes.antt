@@ -157,8 +157,10 @@ takes_choose f first second all c frames is at past frames_is = chosen c.number 
   where
     k : Run → Left
     k t = rest_of (side_of c.on_host) (stack_of c) c.loops.items 0 t
+
     begun : (n : ℕ) → left_of (record c { frames = frames }) ≡ list_left all.now (side_of c.on_host) c.loops.items (run_of c) k
     begun n = ap (λ fs. rest_of (side_of c.on_host) fs c.loops.items c.number (run_of c)) frames_is
+
     chosen : (n : ℕ) → c.number ≡ n → Takes f c (record c { frames = frames })
     chosen zero e =
         subst (λ g. Takes g c (record c { frames = frames })) (sym is) (record {
@@ -271,7 +273,7 @@ takes_turn turns later body c frames loops left_is next_is step_is loops_is fram
     let front = front_of c.loops.items in
     let k = λ (t : Run) (ls : List ℕ). rest_of side (stack_of c) ls 0 t in
     let whole = λ (n v step : ℕ) (ys : List Stmt) (ls : List ℕ) (s : Run).
-        turns_left n v step (λ v. list_left ys side (ls ++ v ∷ [])) s (λ t. k t ls) in record {
+    turns_left n v step (λ v. list_left ys side (ls ++ v ∷ [])) s (λ t. k t ls) in record {
       left =
           ap (λ fs. rest_of side fs loops.items c.number (run_of c)) frames_is
           ∙ ap (λ ls. list_left body.now side ls (run_of c)
@@ -281,13 +283,17 @@ takes_turn turns later body c frames loops left_is next_is step_is loops_is fram
           ∙ ap (λ n. whole n turns.next turns.step body.now front (run_of c)) (suc_is later.left ∙ left_is)
           ∙ ap (λ ys. whole turns.left turns.next turns.step ys front (run_of c)) (sym is);
       weight =
-          grind (arith, ap weight frames_is,
-          ap (λ n. n * (2 + list_weight body.now)) (sym left_is) ∙ more later.left (2 + list_weight body.now),
-          ap (λ ys. turns.left * (2 + list_weight ys)) is);
+          grind (
+            arith,
+            ap weight frames_is,
+            ap (λ n. n * (2 + list_weight body.now)) (sym left_is) ∙ more later.left (2 + list_weight body.now),
+            ap (λ ys. turns.left * (2 + list_weight ys)) is,
+          );
     }
   where
     suc_is : (n : ℕ) → suc n ≡ n + 1
     suc_is n = omega arith
+
     more : (n m : ℕ) → (n + 1) * m ≡ n * m + m
     more n m = omega arith
 

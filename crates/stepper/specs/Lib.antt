@@ -5,3 +5,4 @@ pub mod Control
 pub mod Acting
 pub mod Opening
 pub mod Standing
+pub mod Answering

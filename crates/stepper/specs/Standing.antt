@@ -174,7 +174,7 @@ abbrev pub is_over : ℕ → Plan → State → ℕ → Bool
 is_over capacity plan s i = elim (asked (s.condition i)) [
   | None ↦ false
   | Some request ↦
-    let blocks = (s.memories.devices (device_of plan i)).blocks in nat_lt capacity (in_use blocks + needs request blocks)
+      let blocks = (s.memories.devices (device_of plan i)).blocks in nat_lt capacity (in_use blocks + needs request blocks)
 ]
 
 abbrev pub FollowsOn : ℕ → ℕ → Standing → Standing → Type 0

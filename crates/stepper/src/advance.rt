@@ -74,12 +74,21 @@ impl<'p> Control<'p> {
     {
         let number = self.number;
         match self.frames.top()? {
-            Frame::Load(array) => Some(Action::Load(Cell { array, index: number })),
+            Frame::Load(array) => Some(Action::Load(Cell {
+                array,
+                index: number,
+            })),
             Frame::Store(array, index) => Some(Action::Store(Cell { array, index }, number)),
             Frame::Entries(maps) => Some(Action::Enter(*maps.items.first()?)),
             Frame::Exits(maps) => Some(Action::Leave(*maps.items.first()?)),
-            Frame::CopyIn(cells) => Some(Action::CopyIn(Cell { array: cells.array, index: cells.first })),
-            Frame::CopyOut(cells) => Some(Action::CopyOut(Cell { array: cells.array, index: cells.first })),
+            Frame::CopyIn(cells) => Some(Action::CopyIn(Cell {
+                array: cells.array,
+                index: cells.first,
+            })),
+            Frame::CopyOut(cells) => Some(Action::CopyOut(Cell {
+                array: cells.array,
+                index: cells.first,
+            })),
             Frame::Remove(held) => Some(Action::Remove(held.section)),
             _ => None,
         }

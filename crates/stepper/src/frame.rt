@@ -3,7 +3,8 @@
 use crate::maps::{Held, Maps};
 use crate::turns::{Cells, Turns};
 use base::tree::{
-    ArrayId, BinaryOp, DivideOp, Divisor, Expr, ScalarId, ShiftCount, ShiftOp, Source, Stmt, UnaryOp,
+    ArrayId, BinaryOp, DivideOp, Divisor, Expr, ScalarId, ShiftCount, ShiftOp, Source, Stmt,
+    UnaryOp,
 };
 
 /// A part of what is left of an open item. Those of an expression take the number at hand.

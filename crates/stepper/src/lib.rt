@@ -1,21 +1,21 @@
 //! The fine-grained machine by choices: each load, each store, each copied cell and each action on a table by itself.
 #![tactic(auto)]
 
-
-
-
+pub use crate::run::run_fine;
 
 mod act;
 mod action;
 mod advance;
 mod begin;
+mod choosing;
+mod closing;
 mod control;
 mod frame;
 mod frames;
 mod maps;
-mod closing;
 mod open;
 mod opening;
+mod run;
 mod standing;
 mod stepping;
 mod take;

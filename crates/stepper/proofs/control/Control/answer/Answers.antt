@@ -14,38 +14,38 @@ returns-in-Entries c =
     let is = c.in-Some.ensures ∙ ap (λ f. f ∷ frames_of c.pop.new.self) c.in-Entries.is in
     on_ok_weaker c.entered.result
     (λ a.
-      at_part (frame.Entries c.in-Entries.maps) c.args.self.now c.entered.new.self (frames_of c.pop.new.self) _ is
-      (answers_entries c.in-Entries.maps c.args.self.now c.entered.new.self c.pop.new.self _ _ _
-      (acts_first (frame.Entries c.in-Entries.maps) c.args.self.now _ is c.requires) a)) c.entered.ensures
+    at_part (frame.Entries c.in-Entries.maps) c.args.self.now c.entered.new.self (frames_of c.pop.new.self) _ is
+    (answers_entries c.in-Entries.maps c.args.self.now c.entered.new.self c.pop.new.self _ _ _
+    (acts_first (frame.Entries c.in-Entries.maps) c.args.self.now _ is c.requires) a)) c.entered.ensures
 
 pub returns-in-Exits : goal.returns-in-Exits
 returns-in-Exits c =
     let is = c.in-Some.ensures ∙ ap (λ f. f ∷ frames_of c.pop.new.self) c.in-Exits.is in
     on_ok_weaker c.left.result
     (λ a.
-      at_part (frame.Exits c.in-Exits.maps) c.args.self.now c.left.new.self (frames_of c.pop.new.self) _ is
-      (answers_exits c.in-Exits.maps c.args.self.now c.left.new.self c.pop.new.self _ _ _
-      (acts_first (frame.Exits c.in-Exits.maps) c.args.self.now _ is c.requires) a)) c.left.ensures
+    at_part (frame.Exits c.in-Exits.maps) c.args.self.now c.left.new.self (frames_of c.pop.new.self) _ is
+    (answers_exits c.in-Exits.maps c.args.self.now c.left.new.self c.pop.new.self _ _ _
+    (acts_first (frame.Exits c.in-Exits.maps) c.args.self.now _ is c.requires) a)) c.left.ensures
 
 pub returns-in-CopyIn : goal.returns-in-CopyIn
 returns-in-CopyIn c =
     let is = c.in-Some.ensures ∙ ap (λ f. f ∷ frames_of c.pop.new.self) c.in-CopyIn.is in
     on_ok_weaker c.push.result
     (λ pushed.
-      at_part (frame.CopyIn c.in-CopyIn.cells) c.args.self.now
-      (record (c.args.self.now) { frames = c.push.new.self; number = 0 }) (frames_of c.pop.new.self) _ is
-      (answers_copy_in c.in-CopyIn.cells c.after_first.result c.args.self.now (frames_of c.pop.new.self) c.push.new.self _
-      c.after_first.ensures.array c.after_first.ensures.first c.after_first.ensures.count pushed)) c.push.ensures.pushed
+    at_part (frame.CopyIn c.in-CopyIn.cells) c.args.self.now
+    (record (c.args.self.now) { frames = c.push.new.self; number = 0 }) (frames_of c.pop.new.self) _ is
+    (answers_copy_in c.in-CopyIn.cells c.after_first.result c.args.self.now (frames_of c.pop.new.self) c.push.new.self _
+    c.after_first.ensures.array c.after_first.ensures.first c.after_first.ensures.count pushed)) c.push.ensures.pushed
 
 pub returns-in-CopyOut : goal.returns-in-CopyOut
 returns-in-CopyOut c =
     let is = c.in-Some.ensures ∙ ap (λ f. f ∷ frames_of c.pop.new.self) c.in-CopyOut.is in
     on_ok_weaker c.push-in-CopyOut.result
     (λ pushed.
-      at_part (frame.CopyOut c.in-CopyOut.cells) c.args.self.now
-      (record (c.args.self.now) { frames = c.push-in-CopyOut.new.self; number = 0 }) (frames_of c.pop.new.self) _ is
-      (answers_copy_out c.in-CopyOut.cells c.after_first-in-CopyOut.result c.args.self.now (frames_of c.pop.new.self) c.push-in-CopyOut.new.self _
-      c.after_first-in-CopyOut.ensures.array c.after_first-in-CopyOut.ensures.first c.after_first-in-CopyOut.ensures.count pushed)) c.push-in-CopyOut.ensures.pushed
+    at_part (frame.CopyOut c.in-CopyOut.cells) c.args.self.now
+    (record (c.args.self.now) { frames = c.push-in-CopyOut.new.self; number = 0 }) (frames_of c.pop.new.self) _ is
+    (answers_copy_out c.in-CopyOut.cells c.after_first-in-CopyOut.result c.args.self.now (frames_of c.pop.new.self) c.push-in-CopyOut.new.self _
+    c.after_first-in-CopyOut.ensures.array c.after_first-in-CopyOut.ensures.first c.after_first-in-CopyOut.ensures.count pushed)) c.push-in-CopyOut.ensures.pushed
 
 pub returns-in-Load : goal.returns-in-Load
 returns-in-Load c =

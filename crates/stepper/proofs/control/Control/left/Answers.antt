@@ -12,11 +12,11 @@ returns c =
     c.copy_out.new.self [] c.in-Some.ensures.some.items
     (elim c.if-removes.branch [
       | then-removes+in_ok-push-2 w ↦
-        ap left_of w.self-is
-            ∙ removal_next c.in-Some.rest _ c.args.self.now w.push-then-removes.new.self c.push.new.self c.args.removes
-            w.if-removes.true c.requires c.in_ok-push.ensures.pushed w.in_ok-push-2.ensures.pushed
+          ap left_of w.self-is
+          ∙ removal_next c.in-Some.rest _ c.args.self.now w.push-then-removes.new.self c.push.new.self c.args.removes
+          w.if-removes.true c.requires c.in_ok-push.ensures.pushed w.in_ok-push-2.ensures.pushed
       | else-removes w ↦
-        ap left_of w.self-is
-            ∙ exits_next c.in-Some.rest c.args.self.now c.push.new.self c.args.removes _ w.if-removes.false
-            c.in_ok-push.ensures.pushed
+          ap left_of w.self-is
+          ∙ exits_next c.in-Some.rest c.args.self.now c.push.new.self c.args.removes _ w.if-removes.false
+          c.in_ok-push.ensures.pushed
     ])) c.copy_out.ensures

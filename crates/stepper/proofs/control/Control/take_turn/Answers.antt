@@ -12,7 +12,7 @@ pub returns : goal.returns
 returns c =
     on_ok_weaker c.push-3.result
     (λ pushed.
-      takes_turn c.args.turns c.after.result c.args.body c.args.self.now c.push-3.new.self c.push.new.self c.after.ensures.left
-      c.after.ensures.next c.after.ensures.step
-      (c.in_ok-push.ensures.items ∙ ap (λ xs. xs ++ c.args.turns.next ∷ []) c.leave_loop.ensures)
-      (pushed ∙ ap (λ fs. frame.Rest c.args.body ∷ fs) c.in_ok-push-2.ensures.pushed)) c.push-3.ensures.pushed
+    takes_turn c.args.turns c.after.result c.args.body c.args.self.now c.push-3.new.self c.push.new.self c.after.ensures.left
+    c.after.ensures.next c.after.ensures.step
+    (c.in_ok-push.ensures.items ∙ ap (λ xs. xs ++ c.args.turns.next ∷ []) c.leave_loop.ensures)
+    (pushed ∙ ap (λ fs. frame.Rest c.args.body ∷ fs) c.in_ok-push-2.ensures.pushed)) c.push-3.ensures.pushed
