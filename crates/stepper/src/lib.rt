@@ -7,6 +7,7 @@ mod act;
 mod action;
 mod advance;
 mod begin;
+mod beginning;
 mod choosing;
 mod closing;
 mod control;
