@@ -7,3 +7,9 @@ mod Nexts
 mod Answered
 mod HostCells
 mod SingleActs
+mod Puts
+mod Parts
+mod RegionInside
+mod StaysInside
+mod Inside
+mod Opened
