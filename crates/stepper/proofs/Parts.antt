@@ -39,7 +39,7 @@ whole part old new none put side loops s =
 pub put_part : (k : ItemKind) (part : Side → List ℕ → Run → (Run → Left) → Left) (it : Item) (r : Option Region) (t : Table)
     (old new : List Frame) → it.kind ≡ k → old ≡ [] → Puts part old new →
     ((w : Work) (blocks : List Block) (s : Run) → item_left (work_of it r k w) blocks s
-        ≡ Some (part (side_of (is_host k)) it.loops.values.items s Finished)) →
+    ≡ Some (part (side_of (is_host k)) it.loops.values.items s Finished)) →
     IsPut it r t true new
 put_part k part it r t old new is none put same w d s work shown =
     as_is it r k w d.blocks s is work ∙ same w d.blocks s

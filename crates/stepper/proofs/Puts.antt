@@ -21,7 +21,7 @@ use Rattle.stepper.specs.Opening.{IsRegion, Puts, PutsMaps, Updates, UpdatesAll,
 -- a part that goes on as said is put before the others
 put_cells : (ask : Cell → Request) (f : Frame) (copies : Bool) (cells : Cells) (s : Section) (old new : List Frame) →
     ((side : Side) (loops : List ℕ) (t : Run) → rest_of side (f ∷ old) loops 0 t
-        ≡ cells_left ask cells.array cells.first cells.count (λ u. rest_of side old loops 0 t)) →
+    ≡ cells_left ask cells.array cells.first cells.count (λ u. rest_of side old loops 0 t)) →
     copies ≡ true → cells.array ≡ s.array → cells.first ≡ s.first → cells.count ≡ s.length → new ≡ f ∷ old →
     PutsMaps (left_if copies (section_left ask s)) old new
 put_cells ask f copies cells s old new goes said array_is first_is count_is new_is side loops t =

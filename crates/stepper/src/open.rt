@@ -72,7 +72,8 @@ fn cells_of(section: &Section) -> Cells
 // The cells of a section are copied to the device, if so told, before the others.
 fn put_in(frames: &mut Frames<'_>, copies: bool, section: &Section) -> Result<(), AllocError>
     requires { IsSection section.now }
-    ensures { OnOk result (PutsMaps (left.left_if copies (left.section_left left.CopyIn section.now)) (frames_of frames.old) (frames_of frames.new)) }
+    ensures { OnOk result (PutsMaps (left.left_if copies (left.section_left left.CopyIn section.now))
+        (frames_of frames.old) (frames_of frames.new)) }
 {
     if copies {
         frames.push(Frame::CopyIn(cells_of(section)))?;
@@ -83,7 +84,8 @@ fn put_in(frames: &mut Frames<'_>, copies: bool, section: &Section) -> Result<()
 // The cells of a section are copied to the host, if so told, before the others.
 fn put_out(frames: &mut Frames<'_>, copies: bool, section: &Section) -> Result<(), AllocError>
     requires { IsSection section.now }
-    ensures { OnOk result (PutsMaps (left.left_if copies (left.section_left left.CopyOut section.now)) (frames_of frames.old) (frames_of frames.new)) }
+    ensures { OnOk result (PutsMaps (left.left_if copies (left.section_left left.CopyOut section.now))
+        (frames_of frames.old) (frames_of frames.new)) }
 {
     if copies {
         frames.push(Frame::CopyOut(cells_of(section)))?;
@@ -103,7 +105,8 @@ fn put_copies(frames: &mut Frames<'_>, item: &MapItem) -> Result<(), AllocError>
 // A section of an update comes before those after it. The answer is false where the update fails.
 fn put_update(frames: &mut Frames<'_>, table: &Table, item: &MapItem) -> Result<bool, AllocError>
     requires { IsSection item.now.section }
-    ensures { IfOk result (λ done. UpdatesOne table.now item.now done (frames_of frames.old) (frames_of frames.new)) }
+    ensures { IfOk result (λ done. UpdatesOne table.now item.now done
+        (frames_of frames.old) (frames_of frames.new)) }
 {
     match table.presence(&item.section) {
         Presence::Absent => Ok(!item.present),
@@ -118,7 +121,8 @@ fn put_update(frames: &mut Frames<'_>, table: &Table, item: &MapItem) -> Result<
 // The sections of an update come before the others. The answer is false where the update fails.
 fn put_updates(frames: &mut Frames<'_>, table: &Table, maps: &[MapItem]) -> Result<bool, AllocError>
     requires { AreSections maps.now }
-    ensures { IfOk result (λ done. UpdatesAll table.now maps.now done (frames_of frames.old) (frames_of frames.new)) }
+    ensures { IfOk result (λ done. UpdatesAll table.now maps.now done
+        (frames_of frames.old) (frames_of frames.new)) }
 {
     let mut first = maps.len();
     'sections: while first > 0 {
@@ -142,7 +146,7 @@ fn put_region<'p>(frames: &mut Frames<'p>, region: Option<&'p Region>) -> Result
 }
 
 // The parts of an item, of which there are none yet. The answer is false where an update fails.
-fn put<'p>(
+fn put_parts<'p>(
     frames: &mut Frames<'p>,
     it: &'p Item,
     region: Option<&'p Region>,
@@ -214,7 +218,7 @@ pub fn open<'p>(
     ensures inside { IfOk result (λ o. (c : Control) (lengths : List ℕ) → o ≡ Some c → InArrays lengths it.now.maps.items → StaysInside lengths (left_of c)) }
 {
     let mut frames = Frames::new(alloc);
-    if !put(&mut frames, it, region, table)? {
+    if !put_parts(&mut frames, it, region, table)? {
         return Ok(None);
     }
     let mut control = begun(alloc, it, frames, scalars, input)?;

@@ -1,6 +1,6 @@
 use Rattle.std.proofs.lemmas.Result.{IfOk-weaker}
 use Rattle.stepper.proofs.Parts.{put_host, put_target, put_begin, put_enter, put_end, put_exit, put_wait, put_update, puts_entries, puts_exits}
-use Rattle.stepper.proofs.open.put.Goals as goal
+use Rattle.stepper.proofs.open.put_parts.Goals as goal
 
 pub returns-in_ok-put_region-in-Host : goal.returns-in_ok-put_region-in-Host
 returns-in_ok-put_region-in-Host c r is =
