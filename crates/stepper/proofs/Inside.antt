@@ -1,6 +1,5 @@
 -- An action that comes next stays inside, and so does what follows from its answer.
 use Rattle.std.proofs.Common.{List, ℕ}
-use Rattle.base.specs.Meaning.{Run}
 use Rattle.fine_machine.specs.Left.{Answer, Asks, Finished, Left, Request}
 use Rattle.stepper.specs.Opening.{Goes, IsDone, IsInside, StaysInside}
 

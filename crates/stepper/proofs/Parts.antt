@@ -1,5 +1,5 @@
 -- The parts that stand for an item.
-use Rattle.std.proofs.Common.{◌≡◌, ◌∷◌, [], List, Option, Some, None, Bool, true, false, refl, ap, sym, ◌∙◌, subst, ℕ}
+use Rattle.std.proofs.Common.{◌≡◌, ◌∷◌, [], List, Option, Some, Bool, true, false, refl, ap, sym, ◌∙◌, ℕ}
 use Rattle.std.specs.Prelude.{option_map}
 use Rattle.base.specs.declared.item.Item.{Item}
 use Rattle.base.specs.declared.item.ItemKind.{ItemKind}
@@ -23,10 +23,13 @@ use Rattle.stepper.proofs.Puts.{puts_both}
 abbrev pub work_of : Item → Option Region → ItemKind → Work → Work
 work_of it r k w = record w { kind = k; maps = it.maps.items; region = r; loops = it.loops.values.items }
 
-as_is : (it : Item) (r : Option Region) (k : ItemKind) (w : Work) (blocks : List Block) (s : Run) → it.kind ≡ k → IsWork it r w →
+as_is : (it : Item) (r : Option Region) (k : ItemKind) (w : Work) (blocks : List Block) (s : Run) →
+    it.kind ≡ k → IsWork it r w →
     item_left w blocks s ≡ item_left (work_of it r k w) blocks s
 as_is it r k w blocks s is work =
-    λ i. item_left (record w { kind = (work.kind ∙ is) i; maps = work.maps i; region = work.region i; loops = work.loops i }) blocks s
+    λ i. item_left
+    (record w { kind = (work.kind ∙ is) i; maps = work.maps i; region = work.region i; loops = work.loops i })
+    blocks s
 
 -- a part before nothing
 whole : (part : Side → List ℕ → Run → (Run → Left) → Left) (old new : List Frame) → old ≡ [] → Puts part old new →
@@ -36,8 +39,8 @@ whole part old new none put side loops s =
     sym (put side loops s ∙ ap (λ fs. part side loops s (λ t. rest_of side fs loops 0 t)) none)
 
 -- a part that is an item
-pub put_part : (k : ItemKind) (part : Side → List ℕ → Run → (Run → Left) → Left) (it : Item) (r : Option Region) (t : Table)
-    (old new : List Frame) → it.kind ≡ k → old ≡ [] → Puts part old new →
+pub put_part : (k : ItemKind) (part : Side → List ℕ → Run → (Run → Left) → Left) (it : Item) (r : Option Region)
+    (t : Table) (old new : List Frame) → it.kind ≡ k → old ≡ [] → Puts part old new →
     ((w : Work) (blocks : List Block) (s : Run) → item_left (work_of it r k w) blocks s
     ≡ Some (part (side_of (is_host k)) it.loops.values.items s Finished)) →
     IsPut it r t true new
@@ -68,7 +71,8 @@ module _ (it : Item) (r : Option Region) (t : Table) where
   abbrev exits : Side → List ℕ → Run → (Run → Left) → Left
   exits side loops s k = each_left exit_left it.maps.items (λ u. k s)
 
-  pub put_host : (old new : List Frame) → it.kind ≡ kind.Host → old ≡ [] → Puts (region_left r) old new → IsPut it r t true new
+  pub put_host : (old new : List Frame) → it.kind ≡ kind.Host → old ≡ [] → Puts (region_left r) old new →
+      IsPut it r t true new
   put_host old new is none put =
       put_part kind.Host (region_left r) it r t old new is none put (λ w blocks s. refl)
 
@@ -101,13 +105,15 @@ module _ (it : Item) (r : Option Region) (t : Table) where
 
   pub put_wait : (frames : List Frame) → it.kind ≡ kind.Wait → frames ≡ [] → IsPut it r t true frames
   put_wait frames is none =
-      put_part kind.Wait (λ side loops s k. k s) it r t frames frames is none (λ side loops s. refl) (λ w blocks s. refl)
+      put_part kind.Wait (λ side loops s k. k s) it r t frames frames is none (λ side loops s. refl)
+      (λ w blocks s. refl)
 
   pub put_update : (items : List MapItem) (done : Bool) (old new : List Frame) → it.kind ≡ kind.Update → old ≡ [] →
       items ≡ it.maps.items → UpdatesAll t items done old new → IsPut it r t done new
   put_update items true old new is none items_is all = λ w d s work shown.
       let u = all d shown in
-      let part = λ (side : Side) (loops : List ℕ) (s : Run) (k : Run → Left). each_left update_left u.there (λ v. k s) in
+      let part = λ (side : Side) (loops : List ℕ) (s : Run) (k : Run → Left).
+      each_left update_left u.there (λ v. k s) in
       as_is it r kind.Update w d.blocks s is work
       ∙ ap (option_map (λ there. each_left update_left there (λ v. Finished s)))
       (ap (present_of d.blocks) (sym items_is) ∙ u.are)

@@ -1,5 +1,5 @@
 -- Parts that are put before others as an item is opened.
-use Rattle.std.proofs.Common.{◌≡◌, ℕ, zero, suc, ◌+◌, ◌≤◌, ◌∷◌, [], List, Option, Some, None, Bool, true, false, not, true≢false, Bor, refl, ap, sym, ◌∙◌, subst, arith, ◌<◌, length, drop, get_or, drop-cons}
+use Rattle.std.proofs.Common.{◌≡◌, ℕ, zero, suc, ◌+◌, ◌∷◌, [], List, Option, Some, None, Bool, true, false, Bor, refl, ap, sym, ◌∙◌, subst, arith, ◌<◌, length, drop, get_or, drop-cons}
 use Rattle.std.specs.Prelude.{option_map}
 use Rattle.base.specs.declared.item.Cell.{Cell}
 use Rattle.base.specs.declared.item.MapItem.{MapItem}
@@ -16,7 +16,7 @@ use Rattle.stepper.specs.declared.frame.Frame.{Frame}
 use Rattle.stepper.specs.declared.frame.Frame.TheVariants as frame
 use Rattle.stepper.specs.declared.turns.Cells.{Cells}
 use Rattle.stepper.specs.Rest.{rest_of}
-use Rattle.stepper.specs.Opening.{IsRegion, Puts, PutsMaps, Updates, UpdatesAll, UpdatesOne}
+use Rattle.stepper.specs.Opening.{IsRegion, Puts, PutsMaps, Updates, UpdatesOne}
 
 -- a part that goes on as said is put before the others
 put_cells : (ask : Cell → Request) (f : Frame) (copies : Bool) (cells : Cells) (s : Section) (old new : List Frame) →
@@ -42,7 +42,8 @@ unfolding rest_of
 puts_out copies cells s old new = put_cells CopyOut (frame.CopyOut cells) copies cells s old new (λ side loops t. refl)
 
 -- one part before another
-pub puts_both : (a b : Side → List ℕ → Run → (Run → Left) → Left) (old mid new : List Frame) → Puts a old mid → Puts b mid new →
+pub puts_both : (a b : Side → List ℕ → Run → (Run → Left) → Left) (old mid new : List Frame) →
+    Puts a old mid → Puts b mid new →
     Puts (λ side loops s k. b side loops s (λ t. a side loops t k)) old new
 puts_both a b old mid new p q side loops s = q side loops s ∙ ap (b side loops s) (λ i t. p side loops t i)
 
@@ -72,7 +73,8 @@ pub updates_inside : (t : Table) (item : MapItem) (mid new : List Frame) → IsP
 updates_inside t item mid new is put d rest old shown u = record {
   there = item ∷ u.there;
   are = present_inside item rest d.blocks (is d shown) ∙ ap (option_map (λ xs. item ∷ xs)) u.are;
-  left = puts_both (λ side loops s k. each_left update_left u.there (λ v. k s)) (λ side loops s k. update_left item (λ v. k s))
+  left = puts_both (λ side loops s k. each_left update_left u.there (λ v. k s))
+      (λ side loops s k. update_left item (λ v. k s))
       old mid new u.left put;
 }
 
@@ -81,7 +83,8 @@ none_more : (item : MapItem) (rest : List MapItem) (blocks : List Block) → pre
     present_of blocks (item ∷ rest) ≡ None
 none_more item rest blocks none = go (presence blocks item.section) refl item.present refl
   where
-    go : (p : Presence) → presence blocks item.section ≡ p → (b : Bool) → item.present ≡ b → present_of blocks (item ∷ rest) ≡ None
+    go : (p : Presence) → presence blocks item.section ≡ p → (b : Bool) → item.present ≡ b →
+        present_of blocks (item ∷ rest) ≡ None
     go Absent e true i = rw (e, i, present_of) refl
     go Absent e false i = rw (e, i, none, present_of) refl
     go (Inside b) e c i = rw (e, none, present_of) refl
@@ -105,7 +108,8 @@ From t items n old new = (d : Device) → Shows t d → Updates d.blocks (drop n
 
 -- where one fails, so do all
 pub from_none : (t : Table) (items : List MapItem) (n m : ℕ) (e : MapItem) (done : Bool) (mid new : List Frame) →
-    m + 1 ≡ n → m < length items → done ≡ false → UpdatesOne t (get_or items m e) done mid new → (d : Device) → Shows t d →
+    m + 1 ≡ n → m < length items → done ≡ false → UpdatesOne t (get_or items m e) done mid new →
+    (d : Device) → Shows t d →
     present_of d.blocks items ≡ None
 from_none t items n m e done mid new next within is one d shown =
     none_all m items d.blocks

@@ -22,7 +22,8 @@ module _ (lengths : List ℕ) where
   zero_or (suc m) x y p q = q
 
   -- a region asks for loads and stores alone
-  expr_inside : (e : Expr) (side : Side) (loops : List ℕ) (scalars : Scalars) (k : ℕ → Left) → ((n : ℕ) → Stays (k n)) →
+  expr_inside : (e : Expr) (side : Side) (loops : List ℕ) (scalars : Scalars) (k : ℕ → Left) →
+      ((n : ℕ) → Stays (k n)) →
       Stays (expr_left e side loops scalars k)
   expr_inside (Number n) side loops scalars k h = h (n % modulus)
   expr_inside (Scalar x) side loops scalars k h = h (scalars x.0)
@@ -92,7 +93,8 @@ module _ (lengths : List ℕ) where
     row_inside (more_of-Stmt first rest) side loops s k h =
         stmt_inside first side loops s (λ t. row_left rest side loops t k) (λ t. row_inside rest side loops t k h)
 
-  list_inside : (all : List Stmt) (side : Side) (loops : List ℕ) (s : Run) (k : Run → Left) → ((t : Run) → Stays (k t)) →
+  list_inside : (all : List Stmt) (side : Side) (loops : List ℕ) (s : Run) (k : Run → Left) →
+      ((t : Run) → Stays (k t)) →
       Stays (list_left all side loops s k)
   list_inside [] side loops s k h = h s
   list_inside (first ∷ rest) side loops s k h =

@@ -101,12 +101,16 @@ module _ (lengths : List ℕ) where
     where
       go : (p : Presence) → presence blocks item.section ≡ p → IfSome Within (present_of blocks rest) →
           IfSome Within (present_of blocks (item ∷ rest))
-      go Absent e h = rw (e, present_of) (cond_both item.present None (present_of blocks rest) (IfSome Within) (λ _. tt) (λ _. h))
+      go Absent e h =
+          rw (e, present_of)
+          (cond_both item.present None (present_of blocks rest) (IfSome Within) (λ _. tt) (λ _. h))
       go (Inside b) e h =
-          rw (e, present_of) (mapped Within Within (λ xs. item ∷ xs) (present_of blocks rest) (λ xs more. (are.0, more)) h)
+          rw (e, present_of)
+          (mapped Within Within (λ xs. item ∷ xs) (present_of blocks rest) (λ xs more. (are.0, more)) h)
       go InPart e h = rw (e, present_of) tt
 
-  item_inside : (w : Work) (blocks : List Block) (s : Run) → InArrays lengths w.maps → IfSome Stays (item_left w blocks s)
+  item_inside : (w : Work) (blocks : List Block) (s : Run) → InArrays lengths w.maps →
+      IfSome Stays (item_left w blocks s)
   item_inside w blocks s h = go w.kind refl
     where
       are : Within w.maps
@@ -131,8 +135,9 @@ module _ (lengths : List ℕ) where
       go kind.Exit e = rw (e, item_left) (exits (λ u. Finished s) (IsDone s))
       go kind.Update e =
           rw (e, item_left) (mapped Within Stays (λ present. each_left update_left present (λ u. Finished s))
-          (present_of blocks w.maps) (λ present more. each_inside update_left present (λ u. Finished s) update_inside more
-          (IsDone s)) (present_within blocks w.maps are))
+          (present_of blocks w.maps)
+          (λ present more. each_inside update_left present (λ u. Finished s) update_inside more (IsDone s))
+          (present_within blocks w.maps are))
       go kind.Wait e = rw (e, item_left) (IsDone s)
 
   -- what is left of an item that is opened

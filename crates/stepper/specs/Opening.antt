@@ -1,5 +1,5 @@
 -- What is left of an item when it is opened.
-use Rattle.std.specs.Prelude.{ℕ, ◌≡◌, ◌+◌, ◌≤◌, Bool, true, false, List, [], ◌∷◌, Option, Some, None, option_map, slice_get, slice_index}
+use Rattle.std.specs.Prelude.{ℕ, ◌≡◌, ◌≤◌, Bool, true, false, List, [], ◌∷◌, Option, Some, None, option_map, slice_get, slice_index}
 use Rattle.std.specs.Borrow.{Bor}
 use Rattle.base.specs.declared.item.Item.{Item}
 use Rattle.base.specs.declared.item.ItemKind.{ItemKind}
@@ -37,7 +37,8 @@ begun_with w scalars input =
     record { scalars = slice_index scalars; stores = []; input = input_of w.kind input; printed = [] }
 
 -- what is left of it is what the machine has on each device that the table shows, or it fails
-pub record IsOpened (it : Item) (r : Option Region) (scalars input : List ℕ) (t : Table) (o : Option Control) : Type 0 where
+pub record IsOpened (it : Item) (r : Option Region) (scalars input : List ℕ) (t : Table) (o : Option Control) :
+    Type 0 where
   pub left : (w : Work) (d : Device) → IsWork it r w → Shows t d →
       item_left w d.blocks (begun_with w scalars input) ≡ option_map left_of o
   pub stopped : (c : Control) → o ≡ Some c → IsStopped c

@@ -203,8 +203,9 @@ fn begun<'p>(
     })
 }
 
-/// What is left of an item that is opened, up to its first action; none where an update's section overlaps a block of its
-/// device in part, or is to be present and is absent. `table` is that of its device. The error comes for want of memory.
+/// What is left of an item that is opened, up to its first action; none where an update's section overlaps a block of
+/// its device in part, or is to be present and is absent. `table` is that of its device. The error comes for want of
+/// memory.
 pub fn open<'p>(
     alloc: Global,
     it: &'p Item,
@@ -214,8 +215,10 @@ pub fn open<'p>(
     table: &Table,
 ) -> Result<Option<Control<'p>>, AllocError>
     requires { AreSections it.now.maps.items }
-    ensures opened { (r : Option Region) → IsRegion region.entry r → IfOk result (IsOpened it.now r scalars.now input.now table.now) }
-    ensures inside { IfOk result (λ o. (c : Control) (lengths : List ℕ) → o ≡ Some c → InArrays lengths it.now.maps.items → StaysInside lengths (left_of c)) }
+    ensures opened { (r : Option Region) → IsRegion region.entry r →
+        IfOk result (IsOpened it.now r scalars.now input.now table.now) }
+    ensures inside { IfOk result (λ o. (c : Control) (lengths : List ℕ) → o ≡ Some c →
+        InArrays lengths it.now.maps.items → StaysInside lengths (left_of c)) }
 {
     let mut frames = Frames::new(alloc);
     if !put_parts(&mut frames, it, region, table)? {

@@ -4,7 +4,8 @@ use Rattle.stepper.proofs.open.put_parts.Goals as goal
 
 pub returns-in_ok-put_region-in-Host : goal.returns-in_ok-put_region-in-Host
 returns-in_ok-put_region-in-Host c r is =
-    put_host c.args.it.now r c.args.table.now _ _ c.in-Host.is c.requires.none (c.in_ok-put_region-in-Host.ensures r is)
+    put_host c.args.it.now r c.args.table.now _ _ c.in-Host.is c.requires.none
+    (c.in_ok-put_region-in-Host.ensures r is)
 
 pub returns-in_ok-push-in-Target-2 : goal.returns-in_ok-push-in-Target-2
 returns-in_ok-push-in-Target-2 c r is =
@@ -36,7 +37,10 @@ returns-in_ok-push-in-Exit c r is =
 pub returns-in-Update : goal.returns-in-Update
 returns-in-Update c r is =
     IfOk-weaker c.put_updates.result _ _
-    (λ done all. put_update c.args.it.now r c.args.table.now _ done _ _ c.in-Update.is c.requires.none c.deref-in-Update.ensures all) c.put_updates.ensures
+    (λ done all.
+    put_update c.args.it.now r c.args.table.now _ done _ _ c.in-Update.is c.requires.none
+    c.deref-in-Update.ensures all)
+    c.put_updates.ensures
 
 pub returns-in-Wait : goal.returns-in-Wait
 returns-in-Wait c r is = put_wait c.args.it.now r c.args.table.now _ c.in-Wait.is c.requires.none

@@ -1,5 +1,3 @@
-use Rattle.std.proofs.Common.{subst}
-use Rattle.present.specs.Table.{IsPresence}
 use Rattle.stepper.proofs.Puts.{updates_inside}
 use Rattle.stepper.proofs.open.put_update.Goals as goal
 
