@@ -43,12 +43,12 @@ pub record IsOpened (it : Item) (r : Option Region) (scalars input : List ℕ) (
       item_left w d.blocks (begun_with w scalars input) ≡ option_map left_of o
   pub stopped : (c : Control) → o ≡ Some c → IsStopped c
 
--- before the old parts stands one that goes on so
+-- a part with this meaning stands before the old parts
 abbrev pub Puts : (Side → List ℕ → Run → (Run → Left) → Left) → List Frame → List Frame → Type 0
 Puts part old new = (side : Side) (loops : List ℕ) (s : Run) →
     rest_of side new loops 0 s ≡ part side loops s (λ t. rest_of side old loops 0 t)
 
--- and it is none of a region
+-- likewise a part on map items, which leaves the run of the region as it is
 abbrev pub PutsMaps : ((Unit {0} → Left) → Left) → List Frame → List Frame → Type 0
 PutsMaps part old new = Puts (λ side loops s k. part (λ u. k s)) old new
 
@@ -70,6 +70,7 @@ abbrev pub UpdatesAll : Table → List MapItem → Bool → List Frame → List 
 UpdatesAll t items true old new = (d : Device) → Shows t d → Updates d.blocks items old new
 UpdatesAll t items false old new = (d : Device) → Shows t d → present_of d.blocks items ≡ None
 
+-- whether an item works on the host
 abbrev pub is_host : ItemKind → Bool
 is_host kind.Host = true
 is_host kind.Target = false
