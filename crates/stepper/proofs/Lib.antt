@@ -9,3 +9,9 @@ mod HostCells
 mod SingleActs
 mod Starting
 mod Sections
+mod Puts
+mod Parts
+mod RegionInside
+mod StaysInside
+mod Inside
+mod Opened
