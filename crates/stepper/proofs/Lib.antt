@@ -15,3 +15,5 @@ mod RegionInside
 mod StaysInside
 mod Inside
 mod Opened
+mod Shown
+mod Rows

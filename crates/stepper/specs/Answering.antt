@@ -1,5 +1,5 @@
 -- What a whole run by choices of the fine-grained machine answers.
-use Rattle.std.specs.Prelude.{ℕ, ◌≡◌, ◌<◌, ◌≤◌, ◌%◌, true, false, List, [], Option, Some, None, drop, length, slice_get}
+use Rattle.std.specs.Prelude.{ℕ, ◌≡◌, ◌<◌, ◌≤◌, ◌%◌, true, false, List, [], Option, Some, None, drop, length, slice_get, slice_index}
 use Rattle.base.specs.declared.fault.RunFault.{RunFault}
 use Rattle.base.specs.declared.fault.RunFault.TheVariants as fault
 use Rattle.base.specs.declared.fault.RangeFault.{RangeFault}
@@ -8,7 +8,11 @@ use Rattle.base.specs.declared.item.Event.{Event}
 use Rattle.base.specs.declared.item.Event.TheVariants.{Gen, Open, Step, Close, Wait, End}
 use Rattle.base.specs.declared.tree.Program.{Program}
 use Rattle.base.specs.Accepted.{IsAccepted, IsFault, Range}
-use Rattle.base.specs.Answer.{finals_in, marked_values}
+use Rattle.base.specs.declared.memory.Memory.{Memory as Arrays}
+use Rattle.base.specs.declared.tree.ArrayId.{ArrayId}
+use Rattle.base.specs.Answer.{array_values, finals_in, marked_values}
+use Rattle.base.specs.Arrays.{lengths_of, memory_of}
+use Rattle.mapcheck.specs.Third.{AreMarked}
 use Rattle.base.specs.Headline.{IsFill}
 use Rattle.base.specs.Items.{Plan, plan}
 use Rattle.base.specs.Machine.{first_or_zero}
@@ -101,3 +105,22 @@ IsFineFault p input choices capacity fault.Absent = IsFailed p input choices cap
 IsFineFault p input choices capacity fault.Stranger = ⊥
 IsFineFault p input choices capacity fault.ThreadNotStarted = ⊥
 IsFineFault p input choices capacity fault.OtherState = ⊥
+
+-- the arrays marked current where the program is accepted, and none where it is refused; it has no fault of range
+pub record AreShown (p : Program) (arrays : List ArrayId) : Type 0 where
+  pub fine : HasNoRangeFault (plan p)
+  pub accepted : IsAccepted (plan p) → AreMarked (plan p) arrays
+  pub refused : (IsAccepted (plan p) → ⊥) → arrays ≡ []
+
+abbrev pub IsShownFault : Program → RunFault → Type 0
+IsShownFault p fault.OutOfMemory = Unit {0}
+IsShownFault p fault.RangeRefused = HasRangeFault p
+IsShownFault p fault.DeviceFull = ⊥
+IsShownFault p fault.Absent = ⊥
+IsShownFault p fault.Stranger = ⊥
+IsShownFault p fault.ThreadNotStarted = ⊥
+IsShownFault p fault.OtherState = ⊥
+
+-- an array's number with its numbers on the host
+abbrev pub row_in : Arrays → ArrayId → ℕ × List ℕ
+row_in host a = (a.0, array_values (memory_of host) a.0 (slice_index (lengths_of host) a.0))

@@ -14,6 +14,7 @@ mod control;
 mod frame;
 mod frames;
 mod maps;
+mod marked;
 mod open;
 mod opening;
 mod run;
