@@ -36,7 +36,9 @@ impl<'p> Standing<'p> {
         let opened = {
             let table = self.devices.table(it.device);
             match &self.slots[item as usize] {
-                Slot::Captured(captured) if it.deferred => open(alloc, it, region, captured, self.input, table),
+                Slot::Captured(captured) if it.deferred => open(
+                    alloc, it, region, captured, self.input, table,
+                ),
                 _ => open(alloc, it, region, &self.scalars, self.input, table),
             }
         };
