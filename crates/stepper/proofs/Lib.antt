@@ -9,3 +9,6 @@ mod HostCells
 mod SingleActs
 mod Stages
 mod Following
+mod AtEnd
+mod HostDone
+mod Closings

@@ -1,9 +1,10 @@
 -- The state of the fine-grained machine that the code's values show.
-use Rattle.std.specs.Prelude.{◌≡◌, ◌+◌, ◌<◌, ℕ, Bool, true, false, List, Option, Some, None, length, slice_get, slice_index}
+use Rattle.std.specs.Prelude.{◌≡◌, ◌+◌, ◌<◌, ◌++◌, ℕ, Bool, true, false, List, Option, Some, None, length, slice_get, slice_index}
 use Rattle.base.specs.declared.item.Event.{Event}
 use Rattle.base.specs.declared.item.Event.TheVariants.{Open}
 use Rattle.base.specs.declared.item.Item.{Item}
 use Rattle.base.specs.declared.item.ItemKind.{ItemKind}
+use Rattle.base.specs.declared.item.ItemKind.TheVariants as kind
 use Rattle.base.specs.declared.tree.Region.{Region}
 use Rattle.base.specs.declared.fault.RunFault.{RunFault}
 use Rattle.base.specs.declared.fault.RunFault.TheVariants as fault
@@ -117,3 +118,21 @@ IsOpenFault it r i now fault.RangeRefused = ⊥
 abbrev pub FollowsOfKind : ItemKind → ℕ → Standing → Event → Standing → Type 0
 FollowsOfKind kind i old e new = (plan : Plan) (s t : State) (w : Work) → slice_get plan.items i ≡ Some w → w.kind ≡ kind →
     IsAt plan old s → enabled plan s e ≡ true → step plan (fill_from old) s e ≡ Some t → IsAt plan new t
+
+-- what a host region did to the scalars and the input is the host's, and its numbers were printed
+pub record HasLeftHost (control : Control) (old new : Standing) : Type 0 where
+  pub scalars : slice_index new.scalars ≡ slice_index control.scalars.value
+  pub input : new.input.now ≡ control.input.now
+  pub output : new.output.items ≡ old.output.items ++ control.printed.items
+  pub rest : new ≡ record old { scalars = new.scalars; input = new.input; output = new.output }
+
+-- what an item of this kind leaves of what the host has
+abbrev pub HasLeft : ItemKind → Control → Standing → Standing → Type 0
+HasLeft kind.Host control old new = HasLeftHost control old new
+HasLeft kind.Target control old new = new ≡ old
+HasLeft kind.Begin control old new = new ≡ old
+HasLeft kind.End control old new = new ≡ old
+HasLeft kind.Enter control old new = new ≡ old
+HasLeft kind.Exit control old new = new ≡ old
+HasLeft kind.Update control old new = new ≡ old
+HasLeft kind.Wait control old new = new ≡ old
