@@ -12,3 +12,4 @@ mod Following
 mod AtEnd
 mod HostDone
 mod Closings
+mod Openings

@@ -14,7 +14,7 @@ use Rattle.base.specs.Items.{Work, Plan}
 use Rattle.base.specs.Map.{Fill}
 use Rattle.base.specs.Machine.{deferred_closed}
 use Rattle.fine_machine.specs.Left.{Left}
-use Rattle.fine_machine.specs.Machine.{State, Condition, Untouched, Generated, Opened, Closed, Passed, as_whole, enabled, step}
+use Rattle.fine_machine.specs.Machine.{State, Condition, Untouched, Generated, Opened, Closed, Passed, as_whole, captured_by, enabled, step}
 use Rattle.taskgraph.specs.Board.{Stands}
 use Rattle.device.specs.Devices.{AreAlike, ShowAll, fresh_of}
 use Rattle.device.specs.Moves.{CountsAtMost}
@@ -118,6 +118,12 @@ IsOpenFault it r i now fault.RangeRefused = ⊥
 abbrev pub FollowsOfKind : ItemKind → ℕ → Standing → Event → Standing → Type 0
 FollowsOfKind kind i old e new = (plan : Plan) (s t : State) (w : Work) → slice_get plan.items i ≡ Some w → w.kind ≡ kind →
     IsAt plan old s → enabled plan s e ≡ true → step plan (fill_from old) s e ≡ Some t → IsAt plan new t
+
+-- the scalars of an item that may be opened: a deferred one has captured them, any other one takes the host's
+abbrev pub Captures : Standing → Bool → ℕ → List ℕ → Type 0
+Captures now deferred i scalars = (plan : Plan) (s : State) (w : Work) → slice_get plan.items i ≡ Some w →
+    w.deferred ≡ deferred → IsAt plan now s → enabled plan s (Open i) ≡ true →
+    captured_by (s.condition i) s.scalars ≡ slice_index scalars
 
 -- what a host region did to the scalars and the input is the host's, and its numbers were printed
 pub record HasLeftHost (control : Control) (old new : Standing) : Type 0 where
