@@ -17,3 +17,9 @@ mod Inside
 mod Opened
 mod Shown
 mod Rows
+mod Stages
+mod Following
+mod AtEnd
+mod HostDone
+mod Closings
+mod Openings

@@ -1,9 +1,10 @@
 -- The state of the fine-grained machine that the code's values show.
-use Rattle.std.specs.Prelude.{◌≡◌, ◌+◌, ◌<◌, ℕ, Bool, true, false, nat_lt, List, [], ◌∷◌, Option, Some, None, length, slice_get, slice_index}
+use Rattle.std.specs.Prelude.{◌≡◌, ◌+◌, ◌<◌, ◌++◌, ℕ, Bool, true, false, nat_lt, List, [], ◌∷◌, Option, Some, None, length, slice_get, slice_index}
 use Rattle.base.specs.declared.item.Event.{Event}
 use Rattle.base.specs.declared.item.Event.TheVariants.{Open, Step}
 use Rattle.base.specs.declared.item.Item.{Item}
 use Rattle.base.specs.declared.item.ItemKind.{ItemKind}
+use Rattle.base.specs.declared.item.ItemKind.TheVariants as kind
 use Rattle.base.specs.declared.tree.Region.{Region}
 use Rattle.base.specs.declared.fault.RunFault.{RunFault}
 use Rattle.base.specs.declared.fault.RunFault.TheVariants as fault
@@ -13,7 +14,7 @@ use Rattle.base.specs.Items.{Work, Plan}
 use Rattle.base.specs.Map.{Block, Fill, in_use, need}
 use Rattle.base.specs.Machine.{deferred_closed}
 use Rattle.fine_machine.specs.Left.{Left, Asks, Finished, Request, Enter, Load, Store, Leave, Remove, CopyIn, CopyOut}
-use Rattle.fine_machine.specs.Machine.{State, Condition, Untouched, Generated, Opened, Closed, Passed, as_whole, device_of, enabled, step}
+use Rattle.fine_machine.specs.Machine.{State, Condition, Untouched, Generated, Opened, Closed, Passed, as_whole, captured_by, device_of, enabled, step}
 use Rattle.taskgraph.specs.Board.{Stands}
 use Rattle.present.specs.declared.Table.{Table}
 use Rattle.base.specs.declared.memory.Memory.{Memory as Arrays}
@@ -220,3 +221,27 @@ pub record ActsOn (d : ℕ) (on_host : Bool) (a : Action) (r : Given) (old : Dev
   pub becomes : Becomes d old new after
   pub acts : Acts on_host a r becomes.before host after host'
   pub lengths : lengths_of host' ≡ lengths_of host
+
+-- the scalars of an item that may be opened: a deferred one has captured them, any other one takes the host's
+abbrev pub Captures : Standing → Bool → ℕ → List ℕ → Type 0
+Captures now deferred i scalars = (plan : Plan) (s : State) (w : Work) → slice_get plan.items i ≡ Some w →
+    w.deferred ≡ deferred → IsAt plan now s → enabled plan s (Open i) ≡ true →
+    captured_by (s.condition i) s.scalars ≡ slice_index scalars
+
+-- what a host region did to the scalars and the input is the host's, and its numbers were printed
+pub record HasLeftHost (control : Control) (old new : Standing) : Type 0 where
+  pub scalars : slice_index new.scalars ≡ slice_index control.scalars.value
+  pub input : new.input.now ≡ control.input.now
+  pub output : new.output.items ≡ old.output.items ++ control.printed.items
+  pub rest : new ≡ record old { scalars = new.scalars; input = new.input; output = new.output }
+
+-- what an item of this kind leaves of what the host has
+abbrev pub HasLeft : ItemKind → Control → Standing → Standing → Type 0
+HasLeft kind.Host control old new = HasLeftHost control old new
+HasLeft kind.Target control old new = new ≡ old
+HasLeft kind.Begin control old new = new ≡ old
+HasLeft kind.End control old new = new ≡ old
+HasLeft kind.Enter control old new = new ≡ old
+HasLeft kind.Exit control old new = new ≡ old
+HasLeft kind.Update control old new = new ≡ old
+HasLeft kind.Wait control old new = new ≡ old

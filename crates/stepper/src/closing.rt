@@ -3,8 +3,9 @@
 ghost use Rattle.std.specs.Prelude.{◌≡◌, ◌<◌, false, true, OnOk, length};
 ghost use Rattle.base.specs.declared.item.Event.TheVariants as event;
 ghost use Rattle.taskgraph.specs.Board.{allows};
-ghost use Rattle.stepper.specs.Standing.{FollowsOfKind};
+ghost use Rattle.stepper.specs.Standing.{FollowsOfKind, HasLeft};
 
+use crate::control::Control;
 use crate::standing::{Slot, Standing};
 use base::item::ItemKind;
 use kernel::Scalars;
@@ -12,6 +13,34 @@ use std::alloc::{AllocError, Global};
 use std::mem::replace;
 
 impl<'p> Standing<'p> {
+    // What a host region did to the scalars and the input is the host's, and its numbers are printed.
+    fn leave(
+        &mut self,
+        alloc: Global,
+        kind: ItemKind,
+        control: &Control<'p>,
+    ) -> Result<(), AllocError>
+        ensures left { OnOk result (HasLeft kind control.now self.old self.new) }
+        ensures devices { self.new.devices ≡ self.old.devices }
+    {
+        match kind {
+            ItemKind::Host => {
+                let scalars = Scalars::new(alloc, &control.scalars)?;
+                self.output.extend_from_slice(&control.printed)?;
+                self.scalars = scalars;
+                self.input = control.input;
+                Ok(())
+            }
+            ItemKind::Target => Ok(()),
+            ItemKind::Begin => Ok(()),
+            ItemKind::End => Ok(()),
+            ItemKind::Enter => Ok(()),
+            ItemKind::Exit => Ok(()),
+            ItemKind::Update => Ok(()),
+            ItemKind::Wait => Ok(()),
+        }
+    }
+
     /// Closes an item of which nothing is left: what a host region did to the scalars and the input is the host's, and
     /// its numbers are printed.
     pub fn close(&mut self, alloc: Global, kind: ItemKind, item: u32) -> Result<(), AllocError>
@@ -22,10 +51,10 @@ impl<'p> Standing<'p> {
         ensures devices { OnOk result (self.new.devices ≡ self.old.devices) }
     {
         let slot = replace(&mut self.slots[item as usize], Slot::Nothing);
-        if let (ItemKind::Host, Slot::Opened(control)) = (kind, slot) {
-            self.scalars = Scalars::new(alloc, &control.scalars)?;
-            self.output.extend_from_slice(&control.printed)?;
-            self.input = control.input;
+        match &slot {
+            Slot::Opened(control) => self.leave(alloc, kind, control)?,
+            Slot::Captured(_) => {}
+            Slot::Nothing => {}
         }
         self.graph.closed(item as usize);
         Ok(())

@@ -6,16 +6,32 @@ ghost use Rattle.base.specs.declared.tree.Region.{Region};
 ghost use Rattle.taskgraph.specs.Board.{allows};
 ghost use Rattle.present.specs.Table.{AreSections};
 ghost use Rattle.stepper.specs.Opening.{IsRegion};
-ghost use Rattle.stepper.specs.Standing.{FollowsOf, IsOpenFault};
+ghost use Rattle.stepper.specs.Standing.{Captures, FollowsOf, IsOpenFault};
 
 use crate::open::open;
 use crate::standing::{Slot, Standing};
 use base::fault::RunFault;
 use base::item::Item;
 use base::tree::Region;
+use kernel::Scalars;
 use std::alloc::Global;
 
 impl<'p> Standing<'p> {
+    // The scalars that an item has captured, or those of now where it is not deferred.
+    fn captured(&self, deferred: bool, item: u32) -> &Scalars
+        requires { item < length self.now.slots.items }
+        ensures { Captures self.now deferred item result.now }
+    {
+        if !deferred {
+            return &self.scalars;
+        }
+        match &self.slots[item as usize] {
+            Slot::Captured(scalars) => scalars,
+            Slot::Opened(_) => &self.scalars,
+            Slot::Nothing => &self.scalars,
+        }
+    }
+
     /// Opens an item, up to its first action. The error is `Absent` where a section of an update overlaps a block of its
     /// device in part, or is to be present and is absent, or `OutOfMemory`.
     pub fn open(
@@ -33,15 +49,14 @@ impl<'p> Standing<'p> {
         ensures fault { (r : Option Region) → IsRegion region.entry r → IfErr result (IsOpenFault it.now r item self.old) }
         ensures devices { OnOk result (self.new.devices ≡ self.old.devices) }
     {
-        let opened = {
-            let table = self.devices.table(it.device);
-            match &self.slots[item as usize] {
-                Slot::Captured(captured) if it.deferred => open(
-                    alloc, it, region, captured, self.input, table,
-                ),
-                _ => open(alloc, it, region, &self.scalars, self.input, table),
-            }
-        };
+        let opened = open(
+            alloc,
+            it,
+            region,
+            self.captured(it.deferred, item),
+            self.input,
+            self.devices.table(it.device),
+        );
         match opened {
             Err(_) => Err(RunFault::OutOfMemory),
             Ok(None) => Err(RunFault::Absent),
