@@ -7,3 +7,7 @@ mod Nexts
 mod Answered
 mod HostCells
 mod SingleActs
+mod ActCounts
+mod NextActs
+mod ActRooms
+mod AfterActs

@@ -51,12 +51,12 @@ asked_next plan s i now control a at held next may =
         IsAsked plan s i (request_of (side_of control.on_host) a) control
     go w is (Opened (Asks r k)) e h kept =
         let own : IsControl plan.lengths (Asks r k) control = subst (IsOpen plan.lengths (Asks r k)) held kept in
-        let same = own.is ∙ next.2 in record {
+        let same = own.is ∙ next.1.1 in record {
           work = w;
           is = is;
-          k = next.1;
+          k = next.1.0;
           condition = e ∙ ap Opened same;
-          left = next.2;
+          left = next.1.1;
           inside = subst (StaysInside plan.lengths) same own.inside;
         }
     go w is (Opened (Finished t)) e h kept = absurd (false≢true h)
@@ -85,7 +85,7 @@ in_host lengths on_host (action.Remove section) host inside e = tt
 in_host lengths on_host (action.CopyIn c) host inside e = tt
 
 -- whether a request on device d is too much
-over_at : ℕ → State → Option Request → ℕ → Bool
+abbrev over_at : ℕ → State → Option Request → ℕ → Bool
 over_at capacity s o d = elim o [
   | None ↦ false
   | Some request ↦
