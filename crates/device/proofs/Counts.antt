@@ -51,7 +51,7 @@ inside n bs s b h e = go (find (λ x. overlaps x.section s) bs) refl
             let is : presence bs s ≡ InPart = rw (k, presence) (ap (λ (v : Bool). if v then Inside x else InPart) f) in
             absurd (let bad : InPart ≡ Inside b = sym is ∙ e in cc)
 
-recounted : (n k : ℕ) (s : Section) (bs : List Block) → CountsAtMost n bs → k ≤ n → CountsAtMost n (map (counted s k) bs)
+pub recounted : (n k : ℕ) (s : Section) (bs : List Block) → CountsAtMost n bs → k ≤ n → CountsAtMost n (map (counted s k) bs)
 recounted n k s [] h le = tt
 recounted n k s (b ∷ bs) h le = (one (same_section b.section s) refl, recounted n k s bs h.1 le)
   where
@@ -59,7 +59,7 @@ recounted n k s (b ∷ bs) h le = (one (same_section b.section s) refl, recounte
     one true e = subst (λ (y : Block). y.count ≤ n) (sym (ap (λ (v : Bool). if v then record { section = s; count = k } else b) e)) le
     one false e = subst (λ (y : Block). y.count ≤ n) (sym (ap (λ (v : Bool). if v then record { section = s; count = k } else b) e)) h.0
 
-fewer : (n : ℕ) (s : Section) (bs : List Block) → CountsAtMost n bs → CountsAtMost n (without bs s)
+pub fewer : (n : ℕ) (s : Section) (bs : List Block) → CountsAtMost n bs → CountsAtMost n (without bs s)
 fewer n s [] h = tt
 fewer n s (b ∷ bs) h = go (not (same_section b.section s)) (fewer n s bs h.1)
   where
@@ -96,7 +96,7 @@ when_celled : (b : Bool) (v : _) (s : Section) (m : Memories) → (when b (with_
 when_celled true v s m = refl
 when_celled false v s m = refl
 
-entry_blocks : (n : ℕ) (item : MapItem) (bs : List Block) (x : Move) → CountsAtMost n bs → entry item bs ≡ Some x →
+pub entry_blocks : (n : ℕ) (item : MapItem) (bs : List Block) (x : Move) → CountsAtMost n bs → entry item bs ≡ Some x →
     CountsAtMost (n + 1) x.blocks
 entry_blocks n item bs x h e = go (presence bs item.section) refl
   where

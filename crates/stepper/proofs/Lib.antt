@@ -23,3 +23,7 @@ mod AtEnd
 mod HostDone
 mod Closings
 mod Openings
+mod ActCounts
+mod NextActs
+mod ActRooms
+mod AfterActs

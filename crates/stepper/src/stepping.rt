@@ -1,6 +1,6 @@
 // A single action of an open item in a run.
 
-ghost use Rattle.std.specs.Prelude.{◌≡◌, ◌+◌, ◌<◌, ◌^◌, ℕ, false, true, IfErr, IfOk, OnOk, length, slice_get};
+ghost use Rattle.std.specs.Prelude.{◌≡◌, ◌+◌, ◌<◌, ◌^◌, ℕ, false, true, IfErr, IfOk, OnErr, OnOk, length, slice_get};
 ghost use Rattle.device.specs.Devices.{AreKept, HaveRoom, OnTable};
 ghost use Rattle.stepper.specs.Acting.{CountsOn, FitsIn, InHost, IsActFault, OnEntry, answer_of};
 ghost use Rattle.stepper.specs.Control.{Answers, HasSection, IsStopped};
@@ -49,7 +49,9 @@ impl<'p> Standing<'p> {
     {
         match self.slots.get(item as usize) {
             Some(Slot::Opened(control)) => control.next().is_some(),
-            _ => false,
+            Some(Slot::Captured(_)) => false,
+            Some(Slot::Nothing) => false,
+            None => false,
         }
     }
 
@@ -57,6 +59,7 @@ impl<'p> Standing<'p> {
     fn count(&mut self, action: Action) -> Result<(), RunFault>
         ensures counted { OnOk result (HasCounted action self.old self.new) }
         ensures fits { OnOk result (OnEntry action (λ item. self.old.entered + 1 < 2 ^ 64)) }
+        ensures unchanged { OnErr result (self.new ≡ self.old) }
         ensures fault { IfErr result (λ f. f ≡ RunFault.OutOfMemory) }
     {
         if let Action::Enter(_) = action {

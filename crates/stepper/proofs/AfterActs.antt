@@ -1,0 +1,216 @@
+-- The state after an action, which is shown where the action was done on what the code keeps.
+use Rattle.std.proofs.Common.{◌≡◌, ◌+◌, ◌<◌, ◌≤◌, ℕ, Bool, true, false, List, Option, Some, None, length, refl, sym, ap, ◌∙◌, subst, arith}
+use Rattle.std.specs.Prelude.{◌==◌, IsSomeAnd, Vec, if◌then◌else◌, slice_get, slice_index, option_map}
+use Rattle.std.proofs.lemmas.Bool.{cond-true, cond-false, eqb-false, eqb-true, false≢true}
+use Rattle.std.specs.Vec.{with_item}
+use Rattle.std.specs.declared.alloc.Global.{Global}
+use Rattle.std.proofs.lemmas.List.{length-set}
+use Rattle.std.proofs.lemmas.Option.{same_Some}
+use Rattle.base.specs.declared.memory.Memory.{Memory as Arrays}
+use Rattle.base.proofs.Places.{get_set_other, get_set_same}
+use Rattle.device.specs.declared.devices.Devices.{Devices}
+use Rattle.base.specs.declared.item.Event.TheVariants.{Step}
+use Rattle.base.specs.Map.{Device, Memories, memories_at}
+use Rattle.taskgraph.specs.declared.Graph.{Graph}
+use Rattle.taskgraph.specs.Board.{Stands, stage_at, stage_of}
+use Rattle.fine_machine.specs.Action.{act}
+use Rattle.fine_machine.specs.Left.{Answer, Request, Load, Store, Enter, Leave, Remove, CopyIn, CopyOut}
+use Rattle.fine_machine.specs.Machine.{Condition, Opened, State, as_whole, whole_condition}
+use Rattle.base.specs.Items.{Plan}
+use Rattle.base.specs.Arrays.{lengths_of}
+use Rattle.present.specs.Table.{Are, fill_of, memories}
+use Rattle.device.specs.Moves.{CountsAtMost}
+use Rattle.device.proofs.Counts.{more}
+use Rattle.device.proofs.Tables.{each_changed, show_all, still_alike}
+use Rattle.stepper.specs.Acting.{answer_of}
+use Rattle.stepper.specs.Control.{Answers, IsNext, IsStopped, request_of, side_of}
+use Rattle.stepper.specs.Standing.{ActsOn, FollowsOn, HasCounted, IsAt, IsOnDevice, IsOpen, Keeps, fill_from, place_of}
+use Rattle.stepper.specs.declared.action.Action.{Action}
+use Rattle.stepper.specs.declared.action.Action.TheVariants as action
+use Rattle.stepper.specs.declared.action.Given.{Given}
+use Rattle.stepper.specs.declared.control.Control.{Control}
+use Rattle.stepper.specs.declared.standing.Slot.{Slot}
+use Rattle.stepper.specs.declared.standing.Slot.TheVariants as slot
+use Rattle.stepper.specs.declared.standing.Standing.{Standing}
+use Rattle.stepper.proofs.ActCounts.{counted_after, entered_after}
+use Rattle.stepper.proofs.NextActs.{IsAsked, act_is, after, asked_next, step_is, stays_inside}
+
+-- what counting an action leaves
+pub counted_is : (a : Action) (on_host : Bool) (old new : Standing) → HasCounted a old new →
+    new ≡ record old { entered = entered_after (request_of (side_of on_host) a) old.entered }
+counted_is (action.Enter item) on_host old new h = h
+counted_is (action.Load c) on_host old new h = h
+counted_is (action.Store c n) on_host old new h = h
+counted_is (action.Leave item) on_host old new h = h
+counted_is (action.Remove section) on_host old new h = h
+counted_is (action.CopyIn c) on_host old new h = h
+counted_is (action.CopyOut c) on_host old new h = h
+
+-- the item has this control now, and beside the memories only the number of entries is another one
+pub record IsMoved (i : ℕ) (request : Request) (control : Control) (old new : Standing) : Type 0 where
+  pub graph : new.graph ≡ old.graph
+  pub ended : new.ended ≡ old.ended
+  pub scalars : new.scalars ≡ old.scalars
+  pub input : new.input ≡ old.input
+  pub output : new.output ≡ old.output
+  pub entered : new.entered ≡ entered_after request old.entered
+  pub slots : length new.slots.items ≡ length old.slots.items
+  pub here : slice_get new.slots.items i ≡ Some (slot.Opened control)
+  pub others : (k : ℕ) → (k == i) ≡ false → slice_get new.slots.items k ≡ slice_get old.slots.items k
+
+more_entered : (request : Request) (n : ℕ) → n ≤ entered_after request n
+more_entered (Enter item) n = omega arith
+more_entered (Load side c) n = omega arith
+more_entered (Store side c v) n = omega arith
+more_entered (Leave item) n = omega arith
+more_entered (Remove s) n = omega arith
+more_entered (CopyIn c) n = omega arith
+more_entered (CopyOut c) n = omega arith
+
+some_and : {A : Type 0} (o : Option A) (P : A → Type 0) → IsSomeAnd o P → (x : A) × (o ≡ Some x) × P x
+some_and None P h = absurd h
+some_and (Some x) P h = (x, refl, h)
+
+-- what holds of one number, and of each other one
+at_or_else : (P : ℕ → Condition → Type 0) (i : ℕ) (c : Condition) (f : ℕ → Condition) → P i c →
+    ((k : ℕ) → (k == i) ≡ false → P k (f k)) → (k : ℕ) → P k (if k == i then c else f k)
+at_or_else P i c f own others k = go (k == i) refl
+  where
+    go : (b : Bool) → (k == i) ≡ b → P k (if k == i then c else f k)
+    go true e =
+        subst (P k) (sym (cond-true (k == i) c (f k) e)) (subst (λ n. P n c) (sym (eqb-true k i e)) own)
+    go false e = subst (P k) (sym (cond-false (k == i) c (f k) e)) (others k e)
+
+module _ (i d : ℕ) (old new : Standing) (control control' : Control) (a : Action) (r : Given)
+    (held : slice_get old.slots.items i ≡ Some (slot.Opened control)) (next : IsNext control (Some a))
+    (going : old.ended ≡ false) (done : ActsOn d control.on_host a r old.devices old.host new.devices new.host)
+    (answered : Answers (answer_of r) control control') (stopped : IsStopped control')
+    (moved : IsMoved i (request_of (side_of control.on_host) a) control' old new) where
+  abbrev request : Request
+  request = request_of (side_of control.on_host) a
+
+  module _ (plan : Plan) (s : State) (at : IsAt plan old s) (h : IsAsked plan s i request control)
+      (on : IsOnDevice plan i d) (p : Answer × Memories)
+      (is : act plan.lengths (fill_from old i) request (memories_at d s.memories) ≡ Some p) (gave : p.0 ≡ answer_of r)
+      (are : Are new.host done.after p.1) where
+    abbrev t : State
+    t = after plan s i d request control h on p
+
+    counts : (e : ℕ) → CountsAtMost new.entered (t.memories.devices e).blocks
+    counts =
+        subst (λ n. (e : ℕ) → CountsAtMost n (t.memories.devices e).blocks) (sym moved.entered)
+        (each_changed (λ (x : Device). CountsAtMost (entered_after request old.entered) x.blocks) d p.1.device
+        s.memories.devices
+        (counted_after old.entered (memories_at d s.memories) p (at.counts d) plan.lengths (fill_from old i) request is)
+        (λ e. more old.entered (entered_after request old.entered) (s.memories.devices e).blocks (at.counts e)
+        (more_entered request old.entered)))
+
+    graph : Stands plan (record (as_whole t) { place = old.graph.place }) old.graph
+    graph = record {
+      items = at.graph.items;
+      place = refl;
+      conditions =
+          at_or_else (λ k c. k < length old.graph.tasks → stage_of (whole_condition c) ≡ stage_at old.graph k) i
+          (Opened (h.k p.0)) s.condition
+          (λ lt. sym (ap (λ c. stage_of (whole_condition c)) h.condition) ∙ at.graph.conditions i lt)
+          (λ k e lt. at.graph.conditions k lt);
+    }
+
+    kept : (k : ℕ) → k < length plan.items → Keeps plan.lengths (t.condition k) (slice_get new.slots.items k)
+    kept =
+        at_or_else (λ k c. k < length plan.items → Keeps plan.lengths c (slice_get new.slots.items k)) i
+        (Opened (h.k p.0)) s.condition
+        (λ lt. subst (IsOpen plan.lengths (h.k p.0)) (sym moved.here) (record {
+          is = ap h.k gave ∙ sym (answered request h.k h.left);
+          stopped = stopped;
+          inside = stays_inside plan.lengths request h.k h.inside p.0;
+        }))
+        (λ k e lt. subst (Keeps plan.lengths (s.condition k)) (sym (moved.others k e)) (at.kept k lt))
+
+    shown : IsAt plan new t
+    shown = record {
+      host = are.host;
+      lengths = done.lengths ∙ at.lengths;
+      devices = show_all d old.devices new.devices done.after done.becomes s.memories.devices p.1.device at.devices are.shown;
+      alike = still_alike d old.devices new.devices done.after done.becomes at.alike;
+      counts = counts;
+      graph =
+          subst (λ (g : Graph). Stands plan (record (as_whole t) { place = g.place }) g) (sym moved.graph) graph;
+      place = at.place ∙ ap (λ b. place_of b old.graph.place) (sym moved.ended) ∙ ap (λ (g : Graph). place_of new.ended g.place) (sym moved.graph);
+      ended = λ e. absurd (false≢true (sym going ∙ (sym moved.ended ∙ e)));
+      scalars = at.scalars ∙ ap slice_index (sym moved.scalars);
+      input = at.input ∙ ap (λ x. x.now) (sym moved.input);
+      output = at.output ∙ ap (λ x. x.items) (sym moved.output);
+      slots = moved.slots ∙ at.slots;
+      kept = kept;
+    }
+
+  pub follows : FollowsOn d i old new
+  follows plan s u on at may e =
+      let h = asked_next plan s i old control a at held next may in
+      let shows = at.devices d done.becomes.before done.becomes.was in
+      let w = some_and (act (lengths_of old.host) (fill_of done.becomes.before) request
+      (memories old.host (s.memories.devices d))) _ (done.acts (s.memories.devices d) shows) in
+      let is = act_is plan s i d request control h on old done.becomes.before at done.becomes.was ∙ w.1 in
+      let to : Some (after plan s i d request control h on w.0) ≡ Some u =
+          sym (step_is plan s i d request control h on (fill_from old)
+          ∙ ap (λ (o : Option (Answer × Memories)). option_map (after plan s i d request control h on) o) is) ∙ e in
+      subst (IsAt plan new) (same_Some (after plan s i d request control h on w.0) u to)
+      (shown plan s at h on w.0 is w.2.0 w.2.1)
+
+-- what an action leaves, put together from what the calls leave
+abbrev pub with_control : ℕ → Standing → Arrays → Devices → Control → Standing
+with_control i counted host devices control = record counted {
+  host = host;
+  devices = devices;
+  slots = with_item counted.slots i (slot.Opened control);
+}
+
+module _ (i : ℕ) (old counted : Standing) (nothing : Slot) (a : Action)
+    (count : HasCounted a (record old { slots = with_item old.slots i nothing }) counted) where
+  is : (on_host : Bool) → counted ≡ record old {
+    slots = with_item old.slots i nothing;
+    entered = entered_after (request_of (side_of on_host) a) old.entered;
+  }
+  is on_host = counted_is a on_host (record old { slots = with_item old.slots i nothing }) counted count
+
+  pub same_devices : counted.devices ≡ old.devices
+  same_devices = ap (λ (x : Standing). x.devices) (is true)
+
+  pub same_host : counted.host ≡ old.host
+  same_host = ap (λ (x : Standing). x.host) (is true)
+
+  slots : counted.slots ≡ with_item old.slots i nothing
+  slots = ap (λ (x : Standing). x.slots) (is true)
+
+  long : length counted.slots.items ≡ length old.slots.items
+  long = ap (λ (x : Vec Slot Global). length x.items) slots ∙ length-set old.slots.items i nothing
+
+  module _ (d : ℕ) (control control' : Control) (r : Given) (host : Arrays) (devices : Devices)
+      (inside : i < length old.slots.items) where
+    moved_on : IsMoved i (request_of (side_of control.on_host) a) control' old
+        (with_control i counted host devices control')
+    moved_on = record {
+      graph = ap (λ (x : Standing). x.graph) (is true);
+      ended = ap (λ (x : Standing). x.ended) (is true);
+      scalars = ap (λ (x : Standing). x.scalars) (is true);
+      input = ap (λ (x : Standing). x.input) (is true);
+      output = ap (λ (x : Standing). x.output) (is true);
+      entered = ap (λ (x : Standing). x.entered) (is control.on_host);
+      slots = length-set counted.slots.items i (slot.Opened control') ∙ long;
+      here = get_set_same counted.slots.items i (slot.Opened control') (let n = long in omega arith);
+      others = λ k e.
+          get_set_other counted.slots.items i (slot.Opened control') k (λ q. eqb-false k i e (sym q))
+          ∙ ap (λ (x : Vec Slot Global). slice_get x.items k) slots
+          ∙ get_set_other old.slots.items i nothing k (λ q. eqb-false k i e (sym q));
+    }
+
+    pub stepped : slice_get old.slots.items i ≡ Some (slot.Opened control) → IsNext control (Some a) →
+        old.ended ≡ false → ActsOn d control.on_host a r counted.devices counted.host devices host →
+        Answers (answer_of r) control control' → IsStopped control' →
+        FollowsOn d i old (with_control i counted host devices control')
+    stepped held next going done answered stopped =
+        follows i d old (with_control i counted host devices control') control control' a r held next going
+        (subst (λ (ds : Devices). ActsOn d control.on_host a r ds old.host devices host) same_devices
+        (subst (λ (m : Arrays). ActsOn d control.on_host a r counted.devices m devices host) same_host done))
+        answered stopped moved_on
