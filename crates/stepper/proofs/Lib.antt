@@ -7,3 +7,5 @@ mod Nexts
 mod Answered
 mod HostCells
 mod SingleActs
+mod Follows
+mod NextEvents
