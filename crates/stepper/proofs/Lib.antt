@@ -27,3 +27,5 @@ mod ActCounts
 mod NextActs
 mod ActRooms
 mod AfterActs
+mod Follows
+mod NextEvents
