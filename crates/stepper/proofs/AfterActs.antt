@@ -146,16 +146,15 @@ module _ (i d : ℕ) (old new : Standing) (control control' : Control) (a : Acti
     }
 
   pub follows : FollowsOn d i old new
-  follows plan s u on at may e =
+  follows plan s on at may =
       let h = asked_next plan s i old control a at held next may in
       let shows = at.devices d done.becomes.before done.becomes.was in
       let w = some_and (act (lengths_of old.host) (fill_of done.becomes.before) request
       (memories old.host (s.memories.devices d))) _ (done.acts (s.memories.devices d) shows) in
       let is = act_is plan s i d request control h on old done.becomes.before at done.becomes.was ∙ w.1 in
-      let to : Some (after plan s i d request control h on w.0) ≡ Some u =
-          sym (step_is plan s i d request control h on (fill_from old)
-          ∙ ap (λ (o : Option (Answer × Memories)). option_map (after plan s i d request control h on) o) is) ∙ e in
-      subst (IsAt plan new) (same_Some (after plan s i d request control h on w.0) u to)
+      subst (λ o. IsSomeAnd o (IsAt plan new))
+      (sym (step_is plan s i d request control h on (fill_from old)
+      ∙ ap (λ (o : Option (Answer × Memories)). option_map (after plan s i d request control h on) o) is))
       (shown plan s at h on w.0 is w.2.0 w.2.1)
 
 -- what an action leaves, put together from what the calls leave

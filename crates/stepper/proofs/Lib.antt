@@ -29,3 +29,4 @@ mod ActRooms
 mod AfterActs
 mod Follows
 mod NextEvents
+mod Certain

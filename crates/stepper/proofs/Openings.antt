@@ -1,6 +1,6 @@
 -- What an opening leaves.
 use Rattle.std.proofs.Common.{◌≡◌, ◌<◌, ℕ, true, false, List, [], length, Option, Some, None, refl, sym, ap, ◌∙◌, subst}
-use Rattle.std.specs.Prelude.{◌==◌, if◌then◌else◌, option_map, slice_get, Vec}
+use Rattle.std.specs.Prelude.{◌==◌, IsSomeAnd, if◌then◌else◌, option_map, slice_get, Vec}
 use Rattle.std.specs.List.{slice_set}
 use Rattle.std.specs.declared.alloc.Global.{Global}
 use Rattle.std.proofs.lemmas.Bool.{true≢false}
@@ -55,14 +55,14 @@ module _ (plan : Plan) (old : Standing) (s : State) (at : IsAt plan old s) (i : 
       ∙ ap (λ b. option_map opens_with (item_left w (s.memories.devices w.device).blocks b)) begun_is
       ∙ ap (option_map opens_with) (opened.left w (s.memories.devices w.device) item.same own_shown)
 
-  pub opens_to : (control : Control) (t : State) (g : Board) (hs : Vec Slot Global) → old.ended ≡ false →
+  pub opens_to : (control : Control) (g : Board) (hs : Vec Slot Global) → old.ended ≡ false →
       allows old.graph (event.Open i) ≡ true → GraphFollows old.graph (event.Open i) g → o ≡ Some control →
       ((lengths : List ℕ) → InArrays lengths it.maps.items → StaysInside lengths (left_of control)) →
       hs.items ≡ slice_set old.slots.items i (slot.Opened control) → i < length old.slots.items →
-      step plan (fill_from old) s (event.Open i) ≡ Some t → IsAt plan (record old { graph = g; slots = hs }) t
-  opens_to control t g hs going allowed follows some inside set lt e =
-      subst (λ x. IsAt plan (record old { graph = g; slots = hs }) x)
-      (same_Some next t (sym (ap (λ x. option_map opens_with (option_map left_of x)) some) ∙ sym stepped ∙ e)) made
+      IsSomeAnd (step plan (fill_from old) s (event.Open i)) (IsAt plan (record old { graph = g; slots = hs }))
+  opens_to control g hs going allowed follows some inside set lt =
+      subst (λ x. IsSomeAnd x (IsAt plan (record old { graph = g; slots = hs })))
+      (sym (stepped ∙ ap (λ x. option_map opens_with (option_map left_of x)) some)) made
     where
       next : State
       next = opens_with (left_of control)

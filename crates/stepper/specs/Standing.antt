@@ -1,5 +1,5 @@
 -- The state of the fine-grained machine that the code's values show.
-use Rattle.std.specs.Prelude.{◌≡◌, ◌+◌, ◌<◌, ◌++◌, ℕ, Bool, true, false, nat_lt, List, [], ◌∷◌, Option, Some, None, length, slice_get, slice_index}
+use Rattle.std.specs.Prelude.{◌≡◌, ◌+◌, ◌<◌, ◌++◌, ℕ, Bool, true, false, nat_lt, List, [], ◌∷◌, Option, Some, None, IsSomeAnd, length, slice_get, slice_index}
 use Rattle.base.specs.declared.item.Event.{Event}
 use Rattle.base.specs.declared.item.Event.TheVariants.{Open, Step}
 use Rattle.base.specs.declared.item.Item.{Item}
@@ -102,10 +102,10 @@ pub record IsItem (plan : Plan) (i : ℕ) (it : Item) (r : Option Region) : Type
   pub device : work.device ≡ it.device.number
   pub inside : InArrays plan.lengths it.maps.items
 
--- the same, of such an item
+-- of such an item the event leads to a state that is shown
 abbrev pub FollowsOf : Item → Option Region → ℕ → Standing → Event → Standing → Type 0
-FollowsOf it r i old e new = (plan : Plan) (s t : State) → IsItem plan i it r → IsAt plan old s → enabled plan s e ≡ true →
-    step plan (fill_from old) s e ≡ Some t → IsAt plan new t
+FollowsOf it r i old e new = (plan : Plan) (s : State) → IsItem plan i it r → IsAt plan old s → enabled plan s e ≡ true →
+    IsSomeAnd (step plan (fill_from old) s e) (IsAt plan new)
 
 abbrev pub FailsOf : Item → Option Region → ℕ → Standing → Event → Type 0
 FailsOf it r i now e = (plan : Plan) (s : State) → IsItem plan i it r → IsAt plan now s → enabled plan s e ≡ true →
@@ -179,8 +179,8 @@ is_over capacity plan s i = elim (asked (s.condition i)) [
 ]
 
 abbrev pub FollowsOn : ℕ → ℕ → Standing → Standing → Type 0
-FollowsOn d i old new = (plan : Plan) (s t : State) → IsOnDevice plan i d → IsAt plan old s →
-    enabled plan s (Step i) ≡ true → step plan (fill_from old) s (Step i) ≡ Some t → IsAt plan new t
+FollowsOn d i old new = (plan : Plan) (s : State) → IsOnDevice plan i d → IsAt plan old s →
+    enabled plan s (Step i) ≡ true → IsSomeAnd (step plan (fill_from old) s (Step i)) (IsAt plan new)
 
 -- the next action of an item has room, or has none
 abbrev pub HasRoomAt : ℕ → ℕ → ℕ → Standing → Bool → Type 0
