@@ -30,3 +30,4 @@ mod AfterActs
 mod Follows
 mod NextEvents
 mod Certain
+mod Able

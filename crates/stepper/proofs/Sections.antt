@@ -15,7 +15,7 @@ use Rattle.mapwalk.specs.Walk.{HasNoRangeFault}
 use Rattle.present.specs.Table.{AreSections}
 use Rattle.outline.specs.Regions.{Entry}
 use Rattle.outline.specs.Shown.{all_shown, as_shown, shown, work_with}
-use Rattle.stepper.specs.Opening.{InArrays, IsWork}
+use Rattle.stepper.specs.Opening.{InArrays, IsWork, region_in}
 use Rattle.stepper.specs.Standing.{IsItem}
 
 map_fits : (lengths : List ℕ) (maps : List MapItem) → filter (λ m. section_fails lengths m.section) maps ≡ [] →
@@ -56,10 +56,6 @@ sections p i w fine short is k m e =
 in_arrays : (p : Plan) (i : ℕ) (w : Work) → HasNoRangeFault p → slice_get p.items i ≡ Some w → InArrays p.lengths w.maps
 in_arrays p i w fine is k m e = (section_at p i w fine is k m e).1
 
--- the region of an item
-region_in : List Entry → Item → Option Region
-region_in entries it = elim it.region [ None ↦ None | Some k ↦ option_map (λ (x : Entry). x.region) (slice_get entries k) ]
-
 record IsShown (entries : List Entry) (it : Item) (w : Work) : Type 0 where
   work : IsWork it (region_in entries it) w
   deferred : w.deferred ≡ it.deferred
@@ -93,3 +89,22 @@ shown_of entries it w e = go it.region refl e
         known None
         (ap (λ o. elim o [ None ↦ None | Some j ↦ option_map (λ (y : Entry). y.region) (slice_get entries j) ]) is) h
     go (Some k) is h = inner k (slice_get entries k) refl is h
+
+-- an item of the outline, and its work
+pub is_item : (p : Plan) (entries : List Entry) (its : List Item) → all_shown entries its ≡ as_shown p.items →
+    HasNoRangeFault p → (i : ℕ) (it : Item) (w : Work) → slice_get its i ≡ Some it → slice_get p.items i ≡ Some w →
+    IsItem p i it (region_in entries it)
+is_item p entries its e fine i it w at_it at_w =
+    let h = shown_of entries it w
+    (same_Some (shown entries it) (Some w)
+    (sym (slice_get-map (shown entries) its i ∙ ap (option_map (shown entries)) at_it)
+    ∙ ap (λ xs. slice_get xs i) e ∙ slice_get-map (λ (x : Work). Some x) p.items i
+    ∙ ap (option_map (λ (x : Work). Some x)) at_w)) in
+    record {
+      work = w;
+      is = at_w;
+      same = h.work;
+      deferred = h.deferred;
+      device = h.device;
+      inside = subst (λ ms. InArrays p.lengths ms) h.work.maps (in_arrays p i w fine at_w);
+    }

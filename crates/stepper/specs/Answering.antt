@@ -5,7 +5,7 @@ use Rattle.base.specs.declared.fault.RunFault.TheVariants as fault
 use Rattle.base.specs.declared.fault.RangeFault.{RangeFault}
 use Rattle.base.specs.declared.item.Answer.{Answer}
 use Rattle.base.specs.declared.item.Event.{Event}
-use Rattle.base.specs.declared.item.Event.TheVariants.{Gen, Open, Step, Close, Wait, End}
+use Rattle.base.specs.declared.item.Event.TheVariants.{Step}
 use Rattle.base.specs.declared.tree.Program.{Program}
 use Rattle.base.specs.Accepted.{IsAccepted, IsFault, Range}
 use Rattle.base.specs.declared.memory.Memory.{Memory as Arrays}
@@ -22,6 +22,7 @@ use Rattle.device.specs.Devices.{device_count}
 use Rattle.fine_machine.specs.Machine.{HasEnded, Played, State, all_enabled, run_by_choices, step}
 use Rattle.mapwalk.specs.Walk.{HasNoRangeFault}
 use Rattle.stepper.specs.Standing.{is_over}
+use Rattle.stepper.specs.Taking.{has_room}
 
 -- each device has at most so many cells in use
 abbrev pub IsWithin : ℕ → Option State → Type 0
@@ -68,14 +69,6 @@ pub record IsFull (p : Program) (input choices : List ℕ) (capacity : ℕ) : Ty
   pub item : ℕ
   pub next : next_by (plan p) now (drop (length history) choices) ≡ Some (Step item)
   pub over : is_over capacity (plan p) now item ≡ true
-
-abbrev pub has_room : ℕ → Plan → State → Event → Type 0
-has_room capacity p s (Step i) = is_over capacity p s i ≡ false
-has_room capacity p s (Gen i) = Unit {0}
-has_room capacity p s (Open i) = Unit {0}
-has_room capacity p s (Close i) = Unit {0}
-has_room capacity p s (Wait i) = Unit {0}
-has_room capacity p s End = Unit {0}
 
 -- the run by these choices comes to an event that fails, though there is room; the program is not accepted
 pub record IsFailed (p : Program) (input choices : List ℕ) (capacity : ℕ) : Type 0 where

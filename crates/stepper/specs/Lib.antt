@@ -5,4 +5,5 @@ pub mod Control
 pub mod Acting
 pub mod Opening
 pub mod Standing
+pub mod Taking
 pub mod Answering

@@ -12,6 +12,7 @@ use Rattle.base.specs.Memory.{end_of, is_cell}
 use Rattle.base.specs.Meaning.{Run}
 use Rattle.fine_machine.specs.Left.{Left, Finished, Asks, Answer, Request, Side, Load, Store, Enter, Leave, Remove, CopyIn, CopyOut, each_left, update_left, present_of, item_left}
 use Rattle.fine_machine.specs.Machine.{input_of}
+use Rattle.outline.specs.Regions.{Entry}
 use Rattle.present.specs.Table.{Shows}
 use Rattle.present.specs.declared.Table.{Table}
 use Rattle.stepper.specs.declared.control.Control.{Control}
@@ -112,3 +113,7 @@ pub data StaysInside (lengths : List ℕ) : Left → Type 0 where
   IsDone : (run : Run) → StaysInside lengths (Finished run)
   Goes : (request : Request) (k : Answer → Left) → IsInside lengths request →
       ((r : Answer) → StaysInside lengths (k r)) → StaysInside lengths (Asks request k)
+
+-- the region of an item, of the regions with these entries
+abbrev pub region_in : List Entry → Item → Option Region
+region_in entries it = elim it.region [ None ↦ None | Some k ↦ option_map (λ (x : Entry). x.region) (slice_get entries k) ]

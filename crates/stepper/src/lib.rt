@@ -21,4 +21,5 @@ mod run;
 mod standing;
 mod stepping;
 mod take;
+mod taking;
 mod turns;
