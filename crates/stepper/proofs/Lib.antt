@@ -9,3 +9,6 @@ mod HostCells
 mod SingleActs
 mod Follows
 mod NextEvents
+mod Here
+mod Chosen
+mod AtEnd

@@ -35,18 +35,18 @@ event_for s End = End
 abbrev acts : ℕ → ℕ → List Event
 acts a n = flat_map (λ i. Step i ∷ Close i ∷ []) (range_with_len a n)
 
-abbrev closings : ℕ → ℕ → List Event
+abbrev pub closings : ℕ → ℕ → List Event
 closings a n = map Close (range_with_len a n)
 
-abbrev openings : ℕ → ℕ → List Event
+abbrev pub openings : ℕ → ℕ → List Event
 openings a n = map Open (range_with_len a n)
 
-abbrev host : ℕ → List Event
+abbrev pub host : ℕ → List Event
 host k = Gen k ∷ Wait k ∷ End ∷ []
 
 module _ (p : Plan) (s : State) (b : Board) (stands : Stands p (record (as_whole s) { place = b.place }) b)
     (place : s.place ≡ b.place) where
-  allowed : (e : Event) → allows b e ≡ two.enabled p (as_whole s) e
+  pub allowed : (e : Event) → allows b e ≡ two.enabled p (as_whole s) e
   allowed e =
       allowed_is_enabled p (record (as_whole s) { place = b.place }) b e stands
       ∙ ap (λ k. two.enabled p (record (as_whole s) { place = k }) e) (sym place)
