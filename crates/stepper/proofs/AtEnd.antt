@@ -1,9 +1,7 @@
--- After the end nothing may happen, and where nothing may happen a run has ended.
-use Rattle.std.proofs.Common.{◌≡◌, ℕ, zero, suc, ◌+◌, ◌%◌, ◌<◌, ◌≤◌, Bool, true, false, List, [], ◌∷◌, ◌++◌, map, length, refl, sym, ap, ◌∙◌, subst, arith, Option, Some, None}
-use Rattle.std.specs.Prelude.{◌==◌, ◌&&◌, ◌||◌, not, cond, filter, flat_map, slice_get}
-use Rattle.std.specs.List.{range_with_len}
-use Rattle.std.proofs.lemmas.Bool.{false≢true, true≢false, and_parts, eqb-true, eq-eqb}
-use Rattle.std.proofs.lemmas.List.Elements.{filter-append}
+-- After the end nothing may happen.
+use Rattle.std.proofs.Common.{◌≡◌, ℕ, ◌+◌, ◌%◌, Bool, true, false, List, [], length, refl, sym, ap, ◌∙◌, arith, Some, None}
+use Rattle.std.specs.Prelude.{◌==◌, ◌&&◌, ◌||◌, not, slice_get}
+use Rattle.std.proofs.lemmas.Bool.{and_parts, eqb-true}
 use Rattle.std.proofs.lemmas.Option.{slice_get_within}
 use Rattle.base.specs.declared.item.Event.{Event}
 use Rattle.base.specs.declared.item.Event.TheVariants.{Gen, Open, Step, Close, Wait, End}
@@ -17,13 +15,8 @@ use Rattle.fine_machine.specs.Machine.{State, all_enabled, as_whole, enabled, ha
 use Rattle.stepper.specs.declared.standing.Standing.{Standing}
 use Rattle.stepper.specs.Answering.{next_by}
 use Rattle.stepper.specs.Standing.{IsAt, IsHere, place_of}
-use Rattle.stepper.proofs.Here.{open_acting, open_finished}
-
--- the events of which some may happen next
-abbrev pub candidates : Plan → State → List Event
-candidates plan s =
-    let all = range_with_len 0 (length plan.items) in
-    flat_map (λ i. Step i ∷ Close i ∷ []) all ++ (map Open all ++ (Gen s.place ∷ Wait s.place ∷ End ∷ []))
+use Rattle.stepper.proofs.Follows.{candidates}
+use Rattle.stepper.proofs.Stood.{open_acting, open_finished}
 
 module _ (p : Plan) (s : State) (here : IsHere p s) (last : s.place ≡ length p.items + 1)
     (closed : deferred_closed p (as_whole s) ≡ true) where
@@ -75,4 +68,5 @@ pub nothing_next : (p : Plan) (now : Standing) (s : State) → IsAt p now s → 
     None ≡ next_by p s choices
 nothing_next p now s at over choices =
     sym (ap (λ (es : List Event). slice_get es (first_or_zero choices % length es))
-    (none_after p s at.here (at.place ∙ ap (λ v. place_of v now.graph.place) over ∙ ap (λ n. n + 1) (at.ended over).0) (at.ended over).1))
+    (none_after p s at.here
+    (at.place ∙ ap (λ v. place_of v now.graph.place) over ∙ ap (λ n. n + 1) (at.ended over).0) (at.ended over).1))

@@ -1,11 +1,11 @@
 -- The event that a choice takes, of the state that the code's values show.
-use Rattle.std.proofs.Common.{◌≡◌, ℕ, ◌+◌, ◌%◌, ◌<◌, Bool, true, false, List, [], ◌∷◌, ◌++◌, length, refl, sym, ap, ◌∙◌, arith, Option, Some, None}
+use Rattle.std.proofs.Common.{◌≡◌, ℕ, ◌%◌, ◌<◌, true, false, List, [], ◌∷◌, ◌++◌, length, refl, sym, ap, ◌∙◌, arith, Option, Some, None}
 use Rattle.std.specs.Prelude.{option_map, slice_get}
 use Rattle.std.proofs.lemmas.Bool.{false≢true}
 use Rattle.std.proofs.lemmas.Option.{slice_get_within}
 use Rattle.base.specs.declared.item.Event.{Event}
 use Rattle.base.specs.declared.item.Event.TheVariants.{Gen, Open, Step, Close, Wait, End}
-use Rattle.base.specs.Items.{Work, Plan}
+use Rattle.base.specs.Items.{Plan}
 use Rattle.base.specs.Machine.{first_or_zero, is_open}
 use Rattle.two_memories.proofs.PlanItems.{on_true}
 use Rattle.fine_machine.specs.Machine.{State, Condition, Untouched, Generated, Opened, Closed, Passed, all_enabled, whole_condition}
@@ -63,7 +63,8 @@ module _ (p : Plan) (now : Standing) (s : State) (at : IsAt p now s) (going : no
       (i < length p.items) × (is_open (whole_condition (s.condition i)) ≡ true)
   opened k i h =
       let n = length now.graph.tasks in
-      let may = filter_holds (allows now.graph) (closings 0 n ++ (openings 0 n ++ host now.graph.place)) k (Close i) h in
+      let may = filter_holds (allows now.graph) (closings 0 n ++ (openings 0 n ++ host now.graph.place)) k (Close i) h
+      in
       let f = on_true p i (λ w. is_open (whole_condition (s.condition i)))
       (sym (allowed p s now.graph at.graph place (Close i)) ∙ may) in
       (slice_get_within p.items i f.0 f.1, f.2)
@@ -95,7 +96,8 @@ module _ (p : Plan) (now : Standing) (s : State) (at : IsAt p now s) (going : no
       same End other = refl
 
   pub none_next : (choices : List ℕ) → length listed ≡ 0 → None ≡ next_by p s choices
-  none_next choices h = sym (nothing (all_enabled p s) (first_or_zero choices) (next_count p s now.graph at.graph place ∙ h))
+  none_next choices h =
+      sym (nothing (all_enabled p s) (first_or_zero choices) (next_count p s now.graph at.graph place ∙ h))
     where
       nothing : (es : List Event) (c : ℕ) → length es ≡ 0 → slice_get es (c % length es) ≡ None
       nothing [] c h = refl

@@ -1,103 +1,32 @@
 -- The host stands at an open item that is not deferred: in each state of a run.
-use Rattle.std.proofs.Common.{◌≡◌, ℕ, ◌+◌, ◌<◌, Bool, true, false, List, length, refl, sym, ap, ◌∙◌, subst, arith, Option, Some, None}
+use Rattle.std.proofs.Common.{◌≡◌, ℕ, Bool, true, false, List, length, refl, sym, ap, ◌∙◌, subst, arith, Option, Some, None}
 use Rattle.std.specs.Prelude.{◌==◌, ◌&&◌, ◌||◌, not, if◌then◌else◌, option_map, slice_get}
-use Rattle.std.proofs.lemmas.Bool.{false≢true, and_parts, eqb-true, eqb-false}
+use Rattle.std.proofs.lemmas.Bool.{false≢true, and_parts, eqb-true}
 use Rattle.std.proofs.lemmas.Option.{same_Some, slice_get_within}
 use Rattle.base.specs.declared.item.Event.{Event}
 use Rattle.base.specs.declared.item.Event.TheVariants.{Gen, Open, Step, Close, Wait, End}
-use Rattle.base.specs.declared.item.ItemKind.{ItemKind}
-use Rattle.base.specs.declared.item.ItemKind.TheVariants as kind
 use Rattle.base.specs.Items.{Work, Plan}
 use Rattle.base.specs.Map.{Fill, Memories}
-use Rattle.base.specs.Meaning.{Run as Region_run}
 use Rattle.base.specs.Machine.{is_open, is_ready, is_wait, is_waiting}
 use Rattle.base.proofs.Runs.{enabled_Gen, enabled_End, enabled_Wait}
 use Rattle.two_memories.proofs.PlanItems.{at_item, on_true}
 use Rattle.fine_machine.specs.Left.{Left, Asks, Finished, Answer, item_left}
-use Rattle.fine_machine.specs.Machine.{State, Condition, Untouched, Generated, Opened, Closed, Passed, as_whole, begun, close_item, device_of, enabled, has_step, host_done, is_finished, moves_on, open_item, start, step, step_item, whole_condition, with_condition, with_memories}
+use Rattle.fine_machine.specs.Machine.{State, Condition, Untouched, Generated, Opened, Closed, Passed, as_whole, begun, close_item, device_of, enabled, host_done, is_finished, moves_on, open_item, start, step, step_item, whole_condition, with_condition, with_memories}
 use Rattle.stepper.specs.Standing.{IsHere}
+use Rattle.stepper.proofs.Stood.{IsOnly, done_condition, done_place, leaves, stays}
 
 pub here_at_start : (plan : Plan) (input : List ℕ) → IsHere plan (start input)
 here_at_start plan input i w is later so = absurd (false≢true so)
 
-pub open_finished : (c : Condition) → is_finished c ≡ true → is_open (whole_condition c) ≡ true
-open_finished (Opened left) h = refl
-open_finished Untouched h = absurd (false≢true h)
-open_finished (Generated captured) h = absurd (false≢true h)
-open_finished Closed h = absurd (false≢true h)
-open_finished Passed h = absurd (false≢true h)
-
-pub open_acting : (c : Condition) → has_step c ≡ true → is_open (whole_condition c) ≡ true
-open_acting (Opened left) h = refl
-open_acting Untouched h = absurd (false≢true h)
-open_acting (Generated captured) h = absurd (false≢true h)
-open_acting Closed h = absurd (false≢true h)
-open_acting Passed h = absurd (false≢true h)
-
--- what a host region did changes no condition, and not where the host stands
-done_condition : (k : ItemKind) (t : Region_run) (s : State) → (host_done k t s).condition ≡ s.condition
-done_condition kind.Host t s = refl
-done_condition kind.Target t s = refl
-done_condition kind.Begin t s = refl
-done_condition kind.End t s = refl
-done_condition kind.Enter t s = refl
-done_condition kind.Exit t s = refl
-done_condition kind.Update t s = refl
-done_condition kind.Wait t s = refl
-
-done_place : (k : ItemKind) (t : Region_run) (s : State) → (host_done k t s).place ≡ s.place
-done_place kind.Host t s = refl
-done_place kind.Target t s = refl
-done_place kind.Begin t s = refl
-done_place kind.End t s = refl
-done_place kind.Enter t s = refl
-done_place kind.Exit t s = refl
-done_place kind.Update t s = refl
-done_place kind.Wait t s = refl
-
 module _ (plan : Plan) (s : State) (here : IsHere plan s) where
-  -- the conditions of all items but one are as before
-  abbrev IsOnly : ℕ → Condition → State → Type 0
-  IsOnly k c t = (i : ℕ) → t.condition i ≡ (if i == k then c else s.condition i)
-
-  -- where the host stays, and stands at that item if it is now open and not deferred
-  stays : (k : ℕ) (c : Condition) (t : State) → IsOnly k c t → t.place ≡ s.place →
-      ((w : Work) → slice_get plan.items k ≡ Some w → w.deferred ≡ false → is_open (whole_condition c) ≡ true →
-      s.place ≡ k) → IsHere plan t
-  stays k c t only place at i w is now so = place ∙ go (i == k) refl
-    where
-      go : (v : Bool) → (i == k) ≡ v → s.place ≡ i
-      go true e =
-          let same : i ≡ k = eqb-true i k e in
-          let is_now : t.condition i ≡ c = only i ∙ ap (λ v. if v then c else s.condition i) e in
-          at w (ap (slice_get plan.items) (sym same) ∙ is) now
-          (ap (λ d. is_open (whole_condition d)) (sym is_now) ∙ so)
-          ∙ sym same
-      go false e =
-          let is_now : t.condition i ≡ s.condition i = only i ∙ ap (λ v. if v then c else s.condition i) e in
-          here i w is now (ap (λ d. is_open (whole_condition d)) (sym is_now) ∙ so)
-
-  -- where the host stood at that item, which is not open now, no item that is not deferred is open
-  leaves : (k : ℕ) (c : Condition) (t : State) → IsOnly k c t → s.place ≡ k → is_open (whole_condition c) ≡ false →
-      IsHere plan t
-  leaves k c t only at shut i w is now so = absurd (go (i == k) refl)
-    where
-      go : (v : Bool) → (i == k) ≡ v → ⊥
-      go true e =
-          let is_now : t.condition i ≡ c = only i ∙ ap (λ v. if v then c else s.condition i) e in
-          false≢true (sym shut ∙ (ap (λ d. is_open (whole_condition d)) (sym is_now) ∙ so))
-      go false e =
-          let is_now : t.condition i ≡ s.condition i = only i ∙ ap (λ v. if v then c else s.condition i) e in
-          let stood = here i w is now (ap (λ d. is_open (whole_condition d)) (sym is_now) ∙ so) in
-          eqb-false i k e (sym stood ∙ at)
-
   -- the state after, where there is one
   opens : (k : ℕ) (t : State) (o : Option Left) → ((w : Work) → slice_get plan.items k ≡ Some w → w.deferred ≡ false →
       s.place ≡ k) → option_map (λ left. with_condition k (Opened left) s) o ≡ Some t → IsHere plan t
   opens k t None at h = absurd (cc h)
   opens k t (Some left) at h =
       subst (IsHere plan) (same_Some _ t h)
-      (stays k (Opened left) (with_condition k (Opened left) s) (λ i. refl) refl (λ w is now so. at w is now))
+      (stays plan s here k (Opened left) (with_condition k (Opened left) s) (λ i. refl) refl
+      (λ w is now so. at w is now))
 
   acts : (fill : ℕ → Fill) (k : ℕ) (t : State) (c : Condition) → s.condition k ≡ c →
       step_item plan (fill k) k c s ≡ Some t → IsHere plan t
@@ -109,7 +38,8 @@ module _ (plan : Plan) (s : State) (here : IsHere plan s) where
       after None h = absurd (cc h)
       after (Some p) h =
           subst (IsHere plan) (same_Some _ t h)
-          (stays k (Opened (f p.0)) (with_condition k (Opened (f p.0)) (with_memories (device_of plan k) p.1 s)) (λ i. refl) refl
+          (stays plan s here k (Opened (f p.0))
+          (with_condition k (Opened (f p.0)) (with_memories (device_of plan k) p.1 s)) (λ i. refl) refl
           (λ w is now so. here k w is now (ap (λ d. is_open (whole_condition d)) was)))
   acts fill k t (Opened (Finished r)) was h = absurd (cc h)
   acts fill k t Untouched was h = absurd (cc h)
@@ -124,14 +54,14 @@ module _ (plan : Plan) (s : State) (here : IsHere plan s) where
       done : State
       done = with_condition k Closed (host_done w.kind r s)
 
-      only : IsOnly k Closed done
+      only : IsOnly plan s here k Closed done
       only i = ap (λ (f : ℕ → Condition). if i == k then Closed else f i) (done_condition w.kind r s)
 
       after : (v : Bool) → w.deferred ≡ v → IsHere plan (moves_on v done)
       after true later =
-          stays k Closed done only (done_place w.kind r s) (λ w is now so. absurd (false≢true so))
+          stays plan s here k Closed done only (done_place w.kind r s) (λ w is now so. absurd (false≢true so))
       after false now =
-          leaves k Closed (moves_on false done) only
+          leaves plan s here k Closed (moves_on false done) only
           (here k w is now (ap (λ d. is_open (whole_condition d)) was)) refl
   closes k w t (Opened (Asks r f)) is was h = absurd (cc h)
   closes k w t Untouched is was h = absurd (cc h)
@@ -144,11 +74,11 @@ module _ (plan : Plan) (s : State) (here : IsHere plan s) where
       IsHere plan t
   here_after fill (Gen k) t may h =
       subst (IsHere plan) (same_Some _ t h)
-      (leaves k (Generated s.scalars) (moves_on false (with_condition k (Generated s.scalars) s)) (λ i. refl)
-      (enabled_Gen plan (as_whole s) k may).0 refl)
+      (leaves plan s here k (Generated s.scalars) (moves_on false (with_condition k (Generated s.scalars) s))
+      (λ i. refl) (enabled_Gen plan (as_whole s) k may).0 refl)
   here_after fill (Wait k) t may h =
       subst (IsHere plan) (same_Some _ t h)
-      (leaves k Passed (moves_on false (with_condition k Passed s)) (λ i. refl)
+      (leaves plan s here k Passed (moves_on false (with_condition k Passed s)) (λ i. refl)
       (enabled_Wait plan (as_whole s) k may).0 refl)
   here_after fill End t may h = subst (IsHere plan) (same_Some _ t h) (past (enabled_End plan (as_whole s) may).0)
     where

@@ -9,6 +9,9 @@ mod HostCells
 mod SingleActs
 mod Follows
 mod NextEvents
+mod Stood
 mod Here
 mod Chosen
 mod AtEnd
+mod NoneNext
+mod HasRuns

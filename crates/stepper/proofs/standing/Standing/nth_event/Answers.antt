@@ -1,4 +1,4 @@
-use Rattle.std.proofs.Common.{◌≡◌, ap, sym, ◌∙◌, Some}
+use Rattle.std.proofs.Common.{ap, sym, ◌∙◌, Some}
 use Rattle.stepper.proofs.Chosen.{action_at, closing_at, none_at, other_at}
 use Rattle.stepper.proofs.standing.Standing.nth_event.Goals as goal
 
