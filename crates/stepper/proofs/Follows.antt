@@ -1,11 +1,14 @@
 -- A run by choices, event by event.
-use Rattle.std.proofs.Common.{◌≡◌, ℕ, zero, suc, ◌+◌, ◌%◌, ◌≤◌, List, [], ◌∷◌, ◌++◌, drop, length, refl, sym, ap, ◌∙◌, subst, arith, Option, Some, None, add-one, length-append}
-use Rattle.std.specs.Prelude.{slice_get}
+use Rattle.std.proofs.Common.{◌≡◌, ℕ, zero, suc, ◌+◌, ◌%◌, true, List, [], ◌∷◌, ◌++◌, drop, map, length, refl, sym, ap, ◌∙◌, subst, arith, Option, Some, None, add-one, length-append, append-nil, append_assoc}
+use Rattle.std.specs.Prelude.{flat_map}
+use Rattle.std.specs.List.{range_with_len}
 use Rattle.base.specs.declared.item.Event.{Event}
+use Rattle.base.specs.declared.item.Event.TheVariants.{Gen, Open, Step, Close, Wait, End}
 use Rattle.base.specs.Items.{Plan}
 use Rattle.base.specs.Map.{Fill}
 use Rattle.base.specs.Machine.{first_or_zero, rest_of}
-use Rattle.fine_machine.specs.Machine.{Played, State, all_enabled, follow, run_by_choices, start, step}
+use Rattle.device.proofs.Choices.{filter_holds}
+use Rattle.fine_machine.specs.Machine.{Played, Run, RunFrom, State, all_enabled, enabled, follow, run_by_choices, start, step}
 use Rattle.stepper.specs.Answering.{next_by}
 
 drop_rest : (cs : List ℕ) (k : ℕ) → drop k (rest_of cs) ≡ drop (suc k) cs
@@ -16,11 +19,22 @@ drop_rest (c ∷ cs) k = refl
 abbrev played : List Event → Option State → Played
 played history o = record { history = history; state = o }
 
+-- the events of which some may happen next
+abbrev pub candidates : Plan → State → List Event
+candidates pl s =
+    let all = range_with_len 0 (length pl.items) in
+    flat_map (λ i. Step i ∷ Close i ∷ []) all ++ (map Open all ++ (Gen s.place ∷ Wait s.place ∷ End ∷ []))
+
 -- a run that failed does not go on
 failed_stays : (h g : List Event) (s : State) → played h None ≡ played g (Some s) → ⊥
 failed_stays h g s e = absurd (cc (ap (λ (p : Played). p.state) e))
 
 module _ (pl : Plan) (fill : ℕ → Fill) where
+  -- an event that is picked may happen
+  pub may_happen : (s : State) (cs : List ℕ) (e : Event) → next_by pl s cs ≡ Some e → enabled pl s e ≡ true
+  may_happen s cs e at =
+      filter_holds (enabled pl s) (candidates pl s) (first_or_zero cs % length (all_enabled pl s)) e at
+
   none_more : (cs : List ℕ) (h : List Event) (o : Option State) → follow pl fill zero cs h o ≡ played h o
   none_more cs h None = refl
   none_more cs h (Some s) = refl
@@ -96,3 +110,32 @@ module _ (pl : Plan) (fill : ℕ → Fill) where
       let long : length (h ++ e ∷ []) ≡ length h + length (e ∷ []) = length-append h (e ∷ []) in
       ap (λ n. run_by_choices pl fill n input cs) long
       ∙ follow_more (length h) cs [] h (start input) s e ran zero_more at
+
+  -- what a run by choices did is a run
+  runs_on : (n : ℕ) (cs : List ℕ) (h h' : List Event) (o end : Option State) → follow pl fill n cs h o ≡ played h' end →
+      (es : List Event) × (h' ≡ h ++ es) × Run pl fill o es end
+  runs_on n cs h h' None end e =
+      ([], sym (ap (λ (p : Played). p.history) e) ∙ sym (append-nil h), sym (ap (λ (p : Played). p.state) e))
+  runs_on zero cs h h' (Some s) end e =
+      ([], sym (ap (λ (p : Played). p.history) e) ∙ sym (append-nil h), sym (ap (λ (p : Played). p.state) e))
+  runs_on (suc n) cs h h' (Some s) end e =
+      go (λ d r. runs_on n (rest_of cs) (h ++ d ∷ []) h' (step pl fill s d) end r) (next_by pl s cs) refl
+    where
+      Later : Type 0
+      Later = (d : Event) → follow pl fill n (rest_of cs) (h ++ d ∷ []) (step pl fill s d) ≡ played h' end →
+          (es : List Event) × (h' ≡ (h ++ d ∷ []) ++ es) × Run pl fill (step pl fill s d) es end
+
+      go : Later → (o : Option Event) → next_by pl s cs ≡ o →
+          (es : List Event) × (h' ≡ h ++ es) × Run pl fill (Some s) es end
+      go later None is =
+          let same : played h (Some s) ≡ played h' end = sym (ap (picked n cs h s) is) ∙ e in
+          ([], sym (ap (λ (p : Played). p.history) same) ∙ sym (append-nil h), sym (ap (λ (p : Played). p.state) same))
+      go later (Some d) is =
+          let r = later d (sym (one_step n cs h s d is) ∙ e) in
+          (d ∷ r.0, r.1 ∙ append_assoc h (d ∷ []) r.0, (may_happen s cs d is, r.2))
+
+  pub is_run : (n : ℕ) (input cs : List ℕ) (h : List Event) (o : Option State) →
+      run_by_choices pl fill n input cs ≡ played h o → RunFrom pl fill input h o
+  is_run n input cs h o e =
+      let r = runs_on n cs [] h (Some (start input)) o e in
+      subst (λ (es : List Event). Run pl fill (Some (start input)) es o) (sym r.1) r.2

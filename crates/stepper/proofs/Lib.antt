@@ -31,3 +31,9 @@ mod Follows
 mod NextEvents
 mod Certain
 mod Able
+mod Stood
+mod Here
+mod Chosen
+mod AtEnd
+mod NoneNext
+mod HasRuns

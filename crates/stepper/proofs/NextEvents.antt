@@ -1,8 +1,7 @@
 -- The events that may happen next are those that the graph allows, with an open item's next action for its closing.
-use Rattle.std.proofs.Common.{◌≡◌, ℕ, zero, suc, ◌+◌, ◌%◌, ◌<◌, Bool, true, false, List, [], ◌∷◌, ◌++◌, map, length, refl, sym, ap, ◌∙◌, subst, arith, Option, Some, None}
+use Rattle.std.proofs.Common.{◌≡◌, ℕ, zero, suc, ◌+◌, Bool, true, false, List, [], ◌∷◌, ◌++◌, map, length, refl, sym, ap, ◌∙◌, Option, Some, None}
 use Rattle.std.specs.Prelude.{cond, filter, flat_map, slice_get, option_map}
 use Rattle.std.specs.List.{range_with_len}
-use Rattle.std.proofs.lemmas.Bool.{false≢true}
 use Rattle.std.proofs.lemmas.List.{length-map}
 use Rattle.std.proofs.lemmas.Option.{slice_get-map}
 use Rattle.base.specs.declared.item.Event.{Event}
@@ -32,21 +31,21 @@ event_for s (Step i) = Step i
 event_for s (Wait i) = Wait i
 event_for s End = End
 
-abbrev acts : ℕ → ℕ → List Event
+abbrev pub acts : ℕ → ℕ → List Event
 acts a n = flat_map (λ i. Step i ∷ Close i ∷ []) (range_with_len a n)
 
-abbrev closings : ℕ → ℕ → List Event
+abbrev pub closings : ℕ → ℕ → List Event
 closings a n = map Close (range_with_len a n)
 
-abbrev openings : ℕ → ℕ → List Event
+abbrev pub openings : ℕ → ℕ → List Event
 openings a n = map Open (range_with_len a n)
 
-abbrev host : ℕ → List Event
+abbrev pub host : ℕ → List Event
 host k = Gen k ∷ Wait k ∷ End ∷ []
 
 module _ (p : Plan) (s : State) (b : Board) (stands : Stands p (record (as_whole s) { place = b.place }) b)
     (place : s.place ≡ b.place) where
-  allowed : (e : Event) → allows b e ≡ two.enabled p (as_whole s) e
+  pub allowed : (e : Event) → allows b e ≡ two.enabled p (as_whole s) e
   allowed e =
       allowed_is_enabled p (record (as_whole s) { place = b.place }) b e stands
       ∙ ap (λ k. two.enabled p (record (as_whole s) { place = k }) e) (sym place)
@@ -68,29 +67,30 @@ module _ (p : Plan) (s : State) (b : Board) (stands : Stands p (record (as_whole
   item : (i : ℕ) (xs ys : List Event) → filter (enabled p s) xs ≡ map (event_for s) (filter (allows b) ys) →
       filter (enabled p s) (Step i ∷ Close i ∷ xs) ≡ map (event_for s) (filter (allows b) (Close i ∷ ys))
   item i xs ys rest =
-      at (slice_get p.items i) (s.condition i)
-      ∙ (push (two.enabled p (as_whole s) (Close i))
-      ∙ ap (λ v. map (event_for s) (cond v (Close i ∷ filter (allows b) ys) (filter (allows b) ys))) (sym (allowed (Close i))))
+      at (filter (enabled p s) xs) (filter (allows b) ys) rest (slice_get p.items i) (s.condition i)
+      ∙ (push (filter (allows b) ys) (two.enabled p (as_whole s) (Close i))
+      ∙ ap (λ v. map (event_for s) (cond v (Close i ∷ filter (allows b) ys) (filter (allows b) ys)))
+      (sym (allowed (Close i))))
     where
-      push : (v : Bool) →
-          cond v (of_condition i (s.condition i) ∷ map (event_for s) (filter (allows b) ys)) (map (event_for s) (filter (allows b) ys))
-          ≡ map (event_for s) (cond v (Close i ∷ filter (allows b) ys) (filter (allows b) ys))
-      push true = refl
-      push false = refl
+      push : (left : List Event) (v : Bool) →
+          cond v (of_condition i (s.condition i) ∷ map (event_for s) left) (map (event_for s) left)
+          ≡ map (event_for s) (cond v (Close i ∷ left) left)
+      push left true = refl
+      push left false = refl
 
-      at : (o : Option Work) (c : Condition) →
+      at : (now left : List Event) → now ≡ map (event_for s) left → (o : Option Work) (c : Condition) →
           cond (elim o [ None ↦ false | Some w ↦ has_step c ])
-          (Step i ∷ cond (elim o [ None ↦ false | Some w ↦ is_finished c ]) (Close i ∷ filter (enabled p s) xs) (filter (enabled p s) xs))
-          (cond (elim o [ None ↦ false | Some w ↦ is_finished c ]) (Close i ∷ filter (enabled p s) xs) (filter (enabled p s) xs))
+          (Step i ∷ cond (elim o [ None ↦ false | Some w ↦ is_finished c ]) (Close i ∷ now) now)
+          (cond (elim o [ None ↦ false | Some w ↦ is_finished c ]) (Close i ∷ now) now)
           ≡ cond (elim o [ None ↦ false | Some w ↦ two.is_open (whole_condition c) ])
-          (of_condition i c ∷ map (event_for s) (filter (allows b) ys)) (map (event_for s) (filter (allows b) ys))
-      at None c = rest
-      at (Some w) (Opened (Asks r k)) = ap (λ es. Step i ∷ es) rest
-      at (Some w) (Opened (Finished t)) = ap (λ es. Close i ∷ es) rest
-      at (Some w) Untouched = rest
-      at (Some w) (Generated captured) = rest
-      at (Some w) Closed = rest
-      at (Some w) Passed = rest
+          (of_condition i c ∷ map (event_for s) left) (map (event_for s) left)
+      at now left rest None c = rest
+      at now left rest (Some w) (Opened (Asks r k)) = ap (λ es. Step i ∷ es) rest
+      at now left rest (Some w) (Opened (Finished t)) = ap (λ es. Close i ∷ es) rest
+      at now left rest (Some w) Untouched = rest
+      at now left rest (Some w) (Generated captured) = rest
+      at now left rest (Some w) Closed = rest
+      at now left rest (Some w) Passed = rest
 
   -- of all actions and closings from item a on
   items : (a n : ℕ) (xs ys : List Event) → filter (enabled p s) xs ≡ map (event_for s) (filter (allows b) ys) →
@@ -126,7 +126,9 @@ module _ (p : Plan) (s : State) (b : Board) (stands : Stands p (record (as_whole
   pub nth_next : (k : ℕ) → slice_get (all_enabled p s) k
       ≡ option_map (event_for s) (slice_get (allowed_at b (length b.tasks)) k)
   nth_next k =
-      ap (λ (es : List Event). slice_get es k) next_events ∙ slice_get-map (event_for s) (allowed_at b (length b.tasks)) k
+      ap (λ (es : List Event). slice_get es k) next_events
+      ∙ slice_get-map (event_for s) (allowed_at b (length b.tasks)) k
 
   pub next_count : length (all_enabled p s) ≡ length (allowed_at b (length b.tasks))
-  next_count = ap (λ (es : List Event). length es) next_events ∙ length-map (allowed_at b (length b.tasks)) (event_for s)
+  next_count =
+      ap (λ (es : List Event). length es) next_events ∙ length-map (allowed_at b (length b.tasks)) (event_for s)

@@ -12,9 +12,13 @@ use Rattle.base.specs.Arrays.{memory_of, lengths_of}
 use Rattle.base.specs.Memory.{Scalars}
 use Rattle.base.specs.Items.{Work, Plan}
 use Rattle.base.specs.Map.{Block, Fill, in_use, need}
-use Rattle.base.specs.Machine.{deferred_closed}
+use Rattle.base.specs.Machine.{deferred_closed, is_open}
 use Rattle.fine_machine.specs.Left.{Left, Asks, Finished, Request, Enter, Load, Store, Leave, Remove, CopyIn, CopyOut}
+<<<<<<< HEAD
 use Rattle.fine_machine.specs.Machine.{State, Condition, Untouched, Generated, Opened, Closed, Passed, as_whole, captured_by, device_of, enabled, step}
+=======
+use Rattle.fine_machine.specs.Machine.{State, Condition, Untouched, Generated, Opened, Closed, Passed, as_whole, device_of, enabled, step, whole_condition}
+>>>>>>> 59a7de6da28329b123ddbd57da21e060c247300a
 use Rattle.taskgraph.specs.Board.{Stands}
 use Rattle.present.specs.declared.Table.{Table}
 use Rattle.base.specs.declared.memory.Memory.{Memory as Arrays}
@@ -63,6 +67,11 @@ abbrev pub place_of : Bool → ℕ → ℕ
 place_of true place = place + 1
 place_of false place = place
 
+-- the host stands at an open item that is not deferred
+abbrev pub IsHere : Plan → State → Type 0
+IsHere plan s = (i : ℕ) (w : Work) → slice_get plan.items i ≡ Some w → w.deferred ≡ false →
+    is_open (whole_condition (s.condition i)) ≡ true → s.place ≡ i
+
 -- the code's values show this state
 pub record IsAt (plan : Plan) (now : Standing) (s : State) : Type 0 where
   pub host : s.memories.host ≡ memory_of now.host
@@ -73,6 +82,7 @@ pub record IsAt (plan : Plan) (now : Standing) (s : State) : Type 0 where
   pub graph : Stands plan (record (as_whole s) { place = now.graph.place }) now.graph
   pub place : s.place ≡ place_of now.ended now.graph.place
   pub ended : now.ended ≡ true → (now.graph.place ≡ length plan.items) × (deferred_closed plan (as_whole s) ≡ true)
+  pub here : IsHere plan s
   pub scalars : s.scalars ≡ slice_index now.scalars
   pub input : s.input ≡ now.input.now
   pub output : s.output ≡ now.output.items
