@@ -7,6 +7,7 @@ mod Nexts
 mod Answered
 mod HostCells
 mod SingleActs
+mod GraphItems
 mod Stages
 mod Following
 mod AtEnd
