@@ -17,6 +17,7 @@ mod Inside
 mod Opened
 mod Shown
 mod Rows
+mod GraphItems
 mod Stages
 mod Following
 mod AtEnd

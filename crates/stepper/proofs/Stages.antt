@@ -1,20 +1,17 @@
 -- What the events that open, close, generate and pass change on the graph, and what it then stands for.
 use Rattle.std.proofs.Common.{◌≡◌, ℕ, ◌+◌, ◌<◌, Bool, true, false, List, [], ◌∷◌, length, map, Option, Some, None, refl, sym, ap, ◌∙◌, subst}
 use Rattle.std.specs.Prelude.{◌==◌, if◌then◌else◌, option_map, slice_get}
-use Rattle.std.proofs.lemmas.Option.{slice_get-map}
 use Rattle.base.specs.declared.item.Event.TheVariants as event
-use Rattle.base.specs.declared.item.ItemKind.{ItemKind}
-use Rattle.base.specs.declared.item.ItemKind.TheVariants as kind
 use Rattle.base.specs.Items.{Work, Plan}
-use Rattle.base.specs.Map.{Fill, Memories, memories_at}
-use Rattle.base.specs.Memory.{Scalars, View}
-use Rattle.base.specs.Machine.{Condition, Generated, Opened, Closed, Passed, State, closing, moved_on, on_item, open_item, opening, with_condition}
+use Rattle.base.specs.Map.{Fill, memories_at}
+use Rattle.base.specs.Machine.{Condition, Generated, Opened, Closed, Passed, State, closing, moved_on, open_item, with_condition}
 use Rattle.fine_machine.specs.Machine.{State as Fine, Condition as Fine_condition, as_whole, whole_condition}
 use Rattle.taskgraph.specs.declared.Stage.{Stage}
 use Rattle.taskgraph.specs.declared.Stage.TheVariants as stage
 use Rattle.taskgraph.specs.Board.{Board, Facts, Follows, Stands, allows, condition_of, facts_of, plan_in, stage_at, stage_of, state_in, work_of}
 use Rattle.taskgraph.proofs.Kept.{may_close, may_open}
 use Rattle.taskgraph.proofs.Standing.{place_after}
+use Rattle.stepper.proofs.GraphItems.{closes_so, on_task, opens_so}
 
 -- ---- the graph stands for its own state
 
@@ -71,35 +68,6 @@ generates b after i follows =
 pub passes : (b after : Board) (i : ℕ) → Follows b (event.Wait i) after → Becomes b i stage.Passed (b.place + 1) after
 passes b after i follows =
     becomes b i Passed (b.place + 1) after _ refl refl (follows (plan_in b) no_fill (state_in b) _ (own b) refl)
-
--- an item of the graph has no map items, and no region
-opens_so : (fill : Fill) (f : Facts) (k : ItemKind) (m : Memories) → opening fill (work_of (record f { kind = k })) m ≡ Some m
-opens_so fill f kind.Host m = refl
-opens_so fill f kind.Target m = refl
-opens_so fill f kind.Begin m = refl
-opens_so fill f kind.End m = refl
-opens_so fill f kind.Enter m = refl
-opens_so fill f kind.Exit m = refl
-opens_so fill f kind.Update m = refl
-opens_so fill f kind.Wait m = refl
-
-closes_so : (f : Facts) (k : ItemKind) (captured : Scalars) (snapshot : View) (s : State) →
-    closing (work_of (record f { kind = k })) (Opened captured snapshot) s ≡ Some s
-closes_so f kind.Host captured snapshot s = refl
-closes_so f kind.Target captured snapshot s = refl
-closes_so f kind.Begin captured snapshot s = refl
-closes_so f kind.End captured snapshot s = refl
-closes_so f kind.Enter captured snapshot s = refl
-closes_so f kind.Exit captured snapshot s = refl
-closes_so f kind.Update captured snapshot s = refl
-closes_so f kind.Wait captured snapshot s = refl
-
--- what is asked of an item of the graph
-on_task : {A : Type 0} (b : Board) (i : ℕ) (f : Facts) (other : A) (ask : Work → A) → slice_get b.tasks i ≡ Some f →
-    on_item (plan_in b) i other ask ≡ ask (work_of f)
-on_task b i f other ask is =
-    ap (λ o. elim o [ None ↦ other | Some w ↦ ask w ])
-    (slice_get-map work_of b.tasks i ∙ ap (option_map work_of) is)
 
 pub opens : (b after : Board) (i : ℕ) → allows b (event.Open i) ≡ true → Follows b (event.Open i) after →
     Becomes b i stage.Open b.place after
