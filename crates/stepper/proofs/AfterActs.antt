@@ -32,6 +32,8 @@ use Rattle.stepper.specs.declared.control.Control.{Control}
 use Rattle.stepper.specs.declared.standing.Slot.{Slot}
 use Rattle.stepper.specs.declared.standing.Slot.TheVariants as slot
 use Rattle.stepper.specs.declared.standing.Standing.{Standing}
+use Rattle.base.specs.Machine.{is_open}
+use Rattle.stepper.proofs.Places.{here_after}
 use Rattle.stepper.proofs.ActCounts.{counted_after, entered_after}
 use Rattle.stepper.proofs.NextActs.{IsAsked, act_is, after, asked_next, step_is, stays_inside}
 
@@ -138,6 +140,9 @@ module _ (i d : ℕ) (old new : Standing) (control control' : Control) (a : Acti
           subst (λ (g : Graph). Stands plan (record (as_whole t) { place = g.place }) g) (sym moved.graph) graph;
       place = at.place ∙ ap (λ b. place_of b old.graph.place) (sym moved.ended) ∙ ap (λ (g : Graph). place_of new.ended g.place) (sym moved.graph);
       ended = λ e. absurd (false≢true (sym going ∙ (sym moved.ended ∙ e)));
+      here =
+          here_after plan s s.place i (Opened (h.k p.0)) at.here
+          (λ v is_v now o. at.here i v is_v now (ap (λ c. is_open (whole_condition c)) h.condition)) (λ j other there. there);
       scalars = at.scalars ∙ ap slice_index (sym moved.scalars);
       input = at.input ∙ ap (λ x. x.now) (sym moved.input);
       output = at.output ∙ ap (λ x. x.items) (sym moved.output);

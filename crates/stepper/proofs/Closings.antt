@@ -11,7 +11,8 @@ use Rattle.base.specs.declared.item.ItemKind.{ItemKind}
 use Rattle.base.specs.Items.{Work, Plan}
 use Rattle.base.specs.Meaning.{Run as Region_run}
 use Rattle.fine_machine.specs.Left.{Finished}
-use Rattle.fine_machine.specs.Machine.{State, Condition, Closed, close_item, enabled, host_done, is_finished, moves_on, step, with_condition}
+use Rattle.base.specs.Machine.{is_open}
+use Rattle.fine_machine.specs.Machine.{State, Condition, Closed, close_item, enabled, host_done, is_finished, moves_on, step, whole_condition, with_condition}
 use Rattle.taskgraph.specs.Board.{Board, Facts, Follows as GraphFollows, allows, facts_of}
 use Rattle.taskgraph.specs.declared.Stage.TheVariants as stage
 use Rattle.taskgraph.proofs.Standing.{place_after}
@@ -27,6 +28,7 @@ use Rattle.stepper.specs.Standing.{HasLeft, IsAt, IsControl, IsOpen, Keeps, fill
 use Rattle.stepper.proofs.AtEnd.{HasFinished, at_end, finished}
 use Rattle.stepper.proofs.HostDone.{HasValues, Kept, keeps, values}
 use Rattle.stepper.proofs.Following.{before_end, keeps_set}
+use Rattle.stepper.proofs.Places.{here_after, not_open, only_here}
 use Rattle.stepper.proofs.Stages.{Becomes, Closes, closes, stands_after}
 
 module _ (plan : Plan) (old : Standing) (s t : State) (at : IsAt plan old s) (going : old.ended ≡ false)
@@ -74,7 +76,7 @@ module _ (plan : Plan) (old : Standing) (s t : State) (at : IsAt plan old s) (go
     closed g given allowed follows same left set lt e =
         subst (λ x. IsAt plan (record mid { graph = g }) x) (stepped e)
         (subst (λ (m : Standing). IsAt plan (record m { graph = g }) (moves_on w.deferred (with_condition i Closed after)))
-        (sym v.same) (go w.deferred becomes))
+        (sym v.same) (go w.deferred refl becomes))
       where
         v : HasValues from mid after
         v =
@@ -104,8 +106,9 @@ module _ (plan : Plan) (old : Standing) (s t : State) (at : IsAt plan old s) (go
 
         build : (n : ℕ) (y : State) → Becomes old.graph i stage.Closed n g → y.memories ≡ s.memories → y.scalars ≡ after.scalars →
             y.input ≡ after.input → y.output ≡ after.output →
-            y.condition ≡ (λ j. if j == i then Closed else s.condition j) → y.place ≡ n → IsAt plan new y
-        build n y b memories scalars input output condition place = record {
+            y.condition ≡ (λ j. if j == i then Closed else s.condition j) → y.place ≡ n →
+            ((j : ℕ) → (j == i) ≡ false → s.place ≡ j → y.place ≡ j) → IsAt plan new y
+        build n y b memories scalars input output condition place others = record {
           host = ap (λ m. m.host) memories ∙ at.host;
           lengths = at.lengths;
           devices = subst (λ m. ShowAll old.devices m.devices) (sym memories) at.devices;
@@ -114,6 +117,9 @@ module _ (plan : Plan) (old : Standing) (s t : State) (at : IsAt plan old s) (go
           graph = stands_after plan s y old.graph.place i n stage.Closed old.graph g Closed at.graph b refl condition;
           place = place ∙ b.place ∙ sym (ap (λ b. place_of b g.place) going);
           ended = λ d. absurd (true≢false (sym d ∙ going));
+          here = λ j u is_u now o.
+              here_after plan s y.place i Closed at.here (λ _ _ _ shut. not_open Closed refl shut) others j u is_u now
+              (subst (λ (f : ℕ → Condition). is_open (whole_condition (f j)) ≡ true) condition o);
           scalars = scalars ∙ v.scalars;
           input = input ∙ v.input;
           output = output ∙ v.output;
@@ -133,9 +139,14 @@ module _ (plan : Plan) (old : Standing) (s t : State) (at : IsAt plan old s) (go
         here : after.place ≡ old.graph.place
         here = kept.place ∙ before_end plan old s at going
 
-        go : (d : Bool) → Becomes old.graph i stage.Closed (place_after d old.graph.place) g →
+        open_now : is_open (whole_condition (s.condition i)) ≡ true
+        open_now = ap (λ (c : Condition). is_open (whole_condition c)) done.is
+
+        go : (d : Bool) → w.deferred ≡ d → Becomes old.graph i stage.Closed (place_after d old.graph.place) g →
             IsAt plan new (moves_on d (with_condition i Closed after))
-        go true b = build _ (with_condition i Closed after) b kept.memories refl refl refl condition_is here
-        go false b =
+        go true later b =
+            build _ (with_condition i Closed after) b kept.memories refl refl refl condition_is here
+            (λ j other there. kept.place ∙ there)
+        go false now b =
             build _ (moves_on false (with_condition i Closed after)) b kept.memories refl refl refl condition_is
-            (ap (λ n. n + 1) here)
+            (ap (λ n. n + 1) here) (λ j other there. only_here s i j (at.here i w is now open_now) other there)

@@ -5,7 +5,7 @@ use Rattle.std.specs.List.{slice_set}
 use Rattle.std.specs.declared.alloc.Global.{Global}
 use Rattle.std.proofs.lemmas.Bool.{true≢false, eqb-true}
 use Rattle.std.proofs.lemmas.Bool.Decides.{nat_tests}
-use Rattle.std.proofs.lemmas.Option.{same_Some}
+use Rattle.std.proofs.lemmas.Option.{same_Some, slice_get_within}
 use Rattle.std.proofs.lemmas.List.{length-set}
 use Rattle.base.specs.declared.item.Event.TheVariants as event
 use Rattle.base.specs.Items.{Plan}
@@ -17,6 +17,7 @@ use Rattle.stepper.specs.declared.standing.Slot.{Slot}
 use Rattle.stepper.specs.declared.standing.Slot.TheVariants as slot
 use Rattle.stepper.specs.declared.standing.Standing.{Standing}
 use Rattle.stepper.specs.Standing.{IsAt, Keeps, fill_from, place_of}
+use Rattle.stepper.proofs.Places.{here_after, not_open, only_here}
 use Rattle.stepper.proofs.Stages.{generates, passes, stands_after}
 
 number_not : (j i : ℕ) → (j == i) ≡ false → i ≢ j
@@ -54,9 +55,9 @@ module _ (plan : Plan) (old : Standing) (s t : State) (at : IsAt plan old s) (go
   here : s.place ≡ old.graph.place
   here = before_end plan old s at going
 
-  pub passed : (i : ℕ) → GraphFollows old.graph (event.Wait i) g → step plan (fill_from old) s (event.Wait i) ≡ Some t →
+  pub passed : (i : ℕ) → s.place ≡ i → GraphFollows old.graph (event.Wait i) g → step plan (fill_from old) s (event.Wait i) ≡ Some t →
       IsAt plan (record old { graph = g }) t
-  passed i follows e = subst (λ x. IsAt plan (record old { graph = g }) x) (same_Some next t e) made
+  passed i at_i follows e = subst (λ x. IsAt plan (record old { graph = g }) x) (same_Some next t e) made
     where
       next : State
       next = record s { place = s.place + 1; condition = λ k. if k == i then Passed else s.condition k }
@@ -77,14 +78,16 @@ module _ (plan : Plan) (old : Standing) (s t : State) (at : IsAt plan old s) (go
         input = at.input;
         output = at.output;
         slots = at.slots;
+        here = here_after plan s (s.place + 1) i Passed at.here (λ w is now o. not_open Passed refl o)
+            (λ j other there. only_here s i j at_i other there);
         kept = keeps_at plan.lengths old.slots.items s.condition (length plan.items) at.kept i Passed tt;
       }
 
-  pub generated : (i : ℕ) (b : List ℕ) (hs : Vec Slot Global) → GraphFollows old.graph (event.Gen i) g →
+  pub generated : (i : ℕ) (b : List ℕ) (hs : Vec Slot Global) → s.place ≡ i → GraphFollows old.graph (event.Gen i) g →
       hs.items ≡ slice_set old.slots.items i (slot.Captured b) → i < length old.slots.items → b ≡ old.scalars →
       step plan (fill_from old) s (event.Gen i) ≡ Some t →
       IsAt plan (record old { graph = g; slots = hs }) t
-  generated i b hs follows set lt captured e =
+  generated i b hs at_i follows set lt captured e =
       subst (λ x. IsAt plan (record old { graph = g; slots = hs }) x) (same_Some next t e) made
     where
       next : State
@@ -108,6 +111,8 @@ module _ (plan : Plan) (old : Standing) (s t : State) (at : IsAt plan old s) (go
         input = at.input;
         output = at.output;
         slots = ap (λ (xs : List Slot). length xs) set ∙ length-set old.slots.items i (slot.Captured b) ∙ at.slots;
+        here = here_after plan s (s.place + 1) i (Generated s.scalars) at.here (λ w is now o. not_open (Generated s.scalars) refl o)
+            (λ j other there. only_here s i j at_i other there);
         kept =
             subst (λ (xs : List Slot). (j : ℕ) → j < length plan.items →
             Keeps plan.lengths (if j == i then Generated s.scalars else s.condition j) (slice_get xs j)) (sym set)
@@ -134,6 +139,11 @@ ends plan old s t at going may e =
       input = at.input;
       output = at.output;
       slots = at.slots;
+      here = λ j w is now o.
+          let there = at.here j w is now o in
+          let lt = slice_get_within plan.items j w is in
+          let last = (enabled_End plan (as_whole s) may).0 in
+          absurd (omega (arith, there, last, lt));
       kept = at.kept;
     })
   where

@@ -18,6 +18,7 @@ mod Opened
 mod Shown
 mod Rows
 mod GraphItems
+mod Places
 mod Stages
 mod Following
 mod AtEnd
@@ -35,6 +36,6 @@ mod Able
 mod Stood
 mod Here
 mod Chosen
-mod AtEnd
 mod NoneNext
 mod HasRuns
+mod AfterEnd

@@ -26,6 +26,7 @@ use Rattle.stepper.specs.Control.{left_of}
 use Rattle.stepper.specs.Opening.{InArrays, IsOpened, StaysInside, begun_with}
 use Rattle.stepper.specs.Standing.{Captures, IsAt, IsItem, Keeps, fill_from, place_of}
 use Rattle.stepper.proofs.Following.{before_end, keeps_set}
+use Rattle.stepper.proofs.Places.{here_after, open_here}
 use Rattle.stepper.proofs.Stages.{Becomes, opens, stands_after}
 
 module _ (plan : Plan) (old : Standing) (s : State) (at : IsAt plan old s) (i : ℕ) (it : Item) (r : Option Region)
@@ -82,6 +83,9 @@ module _ (plan : Plan) (old : Standing) (s : State) (at : IsAt plan old s) (i : 
             becomes refl refl;
         place = before_end plan old s at going ∙ becomes.place ∙ sym (ap (λ b. place_of b g.place) going);
         ended = λ d. absurd (true≢false (sym d ∙ going));
+        here =
+            here_after plan s s.place i (Opened (left_of control)) at.here
+            (λ v is_v now o. open_here plan s i v is_v now may) (λ j other there. there);
         scalars = at.scalars;
         input = at.input;
         output = at.output;

@@ -43,6 +43,7 @@ started plan entries its input now e h =
       graph = record { items = stands.items; place = refl; conditions = stands.conditions };
       place = stands.place ∙ ap (λ b. place_of b now.graph.place) (sym h.ended);
       ended = λ d. absurd (true≢false (sym d ∙ h.ended));
+      here = λ i w is now o. absurd (true≢false (sym o));
       scalars = ap (λ (xs : List ℕ). slice_index xs) (sym h.scalars);
       input = sym h.given;
       output = sym h.output;

@@ -14,11 +14,7 @@ use Rattle.base.specs.Items.{Work, Plan}
 use Rattle.base.specs.Map.{Block, Fill, in_use, need}
 use Rattle.base.specs.Machine.{deferred_closed, is_open}
 use Rattle.fine_machine.specs.Left.{Left, Asks, Finished, Request, Enter, Load, Store, Leave, Remove, CopyIn, CopyOut}
-<<<<<<< HEAD
-use Rattle.fine_machine.specs.Machine.{State, Condition, Untouched, Generated, Opened, Closed, Passed, as_whole, captured_by, device_of, enabled, step}
-=======
-use Rattle.fine_machine.specs.Machine.{State, Condition, Untouched, Generated, Opened, Closed, Passed, as_whole, device_of, enabled, step, whole_condition}
->>>>>>> 59a7de6da28329b123ddbd57da21e060c247300a
+use Rattle.fine_machine.specs.Machine.{State, Condition, Untouched, Generated, Opened, Closed, Passed, as_whole, captured_by, device_of, enabled, step, whole_condition}
 use Rattle.taskgraph.specs.Board.{Stands}
 use Rattle.present.specs.declared.Table.{Table}
 use Rattle.base.specs.declared.memory.Memory.{Memory as Arrays}

@@ -1,5 +1,5 @@
 use Rattle.std.proofs.Common.{sym, ◌∙◌, drop}
-use Rattle.stepper.proofs.AtEnd.{nothing_next}
+use Rattle.stepper.proofs.AfterEnd.{nothing_next}
 use Rattle.stepper.proofs.Chosen.{counted_around, none_next}
 use Rattle.stepper.proofs.standing.Standing.next_event.Goals as goal
 
