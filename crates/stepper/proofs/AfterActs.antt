@@ -1,5 +1,5 @@
 -- The state after an action, which is shown where the action was done on what the code keeps.
-use Rattle.std.proofs.Common.{◌≡◌, ◌+◌, ◌<◌, ◌≤◌, ℕ, Bool, true, false, List, Option, Some, None, length, refl, sym, ap, ◌∙◌, subst, arith}
+use Rattle.std.proofs.Common.{◌≡◌, ◌<◌, ◌≤◌, ℕ, Bool, true, false, Option, Some, None, length, refl, sym, ap, ◌∙◌, subst, arith}
 use Rattle.std.specs.Prelude.{◌==◌, IsSomeAnd, Vec, if◌then◌else◌, slice_get, slice_index, option_map}
 use Rattle.std.proofs.lemmas.Bool.{cond-true, cond-false, eqb-false, eqb-true, false≢true}
 use Rattle.std.specs.Vec.{with_item}
@@ -9,7 +9,6 @@ use Rattle.std.proofs.lemmas.Option.{same_Some}
 use Rattle.base.specs.declared.memory.Memory.{Memory as Arrays}
 use Rattle.base.proofs.Places.{get_set_other, get_set_same}
 use Rattle.device.specs.declared.devices.Devices.{Devices}
-use Rattle.base.specs.declared.item.Event.TheVariants.{Step}
 use Rattle.base.specs.Map.{Device, Memories, memories_at}
 use Rattle.taskgraph.specs.declared.Graph.{Graph}
 use Rattle.taskgraph.specs.Board.{Stands, stage_at, stage_of}
@@ -153,8 +152,8 @@ module _ (i d : ℕ) (old new : Standing) (control control' : Control) (a : Acti
       (memories old.host (s.memories.devices d))) _ (done.acts (s.memories.devices d) shows) in
       let is = act_is plan s i d request control h on old done.becomes.before at done.becomes.was ∙ w.1 in
       let to : Some (after plan s i d request control h on w.0) ≡ Some u =
-          sym (step_is plan s i d request control h on (fill_from old)
-          ∙ ap (λ (o : Option (Answer × Memories)). option_map (after plan s i d request control h on) o) is) ∙ e in
+      sym (step_is plan s i d request control h on (fill_from old)
+      ∙ ap (λ (o : Option (Answer × Memories)). option_map (after plan s i d request control h on) o) is) ∙ e in
       subst (IsAt plan new) (same_Some (after plan s i d request control h on w.0) u to)
       (shown plan s at h on w.0 is w.2.0 w.2.1)
 
