@@ -34,17 +34,6 @@ use Rattle.stepper.specs.declared.standing.Standing.{Standing}
 use Rattle.stepper.proofs.ActCounts.{counted_after, entered_after}
 use Rattle.stepper.proofs.NextActs.{IsAsked, act_is, after, asked_next, step_is, stays_inside}
 
--- what counting an action leaves
-pub counted_is : (a : Action) (on_host : Bool) (old new : Standing) → HasCounted a old new →
-    new ≡ record old { entered = entered_after (request_of (side_of on_host) a) old.entered }
-counted_is (action.Enter item) on_host old new h = h
-counted_is (action.Load c) on_host old new h = h
-counted_is (action.Store c n) on_host old new h = h
-counted_is (action.Leave item) on_host old new h = h
-counted_is (action.Remove section) on_host old new h = h
-counted_is (action.CopyIn c) on_host old new h = h
-counted_is (action.CopyOut c) on_host old new h = h
-
 -- the item has this control now, and beside the memories only the number of entries is another one
 pub record IsMoved (i : ℕ) (request : Request) (control : Control) (old new : Standing) : Type 0 where
   pub graph : new.graph ≡ old.graph
@@ -130,12 +119,15 @@ module _ (i d : ℕ) (old new : Standing) (control control' : Control) (a : Acti
     shown = record {
       host = are.host;
       lengths = done.lengths ∙ at.lengths;
-      devices = show_all d old.devices new.devices done.after done.becomes s.memories.devices p.1.device at.devices are.shown;
+      devices =
+          show_all d old.devices new.devices done.after done.becomes s.memories.devices p.1.device at.devices are.shown;
       alike = still_alike d old.devices new.devices done.after done.becomes at.alike;
       counts = counts;
       graph =
           subst (λ (g : Graph). Stands plan (record (as_whole t) { place = g.place }) g) (sym moved.graph) graph;
-      place = at.place ∙ ap (λ b. place_of b old.graph.place) (sym moved.ended) ∙ ap (λ (g : Graph). place_of new.ended g.place) (sym moved.graph);
+      place =
+          at.place ∙ ap (λ b. place_of b old.graph.place) (sym moved.ended)
+          ∙ ap (λ (g : Graph). place_of new.ended g.place) (sym moved.graph);
       ended = λ e. absurd (false≢true (sym going ∙ (sym moved.ended ∙ e)));
       scalars = at.scalars ∙ ap slice_index (sym moved.scalars);
       input = at.input ∙ ap (λ x. x.now) (sym moved.input);
@@ -156,60 +148,3 @@ module _ (i d : ℕ) (old new : Standing) (control control' : Control) (a : Acti
       ∙ ap (λ (o : Option (Answer × Memories)). option_map (after plan s i d request control h on) o) is) ∙ e in
       subst (IsAt plan new) (same_Some (after plan s i d request control h on w.0) u to)
       (shown plan s at h on w.0 is w.2.0 w.2.1)
-
--- what an action leaves, put together from what the calls leave
-abbrev pub with_control : ℕ → Standing → Arrays → Devices → Control → Standing
-with_control i counted host devices control = record counted {
-  host = host;
-  devices = devices;
-  slots = with_item counted.slots i (slot.Opened control);
-}
-
-module _ (i : ℕ) (old counted : Standing) (nothing : Slot) (a : Action)
-    (count : HasCounted a (record old { slots = with_item old.slots i nothing }) counted) where
-  is : (on_host : Bool) → counted ≡ record old {
-    slots = with_item old.slots i nothing;
-    entered = entered_after (request_of (side_of on_host) a) old.entered;
-  }
-  is on_host = counted_is a on_host (record old { slots = with_item old.slots i nothing }) counted count
-
-  pub same_devices : counted.devices ≡ old.devices
-  same_devices = ap (λ (x : Standing). x.devices) (is true)
-
-  pub same_host : counted.host ≡ old.host
-  same_host = ap (λ (x : Standing). x.host) (is true)
-
-  slots : counted.slots ≡ with_item old.slots i nothing
-  slots = ap (λ (x : Standing). x.slots) (is true)
-
-  long : length counted.slots.items ≡ length old.slots.items
-  long = ap (λ (x : Vec Slot Global). length x.items) slots ∙ length-set old.slots.items i nothing
-
-  module _ (d : ℕ) (control control' : Control) (r : Given) (host : Arrays) (devices : Devices)
-      (inside : i < length old.slots.items) where
-    moved_on : IsMoved i (request_of (side_of control.on_host) a) control' old
-        (with_control i counted host devices control')
-    moved_on = record {
-      graph = ap (λ (x : Standing). x.graph) (is true);
-      ended = ap (λ (x : Standing). x.ended) (is true);
-      scalars = ap (λ (x : Standing). x.scalars) (is true);
-      input = ap (λ (x : Standing). x.input) (is true);
-      output = ap (λ (x : Standing). x.output) (is true);
-      entered = ap (λ (x : Standing). x.entered) (is control.on_host);
-      slots = length-set counted.slots.items i (slot.Opened control') ∙ long;
-      here = get_set_same counted.slots.items i (slot.Opened control') (let n = long in omega arith);
-      others = λ k e.
-          get_set_other counted.slots.items i (slot.Opened control') k (λ q. eqb-false k i e (sym q))
-          ∙ ap (λ (x : Vec Slot Global). slice_get x.items k) slots
-          ∙ get_set_other old.slots.items i nothing k (λ q. eqb-false k i e (sym q));
-    }
-
-    pub stepped : slice_get old.slots.items i ≡ Some (slot.Opened control) → IsNext control (Some a) →
-        old.ended ≡ false → ActsOn d control.on_host a r counted.devices counted.host devices host →
-        Answers (answer_of r) control control' → IsStopped control' →
-        FollowsOn d i old (with_control i counted host devices control')
-    stepped held next going done answered stopped =
-        follows i d old (with_control i counted host devices control') control control' a r held next going
-        (subst (λ (ds : Devices). ActsOn d control.on_host a r ds old.host devices host) same_devices
-        (subst (λ (m : Arrays). ActsOn d control.on_host a r counted.devices m devices host) same_host done))
-        answered stopped moved_on

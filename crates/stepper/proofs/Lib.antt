@@ -11,3 +11,4 @@ mod ActCounts
 mod NextActs
 mod ActRooms
 mod AfterActs
+mod StepActs

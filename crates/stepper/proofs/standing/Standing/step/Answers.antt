@@ -14,7 +14,7 @@ use Rattle.stepper.specs.declared.standing.Slot.{Slot}
 use Rattle.stepper.specs.declared.standing.Slot.TheVariants as slot
 use Rattle.stepper.specs.declared.standing.Standing.{Standing}
 use Rattle.stepper.proofs.ActRooms.{counts_on, has_room, step_fault}
-use Rattle.stepper.proofs.AfterActs.{same_devices, same_host, stepped}
+use Rattle.stepper.proofs.StepActs.{same_devices, same_host, stepped}
 use Rattle.stepper.proofs.NextActs.{asked_next, asks_inside, in_host}
 use Rattle.stepper.proofs.standing.Standing.step.Goals.{In-Some, In_ok-count}
 use Rattle.stepper.proofs.standing.Standing.step.Goals as goal
