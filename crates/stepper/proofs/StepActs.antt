@@ -1,29 +1,19 @@
 -- What an action leaves, put together from what the calls leave.
-use Rattle.std.proofs.Common.{◌≡◌, ◌<◌, ◌≤◌, ℕ, Bool, true, false, Option, Some, None, length, refl, sym, ap, ◌∙◌, subst, arith}
-use Rattle.std.specs.Prelude.{◌==◌, IsSomeAnd, Vec, if◌then◌else◌, slice_get, slice_index, option_map}
-use Rattle.std.proofs.lemmas.Bool.{cond-true, cond-false, eqb-false, eqb-true, false≢true}
+use Rattle.std.proofs.Common.{◌≡◌, ◌<◌, ℕ, Bool, true, false, Some, length, sym, ap, ◌∙◌, subst, arith}
+use Rattle.std.specs.Prelude.{Vec, slice_get}
+use Rattle.std.proofs.lemmas.Bool.{eqb-false}
 use Rattle.std.specs.Vec.{with_item}
 use Rattle.std.specs.declared.alloc.Global.{Global}
 use Rattle.std.proofs.lemmas.List.{length-set}
-use Rattle.std.proofs.lemmas.Option.{same_Some}
 use Rattle.base.specs.declared.memory.Memory.{Memory as Arrays}
 use Rattle.base.proofs.Places.{get_set_other, get_set_same}
 use Rattle.device.specs.declared.devices.Devices.{Devices}
-use Rattle.base.specs.Map.{Device, Memories, memories_at}
-use Rattle.taskgraph.specs.declared.Graph.{Graph}
-use Rattle.taskgraph.specs.Board.{Stands, stage_at, stage_of}
-use Rattle.fine_machine.specs.Action.{act}
-use Rattle.fine_machine.specs.Left.{Answer, Request, Load, Store, Enter, Leave, Remove, CopyIn, CopyOut}
-use Rattle.fine_machine.specs.Machine.{Condition, Opened, State, as_whole, whole_condition}
-use Rattle.base.specs.Items.{Plan}
-use Rattle.base.specs.Arrays.{lengths_of}
-use Rattle.present.specs.Table.{Are, fill_of, memories}
-use Rattle.device.specs.Moves.{CountsAtMost}
-use Rattle.device.proofs.Counts.{more}
-use Rattle.device.proofs.Tables.{each_changed, show_all, still_alike}
+use Rattle.fine_machine.specs.Left.{Load, Store, Enter, Leave, Remove, CopyIn, CopyOut}
+use Rattle.fine_machine.specs.Machine.{Opened}
+use Rattle.present.specs.Table.{memories}
 use Rattle.stepper.specs.Acting.{answer_of}
 use Rattle.stepper.specs.Control.{Answers, IsNext, IsStopped, request_of, side_of}
-use Rattle.stepper.specs.Standing.{ActsOn, FollowsOn, HasCounted, IsAt, IsOnDevice, IsOpen, Keeps, fill_from, place_of}
+use Rattle.stepper.specs.Standing.{ActsOn, FollowsOn, HasCounted}
 use Rattle.stepper.specs.declared.action.Action.{Action}
 use Rattle.stepper.specs.declared.action.Action.TheVariants as action
 use Rattle.stepper.specs.declared.action.Given.{Given}
@@ -31,8 +21,7 @@ use Rattle.stepper.specs.declared.control.Control.{Control}
 use Rattle.stepper.specs.declared.standing.Slot.{Slot}
 use Rattle.stepper.specs.declared.standing.Slot.TheVariants as slot
 use Rattle.stepper.specs.declared.standing.Standing.{Standing}
-use Rattle.stepper.proofs.ActCounts.{counted_after, entered_after}
-use Rattle.stepper.proofs.NextActs.{IsAsked, act_is, after, asked_next, step_is, stays_inside}
+use Rattle.stepper.proofs.ActCounts.{entered_after}
 use Rattle.stepper.proofs.AfterActs.{IsMoved, follows}
 
 -- what counting an action leaves
