@@ -1,6 +1,6 @@
 use Rattle.std.proofs.Common.{◌≡◌, true, false, Option, Some, None, is_some, sym, ap, ◌∙◌, subst, slice_get}
 use Rattle.std.proofs.lemmas.Bool.{false≢true, ltb-true}
-use Rattle.std.proofs.lemmas.Option.{slice_get-get_or}
+use Rattle.std.proofs.lemmas.Option.{slice_get-get_or, slice_get_past}
 use Rattle.stepper.specs.Control.{IsNext, IsStopped}
 use Rattle.stepper.specs.Standing.{IsActing, IsAtRest}
 use Rattle.stepper.specs.declared.action.Action.{Action}
@@ -38,3 +38,20 @@ pub returns-in-Some-Opened-clause-rest : goal.returns-in-Some-Opened-clause-rest
 returns-in-Some-Opened-clause-rest c e =
     subst IsAtRest (sym (held (goal.at.returns-in-Some-Opened-clause-rest c).In-Some-Opened))
     (rest_from c.in-Some-Opened.control c.next.result (sym c.is_some.ensures ∙ e) c.next.ensures)
+
+pub returns-in-Some-Nothing-clause-rest : goal.returns-in-Some-Nothing-clause-rest
+returns-in-Some-Nothing-clause-rest c e =
+    let there = c.in-Some-Nothing.ensures.lookup in
+    let none : slice_get c.args.self.now.slots.items c.args.item ≡ Some slot.Nothing =
+    ap (λ xs. slice_get xs c.args.item) (sym c.deref.ensures.value)
+    ∙ slice_get-get_or c.deref.result.now c.args.item c.in-Some-Nothing.field-0.now
+    (ltb-true c.args.item _ (sym there.0))
+    ∙ ap (λ (s : Slot). Some s) (sym there.1 ∙ c.in-Some-Nothing.field-0-is) in
+    subst IsAtRest (sym none) tt
+
+pub returns-in-None-clause-rest : goal.returns-in-None-clause-rest
+returns-in-None-clause-rest c e =
+    let past : slice_get c.args.self.now.slots.items c.args.item ≡ None =
+    ap (λ xs. slice_get xs c.args.item) (sym c.deref.ensures.value)
+    ∙ slice_get_past c.deref.result.now c.args.item c.in-None.ensures.lookup.3 in
+    subst IsAtRest (sym past) tt
