@@ -1,10 +1,10 @@
 -- How often blocks were entered, after a single action.
-use Rattle.std.proofs.Common.{◌≡◌, ◌+◌, ℕ, Bool, true, false, List, Option, Some, None, refl, sym, ap, ◌∙◌, subst, map, arith}
+use Rattle.std.proofs.Common.{◌≡◌, ◌+◌, ℕ, Bool, true, false, List, Some, None, refl, sym, ◌∙◌, subst, map, arith}
 use Rattle.std.specs.Prelude.{◌==◌}
 use Rattle.std.proofs.lemmas.Option.{none-some, same_Some}
 use Rattle.base.specs.declared.item.MapItem.{MapItem}
 use Rattle.base.specs.declared.item.Section.{Section}
-use Rattle.base.specs.Map.{Block, Fill, Memories, Move, Presence, Absent, Inside, InPart, counted, entry, exit_copies, exit_count, presence, when, with_blocks, with_cells, without}
+use Rattle.base.specs.Map.{Fill, Memories, Move, Presence, Absent, Inside, InPart, counted, entry, exit_copies, exit_count, presence, when, with_blocks, with_cells, without}
 use Rattle.base.specs.Memory.{View, is_cell}
 use Rattle.fine_machine.specs.Action.{act, decided, loaded, lowered, on_cell, removed, with_device, with_host}
 use Rattle.fine_machine.specs.Left.{Answer, Request, OnHost, OnDevice, Load, Store, Enter, Leave, Remove, CopyIn, CopyOut}

@@ -1,27 +1,26 @@
 -- Room for the next action of an item, and why an action is not done.
-use Rattle.std.proofs.Common.{◌≡◌, ◌+◌, ◌<◌, ◌≤◌, ℕ, Bool, true, false, List, Option, Some, None, sym, ap, ◌∙◌, arith}
+use Rattle.std.proofs.Common.{◌≡◌, ◌+◌, ◌<◌, ◌≤◌, ℕ, Bool, true, false, Option, Some, ap, ◌∙◌, arith}
 use Rattle.std.specs.Prelude.{◌^◌, nat_lt, option_map, slice_get}
 use Rattle.std.proofs.lemmas.Bool.Decides.{nat_tests}
 use Rattle.base.specs.declared.fault.RunFault.{RunFault}
 use Rattle.base.specs.declared.fault.RunFault.TheVariants as fault
-use Rattle.base.specs.declared.item.Event.TheVariants.{Step}
 use Rattle.base.specs.Items.{Plan}
-use Rattle.base.specs.Map.{Block, Memories, in_use}
+use Rattle.base.specs.Map.{Memories, in_use}
 use Rattle.fine_machine.specs.Left.{Answer, Request}
-use Rattle.fine_machine.specs.Machine.{State, enabled}
+use Rattle.fine_machine.specs.Machine.{State}
 use Rattle.present.specs.declared.Table.{Table}
 use Rattle.present.specs.Table.{first_cell}
 use Rattle.device.specs.Devices.{HaveRoom, OnTable, table_at}
 use Rattle.device.proofs.Counts.{table_counts}
 use Rattle.stepper.specs.Acting.{ActFails, CountsOn, FitsIn, IsActFault, IsOver, OnEntry}
 use Rattle.stepper.specs.Control.{IsNext, request_of, side_of}
-use Rattle.stepper.specs.Standing.{FailsOn, HasRoomAt, IsAt, IsOnDevice, IsStepFault, fill_from, needs}
+use Rattle.stepper.specs.Standing.{FailsOn, HasRoomAt, IsAt, IsStepFault, fill_from, needs}
 use Rattle.stepper.specs.declared.action.Action.{Action}
 use Rattle.stepper.specs.declared.action.Action.TheVariants as action
 use Rattle.stepper.specs.declared.control.Control.{Control}
 use Rattle.stepper.specs.declared.standing.Slot.TheVariants as slot
 use Rattle.stepper.specs.declared.standing.Standing.{Standing}
-use Rattle.stepper.proofs.NextActs.{IsAsked, act_is, after, asked_next, over_is, step_is}
+use Rattle.stepper.proofs.NextActs.{act_is, after, asked_next, over_is, step_is}
 
 lt_true : (a b : ℕ) → a < b → nat_lt a b ≡ true
 lt_true a b h = grind (arith, nat_tests)
@@ -34,7 +33,7 @@ pub counts_on : (plan : Plan) (s : State) (now : Standing) (d : ℕ) (a : Action
     OnEntry a (λ item. now.entered + 1 < 2 ^ 64) → OnTable now.devices d (CountsOn a)
 counts_on plan s now d (action.Enter item) at fits t was =
     let low = table_counts t (s.memories.devices d) now.entered (at.devices d t was) (at.counts d)
-        (first_cell item.section) in omega arith
+    (first_cell item.section) in omega arith
 counts_on plan s now d (action.Load c) at fits t was = tt
 counts_on plan s now d (action.Store c n) at fits t was = tt
 counts_on plan s now d (action.Leave item) at fits t was = tt

@@ -1,15 +1,8 @@
 -- The state after an action, which is shown where the action was done on what the code keeps.
-use Rattle.std.proofs.Common.{◌≡◌, ◌+◌, ◌<◌, ◌≤◌, ℕ, Bool, true, false, List, Option, Some, None, length, refl, sym, ap, ◌∙◌, subst, arith}
-use Rattle.std.specs.Prelude.{◌==◌, IsSomeAnd, Vec, if◌then◌else◌, slice_get, slice_index, option_map}
-use Rattle.std.proofs.lemmas.Bool.{cond-true, cond-false, eqb-false, eqb-true, false≢true}
-use Rattle.std.specs.Vec.{with_item}
-use Rattle.std.specs.declared.alloc.Global.{Global}
-use Rattle.std.proofs.lemmas.List.{length-set}
+use Rattle.std.proofs.Common.{◌≡◌, ◌<◌, ◌≤◌, ℕ, Bool, true, false, Option, Some, None, length, refl, sym, ap, ◌∙◌, subst, arith}
+use Rattle.std.specs.Prelude.{◌==◌, IsSomeAnd, if◌then◌else◌, slice_get, slice_index, option_map}
+use Rattle.std.proofs.lemmas.Bool.{cond-true, cond-false, eqb-true, false≢true}
 use Rattle.std.proofs.lemmas.Option.{same_Some}
-use Rattle.base.specs.declared.memory.Memory.{Memory as Arrays}
-use Rattle.base.proofs.Places.{get_set_other, get_set_same}
-use Rattle.device.specs.declared.devices.Devices.{Devices}
-use Rattle.base.specs.declared.item.Event.TheVariants.{Step}
 use Rattle.base.specs.Map.{Device, Memories, memories_at}
 use Rattle.taskgraph.specs.declared.Graph.{Graph}
 use Rattle.taskgraph.specs.Board.{Stands, stage_at, stage_of}
@@ -24,29 +17,16 @@ use Rattle.device.proofs.Counts.{more}
 use Rattle.device.proofs.Tables.{each_changed, show_all, still_alike}
 use Rattle.stepper.specs.Acting.{answer_of}
 use Rattle.stepper.specs.Control.{Answers, IsNext, IsStopped, request_of, side_of}
-use Rattle.stepper.specs.Standing.{ActsOn, FollowsOn, HasCounted, IsAt, IsOnDevice, IsOpen, Keeps, fill_from, place_of}
+use Rattle.stepper.specs.Standing.{ActsOn, FollowsOn, IsAt, IsOnDevice, IsOpen, Keeps, fill_from, place_of}
 use Rattle.stepper.specs.declared.action.Action.{Action}
-use Rattle.stepper.specs.declared.action.Action.TheVariants as action
 use Rattle.stepper.specs.declared.action.Given.{Given}
 use Rattle.stepper.specs.declared.control.Control.{Control}
-use Rattle.stepper.specs.declared.standing.Slot.{Slot}
 use Rattle.stepper.specs.declared.standing.Slot.TheVariants as slot
 use Rattle.stepper.specs.declared.standing.Standing.{Standing}
 use Rattle.base.specs.Machine.{is_open}
 use Rattle.stepper.proofs.Places.{here_after}
 use Rattle.stepper.proofs.ActCounts.{counted_after, entered_after}
 use Rattle.stepper.proofs.NextActs.{IsAsked, act_is, after, asked_next, step_is, stays_inside}
-
--- what counting an action leaves
-pub counted_is : (a : Action) (on_host : Bool) (old new : Standing) → HasCounted a old new →
-    new ≡ record old { entered = entered_after (request_of (side_of on_host) a) old.entered }
-counted_is (action.Enter item) on_host old new h = h
-counted_is (action.Load c) on_host old new h = h
-counted_is (action.Store c n) on_host old new h = h
-counted_is (action.Leave item) on_host old new h = h
-counted_is (action.Remove section) on_host old new h = h
-counted_is (action.CopyIn c) on_host old new h = h
-counted_is (action.CopyOut c) on_host old new h = h
 
 -- the item has this control now, and beside the memories only the number of entries is another one
 pub record IsMoved (i : ℕ) (request : Request) (control : Control) (old new : Standing) : Type 0 where
@@ -133,12 +113,15 @@ module _ (i d : ℕ) (old new : Standing) (control control' : Control) (a : Acti
     shown = record {
       host = are.host;
       lengths = done.lengths ∙ at.lengths;
-      devices = show_all d old.devices new.devices done.after done.becomes s.memories.devices p.1.device at.devices are.shown;
+      devices =
+          show_all d old.devices new.devices done.after done.becomes s.memories.devices p.1.device at.devices are.shown;
       alike = still_alike d old.devices new.devices done.after done.becomes at.alike;
       counts = counts;
       graph =
           subst (λ (g : Graph). Stands plan (record (as_whole t) { place = g.place }) g) (sym moved.graph) graph;
-      place = at.place ∙ ap (λ b. place_of b old.graph.place) (sym moved.ended) ∙ ap (λ (g : Graph). place_of new.ended g.place) (sym moved.graph);
+      place =
+          at.place ∙ ap (λ b. place_of b old.graph.place) (sym moved.ended)
+          ∙ ap (λ (g : Graph). place_of new.ended g.place) (sym moved.graph);
       ended = λ e. absurd (false≢true (sym going ∙ (sym moved.ended ∙ e)));
       here =
           here_after plan s s.place i (Opened (h.k p.0)) at.here
@@ -161,60 +144,3 @@ module _ (i d : ℕ) (old new : Standing) (control control' : Control) (a : Acti
       (sym (step_is plan s i d request control h on (fill_from old)
       ∙ ap (λ (o : Option (Answer × Memories)). option_map (after plan s i d request control h on) o) is))
       (shown plan s at h on w.0 is w.2.0 w.2.1)
-
--- what an action leaves, put together from what the calls leave
-abbrev pub with_control : ℕ → Standing → Arrays → Devices → Control → Standing
-with_control i counted host devices control = record counted {
-  host = host;
-  devices = devices;
-  slots = with_item counted.slots i (slot.Opened control);
-}
-
-module _ (i : ℕ) (old counted : Standing) (nothing : Slot) (a : Action)
-    (count : HasCounted a (record old { slots = with_item old.slots i nothing }) counted) where
-  is : (on_host : Bool) → counted ≡ record old {
-    slots = with_item old.slots i nothing;
-    entered = entered_after (request_of (side_of on_host) a) old.entered;
-  }
-  is on_host = counted_is a on_host (record old { slots = with_item old.slots i nothing }) counted count
-
-  pub same_devices : counted.devices ≡ old.devices
-  same_devices = ap (λ (x : Standing). x.devices) (is true)
-
-  pub same_host : counted.host ≡ old.host
-  same_host = ap (λ (x : Standing). x.host) (is true)
-
-  slots : counted.slots ≡ with_item old.slots i nothing
-  slots = ap (λ (x : Standing). x.slots) (is true)
-
-  long : length counted.slots.items ≡ length old.slots.items
-  long = ap (λ (x : Vec Slot Global). length x.items) slots ∙ length-set old.slots.items i nothing
-
-  module _ (d : ℕ) (control control' : Control) (r : Given) (host : Arrays) (devices : Devices)
-      (inside : i < length old.slots.items) where
-    moved_on : IsMoved i (request_of (side_of control.on_host) a) control' old
-        (with_control i counted host devices control')
-    moved_on = record {
-      graph = ap (λ (x : Standing). x.graph) (is true);
-      ended = ap (λ (x : Standing). x.ended) (is true);
-      scalars = ap (λ (x : Standing). x.scalars) (is true);
-      input = ap (λ (x : Standing). x.input) (is true);
-      output = ap (λ (x : Standing). x.output) (is true);
-      entered = ap (λ (x : Standing). x.entered) (is control.on_host);
-      slots = length-set counted.slots.items i (slot.Opened control') ∙ long;
-      here = get_set_same counted.slots.items i (slot.Opened control') (let n = long in omega arith);
-      others = λ k e.
-          get_set_other counted.slots.items i (slot.Opened control') k (λ q. eqb-false k i e (sym q))
-          ∙ ap (λ (x : Vec Slot Global). slice_get x.items k) slots
-          ∙ get_set_other old.slots.items i nothing k (λ q. eqb-false k i e (sym q));
-    }
-
-    pub stepped : slice_get old.slots.items i ≡ Some (slot.Opened control) → IsNext control (Some a) →
-        old.ended ≡ false → ActsOn d control.on_host a r counted.devices counted.host devices host →
-        Answers (answer_of r) control control' → IsStopped control' →
-        FollowsOn d i old (with_control i counted host devices control')
-    stepped held next going done answered stopped =
-        follows i d old (with_control i counted host devices control') control control' a r held next going
-        (subst (λ (ds : Devices). ActsOn d control.on_host a r ds old.host devices host) same_devices
-        (subst (λ (m : Arrays). ActsOn d control.on_host a r counted.devices m devices host) same_host done))
-        answered stopped moved_on

@@ -39,3 +39,4 @@ mod Chosen
 mod NoneNext
 mod HasRuns
 mod AfterEnd
+mod StepActs

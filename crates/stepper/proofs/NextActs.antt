@@ -5,7 +5,7 @@ use Rattle.std.proofs.lemmas.Bool.{false≢true}
 use Rattle.std.proofs.lemmas.Option.{slice_get_within}
 use Rattle.base.specs.declared.item.Event.TheVariants.{Step}
 use Rattle.base.specs.declared.memory.Memory.{Memory as Arrays}
-use Rattle.base.specs.Arrays.{lengths_of, memory_of}
+use Rattle.base.specs.Arrays.{lengths_of}
 use Rattle.base.specs.Items.{Plan, Work}
 use Rattle.base.specs.Map.{Fill, Memories, in_use, memories_at}
 use Rattle.base.specs.Memory.{Memory, is_cell}
@@ -13,7 +13,7 @@ use Rattle.two_memories.proofs.PlanItems.{at_item, on_true}
 use Rattle.fine_machine.specs.Action.{act}
 use Rattle.fine_machine.specs.Left.{Answer, Asks, Finished, Left, Request}
 use Rattle.fine_machine.specs.Machine.{Condition, Untouched, Generated, Opened, Closed, Passed, State, device_of, enabled, has_step, step, step_item, with_condition, with_memories}
-use Rattle.present.specs.Table.{Shows, fill_of, memories}
+use Rattle.present.specs.Table.{fill_of, memories}
 use Rattle.present.specs.declared.Table.{Table}
 use Rattle.device.specs.Devices.{table_at}
 use Rattle.stepper.specs.Acting.{InHost}
@@ -23,7 +23,6 @@ use Rattle.stepper.specs.Standing.{IsAt, IsControl, IsOnDevice, IsOpen, Keeps, a
 use Rattle.stepper.specs.declared.action.Action.{Action}
 use Rattle.stepper.specs.declared.action.Action.TheVariants as action
 use Rattle.stepper.specs.declared.control.Control.{Control}
-use Rattle.stepper.specs.declared.standing.Slot.{Slot}
 use Rattle.stepper.specs.declared.standing.Slot.TheVariants as slot
 use Rattle.stepper.specs.declared.standing.Standing.{Standing}
 
@@ -89,7 +88,7 @@ abbrev over_at : ℕ → State → Option Request → ℕ → Bool
 over_at capacity s o d = elim o [
   | None ↦ false
   | Some request ↦
-    let blocks = (s.memories.devices d).blocks in nat_lt capacity (in_use blocks + needs request blocks)
+      let blocks = (s.memories.devices d).blocks in nat_lt capacity (in_use blocks + needs request blocks)
 ]
 
 module _ (plan : Plan) (s : State) (i d : ℕ) (request : Request) (control : Control)
