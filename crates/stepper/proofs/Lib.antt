@@ -34,9 +34,11 @@ mod NextEvents
 mod Certain
 mod Able
 mod Stood
-mod Here
 mod Chosen
 mod NoneNext
 mod HasRuns
 mod AfterEnd
 mod StepActs
+mod PlaceBound
+mod Plays
+mod Fines

@@ -11,7 +11,7 @@ use Rattle.stepper.specs.declared.action.Action.TheVariants as action
 use Rattle.stepper.specs.declared.control.Control.{Control}
 use Rattle.stepper.specs.declared.frame.Frame.{Frame}
 use Rattle.stepper.specs.declared.frame.Frame.TheVariants as frame
-use Rattle.stepper.specs.declared.frames.Frames.{Frames}
+use Rattle.stepper.specs.declared.stack.Frames.{Frames}
 use Rattle.stepper.specs.declared.maps.Held.{Held}
 use Rattle.stepper.specs.declared.maps.Maps.{Maps}
 use Rattle.stepper.specs.declared.turns.Cells.{Cells}

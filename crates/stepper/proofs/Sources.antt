@@ -7,7 +7,7 @@ use Rattle.base.specs.Meaning.{Run, read_next}
 use Rattle.fine_machine.specs.Left.{Side, expr_left, source_left}
 use Rattle.stepper.specs.declared.control.Control.{Control}
 use Rattle.stepper.specs.declared.frame.Frame.{Frame}
-use Rattle.stepper.specs.declared.frames.Frames.{Frames}
+use Rattle.stepper.specs.declared.stack.Frames.{Frames}
 use Rattle.stepper.specs.Rest.{frames_of, rest_of}
 use Rattle.stepper.specs.Weight.{expr_weight, frame_weight, source_weight, weight}
 use Rattle.stepper.specs.Begin.{BeginsExpr}

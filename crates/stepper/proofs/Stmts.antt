@@ -13,7 +13,7 @@ use Rattle.fine_machine.specs.Left.{Left, Side, expr_left, list_left, turns_left
 use Rattle.kernel.specs.Machine.{front_of}
 use Rattle.kernel.proofs.Lasts.{front_more}
 use Rattle.stepper.specs.declared.control.Control.{Control}
-use Rattle.stepper.specs.declared.frames.Frames.{Frames}
+use Rattle.stepper.specs.declared.stack.Frames.{Frames}
 use Rattle.stepper.specs.declared.turns.Turns.{Turns}
 use Rattle.stepper.specs.declared.frame.Frame.{Frame}
 use Rattle.stepper.specs.declared.frame.Frame.TheVariants as frame

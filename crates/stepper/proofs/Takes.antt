@@ -19,7 +19,7 @@ use Rattle.kernel.proofs.Lasts.{front_more}
 use Rattle.stepper.specs.declared.control.Control.{Control}
 use Rattle.stepper.specs.declared.frame.Frame.{Frame}
 use Rattle.stepper.specs.declared.frame.Frame.TheVariants as frame
-use Rattle.stepper.specs.declared.frames.Frames.{Frames}
+use Rattle.stepper.specs.declared.stack.Frames.{Frames}
 use Rattle.stepper.specs.declared.maps.Maps.{Maps}
 use Rattle.stepper.specs.declared.turns.Cells.{Cells}
 use Rattle.stepper.specs.declared.turns.Turns.{Turns}

@@ -1,5 +1,5 @@
 -- What a whole run by choices of the fine-grained machine answers.
-use Rattle.std.specs.Prelude.{ℕ, ◌≡◌, ◌<◌, ◌≤◌, ◌%◌, true, false, List, [], Option, Some, None, drop, length, slice_get, slice_index}
+use Rattle.std.specs.Prelude.{ℕ, ◌≡◌, ◌<◌, ◌≤◌, ◌%◌, true, false, List, [], Option, Some, None, drop, length, map, slice_get, slice_index}
 use Rattle.base.specs.declared.fault.RunFault.{RunFault}
 use Rattle.base.specs.declared.fault.RunFault.TheVariants as fault
 use Rattle.base.specs.declared.fault.RangeFault.{RangeFault}
@@ -21,6 +21,7 @@ use Rattle.base.specs.Meaning.{Plain, erased, output_of}
 use Rattle.device.specs.Devices.{device_count}
 use Rattle.fine_machine.specs.Machine.{HasEnded, Played, State, all_enabled, run_by_choices, step}
 use Rattle.mapwalk.specs.Walk.{HasNoRangeFault}
+use Rattle.stepper.specs.declared.standing.Standing.{Standing}
 use Rattle.stepper.specs.Standing.{is_over}
 use Rattle.stepper.specs.Taking.{has_room}
 
@@ -117,3 +118,9 @@ IsShownFault p fault.OtherState = ⊥
 -- an array's number with its numbers on the host
 abbrev pub row_in : Arrays → ArrayId → ℕ × List ℕ
 row_in host a = (a.0, array_values (memory_of host) a.0 (slice_index (lengths_of host) a.0))
+
+-- the answer has what was printed, the numbers of these arrays on the host, and the events
+pub record IsAnswerOf (now : Standing) (arrays : List ArrayId) (events : List Event) (a : Answer) : Type 0 where
+  pub out : a.out.items ≡ output_of now.output.items
+  pub finals : finals_in a ≡ map (row_in now.host) arrays
+  pub history : a.history.items ≡ events

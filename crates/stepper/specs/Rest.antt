@@ -8,7 +8,7 @@ use Rattle.fine_machine.specs.Left.{Left, Finished, Asks, Side, Load, Store, Rem
 use Rattle.kernel.specs.Machine.{front_of}
 use Rattle.stepper.specs.declared.frame.Frame.{Frame}
 use Rattle.stepper.specs.declared.frame.Frame.TheVariants as frame
-use Rattle.stepper.specs.declared.frames.Frames.{Frames}
+use Rattle.stepper.specs.declared.stack.Frames.{Frames}
 
 -- the next part stands first
 abbrev pub frames_of : Frames → List Frame

@@ -5,7 +5,7 @@ ghost use Rattle.stepper.specs.Begin.{BeginsExpr};
 ghost use Rattle.stepper.specs.Rest.{frames_of};
 
 use crate::frame::Frame;
-use crate::frames::Frames;
+use crate::stack::Frames;
 use base::tree::Expr;
 use kernel::loop_value;
 use std::alloc::AllocError;

@@ -1,6 +1,6 @@
 // An open item.
 
-use crate::frames::Frames;
+use crate::stack::Frames;
 
 /// What is left of an open item, and where its region stands: the values of the loops around, the number at hand, the
 /// scalars, the input that is left, and the numbers that it has printed.

@@ -12,7 +12,7 @@ mod choosing;
 mod closing;
 mod control;
 mod frame;
-mod frames;
+mod stack;
 mod maps;
 mod marked;
 mod open;

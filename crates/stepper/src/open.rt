@@ -14,7 +14,7 @@ ghost use Rattle.stepper.specs.Opening.{InArrays, IsBegun, IsOpened, IsPut, IsRe
 
 use crate::control::Control;
 use crate::frame::Frame;
-use crate::frames::Frames;
+use crate::stack::Frames;
 use crate::maps::Maps;
 use crate::turns::Cells;
 use base::item::{Item, ItemKind, MapItem, MapKind, Section};
