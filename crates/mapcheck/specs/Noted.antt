@@ -45,16 +45,16 @@ IsClearAt plan noted j writes p =
     (k : ℕ) (writing : Bool) → (writing || writes) ≡ true → Covers plan noted p k writing → k ≢ j → Before plan k j
 
 -- item j was looked at with some places that it reads, or writes; if it is clear, it was so with all of them
-pub record AreSeen (plan : Plan) (old new : Noted) (j : ℕ) (writes : Bool) (places : ℕ → Bool) (clear : Bool) : Type 0 where
+pub record AreSeen (plan : Plan) (old new : Noted) (j : ℕ) (writes : Bool) (places : ℕ → Bool) (is_clear : Bool) : Type 0 where
   pub kept : AreKept plan old new
   pub shown : (p : ℕ) → p < space → places p ≡ true → Covers plan new p j writes
-  pub clear : clear ≡ true → (p : ℕ) → p < space → places p ≡ true → IsClearAt plan old j writes p
+  pub clear : is_clear ≡ true → (p : ℕ) → p < space → places p ≡ true → IsClearAt plan old j writes p
 
 -- the same with some cells at locations, of which it reads or writes each
-pub record IsSeen (plan : Plan) (old new : Noted) (j : ℕ) (touched : Bool → Loc → Cell → Type 0) (clear : Bool) : Type 0 where
+pub record IsSeen (plan : Plan) (old new : Noted) (j : ℕ) (touched : Bool → Loc → Cell → Type 0) (is_clear : Bool) : Type 0 where
   pub kept : AreKept plan old new
   pub shown : (writes : Bool) (loc : Loc) (c : Cell) → touched writes loc c → Covers plan new (place_of loc c) j writes
-  pub clear : clear ≡ true → (writes : Bool) (loc : Loc) (c : Cell) → touched writes loc c →
+  pub clear : is_clear ≡ true → (writes : Bool) (loc : Loc) (c : Cell) → touched writes loc c →
       IsClearAt plan old j writes (place_of loc c)
 
 -- cells at one location, all read or all written

@@ -1,6 +1,6 @@
 // The items that were looked at, by the places that they read or write.
 
-ghost use Rattle.std.specs.Prelude.{◌≡◌, ◌&&◌, ◌==◌, ℕ, true, IfOk};
+ghost use Rattle.std.specs.Prelude.{◌≡◌, ◌<◌, ◌&&◌, ◌==◌, ℕ, true, false, IfOk};
 ghost use Rattle.base.specs.Items.{plan};
 ghost use Rattle.base.specs.Memory.{is_in};
 ghost use Rattle.bits.specs.Sets.{has as has_number};
@@ -88,10 +88,16 @@ impl Noted {
                     .are_before(order, SPACE, places.first, places.end, item))
     }
 
-    // Removes what does not matter behind an item that writes these places and comes after all others there.
-    fn forget(&mut self, places: Places) {
-        self.reads.clear(SPACE, places.first, places.end);
-        self.writes.clear(SPACE, places.first, places.end);
+    // Removes what is noted at these places, where that holds: it does not matter behind an item that writes them and
+    // comes after all others there.
+    fn forget_if(&mut self, holds: bool, places: Places)
+        ensures reads { (p m : ℕ) → p < space → (holds && is_from places.first places.end p) ≡ false → has self.old.reads space p m ≡ true → has self.new.reads space p m ≡ true }
+        ensures writes { (p m : ℕ) → p < space → (holds && is_from places.first places.end p) ≡ false → has self.old.writes space p m ≡ true → has self.new.writes space p m ≡ true }
+    {
+        if holds {
+            self.reads.clear(SPACE, places.first, places.end);
+            self.writes.clear(SPACE, places.first, places.end);
+        }
     }
 
     // Notes an item that reads, or writes, these places. The answer is true only if it is clear there.
@@ -110,9 +116,7 @@ impl Noted {
                 .add(self.alloc, SPACE, places.first, places.end, item)?;
             return Ok(clear);
         }
-        if clear {
-            self.forget(places);
-        }
+        self.forget_if(clear, places);
         self.writes
             .add(self.alloc, SPACE, places.first, places.end, item)?;
         Ok(clear)
