@@ -56,13 +56,13 @@ fn number_of(loc: Loc) -> u64
 }
 
 // Where the cells of an array from the first up to the end have their places at a location.
-fn places_of(loc: Loc, array: ArrayId, first: u64, end: u64) -> Places
+fn places_of(loc: Loc, array: ArrayId, first: u64, end: u128) -> Places
     ensures { (c : Cell) → is_run array first end c ≡ true → is_from result.first result.end (place_of loc c) ≡ true }
 {
     let start = (number_of(loc) * 65536 + u64::from(array.0.min(65535))) * 65536;
     Places {
         first: start + first.min(65535),
-        end: start + end.min(65536),
+        end: start + end.min(65536) as u64,
     }
 }
 
@@ -129,7 +129,7 @@ impl Noted {
         touch: Touch,
         array: ArrayId,
         first: u64,
-        end: u64,
+        end: u128,
     ) -> Result<bool, AllocError>
         ensures { IfOk result (IsSeen (plan order.now) self.old self.new touch.item (IsTouched touch (is_run array first end))) }
     {
@@ -146,7 +146,7 @@ impl Noted {
     ) -> Result<bool, AllocError>
         ensures { IfOk result (IsSeen (plan order.now) self.old self.new touch.item (IsTouched touch (λ c. is_in c section.now))) }
     {
-        let end = section.first.saturating_add(section.length);
+        let end = u128::from(section.first) + u128::from(section.length);
         self.note_run(order, touch, section.array, section.first, end)
     }
 
@@ -162,7 +162,7 @@ impl Noted {
     {
         match row.first_from(0) {
             None => Ok(true),
-            Some(first) => self.note_run(order, touch, array, first as u64, row.end() as u64),
+            Some(first) => self.note_run(order, touch, array, first as u64, row.end() as u128),
         }
     }
 
@@ -179,7 +179,7 @@ impl Noted {
         'arrays: for a in 0..set.arrays() {
             let array = ArrayId(a as u32);
             let next = self.note_row(order, touch, array, set.row(array))?;
-            clear = clear && next;
+            clear &= next;
         }
         Ok(clear)
     }
@@ -217,7 +217,7 @@ impl Noted {
         let mut clear = true;
         'accesses: for access in &accesses.list {
             let next = self.note_access(order, item, access)?;
-            clear = clear && next;
+            clear &= next;
         }
         Ok(clear)
     }

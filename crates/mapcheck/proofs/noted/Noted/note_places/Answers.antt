@@ -17,7 +17,7 @@ returns-then-not-writes c =
     subst (λ (w : Bool). AreSeen p old new c.args.item w here clear) (sym c.if-not-writes.true)
     (just_read p old new c.args.item here clear
     (λ e place is. subst (λ (w : Bool). IsClearAt p old c.args.item w place) c.if-not-writes.true
-        (c.is_clear-clear.ensures e place is))
+    (c.is_clear-clear.ensures e place is))
     added.kept (λ place m h. h) added.added)
 
 pub returns : goal.returns
@@ -32,5 +32,5 @@ returns c =
     subst (λ (w : Bool). AreSeen p old new c.args.item w here clear) (sym c.if-not-writes.false)
     (written p old between new c.args.item here clear
     (λ e place is. subst (λ (w : Bool). IsClearAt p old c.args.item w place) c.if-not-writes.false
-        (c.is_clear-clear.ensures e place is))
+    (c.is_clear-clear.ensures e place is))
     c.forget_if.ensures.reads c.forget_if.ensures.writes (λ place m h. h) added.kept added.added)
