@@ -5,6 +5,7 @@ pub mod Accepting
 pub mod Pairs
 pub mod Firsts
 pub mod Noting
+pub mod NotedItems
 pub mod ItemFaults
 pub mod FirstFaults
 pub mod Building

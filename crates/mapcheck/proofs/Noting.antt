@@ -225,13 +225,19 @@ array_more plan old between new t set row array a x y is row_is f s =
     let both = and_parts (nat_lt c.array.0 (a + 1)) (has_member set c) there.2 in
     let inside : c.array.0 < a + 1 = ltb-true c.array.0 (a + 1) both.0 in
     ⊎_elim
-    (λ (e : c.array.0 ≡ array.0). inr (there.0, there.1,
-    and_from (c.array.0 == array.0) (has_number row c.index) (eq-eqb c.array.0 array.0 e)
-    (subst (λ r. has_number r c.index ≡ true) (sym row_is)
-    (subst (λ n. has_number (row_of set n) c.index ≡ true) e both.1))))
-    (λ (other : c.array.0 ≡ array.0 → ⊥). inl (there.0, there.1,
-    and_from (nat_lt c.array.0 a) (has_member set c)
-    (lt-ltb c.array.0 a (omega (arith, inside, is, other))) both.1))
+    (λ (e : c.array.0 ≡ array.0). inr (
+      there.0,
+      there.1,
+      and_from (c.array.0 == array.0) (has_number row c.index) (eq-eqb c.array.0 array.0 e)
+          (subst (λ r. has_number r c.index ≡ true) (sym row_is)
+          (subst (λ n. has_number (row_of set n) c.index ≡ true) e both.1)),
+    ))
+    (λ (other : c.array.0 ≡ array.0 → ⊥). inl (
+      there.0,
+      there.1,
+      and_from (nat_lt c.array.0 a) (has_member set c)
+          (lt-ltb c.array.0 a (omega (arith, inside, is, other))) both.1,
+    ))
     (cases_eq c.array.0 array.0))
 
 pub none_yet : (plan : Plan) (noted : Noted) (t : Touch) (set : CellSet) →

@@ -82,3 +82,7 @@ IsShown plan noted k list =
 abbrev pub AreNoted : Plan → List Accesses → ℕ → Noted → Type 0
 AreNoted plan list n noted =
     (k : ℕ) (a : Accesses) → k < n → slice_get list k ≡ Some a → IsBeforeAll plan k n ⊎ IsShown plan noted k a.list.items
+
+-- each of the first items is before all from a place on
+abbrev pub AreBeforeAll : Plan → ℕ → ℕ → Type 0
+AreBeforeAll plan n place = (k : ℕ) → k < n → IsBeforeAll plan k place

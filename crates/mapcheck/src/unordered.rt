@@ -3,7 +3,8 @@
 ghost use Rattle.std.specs.Prelude.{◌≡◌, ◌+◌, ◌<◌, ◌≤◌, length, IfOk, OnOk};
 ghost use Rattle.base.specs.Items.{Plan, plan};
 ghost use Rattle.base.specs.Limits.{most_items};
-ghost use Rattle.mapcheck.specs.Noted.{AreNoted};
+ghost use Rattle.base.specs.Order.{IsBeforeAll};
+ghost use Rattle.mapcheck.specs.Noted.{AreBeforeAll, AreNoted};
 ghost use Rattle.mapcheck.specs.Unordered.{AreOfItems, IsConflictIn, IsConflictOf, IsFoundBelow, IsLeastUnordered};
 
 use crate::accesses::Accesses;
@@ -104,6 +105,35 @@ fn conflict_noted(
     }
 }
 
+// The same, where all earlier items are before each from a place on, and this item from another one on. Where these are
+// the item itself and the next one nothing is noted, and where the first is nothing earlier is kept.
+fn next_conflict(
+    alloc: Global,
+    order: &Order<'_>,
+    accesses: &[Accesses<'_>],
+    item: u32,
+    place: u32,
+    after: u32,
+    noted: &mut Noted,
+) -> Result<Option<Refusal>, AllocError>
+    requires inside { item < length accesses.now }
+    requires accesses { AreOfItems (plan order.now) accesses.now }
+    requires before { AreBeforeAll (plan order.now) item place }
+    requires after { IsBeforeAll (plan order.now) item after }
+    requires noted { AreNoted (plan order.now) accesses.now item noted.old }
+    ensures conflict { IfOk result (IsConflictOf (plan order.now) item) }
+    ensures noted { OnOk result (AreNoted (plan order.now) accesses.now (item + 1) noted.new) }
+{
+    if item < place {
+        return conflict_noted(order, accesses, item, noted);
+    }
+    if after <= item + 1 {
+        return Ok(None);
+    }
+    *noted = Noted::new(alloc);
+    conflict_noted(order, accesses, item, noted)
+}
+
 /// The conflict (E508) of the first item that has one with an earlier item that is not before it: the least cell of a
 /// conflict, and of those on this cell the first other item. These are the accesses of the first items. It takes memory
 /// for each access of an item, and time for each two accesses that meet at a place with no write between them by an item
@@ -119,20 +149,15 @@ pub fn first_conflict(
     ensures { IfOk result (IsConflictIn (plan order.now) (length accesses.now)) }
 {
     let mut noted = Noted::new(alloc);
-    // From this place on each item is after all that were looked at.
-    let mut open = 0;
+    // All items that were looked at are before each from here on.
+    let mut place = 0;
     'items: for item in 0..accesses.len() as u32 {
         let after = order.after_all(item);
-        if item < open || item + 1 < after {
-            if open <= item {
-                noted = Noted::new(alloc);
-            }
-            let conflict = conflict_noted(order, accesses, item, &mut noted)?;
-            if conflict.is_some() {
-                return Ok(conflict);
-            }
+        let conflict = next_conflict(alloc, order, accesses, item, place, after, &mut noted)?;
+        if conflict.is_some() {
+            return Ok(conflict);
         }
-        open = open.max(after);
+        place = place.max(after);
     }
     Ok(None)
 }

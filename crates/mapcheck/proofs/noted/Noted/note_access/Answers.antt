@@ -1,17 +1,22 @@
-use Rattle.std.proofs.Common.{rules, ◌≡◌, ◌<◌, ◌&&◌, ◌==◌, ℕ, true, false, IfOk, ◌+◌, ◌-◌, ◌*◌, ◌≤◌, length, ◌/◌, ◌%◌, Bool, nat_eq, nat_lt, List, [], ◌∷◌, ◌++◌, slice_index_or, slice_set, bit_and, bit_or, Fits, w8, w32, w64, Bor, MutBor}
+use Rattle.std.proofs.Common.{ap}
+use Rattle.std.proofs.lemmas.Result.{IfOk-weaker}
 use Rattle.base.specs.Items.{plan}
 use Rattle.base.specs.Memory.{is_in}
-use Rattle.bits.specs.Sets.{has as has_number}
 use Rattle.mapcheck.specs.Accesses.{has_cell}
-use Rattle.mapcheck.specs.Noted.{AreKept, AreSeen, IsAccessed, IsClearAt, IsSeen, IsTouched, is_accessed, is_run, place_of, space}
-use Rattle.mapcheck.specs.Segments.{has, is_from}
 use Rattle.ranges.specs.Cells.{has as has_member}
+use Rattle.mapcheck.proofs.NotedItems.{seen_access}
 use Rattle.mapcheck.proofs.noted.Noted.note_access.Goals as goal
 
--- src/noted.rt:188:5
 pub returns-in-Section : goal.returns-in-Section
-returns-in-Section c = ?
+returns-in-Section c =
+    IfOk-weaker c.note_section.result _ _
+    (λ clear h. seen_access (plan c.args.order.now) c.args.self.now c.note_section.new.self c.args.access.now c.args.item
+    (λ x. is_in x c.in-Section.section) clear (λ x. ap (λ cells. has_cell cells x) c.in-Section.is) h)
+    c.note_section.ensures
 
--- src/noted.rt:188:5
 pub returns-in-Set : goal.returns-in-Set
-returns-in-Set c = ?
+returns-in-Set c =
+    IfOk-weaker c.note_set.result _ _
+    (λ clear h. seen_access (plan c.args.order.now) c.args.self.now c.note_set.new.self c.args.access.now c.args.item
+    (has_member c.in-Set.set.now) clear (λ x. ap (λ cells. has_cell cells x) c.in-Set.is) h)
+    c.note_set.ensures

@@ -16,6 +16,6 @@ returns-in-Some c =
     let row = c.args.row.now in
     IfOk-weaker c.note_run.result _ _
     (λ clear h. seen_fewer (plan c.args.order.now) c.args.self.now c.note_run.new.self c.args.touch
-        (is_run array c.in-Some.first c.end.result) (λ x. (x.array.0 == array.0) && has_number row x.index) clear h
-        (row_run array row c.in-Some.first c.end.result c.in-Some.ensures.1 c.end.ensures.below))
+    (is_run array c.in-Some.first c.end.result) (λ x. (x.array.0 == array.0) && has_number row x.index) clear h
+    (row_run array row c.in-Some.first c.end.result c.in-Some.ensures.1 c.end.ensures.below))
     c.note_run.ensures

@@ -13,5 +13,5 @@ returns c =
     let is : section.first + section.length ≡ end = cc in
     IfOk-weaker c.note_run.result _ _
     (λ clear h. seen_fewer (plan c.args.order.now) c.args.self.now c.note_run.new.self c.args.touch
-        (is_run section.array section.first end) (λ x. is_in x section) clear h (section_run section end is))
+    (is_run section.array section.first end) (λ x. is_in x section) clear h (section_run section end is))
     c.note_run.ensures
