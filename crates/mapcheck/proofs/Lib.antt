@@ -6,6 +6,7 @@ pub mod Pairs
 pub mod Firsts
 pub mod Noting
 pub mod NotedItems
+pub mod Clearance
 pub mod ItemFaults
 pub mod FirstFaults
 pub mod Building
