@@ -116,6 +116,7 @@ fn next_conflict(
     after: u32,
     noted: &mut Noted,
 ) -> Result<Option<Refusal>, AllocError>
+    requires few { length accesses.now ≤ most_items }
     requires inside { item < length accesses.now }
     requires accesses { AreOfItems (plan order.now) accesses.now }
     requires before { AreBeforeAll (plan order.now) item place }
