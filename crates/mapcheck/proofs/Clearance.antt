@@ -1,11 +1,10 @@
 -- An item that comes after all that show where it reads or writes has no conflict.
-use Rattle.std.proofs.Common.{◌≡◌, ◌≢◌, ℕ, zero, suc, ◌+◌, ◌<◌, ◌≤◌, Bool, true, false, List, [], ◌∷◌, length, refl, sym, ap, ◌∙◌, subst, inl, inr, ◌⊎◌, ⊎_elim, Option, Some, None, IsTrue, max, arith}
+use Rattle.std.proofs.Common.{◌≡◌, ◌≢◌, ℕ, ◌+◌, ◌<◌, ◌≤◌, Bool, true, false, List, length, refl, sym, ap, ◌∙◌, subst, inl, inr, ⊎_elim, Option, Some, None, arith}
 use Rattle.std.specs.Prelude.{◌||◌, ◌&&◌, slice_get}
 use Rattle.std.proofs.lemmas.Option.{slice_get_within}
 use Rattle.std.proofs.lemmas.Bool.{and_parts, cases_eq, or_cases}
 use Rattle.base.specs.declared.item.Cell.{Cell}
 use Rattle.base.specs.declared.item.Loc.{Loc}
-use Rattle.base.specs.Accepted.{Conflicts, on_stage}
 use Rattle.base.specs.Actions.{Stage, conflict, conflict_at, item_reads, item_writes, stages}
 use Rattle.base.specs.Items.{Plan}
 use Rattle.base.specs.Order.{Before, IsBeforeAll}

@@ -5,6 +5,7 @@ pub mod Accepting
 pub mod Pairs
 pub mod Firsts
 pub mod Noting
+pub mod NotedCells
 pub mod NotedItems
 pub mod Clearance
 pub mod ItemFaults

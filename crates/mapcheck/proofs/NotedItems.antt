@@ -1,5 +1,5 @@
 -- Items that were noted with their accesses.
-use Rattle.std.proofs.Common.{◌≡◌, ◌≢◌, ℕ, ◌+◌, ◌<◌, ◌≤◌, Bool, true, false, List, [], ◌∷◌, take, get_or, length, refl, sym, ap, ◌∙◌, subst, inl, inr, ◌⊎◌, ⊎_elim, arith}
+use Rattle.std.proofs.Common.{◌≡◌, ℕ, ◌+◌, ◌<◌, ◌≤◌, Bool, true, false, List, take, get_or, length, refl, sym, ap, ◌∙◌, subst}
 use Rattle.std.specs.Prelude.{not, ◌||◌, ◌&&◌}
 use Rattle.std.specs.List.{list_any}
 use Rattle.std.proofs.lemmas.Bool.{and_parts, or_cases}
@@ -10,7 +10,6 @@ use Rattle.base.specs.declared.item.Loc.{Loc}
 use Rattle.base.specs.Items.{Plan}
 use Rattle.mapcheck.specs.declared.accesses.Access.{Access}
 use Rattle.mapcheck.specs.declared.noted.Noted.{Noted}
-use Rattle.mapcheck.specs.declared.noted.Touch.{Touch}
 use Rattle.mapcheck.specs.Accesses.{has_cell, same_loc}
 use Rattle.mapcheck.specs.Noted.{IsAccessed, IsSeen, IsTouched, is_accessed}
 use Rattle.mapcheck.proofs.Collisions.{loc_same}

@@ -3,7 +3,7 @@ use Rattle.std.proofs.lemmas.Result.{IfOk-weaker}
 use Rattle.base.specs.Items.{plan}
 use Rattle.bits.specs.Sets.{has as has_number}
 use Rattle.mapcheck.specs.Noted.{is_run}
-use Rattle.mapcheck.proofs.Noting.{no_row, row_run, seen_fewer}
+use Rattle.mapcheck.proofs.NotedCells.{no_row, row_run, seen_fewer}
 use Rattle.mapcheck.proofs.noted.Noted.note_row.Goals as goal
 
 pub returns-in-None : goal.returns-in-None

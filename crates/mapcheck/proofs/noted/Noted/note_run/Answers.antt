@@ -2,7 +2,7 @@ use Rattle.std.proofs.lemmas.Result.{IfOk-weaker}
 use Rattle.base.specs.Items.{plan}
 use Rattle.mapcheck.specs.Noted.{is_run}
 use Rattle.mapcheck.specs.Segments.{is_from}
-use Rattle.mapcheck.proofs.Noting.{seen_at}
+use Rattle.mapcheck.proofs.NotedCells.{seen_at}
 use Rattle.mapcheck.proofs.noted.Noted.note_run.Goals as goal
 
 pub returns : goal.returns

@@ -3,7 +3,7 @@ use Rattle.std.proofs.lemmas.Result.{IfOk-weaker}
 use Rattle.base.specs.Items.{plan}
 use Rattle.base.specs.Memory.{is_in}
 use Rattle.mapcheck.specs.Noted.{is_run}
-use Rattle.mapcheck.proofs.Noting.{section_run, seen_fewer}
+use Rattle.mapcheck.proofs.NotedCells.{section_run, seen_fewer}
 use Rattle.mapcheck.proofs.noted.Noted.note_section.Goals as goal
 
 pub returns : goal.returns

@@ -1,7 +1,7 @@
 use Rattle.std.proofs.Common.{refl}
 use Rattle.base.specs.declared.tree.ArrayId.{ArrayId}
 use Rattle.base.specs.Items.{plan}
-use Rattle.mapcheck.proofs.Noting.{all_arrays, array_more, none_yet}
+use Rattle.mapcheck.proofs.NotedCells.{all_arrays, array_more, none_yet}
 use Rattle.mapcheck.proofs.noted.Noted.note_set.Goals as goal
 
 pub arrays-init : goal.arrays-init

@@ -1,6 +1,6 @@
 use Rattle.base.specs.Items.{plan}
 use Rattle.mapcheck.specs.Noted.{IsSeen, IsTouched}
-use Rattle.mapcheck.proofs.Noting.{is_below}
+use Rattle.mapcheck.proofs.NotedCells.{is_below}
 use Rattle.mapcheck.proofs.noted.Noted.note_set.Given as goal
 
 abbrev pub invariant-arrays : goal.invariant-arrays
