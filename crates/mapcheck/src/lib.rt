@@ -23,8 +23,10 @@ use std::marker::Model;
 pub mod accesses;
 pub mod conflict;
 mod items;
+mod noted;
 pub mod passes;
 mod reaches;
+mod segments;
 mod third;
 pub mod unordered;
 
