@@ -58,8 +58,8 @@ fn nth_opening(graph: &Graph, place: usize) -> Option<Event>
     Some(Event::Open(item as u32))
 }
 
-// How many events are allowed.
-pub(crate) fn allowed_count(graph: &Graph) -> usize
+/// How many events the order of the items allows.
+pub fn allowed_count(graph: &Graph) -> usize
     requires few { length graph.now.tasks ≤ most_items }
     requires place { graph.now.place ≤ most_items + 1 }
     ensures { result ≡ length (allowed_at graph.now (length graph.now.tasks)) }
@@ -69,8 +69,9 @@ pub(crate) fn allowed_count(graph: &Graph) -> usize
     graph.closing_count() + graph.opening_count() + count_of(graph, &host)
 }
 
-// Of all events that are allowed, in order, the one at a place.
-pub(crate) fn nth_allowed(graph: &Graph, place: usize) -> Option<Event>
+/// Of all events that the order of the items allows, the one at a place: the closings and then the openings by ascending
+/// item, and last what the host may do.
+pub fn nth_allowed(graph: &Graph, place: usize) -> Option<Event>
     requires few { length graph.now.tasks ≤ most_items }
     requires place { graph.now.place ≤ most_items + 1 }
     ensures { result ≡ slice_get (allowed_at graph.now (length graph.now.tasks)) place }

@@ -2,6 +2,7 @@
 #![tactic(auto)]
 
 pub use crate::answer::run_choices;
+pub use crate::allowed::{allowed_count, nth_allowed};
 pub use crate::choosing::{few_events, nothing_after_the_end, nothing_only_at_the_end};
 pub use crate::devices::{DEVICES, Devices};
 pub use crate::jobs::Job;
