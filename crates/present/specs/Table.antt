@@ -11,6 +11,8 @@ use Rattle.base.specs.Memory.{Memory, View, within}
 use Rattle.base.specs.Arrays.{memory_of, IsWithin}
 use Rattle.base.specs.Map.{Block, Device, Fill, Memories, Move, Presence, Absent, Inside, InPart, presence, counted, without, entry, exit, exit_count, exit_copies, enter, in_turn, need}
 use Rattle.present.specs.declared.Table.{Table}
+use Rattle.present.specs.declared.presence.Presence.{Presence as Place}
+use Rattle.present.specs.declared.presence.Presence.TheVariants as place
 use Rattle.present.specs.Blocks.{IsSection, Show, stored_at, present, number_in}
 
 -- the block that has a cell
@@ -212,3 +214,13 @@ IsPartFault refused fault.RangeRefused = ⊥
 abbrev pub with_host_if : Bool → Section → Memory → Device → Device
 with_host_if true s host d = with_host s host d
 with_host_if false s host d = d
+
+-- where a section lies, whichever block it is inside of
+abbrev pub place_of : Presence → Place
+place_of Absent = place.Absent
+place_of (Inside b) = place.Inside
+place_of InPart = place.InPart
+
+-- where a section lies on each device that the table shows
+abbrev pub IsPresence : Section → Table → Place → Type 0
+IsPresence s t p = (d : Device) → Shows t d → place_of (presence d.blocks s) ≡ p

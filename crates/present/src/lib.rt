@@ -14,6 +14,7 @@ mod exit;
 mod find;
 mod fresh;
 mod needed;
+pub mod presence;
 mod rows;
 mod several;
 mod update;
