@@ -25,8 +25,8 @@ fn add_line(alloc: Global, out: &mut Vec<u8>, n: u64) -> Result<(), AllocError>
     Ok(())
 }
 
-// The output's bytes.
-fn text_of(alloc: Global, printed: &[u64]) -> Result<Vec<u8>, AllocError>
+/// The output's bytes: each number in decimal, in a line of its own.
+pub fn text_of(alloc: Global, printed: &[u64]) -> Result<Vec<u8>, AllocError>
     ensures { IfOk result (λ out. out.items ≡ output_of printed.now) }
 {
     let mut out = Vec::new(alloc);

@@ -1,13 +1,13 @@
 //! The state of a run of a program on a host memory and devices, and its events.
 #![tactic(auto)]
 
-pub use crate::answer::run_choices;
 pub use crate::allowed::{allowed_count, nth_allowed};
+pub use crate::answer::{run_choices, text_of};
 pub use crate::choosing::{few_events, nothing_after_the_end, nothing_only_at_the_end};
 pub use crate::devices::{DEVICES, Devices};
 pub use crate::jobs::Job;
 pub use crate::standing::{Held, Standing};
-pub use crate::state::RunState;
+pub use crate::state::{RunState, are_numbers};
 pub use crate::turns::Turn;
 
 mod allowed;

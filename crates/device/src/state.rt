@@ -175,8 +175,8 @@ impl<'a> RunState<'a> {
     }
 }
 
-// What every slice of numbers is.
-fn are_numbers(input: &[u64])
+/// What every slice of numbers is.
+pub fn are_numbers(input: &[u64])
     ensures { AreNumbers input.now }
 {
     let _input = input;
