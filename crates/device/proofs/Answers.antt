@@ -82,7 +82,7 @@ abbrev row_in : Program → Memory → ℕ → ℕ × List ℕ
 row_in p m a = (a, array_values m a (slice_index (lengths_of p) a))
 
 -- the numbers of the arrays marked current are those of the erased program
-finals_are : (p : Program) (host memory : Memory) (arrays : List ArrayId) → AreMarked (plan p) arrays →
+pub finals_are : (p : Program) (host memory : Memory) (arrays : List ArrayId) → AreMarked (plan p) arrays →
     ((c : Cell) → is_cell (lengths_of p) c ≡ true → is_marked (plan p) c.array.0 ≡ true → host c ≡ memory c) →
     map (λ (a : ArrayId). row_in p host a.0) arrays ≡ marked_values p memory
 finals_are p host memory arrays marked same =
