@@ -68,7 +68,10 @@ fn places_of(loc: Loc, array: ArrayId, first: u64, end: u128) -> Places
 
 impl Noted {
     /// Nothing.
-    pub fn new(alloc: Global) -> Noted {
+    pub fn new(alloc: Global) -> Noted
+        ensures reads { (p m : ℕ) → has result.reads space p m ≡ false }
+        ensures writes { (p m : ℕ) → has result.writes space p m ≡ false }
+    {
         Noted {
             alloc,
             reads: Tree::Empty,

@@ -136,10 +136,11 @@ fn next_conflict(
 }
 
 /// The conflict (E508) of the first item that has one with an earlier item that is not before it: the least cell of a
-/// conflict, and of those on this cell the first other item. These are the accesses of the first items. It takes memory
-/// for each access of an item, and time for each two accesses that meet at a place with no write between them by an item
-/// that is after all that touched the place before. Only where an item is not after all that were noted at its places
-/// each earlier item is looked at.
+/// conflict, and of those on this cell the first other item. These are the accesses of the first items.
+///
+/// It takes memory for each access of the items that are not before all later ones, and for such an access time for each
+/// item that is kept at its cells: one that reads or writes them, and where no later one that writes them and comes after
+/// all there has taken its place. An item that is not after all of these is compared with each earlier one.
 pub fn first_conflict(
     alloc: Global,
     order: &Order<'_>,
