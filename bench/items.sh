@@ -28,6 +28,12 @@ chains() {
     printf '#pragma omp taskwait\n#pragma omp target update from(A)\n}\n'
 }
 
+# deferred targets on a cell each, and one wait behind them
+cells() {
+    printf 'uint64_t A[65536];\nint main(void) {\nfor (uint64_t k = 0; k < %d; k += 1) {\n' $(($1 - 1))
+    printf '#pragma omp target map(tofrom: A[k:1]) nowait\n{ A[k] = A[k] + 1; }\n}\n#pragma omp taskwait\n}\n'
+}
+
 # what a command takes, in seconds and in the most memory that it had
 say() {
     local name=$1
@@ -52,5 +58,6 @@ for source in steps waits; do
         say 'clang -fopenmp-targets' "$folder/offload"
     fi
 done
-# of these the check looks at each pair
+for items in 2048 4096 8192; do measure cells "$items"; done
+# of these the order looks at each pair
 for items in 2048 4096 8192; do measure chains "$items"; done

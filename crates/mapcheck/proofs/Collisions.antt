@@ -76,7 +76,7 @@ loc_self Host = refl
 loc_self (Dev d) = eq-eqb d d refl
 loc_self (Tab d) = eq-eqb d d refl
 
-loc_same : (k m : Loc) → same_loc k m ≡ true → k ≡ m
+pub loc_same : (k m : Loc) → same_loc k m ≡ true → k ≡ m
 loc_same Host Host e = refl
 loc_same Host (Dev e) h = absurd cc
 loc_same Host (Tab e) h = absurd cc
@@ -175,7 +175,7 @@ same_by false true f g = g refl
 same_by false false f g = refl
 
 -- a conflict is at one of the locations
-some_place : (s t : Stage) (c : Cell) → conflict s t c ≡ true → (l : Loc) × (conflict_at s t c l ≡ true)
+pub some_place : (s t : Stage) (c : Cell) → conflict s t c ≡ true → (l : Loc) × (conflict_at s t c l ≡ true)
 some_place s t c h = first (or_cases (conflict_at s t c Host) (conflict_at s t c (Dev d) || (conflict_at s t c (Tab d) || false)) h)
   where
     d : ℕ

@@ -1,19 +1,16 @@
 -- The first conflict of an item, found by the other item.
-use Rattle.std.proofs.Common.{◌≡◌, ℕ, zero, suc, ◌+◌, ◌<◌, ◌≤◌, Bool, true, false, List, [], ◌∷◌, ◌++◌, length, get_or, refl, sym, ap, ◌∙◌, subst, ⊎_elim, Option, Some, None, arith}
-use Rattle.std.specs.Prelude.{cond, is_some, slice_get, slice_set}
-use Rattle.std.proofs.lemmas.Option.{slice_get_read, slice_get_within}
-use Rattle.std.proofs.lemmas.Bool.{cases_eq, cases_lt}
+use Rattle.std.proofs.Common.{◌≡◌, ℕ, ◌+◌, ◌<◌, ◌≤◌, Bool, true, false, refl, sym, ap, ◌∙◌, subst, ⊎_elim, Option, Some, None, arith}
+use Rattle.std.specs.Prelude.{cond, is_some}
+use Rattle.std.proofs.lemmas.Bool.{cases_eq}
 use Rattle.std.proofs.lemmas.Bool.Decides.{nat_tests}
 use Rattle.base.specs.declared.item.Cell.{Cell}
 use Rattle.base.specs.declared.fault.Refusal.{Refusal}
 use Rattle.base.specs.declared.fault.RefusalCode.{RefusalCode}
 use Rattle.base.specs.declared.fault.RefusalCode.TheVariants.{Conflict}
 use Rattle.base.specs.Items.{Plan}
-use Rattle.base.specs.Order.{Before}
-use Rattle.base.proofs.Places.{get_set_same, get_set_other}
 use Rattle.base.specs.Accepted.{IsFault, IsRefusal, Refused, fault_key, key_less}
 use Rattle.base.specs.Least.{is_less}
-use Rattle.mapcheck.specs.Unordered.{AreFoundBelow, IsConflictIn, IsConflictOf, IsFirstBelow, IsFirstConflict, IsFoundBelow, IsFoundThere, IsLeastUnordered, IsUnordered, NoConflictBelow, conflict_of, earlier}
+use Rattle.mapcheck.specs.Unordered.{IsConflictIn, IsConflictOf, IsFirstBelow, IsFirstConflict, IsFoundBelow, IsLeastUnordered, IsUnordered, NoConflictBelow, conflict_of, earlier}
 
 -- an item with which there is no conflict
 pub none_found : (plan : Plan) (i j : ℕ) (o : Option Refusal) → IsFoundBelow plan i j o →
@@ -172,72 +169,3 @@ first_with plan n i (Some r) below lt e h = record {
   below = subst (NoConflictBelow plan) (sym h.item) below;
   first = subst (λ k. IsFirstConflict plan k r) (sym h.item) h;
 }
-
-pushed : (P : ℕ → Option (Option Refusal) → Type 0) (xs : List (Option Refusal)) (x : Option Refusal) →
-    ((j : ℕ) → P j (slice_get xs j)) → ((j : ℕ) → P j None) → ((j : ℕ) → P j (Some x)) → (j : ℕ) → P j (slice_get (xs ++ x ∷ []) j)
-pushed P [] x h none some zero = some zero
-pushed P [] x h none some (suc j) = none (suc j)
-pushed P (y ∷ xs) x h none some zero = h zero
-pushed P (y ∷ xs) x h none some (suc j) =
-    pushed (λ k. P (suc k)) xs x (λ k. h (suc k)) (λ k. none (suc k)) (λ k. some (suc k)) j
-
--- nothing is noted of one item more
-pub none_noted : (plan : Plan) (found next : List (Option Refusal)) → next ≡ found ++ None ∷ [] → AreFoundBelow plan 0 found →
-    AreFoundBelow plan 0 next
-none_noted plan found next is h = subst (AreFoundBelow plan 0) (sym is)
-    (pushed (IsFoundThere plan 0) found None h (λ j. tt) (λ j k d lt u. absurd (omega (arith, lt))))
-
--- what is noted of the items
-module _ (plan : Plan) where
-  pub found_there : (i : ℕ) (found : List (Option Refusal)) (j : ℕ) (o : Option Refusal) → AreFoundBelow plan i found →
-      j < length found → o ≡ get_or found j o → IsFoundBelow plan i j o
-  found_there i found j o h lt is =
-      subst (λ (x : Option (Option Refusal)). IsFoundThere plan i j x) (slice_get_read found (length found) j o refl lt is) (h j)
-
-  -- the items below j have been asked with item i as well
-  abbrev pub AreAsked : ℕ → ℕ → List (Option Refusal) → Type 0
-  AreAsked i j found = (k : ℕ) → (k < j → IsFoundThere plan (i + 1) k (slice_get found k)) ×
-      (j ≤ k → IsFoundThere plan i k (slice_get found k))
-
-  pub found_asked : (i j : ℕ) (found : List (Option Refusal)) (o : Option Refusal) → AreAsked i j found → j < length found →
-      o ≡ get_or found j o → IsFoundBelow plan i j o
-  found_asked i j found o h lt is =
-      subst (λ (x : Option (Option Refusal)). IsFoundThere plan i j x) (slice_get_read found (length found) j o refl lt is)
-      ((h j).1 (omega arith))
-
-  more_there : (i k : ℕ) (o : Option (Option Refusal)) → ((c : Cell) → IsUnordered plan i k c → ⊥) → IsFoundThere plan i k o →
-      IsFoundThere plan (i + 1) k o
-  more_there i k None none h = tt
-  more_there i k (Some o) none h = none_found plan i k o h none
-
-  pub asked_none : (i : ℕ) (found : List (Option Refusal)) → AreFoundBelow plan i found → AreAsked i (i + 1) found
-  asked_none i found h k = (
-    λ lt. more_there i k (slice_get found k)
-        (λ c u. let later : i < k = u.0 in absurd (omega arith)) (h k),
-    λ le. h k,
-  )
-
-  pub asked_one : (i j : ℕ) (found next : List (Option Refusal)) (o : Option Refusal) → AreAsked i j found → j < length found →
-      next ≡ slice_set found j o → IsFoundBelow plan (i + 1) j o → AreAsked i (j + 1) next
-  asked_one i j found next o h inside is here k = (
-    λ lt. subst (λ (x : Option (Option Refusal)). IsFoundThere plan (i + 1) k x) (sym (ap (λ xs. slice_get xs k) is)) (⊎_elim
-        (λ (e : j ≡ k). subst (λ n. IsFoundThere plan (i + 1) n (slice_get (slice_set found j o) n)) e
-        (subst (λ (x : Option (Option Refusal)). IsFoundThere plan (i + 1) j x) (sym (get_set_same found j o inside)) here))
-        (λ (ne : j ≡ k → ⊥). subst (λ (x : Option (Option Refusal)). IsFoundThere plan (i + 1) k x)
-        (sym (get_set_other found j o k ne)) ((h k).0 (omega (arith, lt, ne)))) (cases_eq j k)),
-    λ le. subst (λ (x : Option (Option Refusal)). IsFoundThere plan i k x)
-        (sym (ap (λ xs. slice_get xs k) is ∙ get_set_other found j o k (λ (e : j ≡ k). absurd (omega (arith, le, e)))))
-        ((h k).1 (omega (arith, le))),
-  )
-
-  -- the others follow item i
-  pub asked_all : (i j : ℕ) (found : List (Option Refusal)) → AreAsked i j found →
-      ((k : ℕ) → j ≤ k → k < length found → Before plan i k) → AreFoundBelow plan (i + 1) found
-  asked_all i j found h after k = ⊎_elim (λ (lt : k < j). (h k).0 lt)
-      (λ (le : j ≤ k). by_there (slice_get found k) refl ((h k).1 le) le) (cases_lt k j)
-    where
-      by_there : (o : Option (Option Refusal)) → slice_get found k ≡ o → IsFoundThere plan i k (slice_get found k) → j ≤ k →
-          IsFoundThere plan (i + 1) k (slice_get found k)
-      by_there None e there le = subst (λ (x : Option (Option Refusal)). IsFoundThere plan (i + 1) k x) (sym e) tt
-      by_there (Some o) e there le = more_there i k (slice_get found k)
-          (λ c u. u.2 (after k le (slice_get_within found k o e))) there

@@ -4,6 +4,10 @@ pub mod Decided
 pub mod Accepting
 pub mod Pairs
 pub mod Firsts
+pub mod Noting
+pub mod NotedCells
+pub mod NotedItems
+pub mod Clearance
 pub mod ItemFaults
 pub mod FirstFaults
 pub mod Building

@@ -47,7 +47,7 @@ stages_long (w ∷ works) blocks =
     let rest : length (stages_from works next) ≡ length works = stages_long works next in
     omega arith
 
-not_missing : {A : Type 0} (xs : List A) (k : ℕ) → k < length xs → slice_get xs k ≡ None → ⊥
+pub not_missing : {A : Type 0} (xs : List A) (k : ℕ) → k < length xs → slice_get xs k ≡ None → ⊥
 not_missing [] k lt e = absurd (omega arith)
 not_missing (x ∷ xs) zero lt e = cc
 not_missing (x ∷ xs) (suc k) lt e = not_missing xs k (omega arith) e

@@ -6,3 +6,5 @@ pub mod Passes
 pub mod Building
 pub mod Third
 pub mod Reaches
+pub mod Segments
+pub mod Noted

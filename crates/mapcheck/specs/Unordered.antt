@@ -49,14 +49,6 @@ abbrev pub IsFoundBelow : Plan → ℕ → ℕ → Option Refusal → Type 0
 IsFoundBelow plan i j None = (k : ℕ) (d : Cell) → k < i → IsUnordered plan k j d → ⊥
 IsFoundBelow plan i j (Some r) = IsFirstBelow plan i j r
 
-abbrev pub IsFoundThere : Plan → ℕ → ℕ → Option (Option Refusal) → Type 0
-IsFoundThere plan i j None = Unit {0}
-IsFoundThere plan i j (Some found) = IsFoundBelow plan i j found
-
--- the same of each item
-abbrev pub AreFoundBelow : Plan → ℕ → List (Option Refusal) → Type 0
-AreFoundBelow plan i found = (j : ℕ) → IsFoundThere plan i j (slice_get found j)
-
 -- item j is refused for this conflict, and for none before it: the least cell, and then the least other item
 pub record IsFirstConflict (plan : Plan) (j : ℕ) (r : Refusal) : Type 0 where
   pub code : r.code ≡ Conflict

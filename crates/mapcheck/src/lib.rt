@@ -23,8 +23,10 @@ use std::marker::Model;
 pub mod accesses;
 pub mod conflict;
 mod items;
+mod noted;
 pub mod passes;
 mod reaches;
+mod segments;
 mod third;
 pub mod unordered;
 
@@ -91,8 +93,9 @@ impl<'a> Accepted<'a> {
 /// E508). `OutOfMemory` is answered where an allocation fails.
 ///
 /// It takes time for each turn of a region that is walked for its footprint, once for all items of a region that names
-/// no loop around it; for each cell that an item's region touches, and for each pair of items of which the later stands
-/// below the place from which all follow the earlier; and memory for the cells that each item's region touches.
+/// no loop around it; for each cell that an item's region touches, for what earlier items do with the cells that an item
+/// touches, as `first_conflict` says, and for each pair of items of which one has a `depend` clause; and memory for the
+/// cells that each item's region touches.
 pub fn check<'a>(alloc: Global, outlined: &'a Outlined<'a>) -> Result<Accepted<'a>, CheckFault>
     ensures accepted { IfOk result (λ a. a ≡ outlined.now) }
     ensures fault { IfErr result (IsCheckFault (plan outlined.now)) }

@@ -1,12 +1,15 @@
 // The first conflict of each item with an earlier one that is not before it.
 
-ghost use Rattle.std.specs.Prelude.{◌≡◌, ◌+◌, ◌<◌, ◌≤◌, length, IfOk};
+ghost use Rattle.std.specs.Prelude.{◌≡◌, ◌+◌, ◌<◌, ◌≤◌, length, IfOk, OnOk};
 ghost use Rattle.base.specs.Items.{Plan, plan};
 ghost use Rattle.base.specs.Limits.{most_items};
-ghost use Rattle.mapcheck.specs.Unordered.{AreFoundBelow, AreOfItems, IsConflictIn, IsFoundBelow, IsLeastUnordered};
+ghost use Rattle.base.specs.Order.{IsBeforeAll};
+ghost use Rattle.mapcheck.specs.Noted.{AreBeforeAll, AreNoted};
+ghost use Rattle.mapcheck.specs.Unordered.{AreOfItems, IsConflictIn, IsConflictOf, IsFoundBelow, IsLeastUnordered};
 
 use crate::accesses::Accesses;
 use crate::conflict::least_conflict;
+use crate::noted::Noted;
 use base::fault::{Refusal, RefusalCode};
 use base::item::Cell;
 use order::Order;
@@ -68,47 +71,76 @@ fn found_with(
     }
 }
 
-// Notes the conflicts (E508) of an item with the later ones that it is not before: at each of them the first one by its
-// cell, and of those on one cell the one that is there already. Before, the conflicts with the earlier items were noted.
-// These are the accesses of the first items. It takes no memory, and time for each later item up to the place from which
-// the item is before all.
-fn add_conflicts(
+// The first conflict of an item with the earlier ones. It takes time for each of these.
+fn conflict_of(order: &Order<'_>, accesses: &[Accesses<'_>], item: u32) -> Option<Refusal>
+    requires inside { item < length accesses.now }
+    requires accesses { AreOfItems (plan order.now) accesses.now }
+    ensures { IsConflictOf (plan order.now) item result }
+{
+    let mut found = None;
+    'others: for other in 0..item {
+        found = found_with(order, accesses, other, item, found);
+    }
+    found
+}
+
+// Notes an item, and answers its first conflict with the earlier ones. These are looked at one by one only where what is
+// noted does not show that the item is after all of them that it conflicts with.
+fn conflict_noted(
     order: &Order<'_>,
     accesses: &[Accesses<'_>],
-    other: u32,
-    found: &mut Vec<Option<Refusal>>,
-)
-    requires inside { other < length accesses.now }
-    requires few { length accesses.now ≤ most_items }
-    requires many { length found.old.items ≡ length accesses.now }
+    item: u32,
+    noted: &mut Noted,
+) -> Result<Option<Refusal>, AllocError>
+    requires inside { item < length accesses.now }
     requires accesses { AreOfItems (plan order.now) accesses.now }
-    requires found { AreFoundBelow (plan order.now) other found.old.items }
-    ensures found { AreFoundBelow (plan order.now) (other + 1) found.new.items }
-    ensures many { length found.new.items ≡ length found.old.items }
+    requires noted { AreNoted (plan order.now) accesses.now item noted.old }
+    ensures conflict { IfOk result (IsConflictOf (plan order.now) item) }
+    ensures noted { OnOk result (AreNoted (plan order.now) accesses.now (item + 1) noted.new) }
 {
-    let end = order.after_all(other).min(accesses.len() as u32);
-    'items: for item in other + 1..end {
-        let next = found_with(order, accesses, other, item, found[item as usize]);
-        found[item as usize] = next;
+    if noted.note(order, item, &accesses[item as usize])? {
+        Ok(None)
+    } else {
+        Ok(conflict_of(order, accesses, item))
     }
 }
 
-// So many items, of which no conflict is found yet.
-fn none_found(alloc: Global, count: usize) -> Result<Vec<Option<Refusal>>, AllocError>
-    ensures found { IfOk result (λ found. (plan : Plan) → AreFoundBelow plan 0 found.items) }
-    ensures many { IfOk result (λ found. length found.items ≡ count) }
+// The same, where all earlier items are before each from a place on, and this item from another one on. Where these are
+// the item itself and the next one nothing is noted, and where the first is nothing earlier is kept.
+fn next_conflict(
+    alloc: Global,
+    order: &Order<'_>,
+    accesses: &[Accesses<'_>],
+    item: u32,
+    place: u32,
+    after: u32,
+    noted: &mut Noted,
+) -> Result<Option<Refusal>, AllocError>
+    requires few { length accesses.now ≤ most_items }
+    requires inside { item < length accesses.now }
+    requires accesses { AreOfItems (plan order.now) accesses.now }
+    requires before { AreBeforeAll (plan order.now) item place }
+    requires after { IsBeforeAll (plan order.now) item after }
+    requires noted { AreNoted (plan order.now) accesses.now item noted.old }
+    ensures conflict { IfOk result (IsConflictOf (plan order.now) item) }
+    ensures noted { OnOk result (AreNoted (plan order.now) accesses.now (item + 1) noted.new) }
 {
-    let mut found = Vec::with_capacity(alloc, count)?;
-    'items: for _ in 0..count {
-        found.push(None)?;
+    if item < place {
+        return conflict_noted(order, accesses, item, noted);
     }
-    Ok(found)
+    if after <= item + 1 {
+        return Ok(None);
+    }
+    *noted = Noted::new(alloc);
+    conflict_noted(order, accesses, item, noted)
 }
 
 /// The conflict (E508) of the first item that has one with an earlier item that is not before it: the least cell of a
-/// conflict, and of those on this cell the first other item. These are the accesses of the first items. It takes memory
-/// for each item, and time for each pair of items of which the later stands below the place from which all follow the
-/// earlier.
+/// conflict, and of those on this cell the first other item. These are the accesses of the first items.
+///
+/// It takes memory for each access of the items that are not before all later ones, and for such an access time for each
+/// item that is kept at its cells: one that reads or writes them, and where no later one that writes them and comes after
+/// all there has taken its place. An item that is not after all of these is compared with each earlier one.
 pub fn first_conflict(
     alloc: Global,
     order: &Order<'_>,
@@ -118,13 +150,16 @@ pub fn first_conflict(
     requires accesses { AreOfItems (plan order.now) accesses.now }
     ensures { IfOk result (IsConflictIn (plan order.now) (length accesses.now)) }
 {
-    let mut found = none_found(alloc, accesses.len())?;
+    let mut noted = Noted::new(alloc);
+    // All items that were looked at are before each from here on.
+    let mut place = 0;
     'items: for item in 0..accesses.len() as u32 {
-        let conflict = found[item as usize];
+        let after = order.after_all(item);
+        let conflict = next_conflict(alloc, order, accesses, item, place, after, &mut noted)?;
         if conflict.is_some() {
             return Ok(conflict);
         }
-        add_conflicts(order, accesses, item, &mut found);
+        place = place.max(after);
     }
     Ok(None)
 }
