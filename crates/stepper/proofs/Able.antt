@@ -1,9 +1,9 @@
 -- What is known where an event may happen.
 use Rattle.std.proofs.Common.{◌≡◌, ◌<◌, ◌≤◌, ℕ, Bool, true, false, List, Option, Some, None, length, get_or, refl, sym, ap, ◌∙◌, subst, arith}
-use Rattle.std.specs.Prelude.{◌==◌, ◌&&◌, ◌||◌, not, slice_get, slice_index}
+use Rattle.std.specs.Prelude.{◌==◌, slice_get, slice_index}
 use Rattle.std.proofs.lemmas.Bool.{and_parts, false≢true, true≢false}
 use Rattle.base.specs.declared.item.Event.{Event}
-use Rattle.base.specs.declared.item.Event.TheVariants.{Gen, Open, Step, Close, Wait, End}
+use Rattle.base.specs.declared.item.Event.TheVariants.{Gen, Open, Step, Close}
 use Rattle.base.specs.declared.item.Item.{Item}
 use Rattle.base.specs.declared.tree.Region.{Region}
 use Rattle.base.specs.declared.fault.RunFault.{RunFault}
@@ -15,11 +15,11 @@ use Rattle.taskgraph.specs.Board.{allows}
 use Rattle.taskgraph.proofs.Laws.{allowed_is_enabled}
 use Rattle.two_memories.proofs.PlanItems.{within}
 use Rattle.fine_machine.specs.Left.{Asks, Finished}
-use Rattle.fine_machine.specs.Machine.{State, Condition, Untouched, Generated, Opened, Closed, Passed, as_whole, enabled, has_step, is_finished, step, whole_condition}
+use Rattle.fine_machine.specs.Machine.{State, Condition, Untouched, Generated, Opened, Closed, Passed, as_whole, has_step, is_finished, whole_condition}
 use Rattle.stepper.specs.declared.standing.Slot.{Slot}
 use Rattle.stepper.specs.declared.standing.Slot.TheVariants as slot
 use Rattle.stepper.specs.declared.standing.Standing.{Standing}
-use Rattle.stepper.specs.Standing.{IsAt, IsAtRest, IsItem, IsOpenFault, IsReady, IsStepFault, IsOnDevice, Keeps, fill_from, place_of}
+use Rattle.stepper.specs.Standing.{IsAt, IsAtRest, IsItem, IsOpenFault, IsReady, IsStepFault, IsOnDevice, Keeps, place_of}
 use Rattle.stepper.specs.Taking.{IsAble, IsTakeFault}
 use Rattle.std.proofs.lemmas.Option.{same_Some, slice_get-get_or}
 use Rattle.device.proofs.Starts.{as_many}

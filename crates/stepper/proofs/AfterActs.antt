@@ -2,7 +2,6 @@
 use Rattle.std.proofs.Common.{◌≡◌, ◌<◌, ◌≤◌, ℕ, Bool, true, false, Option, Some, None, length, refl, sym, ap, ◌∙◌, subst, arith}
 use Rattle.std.specs.Prelude.{◌==◌, IsSomeAnd, if◌then◌else◌, slice_get, slice_index, option_map}
 use Rattle.std.proofs.lemmas.Bool.{cond-true, cond-false, eqb-true, false≢true}
-use Rattle.std.proofs.lemmas.Option.{same_Some}
 use Rattle.base.specs.Map.{Device, Memories, memories_at}
 use Rattle.taskgraph.specs.declared.Graph.{Graph}
 use Rattle.taskgraph.specs.Board.{Stands, stage_at, stage_of}

@@ -1,5 +1,5 @@
 -- What is left after an action.
-use Rattle.std.proofs.Common.{◌≡◌, ℕ, zero, suc, ◌+◌, ◌-◌, ◌<◌, ◌≤◌, ◌∷◌, [], List, Some, Bool, true, false, true≢false, Bor, refl, ap, sym, ◌∙◌, subst, slice_get, take, drop, length, get_or, arith, take_all}
+use Rattle.std.proofs.Common.{◌≡◌, ℕ, zero, suc, ◌+◌, ◌-◌, ◌≤◌, ◌∷◌, [], List, Some, Bool, true, false, true≢false, refl, ap, sym, ◌∙◌, subst, slice_get, take, drop, length, get_or, arith, take_all}
 use Rattle.base.specs.declared.item.Cell.{Cell}
 use Rattle.base.specs.declared.item.MapItem.{MapItem}
 use Rattle.base.specs.declared.item.MapKind.TheVariants.{To}

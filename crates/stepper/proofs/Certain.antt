@@ -1,11 +1,11 @@
 -- The events that cannot fail.
-use Rattle.std.proofs.Common.{◌≡◌, ℕ, true, false, Option, Some, None, refl, sym, ap, ◌∙◌, subst}
+use Rattle.std.proofs.Common.{◌≡◌, ℕ, true, false, Some, None, refl, sym, ap, ◌∙◌, subst}
 use Rattle.std.specs.Prelude.{IsSomeAnd, slice_get}
 use Rattle.std.proofs.lemmas.Bool.{false≢true}
 use Rattle.base.specs.declared.item.Event.{Event}
 use Rattle.base.specs.declared.item.Event.TheVariants.{Gen, Close, Wait, End}
 use Rattle.base.specs.Items.{Plan, Work}
-use Rattle.fine_machine.specs.Left.{Left, Asks, Finished}
+use Rattle.fine_machine.specs.Left.{Asks, Finished}
 use Rattle.fine_machine.specs.Machine.{State, Condition, Untouched, Generated, Opened, Closed, Passed, close_item, enabled, is_finished, step}
 use Rattle.stepper.specs.declared.standing.Standing.{Standing}
 use Rattle.stepper.specs.Standing.{Follows, FollowsOfKind, IsAt, fill_from}

@@ -1,21 +1,18 @@
 -- What a whole run answers.
-use Rattle.std.proofs.Common.{◌≡◌, ℕ, List, [], map, length, Some, refl, sym, ap, ◌∙◌, subst}
+use Rattle.std.proofs.Common.{◌≡◌, ℕ, List, map, sym, ap, ◌∙◌, subst}
 use Rattle.std.specs.Prelude.{slice_index}
 use Rattle.base.specs.declared.item.Answer.{Answer}
 use Rattle.base.specs.declared.item.Event.{Event}
-use Rattle.base.specs.declared.memory.Memory.{Memory as Arrays}
 use Rattle.base.specs.declared.tree.ArrayId.{ArrayId}
 use Rattle.base.specs.declared.tree.Program.{Program}
 use Rattle.base.specs.Accepted.{IsAccepted}
-use Rattle.base.specs.Answer.{array_values, finals_in, marked_values}
-use Rattle.base.specs.Arrays.{lengths_of, memory_of}
+use Rattle.base.specs.Answer.{array_values}
 use Rattle.base.specs.Headline.{AreNumbers}
 use Rattle.base.specs.Items.{plan}
 use Rattle.base.specs.Meaning.{output_of}
 use Rattle.base.specs.Meaning as meaning
 use Rattle.device.proofs.Answers.{finals_are}
 use Rattle.fine_headline.proofs.Headline.{headline}
-use Rattle.fine_machine.specs.Headline.{FineShowsErased}
 use Rattle.fine_machine.specs.Machine.{HasEnded}
 use Rattle.stepper.specs.declared.standing.Standing.{Standing}
 use Rattle.stepper.specs.Answering.{AreShown, HasRun, IsAnswerOf, IsErasedAnswer, IsFineAnswer, row_in}

@@ -1,11 +1,10 @@
 -- The next part of an open item, and the action that comes next.
-use Rattle.std.proofs.Common.{◌≡◌, ℕ, zero, suc, ◌+◌, ◌<◌, ◌∷◌, [], List, Option, Some, None, Bool, true, false, true≢false, Bor, refl, ap, sym, ◌∙◌, subst, slice_get, arith}
+use Rattle.std.proofs.Common.{◌≡◌, ℕ, zero, suc, ◌∷◌, [], List, Option, Some, None, true, false, true≢false, refl, ap, sym, ◌∙◌, subst, slice_get, arith}
 use Rattle.base.specs.declared.item.Cell.{Cell}
 use Rattle.base.specs.declared.item.MapItem.{MapItem}
 use Rattle.base.specs.declared.tree.ArrayId.{ArrayId}
 use Rattle.fine_machine.specs.Left.{Left, Asks, Finished, Answer, Side, Request, each_left, entry_left, exit_left, cells_left}
 use Rattle.fine_machine.specs.Left as left
-use Rattle.present.specs.Blocks.{IsSection}
 use Rattle.stepper.specs.declared.action.Action.{Action}
 use Rattle.stepper.specs.declared.action.Action.TheVariants as action
 use Rattle.stepper.specs.declared.control.Control.{Control}
@@ -17,7 +16,7 @@ use Rattle.stepper.specs.declared.maps.Maps.{Maps}
 use Rattle.stepper.specs.declared.turns.Cells.{Cells}
 use Rattle.stepper.specs.Rest.{Popped, frames_of, rest_of, top}
 use Rattle.stepper.specs.Weight.{weight}
-use Rattle.stepper.specs.Control.{HasSection, IsNext, IsPending, IsStopped, is_action, is_positive, is_some_left, left_of, left_with, request_of, run_of, side_of, stack_of, stops_at}
+use Rattle.stepper.specs.Control.{HasSection, IsNext, IsPending, IsStopped, is_action, is_positive, left_with, request_of, run_of, side_of, stack_of, stops_at}
 
 -- the parts after the first
 abbrev pub later : List Frame → List Frame

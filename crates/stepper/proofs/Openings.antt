@@ -4,7 +4,6 @@ use Rattle.std.specs.Prelude.{◌==◌, IsSomeAnd, if◌then◌else◌, option_m
 use Rattle.std.specs.List.{slice_set}
 use Rattle.std.specs.declared.alloc.Global.{Global}
 use Rattle.std.proofs.lemmas.Bool.{true≢false}
-use Rattle.std.proofs.lemmas.Option.{same_Some}
 use Rattle.std.proofs.lemmas.List.{length-set}
 use Rattle.base.specs.declared.item.Event.TheVariants as event
 use Rattle.base.specs.declared.item.Item.{Item}

@@ -1,7 +1,6 @@
 -- The host comes no further than one past the last item.
-use Rattle.std.proofs.Common.{◌≡◌, ◌+◌, ◌<◌, ◌≤◌, ℕ, Bool, true, false, List, [], length, map, Option, Some, None, refl, sym, ap, ◌∙◌, subst, arith}
-use Rattle.std.specs.Prelude.{◌==◌, slice_get, option_map}
-use Rattle.std.proofs.lemmas.Bool.{false≢true}
+use Rattle.std.proofs.Common.{◌≡◌, ◌+◌, ◌<◌, ◌≤◌, ℕ, Bool, true, false, List, length, Option, Some, None, refl, sym, ap, ◌∙◌, arith}
+use Rattle.std.specs.Prelude.{slice_get, option_map}
 use Rattle.std.proofs.lemmas.List.{length-map}
 use Rattle.std.proofs.lemmas.Option.{same_Some, slice_get_within}
 use Rattle.base.specs.declared.item.Event.{Event}
@@ -11,12 +10,11 @@ use Rattle.base.specs.declared.item.ItemKind.{ItemKind}
 use Rattle.base.specs.declared.item.ItemKind.TheVariants as kind
 use Rattle.base.specs.Meaning.{Run}
 use Rattle.base.specs.Map.{Fill}
-use Rattle.base.specs.Machine.{is_open, is_ready, is_wait, on_item}
+use Rattle.base.specs.Machine.{is_open, on_item}
 use Rattle.base.proofs.Runs.{enabled_End, enabled_Gen, enabled_Wait}
-use Rattle.two_memories.proofs.PlanItems.{within}
 use Rattle.taskgraph.specs.Board.{facts_of}
-use Rattle.fine_machine.specs.Left.{Asks, Finished, item_left}
-use Rattle.fine_machine.specs.Machine.{State, Condition, Untouched, Generated, Opened, Closed, Passed, as_whole, begun, close_item, enabled, host_done, is_finished, moves_on, open_item, step, step_item, whole_condition, with_condition}
+use Rattle.fine_machine.specs.Left.{Asks, Finished}
+use Rattle.fine_machine.specs.Machine.{State, Condition, Untouched, Generated, Opened, Closed, Passed, as_whole, close_item, enabled, host_done, is_finished, moves_on, open_item, step, step_item, whole_condition, with_condition}
 use Rattle.stepper.specs.declared.standing.Standing.{Standing}
 use Rattle.stepper.specs.Standing.{IsAt, IsHere, place_of}
 use Rattle.stepper.proofs.Able.{known}

@@ -1,7 +1,6 @@
 -- A run by choices, as the code plays it.
-use Rattle.std.proofs.Common.{◌≡◌, ℕ, zero, ◌+◌, ◌<◌, ◌≤◌, ◌^◌, Bool, true, false, List, [], ◌∷◌, ◌++◌, drop, map, length, Option, Some, None, refl, sym, ap, ◌∙◌, subst, arith}
-use Rattle.std.specs.Prelude.{IsSomeAnd, slice_index}
-use Rattle.std.proofs.lemmas.Bool.{cases_eq, true≢false}
+use Rattle.std.proofs.Common.{◌≡◌, ℕ, ◌+◌, ◌<◌, ◌≤◌, ◌^◌, Bool, true, false, List, [], ◌∷◌, ◌++◌, drop, length, Option, Some, None, refl, sym, ap, ◌∙◌, subst, arith}
+use Rattle.std.specs.Prelude.{IsSomeAnd}
 use Rattle.base.specs.declared.fault.RunFault.{RunFault}
 use Rattle.base.specs.declared.fault.RunFault.TheVariants as fault
 use Rattle.base.specs.declared.item.Event.{Event}
@@ -10,20 +9,18 @@ use Rattle.base.specs.Accepted.{IsAccepted}
 use Rattle.base.specs.Headline.{AreNumbers}
 use Rattle.base.specs.Items.{plan}
 use Rattle.base.specs.Limits.{most_items}
-use Rattle.base.specs.Map.{Fill, in_use}
-use Rattle.device.specs.declared.devices.Devices.{Devices}
-use Rattle.device.specs.Devices.{AreKept, HaveRoom, device_count, fresh_of}
+use Rattle.device.specs.Devices.{AreKept, HaveRoom, fresh_of}
 use Rattle.device.proofs.Tables.{own_table}
 use Rattle.fine_headline.proofs.Headline.{headline}
-use Rattle.fine_machine.specs.Machine.{HasEnded, State, enabled, run_by_choices, start, step}
+use Rattle.fine_machine.specs.Machine.{HasEnded, State, enabled, start, step}
 use Rattle.mapwalk.specs.Walk.{HasNoRangeFault}
 use Rattle.stepper.specs.declared.standing.Standing.{Standing}
-use Rattle.stepper.specs.Answering.{HasRun, IsFailed, IsFineFault, IsFull, IsWithin, next_by}
+use Rattle.stepper.specs.Answering.{HasRun, IsFineFault, IsWithin, next_by}
 use Rattle.stepper.specs.Standing.{IsAt, fill_from}
 use Rattle.stepper.specs.Taking.{Does, IsAble, IsTakeFault}
 use Rattle.stepper.proofs.AfterEnd.{nothing_next}
 use Rattle.stepper.proofs.Follows.{is_run, may_happen, run_more}
-use Rattle.stepper.proofs.HasRuns.{has_ended, has_gone_on, is_reached, not_begun}
+use Rattle.stepper.proofs.HasRuns.{has_ended, has_gone_on, not_begun}
 use Rattle.stepper.proofs.PlaceBound.{few_tasks, place_after, small_place}
 
 pub record Plays (p : Program) (input choices : List ℕ) (capacity : ℕ) (events : List Event) (now : Standing) : Type 0 where

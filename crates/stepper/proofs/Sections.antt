@@ -1,5 +1,5 @@
 -- The items of a program without a fault of range.
-use Rattle.std.proofs.Common.{◌≡◌, ◌+◌, ◌<◌, ◌≤◌, ℕ, zero, suc, Bool, true, false, List, [], ◌∷◌, map, length, Bor, Option, Some, None, refl, sym, ap, ◌∙◌, subst, arith}
+use Rattle.std.proofs.Common.{◌≡◌, ◌≤◌, ℕ, zero, suc, false, List, [], ◌∷◌, map, Option, Some, None, refl, sym, ap, ◌∙◌, subst, arith}
 use Rattle.std.specs.Prelude.{◌||◌, ◌==◌, nat_lt, option_map, slice_get, slice_index, filter}
 use Rattle.std.proofs.lemmas.Bool.Decides.{nat_tests}
 use Rattle.std.proofs.lemmas.Option.{same_Some, slice_get-map}
@@ -8,7 +8,6 @@ use Rattle.base.specs.declared.item.MapItem.{MapItem}
 use Rattle.base.specs.declared.tree.Region.{Region}
 use Rattle.base.specs.Memory.{end_of}
 use Rattle.base.specs.Items.{Work, Plan}
-use Rattle.base.specs.Machine.{on_item}
 use Rattle.base.specs.Accepted.{map_fault, depend_fault, range_faults, region_faults, section_faults, section_fails}
 use Rattle.base.proofs.Nils.{nil_filter, nil_map, nil_parts}
 use Rattle.mapwalk.specs.Walk.{HasNoRangeFault}

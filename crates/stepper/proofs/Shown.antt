@@ -1,5 +1,5 @@
 -- Which arrays an answer shows.
-use Rattle.std.proofs.Common.{◌≡◌, arith, ℕ, true, false, List, [], ◌∷◌, refl, sym, ap, ◌∙◌}
+use Rattle.std.proofs.Common.{◌≡◌, arith, ℕ, List, [], ◌∷◌, refl}
 use Rattle.std.specs.Prelude.{Contains}
 use Rattle.std.proofs.lemmas.Bool.{true≢false}
 use Rattle.base.specs.declared.fault.OrderFault.{OrderFault}
@@ -7,7 +7,7 @@ use Rattle.base.specs.declared.fault.RangeFault.{RangeFault}
 use Rattle.base.specs.declared.fault.Refusal.{Refusal}
 use Rattle.base.specs.declared.tree.ArrayId.{ArrayId}
 use Rattle.base.specs.declared.tree.Program.{Program}
-use Rattle.base.specs.Accepted.{Fault, IsAccepted, IsFault, IsFirstFault, Order, Range, Refused, range_faults}
+use Rattle.base.specs.Accepted.{IsAccepted, IsFault, IsFirstFault, Order, Range, Refused, range_faults}
 use Rattle.base.specs.Items.{Plan, plan}
 use Rattle.base.specs.Machine.{on_item}
 use Rattle.mapcheck.specs.Third.{AreMarked}

@@ -4,12 +4,12 @@ use Rattle.base.specs.declared.tree.Expr.{Expr}
 use Rattle.base.specs.declared.tree.Source.{Source}
 use Rattle.base.specs.declared.tree.Source.TheVariants.{Value, Read}
 use Rattle.base.specs.Meaning.{Run, read_next}
-use Rattle.fine_machine.specs.Left.{Side, expr_left, source_left}
+use Rattle.fine_machine.specs.Left.{expr_left}
 use Rattle.stepper.specs.declared.control.Control.{Control}
 use Rattle.stepper.specs.declared.frame.Frame.{Frame}
 use Rattle.stepper.specs.declared.stack.Frames.{Frames}
 use Rattle.stepper.specs.Rest.{frames_of, rest_of}
-use Rattle.stepper.specs.Weight.{expr_weight, frame_weight, source_weight, weight}
+use Rattle.stepper.specs.Weight.{frame_weight, weight}
 use Rattle.stepper.specs.Begin.{BeginsExpr}
 use Rattle.stepper.specs.Control.{BeginsAt, BeginsSource, run_of, side_of, stack_of}
 

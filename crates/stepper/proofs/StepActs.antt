@@ -8,9 +8,6 @@ use Rattle.std.proofs.lemmas.List.{length-set}
 use Rattle.base.specs.declared.memory.Memory.{Memory as Arrays}
 use Rattle.base.proofs.Places.{get_set_other, get_set_same}
 use Rattle.device.specs.declared.devices.Devices.{Devices}
-use Rattle.fine_machine.specs.Left.{Load, Store, Enter, Leave, Remove, CopyIn, CopyOut}
-use Rattle.fine_machine.specs.Machine.{Opened}
-use Rattle.present.specs.Table.{memories}
 use Rattle.stepper.specs.Acting.{answer_of}
 use Rattle.stepper.specs.Control.{Answers, IsNext, IsStopped, request_of, side_of}
 use Rattle.stepper.specs.Standing.{ActsOn, FollowsOn, HasCounted}

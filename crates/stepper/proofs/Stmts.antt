@@ -1,5 +1,5 @@
 -- A statement is begun in an open item.
-use Rattle.std.proofs.Common.{◌≡◌, ◌⊎◌, inl, inr, ℕ, zero, suc, ◌+◌, ◌*◌, ◌∷◌, ◌++◌, [], List, Bor, Vec, Global, refl, ap, sym, ◌∙◌, subst, arith}
+use Rattle.std.proofs.Common.{◌≡◌, ◌⊎◌, inl, inr, ℕ, zero, suc, ◌+◌, ◌*◌, ◌∷◌, ◌++◌, [], List, Bor, Vec, Global, ap, sym, ◌∙◌, subst, arith}
 use Rattle.base.specs.declared.tree.ArrayId.{ArrayId}
 use Rattle.base.specs.declared.tree.ScalarId.{ScalarId}
 use Rattle.base.specs.declared.tree.Place.{Place}
@@ -15,10 +15,9 @@ use Rattle.kernel.proofs.Lasts.{front_more}
 use Rattle.stepper.specs.declared.control.Control.{Control}
 use Rattle.stepper.specs.declared.stack.Frames.{Frames}
 use Rattle.stepper.specs.declared.turns.Turns.{Turns}
-use Rattle.stepper.specs.declared.frame.Frame.{Frame}
 use Rattle.stepper.specs.declared.frame.Frame.TheVariants as frame
 use Rattle.stepper.specs.Rest.{frames_of, rest_of}
-use Rattle.stepper.specs.Weight.{expr_weight, frame_weight, list_weight, source_weight, weight}
+use Rattle.stepper.specs.Weight.{expr_weight, list_weight, weight}
 use Rattle.stepper.proofs.StmtRests.{left_Block, left_Loop, left_If, weight_Block, weight_Loop, weight_If}
 use Rattle.stepper.specs.Control.{BeginsAt, BeginsSource, BeginsStmt, run_of, side_of, stack_of}
 

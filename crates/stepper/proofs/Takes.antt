@@ -11,9 +11,9 @@ use Rattle.base.specs.declared.item.MapItem.{MapItem}
 use Rattle.base.specs.declared.tree.ArrayId.{ArrayId}
 use Rattle.base.specs.declared.tree.ScalarId.{ScalarId}
 use Rattle.base.specs.declared.tree.BinaryOp.{BinaryOp}
-use Rattle.base.specs.Value.{binary, flag, is_zero}
-use Rattle.base.specs.Meaning.{Run, printed, set_scalar}
-use Rattle.fine_machine.specs.Left.{Left, Side, Request, CopyIn, CopyOut, each_left, entry_left, exit_left, cells_left, expr_left, list_left, stmt_left, turns_left}
+use Rattle.base.specs.Value.{flag, is_zero}
+use Rattle.base.specs.Meaning.{Run, set_scalar}
+use Rattle.fine_machine.specs.Left.{Left, Request, CopyIn, CopyOut, each_left, entry_left, exit_left, cells_left, expr_left, list_left, stmt_left, turns_left}
 use Rattle.kernel.specs.Machine.{front_of}
 use Rattle.kernel.proofs.Lasts.{front_more}
 use Rattle.stepper.specs.declared.control.Control.{Control}
@@ -24,7 +24,7 @@ use Rattle.stepper.specs.declared.maps.Maps.{Maps}
 use Rattle.stepper.specs.declared.turns.Cells.{Cells}
 use Rattle.stepper.specs.declared.turns.Turns.{Turns}
 use Rattle.stepper.specs.Rest.{frames_of, rest_of}
-use Rattle.stepper.specs.Weight.{expr_weight, frame_weight, list_weight, source_weight, stmt_weight, weight}
+use Rattle.stepper.specs.Weight.{expr_weight, frame_weight, list_weight, weight}
 use Rattle.stepper.specs.Control.{BeginsAt, BeginsSource, BeginsStmt, Takes, TakesRest, TakesRight, TakesTurns, is_action, is_positive, is_some_left, left_of, left_with, run_of, side_of, stack_of}
 
 -- with another number at hand

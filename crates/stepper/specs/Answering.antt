@@ -1,5 +1,5 @@
 -- What a whole run by choices of the fine-grained machine answers.
-use Rattle.std.specs.Prelude.{ℕ, ◌≡◌, ◌<◌, ◌≤◌, ◌%◌, true, false, List, [], Option, Some, None, drop, length, map, slice_get, slice_index}
+use Rattle.std.specs.Prelude.{ℕ, ◌≡◌, ◌<◌, ◌≤◌, ◌%◌, true, List, [], Option, Some, None, drop, length, map, slice_get, slice_index}
 use Rattle.base.specs.declared.fault.RunFault.{RunFault}
 use Rattle.base.specs.declared.fault.RunFault.TheVariants as fault
 use Rattle.base.specs.declared.fault.RangeFault.{RangeFault}
@@ -19,7 +19,7 @@ use Rattle.base.specs.Machine.{first_or_zero}
 use Rattle.base.specs.Map.{Fill, in_use}
 use Rattle.base.specs.Meaning.{Plain, erased, output_of}
 use Rattle.device.specs.Devices.{device_count}
-use Rattle.fine_machine.specs.Machine.{HasEnded, Played, State, all_enabled, run_by_choices, step}
+use Rattle.fine_machine.specs.Machine.{HasEnded, State, all_enabled, run_by_choices, step}
 use Rattle.mapwalk.specs.Walk.{HasNoRangeFault}
 use Rattle.stepper.specs.declared.standing.Standing.{Standing}
 use Rattle.stepper.specs.Standing.{is_over}

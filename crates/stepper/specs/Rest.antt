@@ -1,5 +1,5 @@
 -- What is left of an open item, as the fine-grained machine has it.
-use Rattle.std.specs.Prelude.{ℕ, ◌≡◌, zero, suc, not, List, [], ◌∷◌, ◌++◌, reverse, Option, Some, None, slice_index}
+use Rattle.std.specs.Prelude.{ℕ, ◌≡◌, zero, suc, not, List, [], ◌∷◌, ◌++◌, reverse, Option, Some, None}
 use Rattle.base.specs.declared.item.Cell.{Cell}
 use Rattle.base.specs.declared.tree.ArrayId.{ArrayId}
 use Rattle.base.specs.Value.{flag, is_zero, unary, binary, shifted, divided}

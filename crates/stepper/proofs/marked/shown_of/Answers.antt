@@ -1,6 +1,5 @@
 use Rattle.std.proofs.Common.{sym, subst}
 use Rattle.base.specs.Items.{plan}
-use Rattle.base.specs.Accepted.{IsAccepted}
 use Rattle.mapcheck.specs.Passes.{IsCheckFault}
 use Rattle.mapcheck.specs.Third.{AreMarked}
 use Rattle.stepper.specs.Answering.{AreShown}

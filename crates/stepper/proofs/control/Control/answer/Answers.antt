@@ -1,4 +1,4 @@
-use Rattle.std.proofs.Common.{ap, sym, ◌∙◌, ◌∷◌, true≢false}
+use Rattle.std.proofs.Common.{ap, ◌∙◌, ◌∷◌}
 use Rattle.std.proofs.lemmas.Result.{on_ok_weaker}
 use Rattle.stepper.proofs.Answered.{acts_first, answers_copy_in, answers_copy_out, answers_entries, answers_exits, answers_load, answers_none, answers_remove, answers_store, at_part}
 use Rattle.stepper.specs.declared.frame.Frame.TheVariants as frame

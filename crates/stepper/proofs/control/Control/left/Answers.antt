@@ -1,4 +1,4 @@
-use Rattle.std.proofs.Common.{ap, sym, ◌∙◌, []}
+use Rattle.std.proofs.Common.{ap, ◌∙◌, []}
 use Rattle.std.proofs.lemmas.Result.{on_ok_weaker}
 use Rattle.stepper.specs.Control.{left_of}
 use Rattle.stepper.proofs.Answered.{answers_exit, exits_next, removal_next}

@@ -1,5 +1,4 @@
-use Rattle.std.proofs.Common.{arith, refl}
-use Rattle.std.proofs.lemmas.Grind.{common_steps}
+use Rattle.std.proofs.Common.{refl}
 use Rattle.std.proofs.lemmas.Result.{on_ok_weaker}
 use Rattle.stepper.proofs.Takes.{takes_no_rest, takes_rest, first_of}
 use Rattle.stepper.proofs.control.Control.take_first.Goals as goal
