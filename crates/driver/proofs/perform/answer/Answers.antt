@@ -14,11 +14,11 @@ returns-in-Checked-clause-refused g c =
     of_check c.answer_checked.result (is_checked c.args.asked.way) c.args.program.now _ c.in-Ok.ensures.outlined c.in-Ok.ensures.few
     (ap is_checked c.in-Checked.is) c.answer_checked.ensures.refused
 
-pub returns-in-Fine-clause-answered : goal.returns-in-Fine-clause-answered
-returns-in-Fine-clause-answered g c =
+pub returns-clause-answered : goal.returns-clause-answered
+returns-clause-answered g c =
     same_answer c.answer_fine.result c.args.asked.way _ c.in-Fine.is c.args.asked.capacity (g.R.Read.remaining c.args.input.now) c.args.program.now _
     c.in-Ok.ensures.outlined c.answer_fine.ensures.answered
 
-pub returns-in-Fine-clause-refused : goal.returns-in-Fine-clause-refused
-returns-in-Fine-clause-refused g c =
+pub returns-clause-refused : goal.returns-clause-refused
+returns-clause-refused g c =
     of_none (IsPlanFault (is_checked c.args.asked.way) c.args.program.now) c.answer_fine.result c.answer_fine.ensures.refused
