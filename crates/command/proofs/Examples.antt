@@ -46,6 +46,22 @@ dashed_is_well_formed : fault_of ompc dashed ≡ []
 unfolding clap_on_literals
 dashed_is_well_formed = refl
 
+-- a step of what the check may refuse
+abbrev by_actions : List Text
+by_actions = codes "step" ∷ codes "a.c" ∷ codes "--choices=0,1" ∷ codes "--fine" ∷ []
+
+by_actions_asks : option_map (λ p. told p (codes "choices" ∷ codes "capacity" ∷ codes "fine" ∷ [])) (subcommand_of ompc by_actions) ≡ Some (record {
+  name = codes "step";
+  file = codes "a.c";
+  options = Some (codes "0,1") ∷ None ∷ Some (codes "true") ∷ [];
+})
+unfolding clap_on_literals
+by_actions_asks = refl
+
+by_actions_is_well_formed : fault_of ompc by_actions ≡ []
+unfolding clap_on_literals
+by_actions_is_well_formed = refl
+
 nothing_is_refused : fault_of ompc [] ≡ DisplayHelpOnMissingArgumentOrSubcommand ∷ []
 unfolding clap_on_literals
 nothing_is_refused = refl

@@ -50,7 +50,7 @@ abbrev pub run : Shape
 run = command (codes "run") (file ∷ workers ∷ capacity ∷ flag (codes "log") ∷ flag (codes "finals") ∷ [])
 
 abbrev pub step : Shape
-step = command (codes "step") (file ∷ text_option (codes "choices") ∷ capacity ∷ [])
+step = command (codes "step") (file ∷ text_option (codes "choices") ∷ capacity ∷ flag (codes "fine") ∷ [])
 
 -- the words are a command's name and its arguments; without any there is help
 abbrev pub ompc : App
@@ -111,6 +111,7 @@ pub record IsStep (rows : List Row) (s : Step) : Type 0 where
   pub file : s.file.now ≡ text_in (codes "FILE") rows
   pub choices : s.choices.now ≡ text_in (codes "choices") rows
   pub capacity : IsCapacity rows s.capacity
+  pub fine : IsFlag (one_of (codes "fine") rows) s.fine
 
 -- the request of a command of that name with these entries
 abbrev pub Asks : Text → List Row → Request → Type 0

@@ -37,4 +37,6 @@ pub struct Step<'a> {
     pub file: &'a str,
     pub choices: &'a str,
     pub capacity: u64,
+    /// Whether each load, store, copied cell and action on a table is an event, and programs that are not accepted run too.
+    pub fine: bool,
 }

@@ -79,6 +79,17 @@ fn choices_arg<'a>(alloc: Global) -> Arg<'a>
         )
 }
 
+fn fine_arg<'a>(alloc: Global) -> Arg<'a>
+    ensures { IsArg (flag (codes "fine")) result }
+{
+    Arg::new(alloc, "fine")
+        .long("fine")
+        .action(ArgAction::SetTrue)
+        .help(
+            "each load, store, copied cell and action on a table is an event; runs what check refuses too",
+        )
+}
+
 /// A command that takes the source.
 fn file_command<'a>(
     alloc: Global,
@@ -119,7 +130,8 @@ fn step_command<'a>(alloc: Global) -> Result<Command<'a>, AllocError>
     let about = "runs a program likewise, but event by event, and prints its output and its log";
     let command = file_command(alloc, "step", about);
     let command = with_arg(command, choices_arg(alloc));
-    with_arg(command, capacity_arg(alloc))
+    let command = with_arg(command, capacity_arg(alloc));
+    with_arg(command, fine_arg(alloc))
 }
 
 fn check_command<'a>(alloc: Global) -> Result<Command<'a>, AllocError>
@@ -222,6 +234,7 @@ fn step_of<'a>(given: &ArgMatches<'a>) -> Step<'a>
         file: text_of(given, "FILE"),
         choices: text_of(given, "choices"),
         capacity: number_of(given, "capacity", DEFAULT_CAPACITY),
+        fine: given.get_flag("fine"),
     }
 }
 

@@ -1,5 +1,5 @@
 -- What a refusal of a part of a command is of the whole.
-use Rattle.std.proofs.Common.{◌≡◌, ℕ, List, refl, sym, subst}
+use Rattle.std.proofs.Common.{◌≡◌, ◌≤◌, ℕ, Bool, true, false, List, length, refl, sym, subst, true≢false}
 use Rattle.std.specs.Prelude.{Result, Ok, Err, IfErr, IsErrAnd}
 use Rattle.base.specs.declared.tree.Program.{Program}
 use Rattle.base.specs.declared.fault.OutlineFault.TheVariants as outline
@@ -11,7 +11,11 @@ use Rattle.pipeline.specs.Checking.{IsRefused}
 use Rattle.driver.specs.declared.perform.Ending.{Ending}
 use Rattle.driver.specs.declared.perform.Ending.TheVariants as ending
 use Rattle.driver.specs.Statuses.{ending_of}
-use Rattle.driver.specs.Refused.{IsPlanFault, IsRefusalBy}
+use Rattle.base.specs.Items.{plan}
+use Rattle.base.specs.Limits.{most_items}
+use Rattle.mapcheck.specs.Passes.{IsCheckFault}
+use Rattle.pipeline.specs.Checking.{IsUnaccepted}
+use Rattle.driver.specs.Refused.{IsNoRefusal, IsPlanFault, IsRefusalBy, IsSought}
 
 -- a refusal by a fault of one kind is one by a fault of a wider kind
 pub by_wider : (P Q : SourceFault → Type 0) (e : Ending) → ((f : SourceFault) → P f → Q f) → IsRefusalBy P e → IsRefusalBy Q e
@@ -23,12 +27,37 @@ by_wider P Q ending.BadInput wider h = tt
 by_wider P Q ending.OutOfMemory wider h = tt
 
 -- a fault of a program that the bytes spell is one of the bytes
-pub of_bytes : (bytes : List ℕ) (p : Program) (f : SourceFault) → Spells bytes p → IsPlanFault p f → IsRefused bytes f
-of_bytes bytes p (Read f) spelled h = absurd h
-of_bytes bytes p (Outline outline.TooManyItems) spelled h = record { program = p; spelled = spelled; many = h }
-of_bytes bytes p (Outline outline.OutOfMemory) spelled h = absurd h
-of_bytes bytes p (Check f) spelled h = record { program = p; spelled = spelled; few = h.0; fault = h.1 }
-of_bytes bytes p (Run f) spelled h = absurd h
+pub of_bytes : (checked : Bool) (bytes : List ℕ) (p : Program) (f : SourceFault) → Spells bytes p → IsPlanFault checked p f → IsRefused bytes f
+of_bytes checked bytes p (Read f) spelled h = absurd h
+of_bytes checked bytes p (Outline outline.TooManyItems) spelled h = record { program = p; spelled = spelled; many = h }
+of_bytes checked bytes p (Outline outline.OutOfMemory) spelled h = absurd h
+of_bytes checked bytes p (Check f) spelled h = record { program = p; spelled = spelled; few = h.1; fault = h.2 }
+of_bytes checked bytes p (Run f) spelled h = absurd h
+
+-- it is looked for
+pub is_sought : (checked : Bool) (p : Program) (f : SourceFault) → IsPlanFault checked p f → IsSought checked f
+is_sought true p f h = tt
+is_sought false p (Read f) h = tt
+is_sought false p (Outline f) h = tt
+is_sought false p (Check f) h = absurd (true≢false (sym h.0))
+is_sought false p (Run f) h = tt
+
+-- what the check finds is a fault of the program where it is looked for
+pub of_check : {X : Type 0} (r : Result X Ending) (checked : Bool) (p q : Program) → q ≡ p → length (plan p).items ≤ most_items → checked ≡ true
+    → IfErr r (IsRefusalBy (IsUnaccepted q)) → IfErr r (IsRefusalBy (IsPlanFault checked p))
+of_check (Ok x) checked p q e few on h = tt
+of_check (Err x) checked p q e few on h = by_wider (IsUnaccepted q) (IsPlanFault checked p) x go h
+  where
+    go : (f : SourceFault) → IsUnaccepted q f → IsPlanFault checked p f
+    go (Check f) h = (on, few, subst (λ (u : Program). IsCheckFault (plan u) f) e h)
+    go (Read f) h = absurd h
+    go (Outline f) h = absurd h
+    go (Run f) h = absurd h
+
+-- what is no refusal is one by no fault of any kind
+pub of_none : {X : Type 0} (P : SourceFault → Type 0) (r : Result X Ending) → IfErr r IsNoRefusal → IfErr r (IsRefusalBy P)
+of_none P (Ok x) h = tt
+of_none P (Err x) h = by_wider (λ f. ⊥) P x (λ f none. absurd none) h
 
 -- a fault that is told ends a command by that fault
 pub told : (P : SourceFault → Type 0) (f : SourceFault) → P f → IsRefusalBy P (ending_of f)

@@ -12,8 +12,11 @@ use Rattle.numbers.specs.Numbers.{input_of, choices_of}
 use Rattle.command.specs.CommandLine.{AskedBy}
 use Rattle.command.specs.declared.request.Request.{Request}
 use Rattle.command.specs.declared.request.Request.TheVariants.{Run, Step, Check, List as Items}
+use Rattle.driver.specs.declared.perform.Next.{Next}
+use Rattle.driver.specs.declared.perform.Next.TheVariants.{Choices, Workers}
 use Rattle.driver.specs.declared.perform.Way.{Way}
-use Rattle.driver.specs.declared.perform.Way.TheVariants.{Choices, Workers}
+use Rattle.driver.specs.declared.perform.Way.TheVariants.{Checked, Fine}
+use Rattle.stepper.specs.Answering.{IsFineAnswer}
 
 -- the numbers that a reader has left, where its bytes are known
 pub record IsInput (known : Option (List ℕ)) (input : List ℕ) : Type 0 where
@@ -29,16 +32,28 @@ by_list choices capacity input = by_choices input choices capacity
 abbrev pub by_workers : ℕ → List ℕ → Answers
 by_workers capacity input = on_threads input capacity
 
--- the same by either way
-abbrev pub answers_of : Way → ℕ → List ℕ → Answers
-answers_of (Choices choices) capacity = by_list choices.now capacity
-answers_of (Workers workers) capacity = by_workers capacity
+-- the same by either of them
+abbrev pub next_of : Next → ℕ → List ℕ → Answers
+next_of (Choices choices) capacity = by_list choices.now capacity
+next_of (Workers workers) capacity = by_workers capacity
 
--- what an accepted program answers on the numbers that a reader has left
+-- the same, of an accepted program only
+abbrev pub accepted_by : (List ℕ → Answers) → List ℕ → Answers
+accepted_by is input = IsAcceptedAnswer (is input)
+
+-- what is answered on an input by choices on the fine-grained machine, of a program that need not be accepted
+abbrev pub by_actions : List ℕ → ℕ → List ℕ → Answers
+by_actions choices capacity input p a = IsFineAnswer p input choices capacity a
+
+abbrev pub answers_of : Way → ℕ → List ℕ → Answers
+answers_of (Checked next) capacity = accepted_by (next_of next capacity)
+answers_of (Fine choices) capacity = by_actions choices.now capacity
+
+-- what a program answers on the numbers that a reader has left
 pub record IsReadAnswer (is : List ℕ → Answers) (known : Option (List ℕ)) (p : Program) (a : Answer) : Type 0 where
   pub input : List ℕ
   pub is_input : IsInput known input
-  pub answer : IsAcceptedAnswer (is input) p a
+  pub answer : is input p a
 
 -- the output, then the log and the values of arrays where they are asked for
 abbrev pub answer_bytes : Bool → Bool → Program → Answer → List ℕ
@@ -53,16 +68,21 @@ pub record IsPrinted (is : List ℕ → Answers) (log finals : Bool) (bytes : Li
   pub answered : IsReadAnswer is known program answer
   pub written : Appends old new (answer_bytes log finals program answer)
 
+-- what is answered on an input by choices, on the machine that is asked for
+abbrev pub stepped : Bool → List ℕ → ℕ → List ℕ → Answers
+stepped true choices capacity = by_actions choices capacity
+stepped false choices capacity = accepted_by (by_list choices capacity)
+
 -- a run by the choices of a text, with its log
-pub record IsStepped (text : List ℕ) (capacity : ℕ) (bytes : List ℕ) (known old new : Option (List ℕ)) : Type 0 where
+pub record IsStepped (fine : Bool) (text : List ℕ) (capacity : ℕ) (bytes : List ℕ) (known old new : Option (List ℕ)) : Type 0 where
   pub choices : List ℕ
   pub are_choices : choices_of text ≡ Some choices
-  pub printed : IsPrinted (by_list choices capacity) true false bytes known old new
+  pub printed : IsPrinted (stepped fine choices capacity) true false bytes known old new
 
 -- what a request prints of the bytes of a source
 abbrev pub IsDone : Request → List ℕ → Option (List ℕ) → Option (List ℕ) → Option (List ℕ) → Type 0
-IsDone (Run run) bytes known old new = IsPrinted (by_workers run.capacity) run.log run.finals bytes known old new
-IsDone (Step step) bytes known old new = IsStepped step.choices.now step.capacity bytes known old new
+IsDone (Run run) bytes known old new = IsPrinted (accepted_by (by_workers run.capacity)) run.log run.finals bytes known old new
+IsDone (Step step) bytes known old new = IsStepped step.fine step.choices.now step.capacity bytes known old new
 IsDone (Check name) bytes known old new = IsChecked bytes old new
 IsDone (Items name) bytes known old new = IsListed bytes old new
 

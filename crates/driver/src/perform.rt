@@ -1,6 +1,6 @@
 //! One command, over any sources, reader and writers.
 
-ghost use Rattle.std.specs.Prelude.{◌≡◌, ◌≢◌, ◌≤◌, ◌⊎◌, [], IfErr, IfOk, IfSome, None, OnErr, OnOk, map};
+ghost use Rattle.std.specs.Prelude.{◌≡◌, ◌≢◌, ◌≤◌, ◌⊎◌, [], IfErr, IfOk, IfSome, None, OnErr, OnOk, map, not, true};
 ghost use Rattle.std.specs.Io.KnownBytes.{Appends};
 ghost use Rattle.clap.specs.Faults.{fault_of};
 ghost use Rattle.clap.specs.Values.{kind_of};
@@ -9,9 +9,10 @@ ghost use Rattle.pipeline.specs.Checking.{IsChecked, IsUnaccepted};
 ghost use Rattle.pipeline.specs.Listing.{IsListed};
 ghost use Rattle.command.specs.CommandLine.{ompc};
 ghost use Rattle.driver.specs.Statuses.{ending_of, source_status, status_of, usage_status};
-ghost use Rattle.driver.specs.Printed.{IsCommandDone, IsDone, IsInput, IsPrinted, IsReadAnswer, KnownSources, OfSource, answer_bytes, answers_of, file_of};
+ghost use Rattle.driver.specs.Printed.{IsCommandDone, IsDone, IsInput, IsPrinted, IsReadAnswer, KnownSources, OfSource, answer_bytes, accepted_by, answers_of, by_actions, file_of, next_of};
 ghost use Rattle.driver.specs.Misused.{IsMisused, IsMisusedRequest};
-ghost use Rattle.driver.specs.Refused.{IsCommandRefused, IsNoRefusal, IsPlanFault, IsRefusalBy, IsRefusedOf, IsRefusedSource};
+ghost use Rattle.driver.specs.Refused.{IsCommandRefused, IsNoRefusal, IsPlanFault, IsRefusalBy, IsRefusedOf, IsRefusedSource, checks, is_checked};
+ghost use Rattle.driver.specs.Stepping.{IsStepWay};
 
 use base::fault::{CheckFault, OutlineFault, ReadFault, RunFault, SourceFault};
 use base::item::Answer;
@@ -29,6 +30,7 @@ use std::io;
 use std::io::{Read, Write};
 use std::sync::Wait;
 use std::thread::Threads;
+use stepper::run_fine;
 
 /// Why a source has no bytes.
 #[derive(Clone, Copy, Debug, PartialEq, Eq)]
@@ -170,11 +172,20 @@ fn bytes_of<'a, S: Sources>(sources: &mut S, name: &'a str) -> Result<Vec<u8>, E
     }
 }
 
+/// What is next in a run of an accepted program.
+#[derive(Clone, Copy)]
+enum Next<'c> {
+    Choices(&'c [u32]),
+    Workers(Workers),
+}
+
 /// How a program is run.
 #[derive(Clone, Copy)]
 enum Way<'c> {
-    Choices(&'c [u32]),
-    Workers(Workers),
+    /// Where it is accepted.
+    Checked(Next<'c>),
+    /// Whether it is accepted or not, on the fine-grained machine, by these choices.
+    Fine(&'c [u32]),
 }
 
 /// What is asked of a run.
@@ -192,15 +203,15 @@ fn run_by<T: Threads + Wait + Sync>(
     alloc: Global,
     accepted: &Accepted<'_>,
     numbers: &[u64],
-    way: Way<'_>,
+    next: Next<'_>,
     capacity: u64,
 ) -> Result<Answer, RunFault>
     requires { AreShort accepted.now }
-    ensures { IfOk result (answers_of way.entry capacity numbers.now accepted.now) }
+    ensures { IfOk result (next_of next.entry capacity numbers.now accepted.now) }
 {
-    match way {
-        Way::Choices(choices) => run_accepted(alloc, accepted, numbers, choices, capacity),
-        Way::Workers(workers) => {
+    match next {
+        Next::Choices(choices) => run_accepted(alloc, accepted, numbers, choices, capacity),
+        Next::Workers(workers) => {
             run_accepted_on_threads(rt, alloc, accepted, numbers, workers.count, capacity)
         }
     }
@@ -208,16 +219,17 @@ fn run_by<T: Threads + Wait + Sync>(
 
 /// Checks a program, reads its input and runs it.
 #[tactic(auto, using(pipeline::proofs::Runs::short_too))]
-fn answer_outlined<'a, T: Threads + Wait + Sync, R: Read, E: Write>(
+fn answer_checked<'a, T: Threads + Wait + Sync, R: Read, E: Write>(
     rt: &T,
     alloc: Global,
     outlined: &Outlined<'_>,
-    asked: Asked<'_, '_>,
+    next: Next<'_>,
+    capacity: u64,
     input: &mut R,
     err: &mut E,
 ) -> Result<Answer, Ending<'a>>
     requires { AreShort outlined.now }
-    ensures answered { IfOk result (IsReadAnswer (answers_of asked.entry.way asked.entry.capacity) (R.remaining input.old) outlined.now) }
+    ensures answered { IfOk result (IsReadAnswer (accepted_by (next_of next.entry capacity)) (R.remaining input.old) outlined.now) }
     ensures refused { IfErr result (IsRefusalBy (IsUnaccepted outlined.now)) }
 {
     let accepted = match check(alloc, outlined) {
@@ -226,7 +238,26 @@ fn answer_outlined<'a, T: Threads + Wait + Sync, R: Read, E: Write>(
     };
     accepted.is_accepted();
     let numbers = read_input(alloc, input)?;
-    match run_by(rt, alloc, &accepted, &numbers, asked.way, asked.capacity) {
+    match run_by(rt, alloc, &accepted, &numbers, next, capacity) {
+        Ok(answer) => Ok(answer),
+        Err(fault) => Err(Ending::Source(SourceFault::Run(fault))),
+    }
+}
+
+/// Reads the input of a program, and runs it on the fine-grained machine.
+fn answer_fine<'a, R: Read>(
+    alloc: Global,
+    outlined: &Outlined<'_>,
+    choices: &[u32],
+    capacity: u64,
+    input: &mut R,
+) -> Result<Answer, Ending<'a>>
+    requires { AreShort outlined.now }
+    ensures answered { IfOk result (IsReadAnswer (by_actions choices.now capacity) (R.remaining input.old) outlined.now) }
+    ensures refused { IfErr result IsNoRefusal }
+{
+    let numbers = read_input(alloc, input)?;
+    match run_fine(alloc, outlined, &numbers, choices, capacity) {
         Ok(answer) => Ok(answer),
         Err(fault) => Err(Ending::Source(SourceFault::Run(fault))),
     }
@@ -244,13 +275,18 @@ fn answer<'a, T: Threads + Wait + Sync, R: Read, E: Write>(
 ) -> Result<Answer, Ending<'a>>
     requires { AreShort program.now }
     ensures answered { IfOk result (IsReadAnswer (answers_of asked.entry.way asked.entry.capacity) (R.remaining input.old) program.now) }
-    ensures refused { IfErr result (IsRefusalBy (IsPlanFault program.now)) }
+    ensures refused { IfErr result (IsRefusalBy (IsPlanFault (is_checked asked.entry.way) program.now)) }
 {
     let outlined = match outline(alloc, program) {
         Ok(outlined) => outlined,
         Err(fault) => return Err(Ending::Source(SourceFault::Outline(fault))),
     };
-    answer_outlined(rt, alloc, &outlined, asked, input, err)
+    match asked.way {
+        Way::Checked(next) => {
+            answer_checked(rt, alloc, &outlined, next, asked.capacity, input, err)
+        }
+        Way::Fine(choices) => answer_fine(alloc, &outlined, choices, asked.capacity, input),
+    }
 }
 
 /// Prints the output, then what else is asked for.
@@ -285,7 +321,7 @@ fn run_file<'a, T: Threads + Wait + Sync, S: Sources, R: Read, W: Write, E: Writ
 ) -> Result<u8, Ending<'a>>
     ensures status { IfOk result (λ s. (s ≡ 0) ⊎ (s ≡ 3)) }
     ensures quiet { OnErr result (W.contents out.new ≡ W.contents out.old) }
-    ensures refused { IfErr result (IsRefusalBy (IsRefusedOf (S.known sources.old asked.entry.file.now))) }
+    ensures refused { IfErr result (IsRefusalBy (IsRefusedOf (is_checked asked.entry.way) (S.known sources.old asked.entry.file.now))) }
     ensures printed { IfOk result (λ s. s ≡ 0 → OfSource (S.known sources.old asked.entry.file.now) (λ bytes. IsPrinted (answers_of asked.entry.way asked.entry.capacity) asked.entry.log asked.entry.finals bytes (R.remaining input.old) (W.contents out.old) (W.contents out.new))) }
 {
     let bytes = bytes_of(sources, asked.file)?;
@@ -312,17 +348,28 @@ fn do_run<'a, T: Threads + Wait + Sync, S: Sources, R: Read, W: Write, E: Write>
 ) -> Result<u8, Ending<'a>>
     ensures status { IfOk result (λ s. (s ≡ 0) ⊎ (s ≡ 3)) }
     ensures quiet { OnErr result (W.contents out.new ≡ W.contents out.old) }
-    ensures refused { IfErr result (IsRefusalBy (IsRefusedOf (S.known sources.old run.entry.file.now))) }
+    ensures refused { IfErr result (IsRefusalBy (IsRefusedOf true (S.known sources.old run.entry.file.now))) }
     ensures done { IfOk result (λ s. s ≡ 0 → OfSource (S.known sources.old run.entry.file.now) (λ bytes. IsDone (Request.Run run.entry) bytes (R.remaining input.old) (W.contents out.old) (W.contents out.new))) }
 {
     let asked = Asked {
         file: run.file,
-        way: Way::Workers(run.workers),
+        way: Way::Checked(Next::Workers(run.workers)),
         capacity: run.capacity,
         log: run.log,
         finals: run.finals,
     };
     run_file(rt, alloc, asked, sources, input, out, err)
+}
+
+/// How a program is run by choices.
+fn step_way<'c>(fine: bool, choices: &'c [u32]) -> Way<'c>
+    ensures { IsStepWay fine choices.now result }
+{
+    if fine {
+        Way::Fine(choices)
+    } else {
+        Way::Checked(Next::Choices(choices))
+    }
 }
 
 /// Runs a program event by event, and prints its output and its log.
@@ -337,7 +384,7 @@ fn do_step<'a, T: Threads + Wait + Sync, S: Sources, R: Read, W: Write, E: Write
 ) -> Result<u8, Ending<'a>>
     ensures status { IfOk result (λ s. (s ≡ 0) ⊎ (s ≡ 3)) }
     ensures quiet { OnErr result (W.contents out.new ≡ W.contents out.old) }
-    ensures refused { IfErr result (IsRefusalBy (IsRefusedOf (S.known sources.old step.entry.file.now))) }
+    ensures refused { IfErr result (IsRefusalBy (IsRefusedOf (not step.entry.fine) (S.known sources.old step.entry.file.now))) }
     ensures done { IfOk result (λ s. s ≡ 0 → OfSource (S.known sources.old step.entry.file.now) (λ bytes. IsDone (Request.Step step.entry) bytes (R.remaining input.old) (W.contents out.old) (W.contents out.new))) }
 {
     let choices = match choice_list(alloc, step.choices) {
@@ -347,7 +394,7 @@ fn do_step<'a, T: Threads + Wait + Sync, S: Sources, R: Read, W: Write, E: Write
     };
     let asked = Asked {
         file: step.file,
-        way: Way::Choices(&choices),
+        way: step_way(step.fine, &choices),
         capacity: step.capacity,
         log: true,
         finals: false,
@@ -365,7 +412,7 @@ fn do_check<'a, S: Sources, W: Write, E: Write>(
 ) -> Result<u8, Ending<'a>>
     ensures status { IfOk result (λ s. (s ≡ 0) ⊎ (s ≡ 3)) }
     ensures quiet { OnErr result (W.contents out.new ≡ W.contents out.old) }
-    ensures refused { IfErr result (IsRefusalBy (IsRefusedOf (S.known sources.old name.now))) }
+    ensures refused { IfErr result (IsRefusalBy (IsRefusedOf true (S.known sources.old name.now))) }
     ensures misused { IfErr result (λ e. status_of e ≡ 2 → S.known sources.old name.now ≡ None) }
     ensures done { IfOk result (λ s. s ≡ 0 → OfSource (S.known sources.old name.now) (λ bytes. IsChecked bytes (W.contents out.old) (W.contents out.new))) }
 {
@@ -387,7 +434,7 @@ fn do_list<'a, S: Sources, W: Write, E: Write>(
 ) -> Result<u8, Ending<'a>>
     ensures status { IfOk result (λ s. (s ≡ 0) ⊎ (s ≡ 3)) }
     ensures quiet { OnErr result (W.contents out.new ≡ W.contents out.old) }
-    ensures refused { IfErr result (IsRefusalBy (IsRefusedOf (S.known sources.old name.now))) }
+    ensures refused { IfErr result (IsRefusalBy (IsRefusedOf true (S.known sources.old name.now))) }
     ensures misused { IfErr result (λ e. status_of e ≡ 2 → S.known sources.old name.now ≡ None) }
     ensures done { IfOk result (λ s. s ≡ 0 → OfSource (S.known sources.old name.now) (λ bytes. IsListed bytes (W.contents out.old) (W.contents out.new))) }
 {
@@ -411,7 +458,7 @@ fn do_request<'a, T: Threads + Wait + Sync, S: Sources, R: Read, W: Write, E: Wr
 ) -> Result<u8, Ending<'a>>
     ensures status { IfOk result (λ s. (s ≡ 0) ⊎ (s ≡ 3)) }
     ensures quiet { OnErr result (W.contents out.new ≡ W.contents out.old) }
-    ensures refused { IfErr result (IsRefusalBy (IsRefusedOf (S.known sources.old (file_of request.entry)))) }
+    ensures refused { IfErr result (IsRefusalBy (IsRefusedOf (checks request.entry) (S.known sources.old (file_of request.entry)))) }
     ensures misused { IfErr result (λ e. status_of e ≡ 2 → IsMisusedRequest request.entry (S.known sources.old (file_of request.entry))) }
     ensures done { IfOk result (λ s. s ≡ 0 → OfSource (S.known sources.old (file_of request.entry)) (λ bytes. IsDone request.entry bytes (R.remaining input.old) (W.contents out.old) (W.contents out.new))) }
 {
@@ -435,7 +482,7 @@ fn perform<T: Threads + Wait + Sync, S: Sources, R: Read, W: Write, E: Write>(
 ) -> u8
     ensures status { result ≤ 3 }
     ensures quiet { (result ≡ 1) ⊎ (result ≡ 2) → W.contents out.new ≡ W.contents out.old }
-    ensures refused { result ≡ 1 → IsRefusedSource (S.known sources.old (file_of request.entry)) }
+    ensures refused { result ≡ 1 → IsRefusedSource (checks request.entry) (S.known sources.old (file_of request.entry)) }
     ensures misused { result ≡ 2 → IsMisusedRequest request.entry (S.known sources.old (file_of request.entry)) }
     ensures done { result ≡ 0 → OfSource (S.known sources.old (file_of request.entry)) (λ bytes. IsDone request.entry bytes (R.remaining input.old) (W.contents out.old) (W.contents out.new)) }
 {

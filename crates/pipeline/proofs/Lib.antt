@@ -1,2 +1,3 @@
+pub mod FineRuns
 pub mod Listings
 pub mod Runs

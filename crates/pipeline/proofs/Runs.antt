@@ -18,11 +18,11 @@ use Rattle.mapcheck.specs.Passes.{IsCheckFault}
 use Rattle.pipeline.specs.Source.{Answers, Faults, IsAcceptedAnswer, IsPlainAnswer, IsProgramFault, IsRunStopped, IsSourceAnswer, IsSourceFault, by_choices, on_threads}
 
 -- what an answer shows of the erased program
-record Shows (p : Program) (input : List ℕ) (a : Answer) : Type 0 where
-  plain : Plain
-  is_erased : erased p input ≡ Some plain
-  output : a.out.items ≡ output_of plain.printed
-  finals : finals_in a ≡ marked_values p plain.memory
+pub record Shows (p : Program) (input : List ℕ) (a : Answer) : Type 0 where
+  pub plain : Plain
+  pub is_erased : erased p input ≡ Some plain
+  pub output : a.out.items ≡ output_of plain.printed
+  pub finals : finals_in a ≡ marked_values p plain.memory
 
 by_choices_shows : (p : Program) (input choices : List ℕ) (capacity : ℕ) (a : Answer) →
     by_choices input choices capacity p a → Shows p input a
@@ -35,7 +35,7 @@ on_threads_shows p input capacity a (h, within) =
     record { plain = h.plain; is_erased = h.is_erased; output = h.output; finals = h.finals }
 
 -- what the program of the text without directives does is what the answer has
-plain_answer : (p q : Program) (input : List ℕ) (a : Answer) → Shows p input a → IsErased p q → IsPlainAnswer p q input a
+pub plain_answer : (p q : Program) (input : List ℕ) (a : Answer) → Shows p input a → IsErased p q → IsPlainAnswer p q input a
 plain_answer p q input a h e =
     go (erased q input) refl (subst (λ (o : Option Plain). SameRun o (erased q input)) h.is_erased (e.runs input))
   where

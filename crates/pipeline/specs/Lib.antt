@@ -1,3 +1,4 @@
 pub mod Source
+pub mod Fine
 pub mod Checking
 pub mod Listing

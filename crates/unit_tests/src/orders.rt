@@ -1,6 +1,6 @@
 //! What programs print in many orders of their tasks.
 
-use pipeline::run_source;
+use pipeline::{run_source, run_source_fine};
 use std::alloc::Global;
 
 const HALVES: &str =
@@ -32,6 +32,23 @@ fn always_outputs(alloc: Global, text: &[u8], lines: &[u8]) -> bool {
     true
 }
 
+// Whether it prints this on the fine-grained machine too, for each list of such choices behind twelve that are 0.
+fn always_outputs_by_actions(alloc: Global, text: &[u8], lines: &[u8]) -> bool {
+    for number in 0..729 {
+        let mut choices = [0; 18];
+        let mut rest: u32 = number;
+        for choice in &mut choices[12..] {
+            *choice = rest % 3;
+            rest /= 3;
+        }
+        match run_source_fine(alloc, text, &[], &choices, 4_194_304) {
+            Ok(answer) if answer.out.as_slice() == lines => {}
+            _ => return false,
+        }
+    }
+    true
+}
+
 #[test]
 fn all_orders_print_the_same(rt: HostRuntime) {
     for (text, lines) in [
@@ -45,4 +62,11 @@ fn all_orders_print_the_same(rt: HostRuntime) {
             "{text}"
         );
     }
+}
+
+// Up to the twelfth event nothing else may happen next; behind it two targets may be open side by side.
+#[test]
+fn all_orders_of_actions_print_the_same(rt: HostRuntime) {
+    let lines = "1\n2\n3\n4\n40\n50\n60\n70\n";
+    assert!(rt; always_outputs_by_actions(rt.alloc(), HALVES.as_bytes(), lines.as_bytes()));
 }

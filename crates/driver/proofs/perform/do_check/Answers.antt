@@ -1,4 +1,4 @@
-use Rattle.std.proofs.Common.{◌∙◌, ap, subst, sym}
+use Rattle.std.proofs.Common.{◌∙◌, ap, subst, sym, true}
 use Rattle.pipeline.specs.Checking.{IsRefused}
 use Rattle.driver.specs.Statuses.{status_of}
 use Rattle.driver.specs.Refused.{IsRefusalBy, IsRefusedOf}
@@ -10,9 +10,12 @@ use Rattle.driver.proofs.perform.do_check.Goals as goal
 pub returns-clause-refused : goal.returns-clause-refused
 returns-clause-refused g c =
     let source = g.S.Sources.known c.args.sources.now c.args.name.now in
-    subst (IsRefusalBy (IsRefusedOf source)) (sym c.ending_of.ensures)
-    (told (IsRefusedOf source) c.in-Err.fault
-    (of_source source (λ bytes. IsRefused bytes c.in-Err.fault) c.in_ok-bytes.bytes.items c.deref.result.now c.in_ok-bytes.ensures.bytes c.deref.ensures.value c.in-Err.ensures.fault))
+    subst (IsRefusalBy (IsRefusedOf true source)) (sym c.ending_of.ensures)
+    (told (IsRefusedOf true source) c.in-Err.fault (
+      tt,
+      of_source source (λ bytes. IsRefused bytes c.in-Err.fault) c.in_ok-bytes.bytes.items
+          c.deref.result.now c.in_ok-bytes.ensures.bytes c.deref.ensures.value c.in-Err.ensures.fault,
+    ))
 
 pub returns-clause-misused : goal.returns-clause-misused
 returns-clause-misused g c = λ two. absurd (not_misused c.in-Err.fault (ap status_of (sym c.ending_of.ensures) ∙ two))

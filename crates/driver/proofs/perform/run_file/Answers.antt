@@ -1,7 +1,7 @@
 use Rattle.pipeline.specs.Checking.{IsRefused}
 use Rattle.driver.specs.Printed.{IsPrinted, answers_of}
-use Rattle.driver.specs.Refused.{IsPlanFault, IsRefusedOf}
-use Rattle.driver.proofs.Refusals.{by_wider, handed_up, of_bytes}
+use Rattle.driver.specs.Refused.{IsPlanFault, IsRefusedOf, is_checked}
+use Rattle.driver.proofs.Refusals.{by_wider, handed_up, is_sought, of_bytes}
 use Rattle.driver.proofs.Requests.{of_source}
 use Rattle.driver.proofs.perform.run_file.Goals as goal
 
@@ -9,9 +9,13 @@ pub returns-in_err-answer-clause-refused : goal.returns-in_err-answer-clause-ref
 returns-in_err-answer-clause-refused g c =
     let source = g.S.Sources.known c.args.sources.now c.args.asked.file.now in
     let e = c.in_err-answer.field-0.0 in
-    handed_up (IsRefusedOf source) c.from_residual-in_err-answer.result e c.from_residual-in_err-answer.ensures.1
-    (by_wider (IsPlanFault c.in-Ok.program) (IsRefusedOf source) e (λ f h. of_source source (λ bytes. IsRefused bytes f) c.in_ok-bytes.bytes.items
-    c.deref.result.now c.in_ok-bytes.ensures.bytes c.deref.ensures.value (of_bytes c.deref.result.now c.in-Ok.program f c.in-Ok.ensures.found h)) c.in_err-answer.ensures.refused)
+    let checked = is_checked c.args.asked.way in
+    handed_up (IsRefusedOf checked source) c.from_residual-in_err-answer.result e c.from_residual-in_err-answer.ensures.1
+    (by_wider (IsPlanFault checked c.in-Ok.program) (IsRefusedOf checked source) e (λ f h. (
+      is_sought checked c.in-Ok.program f h,
+      of_source source (λ bytes. IsRefused bytes f) c.in_ok-bytes.bytes.items c.deref.result.now c.in_ok-bytes.ensures.bytes c.deref.ensures.value
+          (of_bytes checked c.deref.result.now c.in-Ok.program f c.in-Ok.ensures.found h),
+    )) c.in_err-answer.ensures.refused)
 
 pub returns-in-Ok-write_answer-clause-printed : goal.returns-in-Ok-write_answer-clause-printed
 returns-in-Ok-write_answer-clause-printed g c =

@@ -1,0 +1,55 @@
+-- What a step has printed, by which machine it ran.
+use Rattle.std.proofs.Common.{◌≡◌, ap, ℕ, Bool, true, false, not, List, Option, Some, sym, subst, true≢false}
+use Rattle.std.specs.Prelude.{Result, Ok, Err, IfOk}
+use Rattle.base.specs.declared.tree.Program.{Program}
+use Rattle.base.specs.declared.item.Answer.{Answer}
+use Rattle.numbers.specs.Numbers.{choices_of}
+use Rattle.driver.specs.declared.perform.Next.TheVariants.{Choices, Workers}
+use Rattle.driver.specs.declared.perform.Way.{Way}
+use Rattle.driver.specs.declared.perform.Way.TheVariants.{Checked, Fine}
+use Rattle.driver.specs.Printed.{IsPrinted, IsReadAnswer, IsStepped, OfSource, accepted_by, answers_of, by_actions, by_list, stepped}
+use Rattle.driver.specs.Refused.{is_checked}
+use Rattle.driver.specs.Stepping.{IsStepWay}
+
+-- what is answered by a way is answered by the same one, of the same program
+pub same_answer : {E : Type 0} (r : Result Answer E) (v w : Way) → v ≡ w → (capacity : ℕ) (known : Option (List ℕ)) (p q : Program) → q ≡ p
+    → IfOk r (IsReadAnswer (answers_of w capacity) known q) → IfOk r (IsReadAnswer (answers_of v capacity) known p)
+same_answer r v w way capacity known p q e h =
+    subst (λ (u : Way). IfOk r (IsReadAnswer (answers_of u capacity) known p)) (sym way)
+    (subst (λ (u : Program). IfOk r (IsReadAnswer (answers_of w capacity) known u)) e h)
+
+-- the machine that is asked for needs an accepted program or not
+pub checked_way : (fine : Bool) (choices : List ℕ) (way : Way) → IsStepWay fine choices way → is_checked way ≡ not fine
+checked_way fine choices (Checked (Choices list)) is = ap not (sym is.0)
+checked_way fine choices (Checked (Workers workers)) is = absurd is
+checked_way fine choices (Fine list) is = ap not (sym is.0)
+
+-- what that way has printed is printed by the machine that is asked for
+pub printed_way : (fine : Bool) (choices : List ℕ) (capacity : ℕ) (way : Way) (bytes : List ℕ) (known old new : Option (List ℕ)) → IsStepWay fine choices way
+    → IsPrinted (answers_of way capacity) true false bytes known old new → IsPrinted (stepped fine choices capacity) true false bytes known old new
+printed_way true choices capacity (Fine list) bytes known old new is h =
+    subst (λ cs. IsPrinted (by_actions cs capacity) true false bytes known old new) is.1 h
+printed_way false choices capacity (Fine list) bytes known old new is h = absurd (true≢false (sym is.0))
+printed_way true choices capacity (Checked (Choices list)) bytes known old new is h = absurd (true≢false is.0)
+printed_way false choices capacity (Checked (Choices list)) bytes known old new is h =
+    subst (λ cs. IsPrinted (accepted_by (by_list cs capacity)) true false bytes known old new) is.1 h
+printed_way true choices capacity (Checked (Workers workers)) bytes known old new is h = absurd is
+printed_way false choices capacity (Checked (Workers workers)) bytes known old new is h = absurd is
+
+-- a step is done where its way has printed
+pub done_way : {E : Type 0} (r : Result ℕ E) (source : Option (List ℕ)) (fine : Bool) (text choices : List ℕ) (capacity : ℕ) (way : Way) (known old new : Option (List ℕ))
+    → choices_of text ≡ Some choices → IsStepWay fine choices way
+    → IfOk r (λ s. s ≡ 0 → OfSource source (λ bytes. IsPrinted (answers_of way capacity) true false bytes known old new))
+    → IfOk r (λ s. s ≡ 0 → OfSource source (λ bytes. IsStepped fine text capacity bytes known old new))
+done_way (Ok s) source fine text choices capacity way known old new spelled is h = λ zero.
+    let found = h zero in
+    record {
+      bytes = found.bytes;
+      are = found.are;
+      holds = record {
+        choices = choices;
+        are_choices = spelled;
+        printed = printed_way fine choices capacity way found.bytes known old new is found.holds;
+      };
+    }
+done_way (Err e) source fine text choices capacity way known old new spelled is h = tt

@@ -1,0 +1,42 @@
+//! From a source to what it answers on the fine-grained machine.
+
+ghost use Rattle.std.specs.Prelude.{IfOk, IfErr};
+ghost use Rattle.pipeline.specs.Fine.{IsFineSourceAnswer, IsFineSourceFault};
+
+use base::fault::SourceFault;
+use base::item::Answer;
+use c_read::read_program;
+use erased_meaning::erased_text_runs;
+use outline::outline;
+use std::alloc::Global;
+use stepper::run_fine;
+
+/// Runs a source on the fine-grained machine, whether its program is accepted or not, on devices each of which has room
+/// for `capacity` cells. At each step the next choice picks among the events that may happen, as `stepper::run_fine` says.
+/// The fault is that of the first pass that fails: the text, the number of items, the run; want of memory may come in
+/// place of any.
+#[tactic(auto, using(crate::proofs::Runs::short_too, crate::proofs::Listings::outline_fault))]
+pub fn run_source_fine(
+    alloc: Global,
+    bytes: &[u8],
+    input: &[u64],
+    choices: &[u32],
+    capacity: u64,
+) -> Result<Answer, SourceFault>
+    ensures answer { IfOk result (IsFineSourceAnswer bytes.now input.now choices.now capacity) }
+    ensures fault { IfErr result (IsFineSourceFault bytes.now input.now choices.now capacity) }
+{
+    let program = match read_program(alloc, bytes) {
+        Ok(program) => program,
+        Err(fault) => return Err(SourceFault::Read(fault)),
+    };
+    let outlined = match outline(alloc, &program) {
+        Ok(outlined) => outlined,
+        Err(fault) => return Err(SourceFault::Outline(fault)),
+    };
+    erased_text_runs();
+    match run_fine(alloc, &outlined, input, choices, capacity) {
+        Ok(answer) => Ok(answer),
+        Err(fault) => Err(SourceFault::Run(fault)),
+    }
+}
