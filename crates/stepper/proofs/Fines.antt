@@ -35,7 +35,7 @@ module _ (p : Program) (input choices : List ℕ) (capacity : ℕ) (events : Lis
   erased : IsAccepted (plan p) → IsErasedAnswer p input a
   erased accepted =
       let shows = (headline p accepted).shows input (fill_from now) events plays.state numbers (λ i c. plays.fresh)
-          (is_reached p input choices capacity (fill_from now) events plays.state plays.ran) ended in
+      (is_reached p input choices capacity (fill_from now) events plays.state plays.ran) ended in
       record {
         plain = shows.plain;
         is_erased = shows.is_erased;

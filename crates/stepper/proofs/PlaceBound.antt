@@ -57,13 +57,13 @@ closed_place i w (Opened (Finished run)) s t n le lt here is = go w.deferred ref
     go : (d : Bool) → w.deferred ≡ d → t.place ≤ n + 1
     go true e =
         let same : t.place ≡ s.place =
-            sym (ap (λ (x : State). x.place) (same_Some _ t (sym (ap (λ b. Some (moves_on b (with_condition i Closed (host_done w.kind run s)))) e) ∙ is)))
-            ∙ done_place w.kind run s in
+        sym (ap (λ (x : State). x.place) (same_Some _ t (sym (ap (λ b. Some (moves_on b (with_condition i Closed (host_done w.kind run s)))) e) ∙ is)))
+        ∙ done_place w.kind run s in
         omega arith
     go false e =
         let next : t.place ≡ s.place + 1 =
-            sym (ap (λ (x : State). x.place) (same_Some _ t (sym (ap (λ b. Some (moves_on b (with_condition i Closed (host_done w.kind run s)))) e) ∙ is)))
-            ∙ ap (λ m. m + 1) (done_place w.kind run s) in
+        sym (ap (λ (x : State). x.place) (same_Some _ t (sym (ap (λ b. Some (moves_on b (with_condition i Closed (host_done w.kind run s)))) e) ∙ is)))
+        ∙ ap (λ m. m + 1) (done_place w.kind run s) in
         let at = here e refl in
         omega arith
 closed_place i w (Opened (Asks q k)) s t n le lt here is = absurd (cc is)

@@ -36,7 +36,7 @@ open_here plan s i w is now may =
     let all = sym (ap (λ o. elim o [
       | None ↦ false
       | Some v ↦ not (is_wait v.kind) && ((v.deferred || (s.place == i)) &&
-        (is_waiting v.deferred (whole_condition (s.condition i)) && is_ready plan (as_whole s) i))
+          (is_waiting v.deferred (whole_condition (s.condition i)) && is_ready plan (as_whole s) i))
     ]) is) ∙ may in
     let there = and_parts _ _ (and_parts _ _ all).1 in
     eqb-true s.place i (sym (ap (λ d. d || (s.place == i)) now) ∙ there.0)

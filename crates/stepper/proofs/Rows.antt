@@ -20,6 +20,7 @@ all_values f (x ∷ xs) a h =
   where
     here : (a : ℕ) → a ≡ a + 0
     here a = omega arith
+
     past : (a k : ℕ) → (a + 1) + k ≡ a + suc k
     past a k = omega arith
 
@@ -38,7 +39,7 @@ row_values host a =
     ap (λ n. array_values (memory_of host) a.0 n) (sym (row_length host a.0))
     ∙ all_values (λ j. memory_of host (record { array = record { 0 = a.0 }; index = j })) (row_of host a.0) 0
     (λ k lt.
-      ap (λ j. memory_of host (record { array = record { 0 = a.0 }; index = j })) (nought k) ∙ value_is (row_of host a.0) k)
+    ap (λ j. memory_of host (record { array = record { 0 = a.0 }; index = j })) (nought k) ∙ value_is (row_of host a.0) k)
 
 pub whole_row : (xs : List ℕ) (n : ℕ) → n ≡ length xs → slice_range xs 0 n ≡ xs
 whole_row xs n is = ap (λ m. slice_range xs 0 m) is ∙ take_all (length xs - 0) xs (omega arith)

@@ -77,8 +77,8 @@ shown_of entries it w e = go it.region refl e
         option_map (λ (x : Entry). work_with it (Some x.region)) o ≡ Some w → IsShown entries it w
     inner k None at is h = absurd (cc h)
     inner k (Some x) at is h = known (Some x.region) (
-          ap (λ o. elim o [ None ↦ None | Some j ↦ option_map (λ (y : Entry). y.region) (slice_get entries j) ]) is
-          ∙ ap (option_map (λ (y : Entry). y.region)) at) h
+        ap (λ o. elim o [ None ↦ None | Some j ↦ option_map (λ (y : Entry). y.region) (slice_get entries j) ]) is
+        ∙ ap (option_map (λ (y : Entry). y.region)) at) h
 
     go : (o : Option ℕ) → it.region ≡ o → (elim o [
       | None ↦ Some (work_with it None)

@@ -11,23 +11,9 @@ use crate::control::Control;
 use crate::frame::Frame;
 use crate::maps::{Held, Maps};
 use crate::take::is_action;
-use crate::turns::Cells;
+use crate::turns::{Cells, cells_of};
 use base::item::{Cell, MapItem, Section};
 use std::alloc::AllocError;
-
-// The cells of a section.
-fn cells_of(section: &Section) -> Cells
-    requires { IsSection section.now }
-    ensures array { result.array ≡ section.now.array }
-    ensures first { result.first ≡ section.now.first }
-    ensures count { result.count ≡ section.now.length }
-{
-    Cells {
-        array: section.array,
-        first: section.first,
-        count: section.length,
-    }
-}
 
 // The cells after the first.
 fn after_first(cells: Cells) -> Cells

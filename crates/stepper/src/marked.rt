@@ -52,7 +52,11 @@ fn values_of(alloc: Global, host: &Memory, array: ArrayId) -> Result<Vec<u64>, A
 }
 
 // The numbers of some arrays.
-pub fn finals_of(alloc: Global, host: &Memory, arrays: &[ArrayId]) -> Result<Vec<(ArrayId, Vec<u64>)>, AllocError>
+pub fn finals_of(
+    alloc: Global,
+    host: &Memory,
+    arrays: &[ArrayId],
+) -> Result<Vec<(ArrayId, Vec<u64>)>, AllocError>
     ensures { IfOk result (λ finals. map final_of finals.items ≡ map (row_in host.now) arrays.now) }
 {
     let mut finals = Vec::new(alloc);

@@ -14,9 +14,9 @@ ghost use Rattle.stepper.specs.Opening.{InArrays, IsBegun, IsOpened, IsPut, IsRe
 
 use crate::control::Control;
 use crate::frame::Frame;
-use crate::stack::Frames;
 use crate::maps::Maps;
-use crate::turns::Cells;
+use crate::stack::Frames;
+use crate::turns::cells_of;
 use base::item::{Item, ItemKind, MapItem, MapKind, Section};
 use base::tree::Region;
 use kernel::Scalars;
@@ -52,20 +52,6 @@ fn copies_from(kind: MapKind) -> bool
     match kind {
         MapKind::From | MapKind::ToFrom => true,
         MapKind::To | MapKind::Alloc | MapKind::Release | MapKind::Delete => false,
-    }
-}
-
-// The cells of a section.
-fn cells_of(section: &Section) -> Cells
-    requires { IsSection section.now }
-    ensures array { result.array ≡ section.now.array }
-    ensures first { result.first ≡ section.now.first }
-    ensures count { result.count ≡ section.now.length }
-{
-    Cells {
-        array: section.array,
-        first: section.first,
-        count: section.length,
     }
 }
 

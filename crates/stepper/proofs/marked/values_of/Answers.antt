@@ -12,5 +12,5 @@ pub returns : goal.returns
 returns c =
     IfOk-weaker c.from_slice.result (λ v. v.items ≡ c.section.result.now) _
     (λ v is.
-      is ∙ c.section.ensures ∙ whole_row _ _ (ap (λ n. 0 + n) c.length-length.ensures ∙ nought _)
-          ∙ sym (row_values c.args.host.now c.args.array)) c.from_slice.ensures.items
+    is ∙ c.section.ensures ∙ whole_row _ _ (ap (λ n. 0 + n) c.length-length.ensures ∙ nought _)
+    ∙ sym (row_values c.args.host.now c.args.array)) c.from_slice.ensures.items

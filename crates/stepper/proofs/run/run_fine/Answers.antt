@@ -41,7 +41,7 @@ turn_is c = omega (arith, c.len.ensures, c.loop-event.history.ok)
 -- what is next by the next choice
 next : (c : In-Some) → Some c.in-Some.event
     ≡ next_by (plan c.args.outlined.now) c.loop-event.invariant.state
-      (drop (length c.loop-event.history.items) c.args.choices.now)
+    (drop (length c.loop-event.history.items) c.args.choices.now)
 next c =
     let s = c.loop-event.invariant.state in
     sym c.in-Some.is

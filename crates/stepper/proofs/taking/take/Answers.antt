@@ -103,8 +103,8 @@ returns-in-Open-clause-fault c capacity room =
     c.index-items-item.result c.index-items-item.is c.requires.fine in
     IfErr-weaker c.open.result _ _
     (λ f why.
-      subst (λ e. IsTakeFault capacity (plan c.args.outlined.now) c.args.standing.now e f) (sym c.in-Open.is)
-      (open_fault capacity (plan c.args.outlined.now) c.args.standing.now c.in-Open.item c.index-items-item.result _ f item why))
+    subst (λ e. IsTakeFault capacity (plan c.args.outlined.now) c.args.standing.now e f) (sym c.in-Open.is)
+    (open_fault capacity (plan c.args.outlined.now) c.args.standing.now c.in-Open.item c.index-items-item.result _ f item why))
     (c.open.ensures.fault (region_in (entries_of c.args.outlined.now) c.index-items-item.result) c.region_of.ensures)
 
 pub returns-else-not-is_acting-clause-done : goal.returns-else-not-is_acting-clause-done
@@ -120,8 +120,8 @@ returns-else-not-is_acting-clause-fault c capacity room =
     ((subst (IsAble (plan c.args.outlined.now) c.args.standing.now) c.in-Step.is c.requires.able)).may c.index-items-item-in-Step.result c.index-items-item-in-Step.is c.requires.fine in
     IfErr-weaker c.step.result _ _
     (λ f why.
-      subst (λ e. IsTakeFault capacity (plan c.args.outlined.now) c.args.standing.now e f) (sym c.in-Step.is)
-      (step_fault capacity (plan c.args.outlined.now) c.args.standing.now c.index-items-item-in-Step.result.device.number c.in-Step.item f on why))
+    subst (λ e. IsTakeFault capacity (plan c.args.outlined.now) c.args.standing.now e f) (sym c.in-Step.is)
+    (step_fault capacity (plan c.args.outlined.now) c.args.standing.now c.index-items-item-in-Step.result.device.number c.in-Step.item f on why))
     (c.step.ensures.fault capacity room)
 
 pub returns-in-Ok-close-clause-done : goal.returns-in-Ok-close-clause-done
@@ -130,7 +130,7 @@ returns-in-Ok-close-clause-done c =
     ((subst (IsAble (plan c.args.outlined.now) c.args.standing.now) c.in-Close.is c.requires.able)).may c.index-items-item-in-Close.result c.index-items-item-in-Close.is c.requires.fine in
     subst (λ e. Does (plan c.args.outlined.now) c.args.standing.now e c.close.new.self) (sym c.in-Close.is)
     (λ s at may.
-      closed (plan c.args.outlined.now) c.args.standing.now c.close.new.self s c.in-Close.item _ item.work item.is item.same.kind c.in-Ok-close.ensures.closed at may)
+    closed (plan c.args.outlined.now) c.args.standing.now c.close.new.self s c.in-Close.item _ item.work item.is item.same.kind c.in-Ok-close.ensures.closed at may)
 
 pub returns-in-Wait-clause-done : goal.returns-in-Wait-clause-done
 returns-in-Wait-clause-done c =
