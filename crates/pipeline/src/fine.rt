@@ -1,15 +1,33 @@
 //! From a source to what it answers on the fine-grained machine.
 
 ghost use Rattle.std.specs.Prelude.{IfOk, IfErr};
+ghost use Rattle.base.specs.Limits.{AreShort};
+ghost use Rattle.stepper.specs.Answering.{IsFineAnswer, IsFineFault};
 ghost use Rattle.pipeline.specs.Fine.{IsFineSourceAnswer, IsFineSourceFault};
 
-use base::fault::SourceFault;
+use base::fault::{RunFault, SourceFault};
 use base::item::Answer;
 use c_read::read_program;
 use erased_meaning::erased_text_runs;
-use outline::outline;
+use outline::{Outlined, outline};
 use std::alloc::Global;
 use stepper::run_fine;
+
+// Runs a program action by action, whatever the borrows that are in it outlive.
+#[tactic(auto)]
+fn run_by_actions(
+    alloc: Global,
+    outlined: &Outlined<'_>,
+    input: &[u64],
+    choices: &[u32],
+    capacity: u64,
+) -> Result<Answer, RunFault>
+    requires { AreShort outlined.now }
+    ensures answer { IfOk result (IsFineAnswer outlined.now input.now choices.now capacity) }
+    ensures fault { IfErr result (IsFineFault outlined.now input.now choices.now capacity) }
+{
+    run_fine(alloc, outlined, input, choices, capacity)
+}
 
 /// Runs a source on the fine-grained machine, whether its program is accepted or not, on devices each of which has room
 /// for `capacity` cells. At each step the next choice picks among the events that may happen, as `stepper::run_fine` says.
@@ -35,7 +53,7 @@ pub fn run_source_fine(
         Err(fault) => return Err(SourceFault::Outline(fault)),
     };
     erased_text_runs();
-    match run_fine(alloc, &outlined, input, choices, capacity) {
+    match run_by_actions(alloc, &outlined, input, choices, capacity) {
         Ok(answer) => Ok(answer),
         Err(fault) => Err(SourceFault::Run(fault)),
     }

@@ -32,12 +32,12 @@ fn always_outputs(alloc: Global, text: &[u8], lines: &[u8]) -> bool {
     true
 }
 
-// Whether it prints this on the fine-grained machine too, for each list of such choices behind twelve that are 0.
-fn always_outputs_by_actions(alloc: Global, text: &[u8], lines: &[u8]) -> bool {
+// Whether it prints this on the fine-grained machine too, for each list of such choices behind so many that are 0.
+fn always_outputs_by_actions(alloc: Global, text: &[u8], lines: &[u8], zeros: usize) -> bool {
     for number in 0..729 {
         let mut choices = [0; 18];
         let mut rest: u32 = number;
-        for choice in &mut choices[12..] {
+        for choice in choices.iter_mut().skip(zeros) {
             *choice = rest % 3;
             rest /= 3;
         }
@@ -64,9 +64,18 @@ fn all_orders_print_the_same(rt: HostRuntime) {
     }
 }
 
-// Up to the twelfth event nothing else may happen next; behind it two targets may be open side by side.
+// Of the first source nothing else may happen next up to the twelfth event; behind it two targets may be open side by side.
 #[test]
 fn all_orders_of_actions_print_the_same(rt: HostRuntime) {
-    let lines = "1\n2\n3\n4\n40\n50\n60\n70\n";
-    assert!(rt; always_outputs_by_actions(rt.alloc(), HALVES.as_bytes(), lines.as_bytes()));
+    for (text, lines, zeros) in [
+        (HALVES, "1\n2\n3\n4\n40\n50\n60\n70\n", 12),
+        (READERS_IN_ORDER, "1\n2\n", 0),
+        (CAPTURED, "5\n", 0),
+        (CHAIN, "6\n2\n", 0),
+    ] {
+        assert!(rt;
+            always_outputs_by_actions(rt.alloc(), text.as_bytes(), lines.as_bytes(), zeros),
+            "{text}"
+        );
+    }
 }
