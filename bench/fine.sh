@@ -6,10 +6,10 @@ ompc=$(realpath "$1")
 folder=$(mktemp -d)
 trap 'rm -r "$folder"' EXIT
 
-# that many times 65,536 turns in a kernel, each with a load and a store
-kernel() {
-    printf 'uint64_t A[65536];\nint main(void) {\n#pragma omp target map(tofrom: A)\n'
-    printf 'for (uint64_t k = 0; k < %d; k += 1) {\n' "$1"
+# that many kernels of 65,536 turns, each with a load and a store
+kernels() {
+    printf 'uint64_t A[65536];\nint main(void) {\n#pragma omp target data map(tofrom: A)\n'
+    printf 'for (uint64_t k = 0; k < %d; k += 1) {\n#pragma omp target\n' "$1"
     printf 'for (uint64_t i = 0; i < 65536; i += 1) { A[i] = A[i] + 1; }\n}\nprint(A[3]);\n}\n'
 }
 
@@ -28,11 +28,11 @@ say() {
     tail -1 "$folder/err"
 }
 
-for times in 4 8 16; do
-    kernel "$times" > "$folder/source.c"
+for times in 10 20 40; do
+    kernels "$times" > "$folder/source.c"
     plain "$times" > "$folder/plain.py"
     "$ompc" step "$folder/source.c" --fine < /dev/null > "$folder/out"
-    echo "65,536 cells $times times, $(grep -c '^[a-z]' "$folder/out") events"
+    echo "$times kernels, $(grep -c '^[a-z]' "$folder/out") events"
     say 'ompc check' "$ompc" check "$folder/source.c"
     say 'ompc step' "$ompc" step "$folder/source.c"
     say 'ompc step --fine' "$ompc" step "$folder/source.c" --fine
