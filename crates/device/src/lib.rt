@@ -6,6 +6,7 @@ pub use crate::answer::{run_choices, text_of};
 pub use crate::choosing::{few_events, nothing_after_the_end, nothing_only_at_the_end};
 pub use crate::devices::{DEVICES, Devices};
 pub use crate::jobs::Job;
+pub use crate::play::choice_at;
 pub use crate::standing::{Held, Standing};
 pub use crate::state::{RunState, are_numbers};
 pub use crate::turns::Turn;

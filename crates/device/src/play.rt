@@ -11,8 +11,8 @@ use crate::state::RunState;
 use base::fault::RunFault;
 use base::item::Event;
 
-// The choice of a turn, 0 past the last.
-fn choice_at(choices: &[u32], turn: usize) -> u32
+/// The choice of a turn, 0 past the last.
+pub fn choice_at(choices: &[u32], turn: usize) -> u32
     ensures { result ≡ first_or_zero (drop turn choices.now) }
 {
     match choices.get(turn) {

@@ -41,10 +41,6 @@ seen_access plan old new a j cells clear same h =
     (λ w loc c is. let parts = accessed_parts a w loc c is in (parts.0, parts.1, sym (same c) ∙ parts.2))
 
 -- one access after the other
-pub no_access : (plan : Plan) (noted : Noted) (j : ℕ) (list : List Access) →
-    IsSeen plan noted noted j (IsAccessed (take 0 list)) true
-no_access plan noted j list = seen_none plan noted j (IsAccessed (take 0 list)) true (λ w loc c is. absurd cc)
-
 pub one_access : (plan : Plan) (old between new : Noted) (j : ℕ) (list : List Access) (i : ℕ) (a : Access) (x y : Bool) →
     i < length list → a ≡ get_or list i a → IsSeen plan old between j (IsAccessed (take i list)) x →
     IsSeen plan between new j (λ w loc c. is_accessed a w loc c ≡ true) y →
@@ -55,8 +51,3 @@ one_access plan old between new j list i a x y lt is f s =
     (λ w loc c there. or_cases (list_any (λ b. is_accessed b w loc c) (take i list)) (is_accessed a w loc c)
     (ap (λ b. list_any (λ z. is_accessed z w loc c) (take i list) || is_accessed b w loc c) is
     ∙ sym (list_any_more (λ b. is_accessed b w loc c) list i a lt) ∙ there))
-
-pub all_accesses : (plan : Plan) (old new : Noted) (j : ℕ) (list : List Access) (i : ℕ) (clear : Bool) → length list ≤ i →
-    IsSeen plan old new j (IsAccessed (take i list)) clear → IsSeen plan old new j (IsAccessed list) clear
-all_accesses plan old new j list i clear le h =
-    subst (λ (xs : List Access). IsSeen plan old new j (IsAccessed xs) clear) (take_all i list le) h

@@ -92,10 +92,10 @@ impl<'a> Accepted<'a> {
 /// the third the refusal of the least item, by its code, its cell and the other item (E501 to E503, E509, E504, E506 to
 /// E508). `OutOfMemory` is answered where an allocation fails.
 ///
-/// It takes time for each turn of a region that is walked for its footprint, once for all items of a region that names
-/// no loop around it; for each cell that an item's region touches, for what earlier items do with the cells that an item
-/// touches, as `first_conflict` says, and for each pair of items of which one has a `depend` clause; and memory for the
-/// cells that each item's region touches.
+/// It takes time for each turn of a region that is walked for its footprint, once for all of its items that have the same
+/// values of those loops around it that it names in a subscript or in a condition; for each cell that an item's region
+/// touches, and for what earlier items do with the cells that an item touches, as `first_conflict` says; and memory for
+/// the cells that each footprint has.
 pub fn check<'a>(alloc: Global, outlined: &'a Outlined<'a>) -> Result<Accepted<'a>, CheckFault>
     ensures accepted { IfOk result (λ a. a ≡ outlined.now) }
     ensures fault { IfErr result (IsCheckFault (plan outlined.now)) }

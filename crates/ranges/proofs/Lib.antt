@@ -13,8 +13,6 @@ pub mod Sets
 pub mod Runs
 pub mod Known
 pub mod ItemParts
-pub mod DecidingRows
-pub mod Undecided
 pub mod SeenAgainTests
 pub mod SeenTwice
 pub mod FirstTurns

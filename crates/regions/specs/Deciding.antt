@@ -74,12 +74,6 @@ abbrev pub UndecidingLoopsDecideNothing : Type 0
 UndecidingLoopsDecideNothing =
     (r : Region) (loops other : List ℕ) → AgreeWhereDeciding r loops other → TouchesAlike r loops other
 
--- one of the outermost n loops decides what a region touches
-pub record OuterDecides (n : ℕ) (r : Region) : Type 0 where
-  pub level : ℕ
-  pub outer : level < n
-  pub deciding : decides level r ≡ true
-
 -- which of the n loops around a region decide what it touches
 pub record AreDeciding (r : Region) (n : ℕ) (marks : List Bool) : Type 0 where
   pub count : length marks ≡ n

@@ -1,7 +1,7 @@
 // Which of the loops around a region decide what it touches.
 
 ghost use Rattle.std.specs.Prelude.{◌≡◌, IfOk, IsTrue, false, if◌then◌else◌, length};
-ghost use Rattle.regions.specs.Deciding.{AgreeWhereDeciding, AreDeciding, AreMarkedValues, OuterDecides, decides, expr_decides, list_decides, source_decides, stmt_decides};
+ghost use Rattle.regions.specs.Deciding.{AgreeWhereDeciding, AreDeciding, AreMarkedValues, decides, expr_decides, list_decides, source_decides, stmt_decides};
 
 use base::tree::{Expr, Region, Source, Stmt};
 use std::alloc::{AllocError, Global};
@@ -41,16 +41,18 @@ fn in_stmt(level: usize, s: &Stmt) -> bool
         Stmt::Declare(_, v) | Stmt::Assign(_, v) => in_source(level, v),
         Stmt::Store(_, _, e, v) => in_expr(true, level, e) || in_source(level, v),
         Stmt::Print(e) => in_expr(false, level, e),
-        Stmt::Block(all) => in_all(level, all),
-        Stmt::Loop(_, body) => in_all(level, body),
+        Stmt::Block(all) => body_decides(level, all),
+        Stmt::Loop(_, body) => body_decides(level, body),
         Stmt::If(c, first, second) => {
-            in_expr(true, level, c) | in_all(level, first) | in_all(level, second)
+            in_expr(true, level, c) | body_decides(level, first) | body_decides(level, second)
         }
     }
 }
 
+/// Whether statements name the loop at this level in a subscript or in a condition. It takes no memory, and time for each
+/// expression.
 #[cycle(deciding)]
-fn in_all(level: usize, all: &[Stmt]) -> bool
+pub fn body_decides(level: usize, all: &[Stmt]) -> bool
     ensures { result ≡ list_decides level all.now }
 {
     'all: for s in all {
@@ -61,26 +63,11 @@ fn in_all(level: usize, all: &[Stmt]) -> bool
     false
 }
 
-/// Whether a region names the loop at this level in a subscript or in a condition. It takes no memory, and time for
-/// each expression.
-pub fn loop_decides(level: usize, region: &Region) -> bool
+// Whether a region names the loop at this level in a subscript or in a condition.
+fn loop_decides(level: usize, region: &Region) -> bool
     ensures { result ≡ decides level region.now }
 {
-    in_all(level, &region.body)
-}
-
-/// Whether one of so many loops around a region, the outermost ones, decides what it touches. It takes no memory, and
-/// time for each expression once for each loop.
-pub fn outer_loop_decides(outer: usize, region: &Region) -> bool
-    ensures some { IsTrue result → OuterDecides outer region.now }
-    ensures none { result ≡ false → OuterDecides outer region.now → ⊥ }
-{
-    'levels: for level in 0..outer {
-        if loop_decides(level, region) {
-            return true;
-        }
-    }
-    false
+    body_decides(level, &region.body)
 }
 
 /// Whether two lists of as many loop values have the same ones for each loop that decides what a region touches. It

@@ -96,10 +96,6 @@ module _ (pl : Plan) (fill : ℕ → Fill) where
   follow_more n cs h h' s0 s e ran long at =
       ap (λ m. follow pl fill m cs h (Some s0)) (add-one n) ∙ follow_next n cs h h' s0 s e ran long at
 
-  -- before any event
-  pub run_of_none : (input cs : List ℕ) → run_by_choices pl fill 0 input cs ≡ played [] (Some (start input))
-  run_of_none input cs = refl
-
   -- a run of so many events as its history has, and the next
   pub run_more : (input cs : List ℕ) (h : List Event) (s : State) (e : Event) →
       run_by_choices pl fill (length h) input cs ≡ played h (Some s) → next_by pl s (drop (length h) cs) ≡ Some e →

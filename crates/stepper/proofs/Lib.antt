@@ -13,7 +13,6 @@ mod Puts
 mod Parts
 mod RegionInside
 mod StaysInside
-mod Inside
 mod Opened
 mod Shown
 mod Rows

@@ -24,17 +24,7 @@ open_acting (Generated captured) h = absurd (false≢true h)
 open_acting Closed h = absurd (false≢true h)
 open_acting Passed h = absurd (false≢true h)
 
--- what a host region did changes no condition, and not where the host stands
-pub done_condition : (k : ItemKind) (t : Region_run) (s : State) → (host_done k t s).condition ≡ s.condition
-done_condition kind.Host t s = refl
-done_condition kind.Target t s = refl
-done_condition kind.Begin t s = refl
-done_condition kind.End t s = refl
-done_condition kind.Enter t s = refl
-done_condition kind.Exit t s = refl
-done_condition kind.Update t s = refl
-done_condition kind.Wait t s = refl
-
+-- what a host region did does not change where the host stands
 pub done_place : (k : ItemKind) (t : Region_run) (s : State) → (host_done k t s).place ≡ s.place
 done_place kind.Host t s = refl
 done_place kind.Target t s = refl

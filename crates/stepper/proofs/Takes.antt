@@ -41,15 +41,6 @@ takes_number f g c n m is n_is left heavy =
       weight = grind (arith, heavy);
     })
 
--- a part that begins an expression whose value goes to a lighter part
-pub takes_begun : (f g h : Frame) (e : Expr) (c new : Control) → f ≡ g → BeginsAt e h c new →
-    expr_left e (side_of c.on_host) c.loops.items (run_of c).scalars
-    (λ n. rest_of (side_of c.on_host) (h ∷ stack_of c) c.loops.items n (run_of c))
-    ≡ left_with (g ∷ stack_of c) c →
-    frame_weight h + expr_weight e < frame_weight g → Takes f c new
-takes_begun f g h e c new is b left lighter =
-    subst (λ x. Takes x c new) (sym is) (record { left = b.left ∙ left; weight = grind (arith, b.weight, lighter) })
-
 -- a part that begins a source
 pub takes_subscript : (f : Frame) (a : ArrayId) (v : Bor Source) (c new : Control) → f ≡ frame.Subscript a v →
     BeginsSource v.now (frame.Store a c.number) c new → Takes f c new

@@ -3,24 +3,13 @@
 ghost use Rattle.std.specs.Prelude.{◌≡◌, ◌+◌, ◌≤◌, drop, false, length, slice_get};
 ghost use Rattle.base.specs.Items.{Plan};
 ghost use Rattle.base.specs.Limits.{most_items};
-ghost use Rattle.base.specs.Machine.{first_or_zero};
 ghost use Rattle.fine_machine.specs.Machine.{State, all_enabled};
 ghost use Rattle.stepper.specs.Answering.{next_by};
 ghost use Rattle.stepper.specs.Standing.{IsAt};
 
 use crate::standing::Standing;
 use base::item::Event;
-use device::{allowed_count, nth_allowed};
-
-// The choice of a turn, 0 past the last.
-fn choice_at(choices: &[u32], turn: usize) -> u32
-    ensures { result ≡ first_or_zero (drop turn choices.now) }
-{
-    match choices.get(turn) {
-        Some(choice) => *choice,
-        None => 0,
-    }
-}
+use device::{allowed_count, choice_at, nth_allowed};
 
 impl<'p> Standing<'p> {
     // Of the events that may happen next, the one at a place; of an open item its next action, or its closing where
