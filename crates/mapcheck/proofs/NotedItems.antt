@@ -1,9 +1,8 @@
 -- Items that were noted with their accesses.
-use Rattle.std.proofs.Common.{◌≡◌, ℕ, ◌+◌, ◌<◌, ◌≤◌, Bool, true, false, List, take, get_or, length, refl, sym, ap, ◌∙◌, subst}
+use Rattle.std.proofs.Common.{◌≡◌, ℕ, ◌+◌, ◌<◌, Bool, true, false, List, take, get_or, length, refl, sym, ap, ◌∙◌}
 use Rattle.std.specs.Prelude.{not, ◌||◌, ◌&&◌}
 use Rattle.std.specs.List.{list_any}
 use Rattle.std.proofs.lemmas.Bool.{and_parts, or_cases}
-use Rattle.std.proofs.lemmas.List.{take_all}
 use Rattle.std.proofs.lemmas.List.Folds.{list_any_more}
 use Rattle.base.specs.declared.item.Cell.{Cell}
 use Rattle.base.specs.declared.item.Loc.{Loc}
@@ -13,7 +12,7 @@ use Rattle.mapcheck.specs.declared.noted.Noted.{Noted}
 use Rattle.mapcheck.specs.Accesses.{has_cell, same_loc}
 use Rattle.mapcheck.specs.Noted.{IsAccessed, IsSeen, IsTouched, is_accessed}
 use Rattle.mapcheck.proofs.Collisions.{loc_same}
-use Rattle.mapcheck.proofs.Noting.{seen_both, seen_less, seen_none}
+use Rattle.mapcheck.proofs.Noting.{seen_both, seen_less}
 
 not_true : (b : Bool) → not b ≡ true → false ≡ b
 not_true true e = absurd cc

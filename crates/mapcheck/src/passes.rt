@@ -1,11 +1,12 @@
 // The passes, one after the other.
 
-ghost use Rattle.std.specs.Prelude.{◌≡◌, ◌<◌, [], Some, IfOk, OnOk, IfErr, length, slice_get};
+ghost use Rattle.std.specs.Prelude.{◌≡◌, ◌<◌, ℕ, [], Ok, Some, IfOk, OnOk, IfErr, length, slice_get};
 ghost use Rattle.base.specs.Accepted.{range_faults};
 ghost use Rattle.base.specs.Items.{Work, plan};
 ghost use Rattle.base.specs.Meaning.{lengths_of};
 ghost use Rattle.mapcheck.specs.Passes.{IsCheckFault};
 ghost use Rattle.mapwalk.specs.Footprints.{AreFirstFootprints, AreFootprints};
+ghost use Rattle.mapwalk.specs.Found.{all_found, told};
 ghost use Rattle.mapwalk.specs.Regions.{IsFoundFor};
 ghost use Rattle.mapwalk.specs.Repeats.{AreRepeats};
 ghost use Rattle.mapwalk.specs.Walk.{HasNoRangeFault};
@@ -13,10 +14,10 @@ ghost use Rattle.order.specs.Built.{HasNoClash};
 ghost use Rattle.ranges.specs.Found.{IsFootprintFault};
 
 use base::fault::CheckFault;
-use mapwalk::next_footprint;
+use mapwalk::{Footprints, Next, next_footprint};
 use order::{Order, OrderBuildFault};
 use outline::Outlined;
-use ranges::{Footprint, FootprintFault, sections};
+use ranges::{FootprintFault, sections};
 use std::alloc::Global;
 
 // The footprint of the region of the first item without one, or the item's first fault of range.
@@ -24,14 +25,15 @@ fn item_footprint(
     alloc: Global,
     outlined: &Outlined<'_>,
     repeats: &[Option<usize>],
-    found: &[Option<Footprint>],
-) -> Result<Option<Footprint>, FootprintFault>
+    found: &Footprints,
+) -> Result<Next, FootprintFault>
     requires repeats { AreRepeats (plan outlined.now) repeats.now }
-    requires before { AreFirstFootprints (plan outlined.now) (length found.now) found.now }
-    requires inside { length found.now < length (plan outlined.now).items }
-    ensures found { (w : Work) → slice_get (plan outlined.now).items (length found.now) ≡ Some w → IfOk result (IsFoundFor (lengths_of outlined.now) w) }
-    ensures fine { (w : Work) → slice_get (plan outlined.now).items (length found.now) ≡ Some w → OnOk result (range_faults (lengths_of outlined.now) w ≡ []) }
-    ensures fault { (w : Work) → slice_get (plan outlined.now).items (length found.now) ≡ Some w → IfErr result (IsFootprintFault (range_faults (lengths_of outlined.now) w)) }
+    requires before { AreFirstFootprints (plan outlined.now) (length (all_found found.now)) (all_found found.now) }
+    requires inside { length (all_found found.now) < length (plan outlined.now).items }
+    ensures inside { (earlier : ℕ) → result ≡ Ok (Next.Shared earlier) → earlier < length (all_found found.now) }
+    ensures found { (w : Work) → slice_get (plan outlined.now).items (length (all_found found.now)) ≡ Some w → IfOk result (λ next. IsFoundFor (lengths_of outlined.now) w (told (all_found found.now) next)) }
+    ensures fine { (w : Work) → slice_get (plan outlined.now).items (length (all_found found.now)) ≡ Some w → OnOk result (range_faults (lengths_of outlined.now) w ≡ []) }
+    ensures fault { (w : Work) → slice_get (plan outlined.now).items (length (all_found found.now)) ≡ Some w → IfErr result (IsFootprintFault (range_faults (lengths_of outlined.now) w)) }
 {
     let item = &outlined.items()[found.len()];
     match sections(outlined.program(), item) {
@@ -50,24 +52,25 @@ fn range_fault(item: u32, fault: FootprintFault) -> CheckFault
     }
 }
 
-/// The first pass: the footprint of each item's region, where these are the items that repeat earlier ones. The error is the first fault of range: of the least item that
-/// has one, E302, E303 or E301 at its least place; or `OutOfMemory` where an allocation fails.
+/// The first pass: the footprint of each item's region, where these are the items that repeat earlier ones. The error is
+/// the first fault of range: of the least item that has one, E302, E303 or E301 at its least place; or `OutOfMemory`
+/// where an allocation fails.
 pub fn footprints_of(
     alloc: Global,
     outlined: &Outlined<'_>,
     repeats: &[Option<usize>],
-) -> Result<Vec<Option<Footprint>>, CheckFault>
+) -> Result<Footprints, CheckFault>
     requires { AreRepeats (plan outlined.now) repeats.now }
-    ensures found { IfOk result (λ found. AreFootprints (plan outlined.now) found.items) }
+    ensures found { IfOk result (λ found. AreFootprints (plan outlined.now) (all_found found)) }
     ensures fine { OnOk result (HasNoRangeFault (plan outlined.now)) }
     ensures fault { IfErr result (IsCheckFault (plan outlined.now)) }
 {
-    let mut found = Vec::new(alloc);
+    let mut found = Footprints::new(alloc);
     'items: for number in 0..outlined.items().len() {
         match item_footprint(alloc, outlined, repeats, &found) {
             Err(fault) => return Err(range_fault(number as u32, fault)),
-            Ok(footprint) => {
-                let Ok(()) = found.push(footprint) else {
+            Ok(next) => {
+                let Ok(()) = found.push(next) else {
                     return Err(CheckFault::OutOfMemory);
                 };
             }

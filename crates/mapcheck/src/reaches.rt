@@ -5,10 +5,12 @@ ghost use Rattle.base.specs.Items.{Work, plan};
 ghost use Rattle.base.specs.Meaning.{lengths_of};
 ghost use Rattle.mapcheck.specs.Reaches.{AreFirstReaches, AreReaches, IsReach};
 ghost use Rattle.mapwalk.specs.Footprints.{AreFootprints};
+ghost use Rattle.mapwalk.specs.Found.{all_found};
 ghost use Rattle.mapwalk.specs.Regions.{IsFootprintOf};
 ghost use Rattle.mapwalk.specs.Repeats.{AreRepeats};
 
 use base::item::Section;
+use mapwalk::Footprints;
 use outline::Outlined;
 use ranges::{Footprint, no_reach, reach};
 use std::alloc::{AllocError, Global};
@@ -33,11 +35,11 @@ fn next_reach(
     alloc: Global,
     outlined: &Outlined<'_>,
     repeats: &[Option<usize>],
-    found: &[Option<Footprint>],
+    found: &Footprints,
     before: &[Vec<Section>],
 ) -> Result<Vec<Section>, AllocError>
     requires repeats { AreRepeats (plan outlined.now) repeats.now }
-    requires found { AreFootprints (plan outlined.now) found.now }
+    requires found { AreFootprints (plan outlined.now) (all_found found.now) }
     requires before { AreFirstReaches (plan outlined.now) (length before.now) before.now }
     requires inside { length before.now < length (plan outlined.now).items }
     ensures { (w : Work) → slice_get (plan outlined.now).items (length before.now) ≡ Some w → IfOk result (λ runs. IsReach (lengths_of outlined.now) w runs.items) }
@@ -45,7 +47,7 @@ fn next_reach(
     let number = before.len();
     match repeats[number] {
         Some(earlier) => Vec::from_slice(alloc, &before[earlier]),
-        None => item_reach(alloc, outlined, &found[number]),
+        None => item_reach(alloc, outlined, found.get(number)),
     }
 }
 
@@ -54,10 +56,10 @@ pub fn reaches(
     alloc: Global,
     outlined: &Outlined<'_>,
     repeats: &[Option<usize>],
-    found: &[Option<Footprint>],
+    found: &Footprints,
 ) -> Result<Vec<Vec<Section>>, AllocError>
     requires repeats { AreRepeats (plan outlined.now) repeats.now }
-    requires found { AreFootprints (plan outlined.now) found.now }
+    requires found { AreFootprints (plan outlined.now) (all_found found.now) }
     ensures { IfOk result (λ all. AreReaches (plan outlined.now) all.items) }
 {
     let mut all: Vec<Vec<Section>> = Vec::new(alloc);

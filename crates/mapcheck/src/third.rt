@@ -7,6 +7,7 @@ ghost use Rattle.mapcheck.specs.Passes.{IsCheckFault};
 ghost use Rattle.mapcheck.specs.Third.{AreFirstRows, AreOfFirst, IsPassed, NoneAlone};
 ghost use Rattle.mapcheck.specs.Unordered.{IsConflictIn};
 ghost use Rattle.mapwalk.specs.Footprints.{AreFootprints};
+ghost use Rattle.mapwalk.specs.Found.{all_found};
 ghost use Rattle.mapwalk.specs.Walk.{HasNoRangeFault};
 ghost use Rattle.order.specs.Built.{HasNoClash};
 
@@ -14,10 +15,9 @@ use crate::accesses::Accesses;
 use crate::unordered::first_conflict;
 use base::fault::{CheckFault, Refusal};
 use base::tree::ArrayId;
-use mapwalk::{Acts, Walked, walk};
+use mapwalk::{Acts, Footprints, Walked, walk};
 use order::Order;
 use outline::Outlined;
-use ranges::Footprint;
 use std::alloc::{AllocError, Global};
 
 // The accesses of the items that are not refused by themselves.
@@ -25,10 +25,10 @@ fn accesses_of<'f>(
     alloc: Global,
     outlined: &Outlined<'_>,
     acts: &[Vec<Acts>],
-    found: &'f [Option<Footprint>],
+    found: &'f Footprints,
 ) -> Result<Vec<Accesses<'f>>, AllocError>
     requires fine { HasNoRangeFault (plan outlined.now) }
-    requires found { AreFootprints (plan outlined.now) found.now }
+    requires found { AreFootprints (plan outlined.now) (all_found found.now) }
     requires rows { AreFirstRows (plan outlined.now) acts.now }
     requires alone { NoneAlone (plan outlined.now) (length acts.now) }
     ensures accesses { IfOk result (λ list. AreOfFirst (plan outlined.now) (length acts.now) list.items) }
@@ -37,7 +37,7 @@ fn accesses_of<'f>(
     let items = outlined.items();
     let mut list = Vec::new(alloc);
     'rows: for (number, row) in acts.iter().enumerate() {
-        list.push(Accesses::of_item(alloc, &items[number], row, &found[number])?)?;
+        list.push(Accesses::of_item(alloc, &items[number], row, found.get(number))?)?;
     }
     Ok(list)
 }
@@ -47,12 +47,12 @@ fn conflict_among(
     alloc: Global,
     outlined: &Outlined<'_>,
     acts: &[Vec<Acts>],
-    found: &[Option<Footprint>],
+    found: &Footprints,
     order: &Order<'_>,
 ) -> Result<Option<Refusal>, AllocError>
     requires order { order.now ≡ outlined.now }
     requires fine { HasNoRangeFault (plan outlined.now) }
-    requires found { AreFootprints (plan outlined.now) found.now }
+    requires found { AreFootprints (plan outlined.now) (all_found found.now) }
     requires rows { AreFirstRows (plan outlined.now) acts.now }
     requires alone { NoneAlone (plan outlined.now) (length acts.now) }
     ensures { IfOk result (IsConflictIn (plan outlined.now) (length acts.now)) }
@@ -66,13 +66,13 @@ fn conflict_among(
 pub fn third_pass(
     alloc: Global,
     outlined: &Outlined<'_>,
-    found: &[Option<Footprint>],
+    found: &Footprints,
     order: &Order<'_>,
 ) -> Result<Vec<ArrayId>, CheckFault>
     requires order { order.now ≡ outlined.now }
     requires fine { HasNoRangeFault (plan outlined.now) }
     requires clashes { HasNoClash (plan outlined.now) }
-    requires found { AreFootprints (plan outlined.now) found.now }
+    requires found { AreFootprints (plan outlined.now) (all_found found.now) }
     ensures passed { IfOk result (λ current. IsPassed (plan outlined.now) current.items) }
     ensures fault { IfErr result (IsCheckFault (plan outlined.now)) }
 {

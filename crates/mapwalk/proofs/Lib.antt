@@ -18,6 +18,7 @@ pub mod WorkParts
 pub mod Verdicts
 pub mod Agreeing
 pub mod Walking
+pub mod Sharing
 pub mod Refusals
 pub mod Endings
 pub mod RowActions

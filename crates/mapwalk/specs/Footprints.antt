@@ -1,9 +1,8 @@
 -- The footprints of a plan's items.
-use Rattle.std.specs.Prelude.{ℕ, ◌≡◌, ◌<◌, List, [], Option, Some, None, slice_get, length}
+use Rattle.std.specs.Prelude.{ℕ, ◌≡◌, ◌<◌, List, [], Option, Some, slice_get, length}
 use Rattle.base.specs.Items.{Plan, Work}
 use Rattle.base.specs.Accepted.{region_faults}
 use Rattle.ranges.specs.declared.cells.Footprint.{Footprint}
-use Rattle.ranges.specs.Cells.{HasSameCells}
 use Rattle.mapwalk.specs.Regions.{IsFoundFor}
 
 -- for each item the footprint of its region
@@ -19,10 +18,3 @@ pub record AreFirstFootprints (plan : Plan) (n : ℕ) (found : List (Option Foot
       IsFoundFor plan.lengths w o
   pub fine : (i : ℕ) (w : Work) → i < n → slice_get plan.items i ≡ Some w →
       region_faults plan.lengths w.loops w.region ≡ []
-
--- two footprints with the same cells, or none
-abbrev pub AreSameCells : Option Footprint → Option Footprint → Type 0
-AreSameCells None None = Unit {0}
-AreSameCells None (Some g) = ⊥
-AreSameCells (Some f) None = ⊥
-AreSameCells (Some f) (Some g) = HasSameCells f g

@@ -12,5 +12,7 @@ pub mod Regions
 pub mod Steps
 pub mod Walk
 pub mod Footprints
+pub mod Found
+pub mod Numbered
 pub mod Repeats
 pub mod Laws

@@ -6,19 +6,20 @@ ghost use Rattle.std.specs.Prelude.{◌≡◌, [], IfOk};
 ghost use Rattle.base.specs.Items.{plan};
 ghost use Rattle.mapwalk.specs.Causes.{refusal_of};
 ghost use Rattle.mapwalk.specs.Footprints.{AreFootprints};
+ghost use Rattle.mapwalk.specs.Found.{all_found};
 ghost use Rattle.mapwalk.specs.Laws.{ActsAreActions, StagesAreSpelled, TargetsKeepBlocks};
 ghost use Rattle.mapwalk.specs.Walk.{AreActs, AreCurrent, HasNoRangeFault, IsFirstRefusal, IsSound};
 
 pub use crate::alike::repeats;
 use crate::causes::Cause;
 pub use crate::footprints::{footprint_of, next_footprint};
+pub use crate::found::{Footprints, Next};
 pub use crate::rows::Acts;
 use crate::state::State;
 use crate::steps::Step;
 use base::fault::Refusal;
 use base::tree::ArrayId;
 use outline::Outlined;
-use ranges::Footprint;
 use std::alloc::{AllocError, Global};
 
 mod alike;
@@ -26,8 +27,10 @@ mod blocks;
 mod causes;
 mod current;
 mod footprints;
+mod found;
 mod marking;
 mod marks;
+mod numbered;
 mod region;
 mod rows;
 mod seen;
@@ -51,10 +54,10 @@ pub struct Walked {
 pub fn walk(
     alloc: Global,
     outlined: &Outlined<'_>,
-    found: &[Option<Footprint>],
+    found: &Footprints,
 ) -> Result<Walked, AllocError>
     requires fine { HasNoRangeFault (plan outlined.now) }
-    requires found { AreFootprints (plan outlined.now) found.now }
+    requires found { AreFootprints (plan outlined.now) (all_found found.now) }
     ensures acts { IfOk result (λ w. AreActs (plan outlined.now) w) }
     ensures fault { IfOk result (λ w. IsFirstRefusal (plan outlined.now) w.fault) }
     ensures sound { IfOk result (λ w. IsSound (plan outlined.now) w.fault) }
@@ -63,7 +66,7 @@ pub fn walk(
     let mut state = State::new(alloc, outlined)?;
     let mut acts = Vec::new(alloc);
     'items: for item in outlined.items() {
-        match state.step(item, &found[acts.len()])? {
+        match state.step(item, found.get(acts.len()))? {
             Step::Done(row) => acts.push(row)?,
             Step::Refused(cause) => {
                 let fault = refusal(cause, acts.len() as u32);

@@ -17,6 +17,7 @@
 
 ghost use Rattle.base.specs.Items.{plan};
 ghost use Rattle.mapwalk.specs.Footprints.{AreFootprints};
+ghost use Rattle.mapwalk.specs.Found.{all_found};
 ghost use Rattle.mapwalk.specs.Walk.{HasNoRangeFault};
 
 use crate::text::Text;
@@ -26,7 +27,7 @@ use base::tree::{ArrayId, Program};
 use c_read::read_program;
 use mapcheck::passes::{footprints_of, order_of};
 use mapcheck::{Accepted, check, current_at_end};
-use mapwalk::{Acts, Walked, footprint_of, repeats, walk};
+use mapwalk::{Acts, Footprints, Walked, footprint_of, repeats, walk};
 use order::Order;
 use outline::{Outlined, RegionEntry, outline};
 use ranges::{CellSet, Footprint, FootprintFault, sections};
@@ -193,9 +194,9 @@ fn say_set(what: &str, set: &CellSet, array: ArrayId, length: u32, out: &mut Tex
 }
 
 // The order and what the walk finds.
-fn say_passes(alloc: Global, outlined: &Outlined<'_>, found: &[Option<Footprint>], out: &mut Text)
+fn say_passes(alloc: Global, outlined: &Outlined<'_>, found: &Footprints, out: &mut Text)
     requires fine { HasNoRangeFault (plan outlined.now) }
-    requires found { AreFootprints (plan outlined.now) found.now }
+    requires found { AreFootprints (plan outlined.now) (all_found found.now) }
 {
     match order_of(alloc, outlined) {
         Err(CheckFault::OutOfMemory) => out.lack(),
@@ -224,9 +225,9 @@ fn say_before(order: &Order<'_>, items: u32, item: u32, out: &mut Text) {
     out.add("\n");
 }
 
-fn say_walk(alloc: Global, outlined: &Outlined<'_>, found: &[Option<Footprint>], out: &mut Text)
+fn say_walk(alloc: Global, outlined: &Outlined<'_>, found: &Footprints, out: &mut Text)
     requires fine { HasNoRangeFault (plan outlined.now) }
-    requires found { AreFootprints (plan outlined.now) found.now }
+    requires found { AreFootprints (plan outlined.now) (all_found found.now) }
 {
     match walk(alloc, outlined, found) {
         Ok(walked) => say_walked(alloc, outlined, &walked, out),

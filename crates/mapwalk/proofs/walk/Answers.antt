@@ -7,6 +7,7 @@ use Rattle.base.specs.declared.fault.Refusal.{Refusal}
 use Rattle.mapwalk.specs.Acts.{acts_rows}
 use Rattle.mapwalk.specs.Causes.{refusal_of}
 use Rattle.mapwalk.specs.Steps.{IsDone, current_of, tables_of}
+use Rattle.mapwalk.specs.Found.{all_found}
 use Rattle.mapwalk.specs.Walk.{IsFirstAlone, row_items}
 use Rattle.std.specs.Prelude.{IfSome}
 use Rattle.mapwalk.specs.Regions.{IsWithin}
@@ -16,18 +17,17 @@ use Rattle.mapwalk.proofs.Refusals.{first_alone, none_refused}
 use Rattle.mapwalk.proofs.SideRows.{lengths_count}
 use Rattle.outline.proofs.Builds.{as_many}
 use Rattle.mapwalk.proofs.Walking.{Reached, next, rows_before, work_at}
-use Rattle.std.proofs.lemmas.Grind.{common_steps}
 use Rattle.mapwalk.proofs.walk.Goals as goal
 
-pub bounds-found-len : goal.bounds-found-len
-bounds-found-len c =
+pub get-requires : goal.get-requires
+get-requires c =
     let p = c.args.outlined.now in
     let i = c.items.item-index in
     let at = work_at (entries_of p) c.items-item-items.result.now (plan p).items i c.item-item.result
     c.items-item-items.ensures.shown c.items-test.true c.item-item.is in
     let place : c.len.result ≡ i = c.len.ensures ∙ c.items.acts.ok.0 ∙ sym (length-map c.items.acts.items row_items)
     ∙ c.items.invariant.reached.count in
-    at_inside (plan p) i at.work c.args.found.now c.len.result c.requires.found at.there place
+    at_inside (plan p) i at.work (all_found c.args.found.now) c.len.result c.requires.found at.there place
 
 pub step-requires-clause-room : goal.step-requires-clause-room
 step-requires-clause-room c d =
@@ -46,11 +46,11 @@ step-requires-clause-within c =
     let place : c.len.result ≡ i = c.len.ensures ∙ c.items.acts.ok.0 ∙ sym (length-map c.items.acts.items row_items)
     ∙ c.items.invariant.reached.count in
     let count = c.requires.found.count in
-    let inside : c.len.result < length c.args.found.now = at_inside (plan p) i at.work c.args.found.now c.len.result
+    let inside : c.len.result < length (all_found c.args.found.now) = at_inside (plan p) i at.work (all_found c.args.found.now) c.len.result
     c.requires.found at.there place in
-    let found = found_at (plan p) c.args.found.now i c.len.result at.work c.index-found-len.result c.requires.found at.there place
-    inside c.index-found-len.is in
-    subst (λ ls. IfSome c.index-found-len.result (IsWithin ls)) (sym c.items.invariant.lengths) found.within
+    let found = found_at (plan p) (all_found c.args.found.now) i c.len.result at.work c.get.result.now c.requires.found at.there place
+    inside c.get.ensures in
+    subst (λ ls. IfSome c.get.result.now (IsWithin ls)) (sym c.items.invariant.lengths) found.within
 
 pub overflow_cast-len : goal.overflow_cast-len
 overflow_cast-len c =
@@ -77,10 +77,10 @@ returns-in-Refused-clause-fault c =
     let rows = map row_items c.items.acts.items in
     let place : c.len.result ≡ i = c.len.ensures ∙ c.items.acts.ok.0 ∙ sym (length-map c.items.acts.items row_items)
     ∙ c.items.invariant.reached.count in
-    let inside : c.len.result < length c.args.found.now = at_inside (plan p) i at.work c.args.found.now c.len.result
+    let inside : c.len.result < length (all_found c.args.found.now) = at_inside (plan p) i at.work (all_found c.args.found.now) c.len.result
     c.requires.found at.there place in
-    let found = found_at (plan p) c.args.found.now i c.len.result at.work c.index-found-len.result c.requires.found at.there place
-    inside c.index-found-len.is in
+    let found = found_at (plan p) (all_found c.args.found.now) i c.len.result at.work c.get.result.now c.requires.found at.there place
+    inside c.get.ensures in
     let again : c.len-in-Refused.result ≡ i = c.len-in-Refused.ensures ∙ c.items.acts.ok.0
     ∙ sym (length-map c.items.acts.items row_items) ∙ c.items.invariant.reached.count in
     subst (IsFirstAlone (plan p)) (sym (c.refusal-fault.ensures ∙ ap (refusal_of c.in-Refused.cause) again))
@@ -99,10 +99,10 @@ items-preserved c =
     let rows = map row_items c.items.acts.items in
     let place : c.len.result ≡ i = c.len.ensures ∙ c.items.acts.ok.0 ∙ sym (length-map c.items.acts.items row_items)
     ∙ c.items.invariant.reached.count in
-    let inside : c.len.result < length c.args.found.now = at_inside (plan p) i at.work c.args.found.now c.len.result
+    let inside : c.len.result < length (all_found c.args.found.now) = at_inside (plan p) i at.work (all_found c.args.found.now) c.len.result
     c.requires.found at.there place in
-    let found = found_at (plan p) c.args.found.now i c.len.result at.work c.index-found-len.result c.requires.found at.there place
-    inside c.index-found-len.is in
+    let found = found_at (plan p) (all_found c.args.found.now) i c.len.result at.work c.get.result.now c.requires.found at.there place
+    inside c.get.ensures in
     let done = subst (λ (s : Step). IsDone at.work (tables_of c.items.state.devices.items) (tables_of c.step.new.self.devices.items)
     (current_of c.items.state.host.items c.items.state.devices.items)
     (current_of c.step.new.self.host.items c.step.new.self.devices.items) s) c.in-Done.is
@@ -154,6 +154,3 @@ returns-clause-current c =
     c.in_ok-current.ensures
     ∙ marked_at_end (plan p) c.items.item-index (tables_of c.items.state.devices.items) c.items.state.host.items
     c.items.state.devices.items (map row_items c.items.acts.items) c.items.invariant.lengths last c.items.invariant.reached
-
-pub offset_bounds-found-len : goal.offset_bounds-found-len
-offset_bounds-found-len c = grind (arith, common_steps)

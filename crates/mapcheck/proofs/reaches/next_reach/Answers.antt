@@ -1,5 +1,6 @@
 use Rattle.std.proofs.Common.{length, refl}
 use Rattle.base.specs.Items.{plan}
+use Rattle.mapwalk.specs.Found.{all_found}
 use Rattle.mapwalk.proofs.Prints.{at_inside, found_at}
 use Rattle.mapcheck.proofs.Reached.{copied_reach}
 use Rattle.mapcheck.proofs.reaches.next_reach.Goals as goal
@@ -15,7 +16,7 @@ pub returns-in-None : goal.returns-in-None
 returns-in-None c w there =
     let p = plan c.args.outlined.now in
     let n = length c.args.before.now in
-    let found = c.args.found.now in
+    let found = all_found c.args.found.now in
     c.item_reach.ensures w
-    (found_at p found n n w c.index-found-number.result c.requires.found there refl
-    (at_inside p n w found n c.requires.found there refl) c.index-found-number.is).touches
+    (found_at p found n n w c.get.result.now c.requires.found there refl
+    (at_inside p n w found n c.requires.found there refl) c.get.ensures).touches
