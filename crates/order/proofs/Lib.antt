@@ -6,3 +6,4 @@ pub mod Members
 pub mod Alike
 pub mod Least
 pub mod Faults
+pub mod Behind

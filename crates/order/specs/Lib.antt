@@ -1,4 +1,5 @@
 pub mod Bare
 pub mod Rows
 pub mod Clashes
+pub mod Apart
 pub mod Built

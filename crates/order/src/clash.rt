@@ -1,13 +1,15 @@
 // Depend items of two items whose sections overlap without being identical.
 
-ghost use Rattle.std.specs.Prelude.{◌≡◌, ◌<◌, ◌≤◌, length};
+ghost use Rattle.std.specs.Prelude.{◌≡◌, ◌<◌, ◌≤◌, IfOk, length};
 ghost use Rattle.base.specs.Limits.{most_items};
 ghost use Rattle.order.specs.Clashes.{IsClashOf, IsFirstFound, least_of_all, least_of_one};
 
+use crate::apart::clear_items;
 use base::depend::overlap;
 use base::fault::OrderFault;
 use base::item::{Cell, Depend, Item, Section};
 use base::least::lesser;
+use std::alloc::{AllocError, Global};
 
 // The first cell of two sections that overlap without being identical.
 #[tactic(auto, unfolding(crate::specs::Clashes::clash_of))]
@@ -62,16 +64,18 @@ fn clash_before(items: &[Item], item: u32) -> Option<OrderFault>
     None
 }
 
-/// The clash of the least item that has one with an earlier item. It takes no memory.
-pub fn first_clash(items: &[Item]) -> Option<OrderFault>
+/// The clash of the least item that has one with an earlier item. Items whose sections are pairwise disjoint or identical
+/// are sorted by them; from the first item on with which they are not, each pair of items is looked at.
+pub fn first_clash(alloc: Global, items: &[Item]) -> Result<Option<OrderFault>, AllocError>
     requires { length items.now ≤ most_items }
-    ensures { IsFirstFound items.now result }
+    ensures { IfOk result (IsFirstFound items.now) }
 {
-    for item in 0..items.len() as u32 {
+    let clear = clear_items(alloc, items)?;
+    for item in clear as u32..items.len() as u32 {
         let clash = clash_before(items, item);
         if clash.is_some() {
-            return clash;
+            return Ok(clash);
         }
     }
-    None
+    Ok(None)
 }

@@ -12,10 +12,11 @@ use crate::rows::{Row, rows_of};
 use base::fault::OrderFault;
 use base::tree::Program;
 use outline::Outlined;
-use std::alloc::Global;
+use std::alloc::{AllocError, Global};
 use std::marker::Model;
 use thiserror::Error;
 
+mod apart;
 mod clash;
 mod rows;
 
@@ -26,6 +27,17 @@ pub enum OrderBuildFault {
     Clash(OrderFault),
     #[error("F1")]
     OutOfMemory,
+}
+
+impl From<AllocError> for OrderBuildFault {
+    ghost use Rattle.std.specs.Prelude.{◌≡◌};
+    ghost use Rattle.order.specs.declared.OrderBuildFault.TheVariants.{OutOfMemory};
+
+    ghost from_gives = { λ _ e. e ≡ OutOfMemory };
+
+    fn from(_error: AllocError) -> OrderBuildFault {
+        OrderBuildFault::OutOfMemory
+    }
 }
 
 /// Which item of a program is before which: an item that is not deferred is before all later ones, and a predecessor is
@@ -57,9 +69,11 @@ impl<'p> Order<'p> {
     /// identical: at the least later item, then the least earlier one, then the least cell of such an overlap, by array
     /// and then by index. It is `OutOfMemory` where an allocation fails.
     ///
-    /// It takes time for each pair of items of which one has a `depend` clause, and memory for each item. A deferred item
-    /// with a `depend` clause takes besides a bit for each later item up to the last that it is before, where others
-    /// stand between them that it is not before.
+    /// Where no two sections of depend items overlap without being identical it sorts them. Else, from the first item on
+    /// with which two do, it looks at each pair of items of which one has a `depend` clause. A deferred item with a
+    /// `depend` clause takes besides time for each later item that it is not before, and a bit for each later item up to
+    /// the last that it is before, where others stand between them that it is not before. It takes memory for each item
+    /// and each depend item.
     pub fn build(alloc: Global, outlined: &Outlined<'p>) -> Result<Order<'p>, OrderBuildFault>
         requires { SectionsFit (plan outlined.now) }
         ensures program { IfOk result (λ o. o ≡ outlined.now) }
@@ -67,16 +81,13 @@ impl<'p> Order<'p> {
         ensures fault { IfErr result (IsBuildFault (plan outlined.now)) }
     {
         let items = outlined.items();
-        if let Some(fault) = first_clash(items) {
+        if let Some(fault) = first_clash(alloc, items)? {
             return Err(OrderBuildFault::Clash(fault));
         }
-        match rows_of(alloc, items) {
-            Err(_) => Err(OrderBuildFault::OutOfMemory),
-            Ok(rows) => Ok(Order {
-                program: outlined.program(),
-                rows,
-            }),
-        }
+        Ok(Order {
+            program: outlined.program(),
+            rows: rows_of(alloc, items)?,
+        })
     }
 
     /// Whether item `i` is before item `j`; a number past the last item is before none, and none is before it. It takes

@@ -15,24 +15,24 @@ returns-in-Some-clause-fault c =
     let p = plan c.args.outlined.now in
     let its = c.items-items.result.now in
     first_clash its p c.in-Some.fault (items_alike (entries_of c.args.outlined.now) its p c.items-items.ensures.shown) c.requires
-    (subst (λ o. IsFirstFound its o) c.in-Some.is c.first_clash.ensures)
+    (subst (λ o. IsFirstFound its o) c.in-Some.is c.in_ok-fault.ensures)
 
 pub invariant_of-result : goal.invariant_of-result
 invariant_of-result c =
     let p = plan c.args.outlined.now in
     let its = c.items-items.result.now in
     let alike : Alike (plan_of its) p = items_alike (entries_of c.args.outlined.now) its p c.items-items.ensures.shown in
-    subst (λ q. IsOrder (plan q) c.in-Ok.rows.items) (sym c.program.ensures)
-    (order_alike (plan_of its) p c.in-Ok.rows.items alike (record {
-      many = c.in-Ok.ensures.all ∙ sym (length-map its bare);
+    subst (λ q. IsOrder (plan q) c.in_ok-rows_of.field-0.items) (sym c.program.ensures)
+    (order_alike (plan_of its) p c.in_ok-rows_of.field-0.items alike (record {
+      many = c.in_ok-rows_of.ensures.all ∙ sym (length-map its bare);
       most = let few : length its ≤ most_items = c.items-items.ensures.few in
-          let all : length c.in-Ok.rows.items ≡ length its = c.in-Ok.ensures.all in omega arith;
-      are = c.in-Ok.ensures.rows;
+          let all : length c.in_ok-rows_of.field-0.items ≡ length its = c.in_ok-rows_of.ensures.all in omega arith;
+      are = c.in_ok-rows_of.ensures.rows;
     }))
 
-pub returns-in-Ok-clause-fine : goal.returns-in-Ok-clause-fine
-returns-in-Ok-clause-fine c =
+pub returns-clause-fine : goal.returns-clause-fine
+returns-clause-fine c =
     let p = plan c.args.outlined.now in
     let its = c.items-items.result.now in
     no_clash its p (items_alike (entries_of c.args.outlined.now) its p c.items-items.ensures.shown) c.requires
-    (subst (λ o. IsFirstFound its o) c.in_default.is c.first_clash.ensures)
+    (subst (λ o. IsFirstFound its o) c.in_default.is c.in_ok-fault.ensures)
