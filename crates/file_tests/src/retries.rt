@@ -1,4 +1,4 @@
-//! Runs a program event by event, by choices and from its bytes, and makes each call that met want of memory once more.
+//! Runs a program event by event, by choices, from its bytes and action by action, and makes each call that met want of memory once more.
 //! It prints the same where one allocation of a run is refused, whichever it is.
 
 ghost use Rattle.std.specs.Prelude.{◌≡◌, IfOk, IsTrue};
@@ -17,7 +17,7 @@ use kernel::{Done, run};
 use lower::{Image, lower};
 use mapcheck::{Accepted, check};
 use outline::{Outlined, outline};
-use pipeline::run_source;
+use pipeline::{run_source, run_source_fine};
 use report::log_text;
 use std::alloc::{AllocError, Global};
 use std::io;
@@ -193,6 +193,33 @@ fn from_bytes(alloc: Global) -> Result<Answer, SourceFault> {
     }
 }
 
+fn by_actions(alloc: Global) -> Result<Answer, SourceFault> {
+    match run_source_fine(
+        alloc,
+        SOURCE.as_bytes(),
+        &INPUT,
+        &[2, 1, 0, 2, 1, 1],
+        CAPACITY,
+    ) {
+        Ok(answer) => Ok(answer),
+        Err(_) => run_source_fine(
+            alloc,
+            SOURCE.as_bytes(),
+            &INPUT,
+            &[2, 1, 0, 2, 1, 1],
+            CAPACITY,
+        ),
+    }
+}
+
+// The output alone.
+fn told_output<W: Write>(answer: Result<Answer, SourceFault>, out: &mut W) -> io::Result<()> {
+    match answer {
+        Err(fault) => writeln!(out, "{fault}"),
+        Ok(answer) => out.write_all(&answer.out),
+    }
+}
+
 fn told<W: Write>(answer: Result<Answer, SourceFault>, out: &mut W) -> io::Result<()> {
     match answer {
         Err(fault) => writeln!(out, "{fault}"),
@@ -282,5 +309,6 @@ pub(crate) fn tell<W: Write>(alloc: Global, out: &mut W) -> io::Result<()> {
         Ok(program) => tell_program(alloc, &program, out)?,
         Err(fault) => told(Err(SourceFault::Read(fault)), out)?,
     }
-    told(from_bytes(alloc), out)
+    told(from_bytes(alloc), out)?;
+    told_output(by_actions(alloc), out)
 }

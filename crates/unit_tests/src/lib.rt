@@ -18,6 +18,8 @@ mod present_tests;
 #[cfg(test)]
 mod report_tests;
 #[cfg(test)]
+mod rooms;
+#[cfg(test)]
 mod rows;
 #[cfg(test)]
 mod sources;
