@@ -70,3 +70,9 @@ nothing_next p now s at over choices =
     sym (ap (λ (es : List Event). slice_get es (first_or_zero choices % length es))
     (none_after p s at.here
     (at.place ∙ ap (λ v. place_of v now.graph.place) over ∙ ap (λ n. n + 1) (at.ended over).0) (at.ended over).1))
+
+pub nothing_enabled : (p : Plan) (now : Standing) (s : State) → IsAt p now s → now.ended ≡ true → (e : Event) →
+    enabled p s e ≡ true → ⊥
+nothing_enabled p now s at over =
+    nothing_more p s at.here
+    (at.place ∙ ap (λ v. place_of v now.graph.place) over ∙ ap (λ n. n + 1) (at.ended over).0) (at.ended over).1

@@ -38,6 +38,11 @@ mod NoneNext
 mod HasRuns
 mod AfterEnd
 mod StepActs
+mod MayHappen
 mod PlaceBound
+mod Within
+mod NewRuns
+mod GoesOn
 mod Plays
 mod Fines
+mod MayDo

@@ -7,3 +7,8 @@ pub mod Opening
 pub mod Standing
 pub mod Taking
 pub mod Answering
+pub mod Run
+pub mod Running
+pub mod Leading
+pub mod Sides
+pub mod SideLaws

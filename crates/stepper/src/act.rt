@@ -58,7 +58,7 @@ fn alone(cell: Cell) -> Section
 }
 
 // The number of a cell, 0 where the memory does not have it.
-fn number_of(host: &Memory, cell: Cell) -> u64
+pub fn number_of(host: &Memory, cell: Cell) -> u64
     ensures { result ≡ memory_of host.now cell }
 {
     if !has_cell(host, cell) {

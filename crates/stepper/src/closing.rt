@@ -48,7 +48,7 @@ impl<'p> Standing<'p> {
         requires inside { item < length self.old.slots.items }
         requires going { self.old.ended ≡ false }
         ensures closed { OnOk result (FollowsOfKind kind item self.old (event.Close item) self.new) }
-        ensures devices { OnOk result (self.new.devices ≡ self.old.devices) }
+        ensures devices { self.new.devices ≡ self.old.devices }
     {
         let slot = replace(&mut self.slots[item as usize], Slot::Nothing);
         match &slot {

@@ -14,8 +14,8 @@ use mapcheck::check;
 use outline::Outlined;
 use std::alloc::{AllocError, Global};
 
-// The arrays that are marked current where the program is accepted, and none where it is refused. The error is that it has
-// a fault of range, or want of memory.
+/// The arrays that are marked current where the program is accepted, and none where it is refused. The error is
+/// `RangeRefused` where it has a fault of range, or `OutOfMemory`.
 pub fn shown_of(alloc: Global, outlined: &Outlined<'_>) -> Result<Vec<ArrayId>, RunFault>
     ensures shown { IfOk result (λ arrays. AreShown outlined.now arrays.items) }
     ensures fault { IfErr result (IsShownFault outlined.now) }

@@ -47,7 +47,7 @@ impl<'p> Standing<'p> {
         requires sections { AreSections it.now.maps.items }
         ensures opened { (r : Option Region) → IsRegion region.entry r → OnOk result (FollowsOf it.now r item self.old (event.Open item) self.new) }
         ensures fault { (r : Option Region) → IsRegion region.entry r → IfErr result (IsOpenFault it.now r item self.old) }
-        ensures devices { OnOk result (self.new.devices ≡ self.old.devices) }
+        ensures devices { self.new.devices ≡ self.old.devices }
     {
         let opened = open(
             alloc,

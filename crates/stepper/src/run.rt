@@ -1,16 +1,19 @@
 // A whole run by choices.
 
-ghost use Rattle.std.specs.Prelude.{IfErr, IfOk};
+ghost use Rattle.std.specs.Prelude.{◌≡◌, IfErr, IfOk, drop, length};
+ghost use Rattle.base.specs.Items.{plan};
 ghost use Rattle.base.specs.Limits.{AreShort};
-ghost use Rattle.stepper.specs.Answering.{IsAnswerOf, IsFineAnswer, IsFineFault};
+ghost use Rattle.stepper.specs.Answering.{IsAnswerOf, IsFineAnswer, IsFineFault, next_by};
+ghost use Rattle.stepper.specs.Run.{IsGoing, state_of};
+ghost use Rattle.stepper.specs.Running.{IsAnswerAt};
 
+use crate::fine_run::FineRun;
 use crate::marked::{finals_of, shown_of};
 use crate::standing::Standing;
-use crate::taking::take;
 use base::fault::RunFault;
 use base::item::{Answer, Event};
 use base::tree::ArrayId;
-use device::{are_numbers, text_of};
+use device::text_of;
 use outline::Outlined;
 use std::alloc::{AllocError, Global};
 
@@ -32,6 +35,26 @@ fn answer_of(
     })
 }
 
+impl<'p> FineRun<'p> {
+    /// Of the events that may happen next, the one that the next choice takes, counted around.
+    pub fn next_event(&self, choices: &[u32]) -> Option<Event>
+        requires { IsGoing self.now }
+        ensures { result ≡ next_by (plan self.now.program) (state_of self.now) (drop (length self.now.history) choices.now) }
+    {
+        let _items = self.outlined.items();
+        self.standing.next_event(choices, self.history.len())
+    }
+
+    // What it has printed, the numbers of these arrays, and its events.
+    fn answer(self, arrays: &[ArrayId]) -> Result<Answer, AllocError>
+        requires { IsGoing self }
+        ensures { IfOk result (IsAnswerAt self.entry arrays.now) }
+    {
+        let history = self.history;
+        answer_of(self.alloc, &self.standing, arrays, history)
+    }
+}
+
 /// Runs a program on the fine-grained machine by these choices, on devices each with room for `capacity` cells, whether it
 /// is accepted or not. At each turn the next choice picks among the events that may happen, counted around: for each open
 /// item, ascending, its next action or its closing; the openings by ascending item; and what the host may do. The answer
@@ -51,19 +74,13 @@ pub fn run_fine<'p>(
     ensures fault { IfErr result (IsFineFault outlined.now input.now choices.now capacity) }
 {
     let arrays = shown_of(alloc, outlined)?;
-    are_numbers(input);
-    let Ok(mut standing) = Standing::new(alloc, outlined, input, capacity) else {
-        return Err(RunFault::OutOfMemory);
-    };
-    let _items = outlined.items();
-    let mut history: Vec<Event> = Vec::new(alloc);
-    while let Some(event) = standing.next_event(choices, history.len()) {
-        if history.push(event).is_err() {
-            return Err(RunFault::OutOfMemory);
-        }
-        take(alloc, outlined, &mut standing, event)?;
+    let mut run = FineRun::new(alloc, outlined, input, capacity)?;
+    while let Some(event) = run.next_event(choices) {
+        run.has_come();
+        run.take(event)?;
     }
-    match answer_of(alloc, &standing, &arrays, history) {
+    run.has_come();
+    match run.answer(&arrays) {
         Ok(answer) => Ok(answer),
         Err(_) => Err(RunFault::OutOfMemory),
     }

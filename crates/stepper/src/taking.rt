@@ -38,7 +38,7 @@ pub fn take<'p>(
     requires able { IsAble (plan outlined.now) standing.old event }
     ensures done { OnOk result (Does (plan outlined.now) standing.old event standing.new) }
     ensures fault { (capacity : ℕ) → HaveRoom standing.old.devices capacity → IfErr result (IsTakeFault capacity (plan outlined.now) standing.old event) }
-    ensures kept { OnOk result (AreKept standing.old.devices standing.new.devices) }
+    ensures kept { AreKept standing.old.devices standing.new.devices }
 {
     match event {
         Event::Gen(item) => match standing.generate(alloc, item) {
