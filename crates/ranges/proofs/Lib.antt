@@ -16,4 +16,11 @@ pub mod ItemParts
 pub mod SeenAgainTests
 pub mod SeenTwice
 pub mod FirstTurns
+pub mod StraightTouches
+pub mod Swaps
+pub mod Pulls
+pub mod SlideRuns
+pub mod SlideOrder
+pub mod SlideTurns
+pub mod SlidingTurns
 pub mod LeastRuns

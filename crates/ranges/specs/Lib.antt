@@ -2,6 +2,8 @@ pub mod Faults
 pub mod Rows
 pub mod Cells
 pub mod Seen
+pub mod Straight
+pub mod Slides
 pub mod Found
 pub mod ItemFaults
 pub mod Deciding

@@ -144,6 +144,11 @@ impl CellSet {
 }
 
 impl Footprint {
+    // Where its sets have their memory.
+    pub(crate) fn alloc(&self) -> Global {
+        self.read.alloc
+    }
+
     /// Nothing is touched.
     pub(crate) fn new(alloc: Global) -> Footprint
         ensures exposed { has result.exposed ≡ (λ c. false) }

@@ -23,15 +23,21 @@ use base::tree::{Place, Program, Region};
 use std::alloc::Global;
 use thiserror::Error;
 
+mod access;
 mod cells;
 mod clones;
 mod contents;
 mod deciding;
 mod least;
+mod offsets;
 mod reached;
 mod row;
 mod section;
+mod slide;
+mod slides;
+mod sliding;
 mod state;
+mod straight;
 mod turns;
 mod walk;
 
@@ -75,15 +81,19 @@ pub fn sections(program: &Program, item: &Item) -> Result<(), RangeFault>
 
 /// The cells that a region may touch, found instance by instance: each turn of each loop, and of an `if` whose condition
 /// is known the one branch that it takes. The loops around the region have these values, the outermost first. Of a loop
-/// that no subscript and no condition names the first turn is walked alone, since the others touch the same.
+/// that no subscript and no condition names the first turn is walked alone, since the others touch the same. No turn is
+/// walked of a loop of step 1 that has neither loops nor conditions in it, and in whose subscripts its name alone stands,
+/// or with fixed values that are added or subtracted: numbers, names of loops around it, and sums, differences and
+/// products of these.
 ///
 /// The error is E303 at the region's first token where its loops have more than 1,048,576 turns, and then nothing is
 /// walked; else E301 at the least place, by line and then by column, of the array name of a subscript that can leave
 /// its array. An array that the program does not have is left by each subscript.
 ///
 /// It takes time for each turn that is walked and each subscript, and for the cells of a subscript's interval, unless all
-/// of them lie in the one run of cells that is kept for an array. It takes four bits of memory for each cell of an array
-/// up to the last one touched.
+/// of them lie in the one run of cells that is kept for an array; of a loop no turn of which is walked, for the cells that
+/// it touches and for pairs of its accesses. It takes four bits of memory for each cell of an array up to the last one
+/// touched.
 pub fn footprint(
     alloc: Global,
     program: &Program,

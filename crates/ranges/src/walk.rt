@@ -12,11 +12,15 @@ use crate::cells::Footprint;
 use crate::deciding::telling_turns;
 use crate::least::note_place;
 use crate::state::Walk;
+use crate::straight::accesses_of;
 use base::fault::Interval;
 use base::item::LoopValues;
 use base::tree::{ArrayId, Bounds, Expr, Place, Program, Region, Source, Stmt};
 use c_interval::interval;
 use std::alloc::{AllocError, Global};
+
+// From how many values of its name on the accesses of a loop's body are listed.
+const MANY_TURNS: u64 = 16;
 
 // Whether cells up to this one leave their array.
 fn leaves(lengths: &[u32], array: ArrayId, cells: Interval) -> bool
@@ -27,7 +31,7 @@ fn leaves(lengths: &[u32], array: ArrayId, cells: Interval) -> bool
 }
 
 impl Walk {
-    fn note_read(
+    pub(crate) fn note_read(
         &mut self,
         lengths: &[u32],
         array: ArrayId,
@@ -47,7 +51,7 @@ impl Walk {
         found.read.add(array, cells)
     }
 
-    fn note_write(
+    pub(crate) fn note_write(
         &mut self,
         lengths: &[u32],
         array: ArrayId,
@@ -153,7 +157,7 @@ fn walk_stmt(
         Stmt::Block(all) => walk_all(all, certain, lengths, loops, walk),
         Stmt::Loop(bounds, body) => {
             let telling = telling_turns(*bounds, body, loops.len());
-            walk_turns(telling, body, certain, lengths, loops, walk)
+            walk_loop(telling, body, certain, lengths, loops, walk)
         }
         Stmt::If(c, first, second) => {
             walk_expr(c, certain, lengths, loops, walk)?;
@@ -200,6 +204,28 @@ fn walk_all(
         walk_stmt(s, certain, lengths, loops, walk)?;
     }
     Ok(())
+}
+
+// A loop. Where it has many turns, and its body neither loops nor conditions, the accesses of the body are listed once.
+#[cycle(walk)]
+fn walk_loop(
+    bounds: Bounds,
+    body: &[Stmt],
+    certain: bool,
+    lengths: &[u32],
+    loops: &mut Vec<u64>,
+    walk: &mut Walk,
+) -> Result<(), AllocError>
+    ensures loops { OnOk result (loops.new.items ≡ loops.old.items) }
+    ensures seen { OnOk result (seen_in walk.new ≡ after lengths.now (turns_from bounds.first bounds body.now loops.old.items certain) (seen_in walk.old)) }
+{
+    if bounds.end.saturating_sub(bounds.first) >= MANY_TURNS {
+        let alloc = walk.found.alloc();
+        if let Some(accesses) = accesses_of(alloc, body)? {
+            return walk.note_loop(alloc, lengths, bounds, &accesses, loops, certain);
+        }
+    }
+    walk_turns(bounds, body, certain, lengths, loops, walk)
 }
 
 // Each turn of a loop.

@@ -15,7 +15,7 @@ walk_stmt-returns-in-Loop-clause-seen t c =
     (told_Loop c.args.lengths.now c.args.s.now c.in-Loop.bounds c.telling_turns-telling.result c.in-Loop.body _ _
     c.args.loops.now.items c.args.certain (seen_in c.args.walk.now) c.len.result c.in-Loop.is
     c.deref-in-Loop.ensures.value c.deref-in-Loop-2.ensures.value (search rules) c.telling_turns-telling.ensures)
-    c.walk_turns.ensures.seen
+    c.walk_loop.ensures.seen
 
 pub walk_all-loop-s-preserved : goal.walk_all-loop-s-preserved
 walk_all-loop-s-preserved t c = record {

@@ -1,0 +1,78 @@
+// Loops over a straight body, in each turn of which all cells move on by one, or not.
+
+ghost use Rattle.std.specs.Prelude.{◌≡◌, ◌-◌, ◌<◌, IfOk, IfSome, OnOk};
+ghost use Rattle.ranges.specs.Seen.{after, seen_in};
+ghost use Rattle.ranges.specs.Slides.{AllFit, AreSlidesOf, Fits, IsSlideOf};
+ghost use Rattle.ranges.specs.Straight.{turns_at};
+
+use crate::access::Access;
+use crate::offsets::first_value;
+use crate::slide::Slide;
+use crate::state::Walk;
+use base::tree::Bounds;
+use std::alloc::{AllocError, Global};
+
+// An access whose cell moves on by one in each turn, and stays in its array.
+fn slide_of(lengths: &[u32], access: &Access<'_>, loops: &[u64], bounds: Bounds) -> Option<Slide>
+    requires { bounds.first < bounds.end }
+    ensures is { IfSome result (IsSlideOf loops.now bounds access.now) }
+    ensures fits { IfSome result (Fits lengths.now (bounds.end - bounds.first)) }
+{
+    let start = first_value(access.subscript, loops, bounds)?;
+    let end = start.checked_add(bounds.end - bounds.first)?;
+    let length = lengths.get(access.array.0 as usize).copied().unwrap_or(0);
+    if end > u64::from(length) {
+        return None;
+    }
+    Some(Slide {
+        array: access.array,
+        place: access.place,
+        start,
+        writes: access.writes,
+    })
+}
+
+// The same of each access, where it holds of each.
+fn slides_of(
+    alloc: Global,
+    lengths: &[u32],
+    accesses: &[Access<'_>],
+    loops: &[u64],
+    bounds: Bounds,
+) -> Result<Option<Vec<Slide>>, AllocError>
+    requires { bounds.first < bounds.end }
+    ensures are { IfOk result (λ some. IfSome some (λ slides. AreSlidesOf loops.now bounds accesses.now slides.items)) }
+    ensures fit { IfOk result (λ some. IfSome some (λ slides. AllFit lengths.now (bounds.end - bounds.first) slides.items)) }
+{
+    let mut slides = Vec::new(alloc);
+    for access in accesses {
+        let Some(slide) = slide_of(lengths, access, loops, bounds) else {
+            return Ok(None);
+        };
+        slides.push(slide)?;
+    }
+    Ok(Some(slides))
+}
+
+impl Walk {
+    /// The accesses in each turn of a loop, in a few steps for each access where all cells move on by one.
+    pub fn note_loop(
+        &mut self,
+        alloc: Global,
+        lengths: &[u32],
+        bounds: Bounds,
+        accesses: &[Access<'_>],
+        loops: &mut Vec<u64>,
+        certain: bool,
+    ) -> Result<(), AllocError>
+        ensures loops { OnOk result (loops.new.items ≡ loops.old.items) }
+        ensures seen { OnOk result (seen_in self.new ≡ after lengths.now (turns_at bounds.first bounds accesses.now loops.old.items certain) (seen_in self.old)) }
+    {
+        if bounds.step == 1 && bounds.first < bounds.end {
+            if let Some(mut slides) = slides_of(alloc, lengths, accesses, loops, bounds)? {
+                return self.note_slides(lengths, &mut slides, bounds.end - bounds.first, certain);
+            }
+        }
+        self.note_turns(lengths, bounds, accesses, loops, certain)
+    }
+}
