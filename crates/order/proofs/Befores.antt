@@ -1,14 +1,11 @@
 -- The first step from an item, and the last step to one.
 use Rattle.std.proofs.Common.{◌≡◌, ℕ, zero, suc, ◌<◌, Bool, true, false, List, [], ◌∷◌, length, get_or, refl, sym, ap, ap₂, ◌∙◌, subst, inl, inr, ◌⊎◌, ⊎_elim, Option, Some, None, arith}
-use Rattle.std.specs.Prelude.{slice_get, option_map, not, ◌||◌, ◌&&◌, ◌==◌, nat_lt}
-use Rattle.std.specs.List.{list_any}
-use Rattle.std.proofs.lemmas.Bool.{and_from, and_parts, eqb-true, ltb-true, lt-ltb, or_cases, or_left, or_right}
-use Rattle.std.proofs.lemmas.List.{nil_from_length}
+use Rattle.std.specs.Prelude.{slice_get, option_map, not, ◌||◌, ◌&&◌, nat_lt}
+use Rattle.std.proofs.lemmas.Bool.{and_from, and_parts, ltb-true, lt-ltb, or_cases, or_left, or_right}
 use Rattle.std.proofs.lemmas.Option.{slice_get-get_or, slice_get-map, slice_get_read, slice_get_within}
-use Rattle.base.specs.declared.item.Depend.{Depend}
 use Rattle.base.specs.declared.item.Item.{Item}
 use Rattle.base.specs.Items.{Work, Plan}
-use Rattle.base.specs.Machine.{is_predecessor, match_depends}
+use Rattle.base.specs.Machine.{is_predecessor}
 use Rattle.base.specs.Order.{Before, in_line, after_predecessor, through}
 use Rattle.order.specs.Bare.{bare, plan_of}
 use Rattle.order.specs.Rows.{do_match, is_bare_wait, match_at, waits_at}
@@ -36,29 +33,9 @@ pub one_read : (its : List Item) (k : ℕ) (c : Item) (f : Work → Bool) → k 
     ask_one (slice_get (plan_of its).items k) f ≡ f (bare c)
 one_read its k c f lt is = ap (λ o. ask_one o f) (item_there its k c lt is)
 
-item_at : (its : List Item) (k : ℕ) (c : Item) → k < length its →
+pub item_at : (its : List Item) (k : ℕ) (c : Item) → k < length its →
     slice_get (plan_of its).items k ≡ Some (bare (get_or its k c))
 item_at its k c lt = slice_get-map bare its k ∙ ap (option_map bare) (slice_get-get_or its k c lt)
-
--- of depend items that are read
-pub match_read : (its : List Item) (i j : ℕ) (a b : Item) (ds es : List Depend) → i < length its → j < length its →
-    ds ≡ (get_or its i a).depends.items → es ≡ (get_or its j b).depends.items →
-    match_at (plan_of its) i j ≡ list_any (λ d. list_any (match_depends d) es) ds
-match_read its i j a b ds es p q e f =
-    ap₂ (λ o r. ask o r do_match) (item_at its i a p) (item_at its j b q)
-    ∙ sym (ap₂ (λ (xs ys : List Depend). list_any (λ d. list_any (match_depends d) ys) xs) e f)
-
-none_match : (v : Work) (p : Option Work) → v.depends ≡ [] → ask (Some v) p do_match ≡ false
-none_match v None e = refl
-none_match v (Some w) e = ap (λ ds. list_any (λ d. list_any (match_depends d) w.depends) ds) e
-
--- an item without depend items
-pub never_matches : (its : List Item) (i j : ℕ) (a : Item) → i < length its →
-    (length (get_or its i a).depends.items == 0) ≡ true → match_at (plan_of its) i j ≡ false
-never_matches its i j a lt none =
-    ap (λ o. ask o (slice_get (plan_of its).items j) do_match) (item_at its i a lt)
-    ∙ none_match (bare (get_or its i a)) (slice_get (plan_of its).items j)
-    (nil_from_length (get_or its i a).depends.items (eqb-true (length (get_or its i a).depends.items) 0 none))
 
 -- item k is before item j with no item between them
 pub record Leads (plan : Plan) (k j : ℕ) : Type 0 where

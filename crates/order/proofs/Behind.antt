@@ -1,7 +1,7 @@
 -- Sections none of which overlap without being identical.
-use Rattle.std.proofs.Common.{append-nil, ◌≡◌, ℕ, ◌+◌, ◌-◌, ◌<◌, ◌≤◌, true, zero, suc, List, [], ◌∷◌, ◌++◌, length, get_or, take, map, refl, sym, ap, ap₂, ◌∙◌, subst, ⊎_elim, None, arith}
-use Rattle.std.specs.Prelude.{Bool, Contains, Option, Some, IsTrue, slice_get, false}
-use Rattle.std.specs.List.{AllAdjacentBelow, IsAllAdjacentAnswer}
+use Rattle.std.proofs.Common.{append-nil, ◌≡◌, ℕ, ◌+◌, ◌<◌, ◌≤◌, true, List, [], ◌∷◌, ◌++◌, length, get_or, take, map, refl, sym, ap, ap₂, ◌∙◌, ⊎_elim, None, arith}
+use Rattle.std.specs.Prelude.{Bool, Contains, Option, Some, IsTrue, slice_get}
+use Rattle.std.specs.List.{IsAllAdjacentAnswer}
 use Rattle.std.proofs.lemmas.Bool.{cases_lt}
 use Rattle.std.proofs.lemmas.Bool.Decides.{nat_tests}
 use Rattle.std.proofs.lemmas.List.{get_or_default, get_or-map, length-map, take_more}
@@ -16,14 +16,16 @@ use Rattle.base.specs.declared.item.Section.{Section}
 use Rattle.base.specs.Least.{lesser}
 use Rattle.order.specs.Apart.{AreApart, is_same_or_behind, sections_of}
 use Rattle.order.specs.Clashes.{clash_at, clash_of, least_clash, least_of_all, least_of_one, IsFirstFound, NoClashBelow}
+use Rattle.order.proofs.Chains.{all_pairs}
 use Rattle.order.proofs.Found.{clash_in}
 
 -- ---- neighbours
 
-same_is : (s : Section) → is_same_or_behind s s ≡ true
+pub same_is : (s : Section) → is_same_or_behind s s ≡ true
 same_is s = grind (arith, nat_tests)
 
-behind_behind : (s t u : Section) → is_same_or_behind s t ≡ true → is_same_or_behind t u ≡ true → is_same_or_behind s u ≡ true
+pub behind_behind : (s t u : Section) → is_same_or_behind s t ≡ true → is_same_or_behind t u ≡ true →
+    is_same_or_behind s u ≡ true
 behind_behind s t u p q = grind (arith, nat_tests)
 
 none_behind : (s t : Section) → is_same_or_behind s t ≡ true → clash_of s t ≡ None
@@ -34,42 +36,21 @@ none_before : (s t : Section) → is_same_or_behind s t ≡ true → clash_of t 
 unfolding clash_of
 none_before s t p = grind (arith, nat_tests)
 
-abbrev Rise : List Section → Type 0
-Rise ss = AllAdjacentBelow (λ s t. true ≡ is_same_or_behind s t) ss (length ss)
-
-all_behind : (ss : List Section) (i k : ℕ) (d : Section) → Rise ss → i + k < length ss →
-    is_same_or_behind (get_or ss i d) (get_or ss (i + k) d) ≡ true
-all_behind ss i zero d h lt =
-    subst (λ n. is_same_or_behind (get_or ss i d) (get_or ss n d) ≡ true) {x = i} {y = i + 0} (omega arith)
-    (same_is (get_or ss i d))
-all_behind ss i (suc k) d h lt =
-    behind_behind (get_or ss i d) (get_or ss (i + k) d) (get_or ss (i + suc k) d) (all_behind ss i k d h (omega (arith, lt)))
-    (subst (λ n. is_same_or_behind (get_or ss (i + k) d) (get_or ss n d) ≡ true) {x = (i + k) + 1} {y = i + suc k} (omega arith)
-    (sym (h (i + k) d (omega (arith, lt)))))
-
 -- sections of which each is the next one, or lies before it
-pub rise_apart : (ss : List Section) → Rise ss → AreApart ss
-rise_apart ss h s t (i, lt, is) (j, lt', is') = ⊎_elim
-    (λ (before : i < j). none_behind s t
-    (subst (λ (u : Section). is_same_or_behind s u ≡ true) at_j
-    (subst (λ (u : Section). is_same_or_behind u (get_or ss j s) ≡ true) is (far i j (omega (arith, before)) lt'))))
-    (λ (behind : j ≤ i). none_before t s
-    (subst (λ (u : Section). is_same_or_behind u s ≡ true) at_j
-    (subst (λ (u : Section). is_same_or_behind (get_or ss j s) u ≡ true) is (far j i behind lt))))
+pub sorted_apart : (ss : List Section) (r : Bool) → IsAllAdjacentAnswer (λ s t b. b ≡ is_same_or_behind s t) ss r →
+    IsTrue r → AreApart ss
+sorted_apart ss r h e s t (i, lt, is) (j, lt', is') = ⊎_elim
+    (λ (before : i < j). none_behind s t (both i j is at_j (omega (arith, before)) lt'))
+    (λ (behind : j ≤ i). none_before t s (both j i at_j is behind lt))
     (cases_lt i j)
   where
     at_j : get_or ss j s ≡ t
     at_j = get_or_default ss j s t lt' ∙ is'
 
-    far : (a b : ℕ) → a ≤ b → b < length ss → is_same_or_behind (get_or ss a s) (get_or ss b s) ≡ true
-    far a b le lt =
-        subst (λ n. is_same_or_behind (get_or ss a s) (get_or ss n s) ≡ true) {x = a + (b - a)} {y = b} (omega (arith, le))
-        (all_behind ss a (b - a) s h (omega (arith, le, lt)))
-
-pub sorted_apart : (ss : List Section) (r : Bool) → IsAllAdjacentAnswer (λ s t b. b ≡ is_same_or_behind s t) ss r →
-    IsTrue r → AreApart ss
-sorted_apart ss true h e = rise_apart ss h
-sorted_apart ss false h e = cc
+    both : (a b : ℕ) {u v : Section} → get_or ss a s ≡ u → get_or ss b s ≡ v → a ≤ b → b < length ss →
+        is_same_or_behind u v ≡ true
+    both a b at_a at_b le lt =
+        sym (ap₂ is_same_or_behind at_a at_b) ∙ all_pairs is_same_or_behind same_is behind_behind ss r h e a b s le lt
 
 -- ---- items
 

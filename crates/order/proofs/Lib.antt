@@ -6,4 +6,9 @@ pub mod Members
 pub mod Alike
 pub mod Least
 pub mod Faults
+pub mod Chains
 pub mod Behind
+pub mod Turns
+pub mod Touched
+pub mod Walked
+pub mod Overwritten

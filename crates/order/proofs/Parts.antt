@@ -6,7 +6,7 @@ use Rattle.base.specs.Items.{Plan}
 use Rattle.base.specs.Order.{Before, in_line, through}
 use Rattle.bits.specs.Sets.{has}
 use Rattle.order.specs.declared.rows.Row.{Row}
-use Rattle.order.specs.Rows.{HasMatches, HasWaits, IsNextWait, IsPart, IsRow, is_in, match_at, waits_at}
+use Rattle.order.specs.Rows.{HasMatches, HasWaits, IsNextWait, IsPart, IsRow, is_in, waits_at}
 use Rattle.order.proofs.Befores.{Leads, FirstStep, ask_one, first_step, led, led_by, later_inside, is_earlier, wait_inside, wait_leads}
 
 pub in_place : (r : Row) (j : ℕ) → r.place ≤ j → is_in r j ≡ true
@@ -99,15 +99,6 @@ module _ (plan : Plan) (i : ℕ) where
   no_waits r m next past j later wait =
       let inside : j < length plan.items = wait_inside plan j wait in
       absurd (is_false (waits_at plan j) (next.first_one j (omega arith) (omega arith)) wait)
-
-  -- one item more was asked
-  pub asked_more : (next : ℕ) (old new : Row) → ((k : ℕ) → is_in old k ≡ true → is_in new k ≡ true) →
-      ((k : ℕ) → i < k → k < next → match_at plan i k ≡ true → is_in old k ≡ true) →
-      (match_at plan i next ≡ true → is_in new next ≡ true) →
-      (k : ℕ) → i < k → k < next + 1 → match_at plan i k ≡ true → is_in new k ≡ true
-  asked_more next old new more asked here k later lt m = ⊎_elim (λ (below : k < next). more k (asked k later below m))
-      (λ (le : next ≤ k). let same : next ≡ k = omega (arith, le, lt) in
-      subst (λ n. is_in new n ≡ true) same (here (subst (λ n. match_at plan i n ≡ true) (sym same) m))) (cases_lt k next)
 
   -- a row with the same items
   pub waits_kept : (old new : Row) → ((k : ℕ) → is_in old k ≡ true → is_in new k ≡ true) → HasWaits plan i old → HasWaits plan i new

@@ -3,7 +3,9 @@ use Rattle.std.specs.Prelude.{ℕ, ◌≡◌, ◌<◌, ◌≤◌, Bool, true, fa
 use Rattle.std.specs.List.{list_any}
 use Rattle.base.specs.Items.{Work, Plan}
 use Rattle.base.specs.Limits.{most_items}
-use Rattle.base.specs.Machine.{is_empty, is_wait, match_depends, on_item}
+use Rattle.base.specs.declared.item.Depend.{Depend}
+use Rattle.base.specs.Machine.{is_empty, is_wait, match_depends, on_item, writes_to}
+use Rattle.base.specs.Memory.{same_section}
 use Rattle.base.specs.Order.{Before, IsAfterAll}
 use Rattle.bits.specs.Sets.{has}
 use Rattle.order.specs.declared.rows.Row.{Row}
@@ -21,6 +23,18 @@ waits_at plan j = on_item plan j false is_bare_wait
 
 abbrev pub match_at : Plan → ℕ → ℕ → Bool
 match_at plan i j = on_item plan i false (λ earlier. on_item plan j false (do_match earlier))
+
+-- a depend item matches one of item j
+abbrev pub match_of : Plan → Depend → ℕ → Bool
+match_of plan d j = on_item plan j false (λ w. list_any (match_depends d) w.depends)
+
+-- what the depend item matches item i matches, as where it is one of item i's
+abbrev pub IsDependOf : Plan → ℕ → Depend → Type 0
+IsDependOf plan i d = (j : ℕ) → match_of plan d j ≡ true → match_at plan i j ≡ true
+
+-- one of the depend items writes the section of d
+abbrev pub overwrite : List Depend → Depend → Bool
+overwrite es d = list_any (λ e. writes_to e.kind && same_section e.section d.section) es
 
 -- the least item from one on that is a `taskwait` without a `depend` clause, or the number of items
 pub record IsNextWait (plan : Plan) (first wait : ℕ) : Type 0 where
@@ -60,6 +74,10 @@ HasWaits plan i r = (j : ℕ) → i < j → waits_at plan j ≡ true → is_in r
 -- the row has each item behind item i that one of its depend items leads to
 abbrev pub HasMatches : Plan → ℕ → Row → Type 0
 HasMatches plan i r = (j : ℕ) → i < j → match_at plan i j ≡ true → is_in r j ≡ true
+
+-- the row has each item behind item i that the depend item leads to
+abbrev pub HasMatchesOf : Plan → ℕ → Row → Depend → Type 0
+HasMatchesOf plan i r d = (j : ℕ) → i < j → match_of plan d j ≡ true → is_in r j ≡ true
 
 -- the rows of all items
 pub record IsOrder (plan : Plan) (rows : List Row) : Type 0 where

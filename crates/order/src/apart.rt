@@ -18,8 +18,8 @@ fn sections_of(alloc: Global, items: &[Item]) -> Result<Vec<Section>, AllocError
     Ok(sections)
 }
 
-// Whether the second of two sections is the first, or lies behind it.
-fn is_same_or_behind(left: &Section, right: &Section) -> bool
+/// Whether the second of two sections is the first, or lies behind it.
+pub fn is_same_or_behind(left: &Section, right: &Section) -> bool
     ensures { result ≡ is_same_or_behind left.now right.now }
 {
     left == right

@@ -64,8 +64,8 @@ fn clash_before(items: &[Item], item: u32) -> Option<OrderFault>
     None
 }
 
-/// The clash of the least item that has one with an earlier item. Items whose sections are pairwise disjoint or identical
-/// are sorted by them; from the first item on with which they are not, each pair of items is looked at.
+/// The clash of the least item that has one with an earlier item. It looks at each pair of items from the first item on
+/// with which the sections are not pairwise disjoint or identical.
 pub fn first_clash(alloc: Global, items: &[Item]) -> Result<Option<OrderFault>, AllocError>
     requires { length items.now ≤ most_items }
     ensures { IfOk result (IsFirstFound items.now) }

@@ -19,6 +19,7 @@ use thiserror::Error;
 mod apart;
 mod clash;
 mod rows;
+mod touches;
 
 /// Why a program has no order.
 #[derive(Clone, Copy, Debug, Error)]
@@ -69,11 +70,11 @@ impl<'p> Order<'p> {
     /// identical: at the least later item, then the least earlier one, then the least cell of such an overlap, by array
     /// and then by index. It is `OutOfMemory` where an allocation fails.
     ///
-    /// Where no two sections of depend items overlap without being identical it sorts them. Else, from the first item on
-    /// with which two do, it looks at each pair of items of which one has a `depend` clause. A deferred item with a
-    /// `depend` clause takes besides time for each later item that it is not before, and a bit for each later item up to
-    /// the last that it is before, where others stand between them that it is not before. It takes memory for each item
-    /// and each depend item.
+    /// It sorts the sections of the depend items, and takes memory for each. Of a depend item of a deferred item it asks
+    /// the later items with the same section, up to the first that writes it. A deferred item with a `depend` clause takes
+    /// besides a bit for each later item up to the last that it is before, where others stand between them that it is not
+    /// before. Only where two sections overlap without being identical does it take time for each pair of items of which
+    /// one has a `depend` clause.
     pub fn build(alloc: Global, outlined: &Outlined<'p>) -> Result<Order<'p>, OrderBuildFault>
         requires { SectionsFit (plan outlined.now) }
         ensures program { IfOk result (λ o. o ≡ outlined.now) }

@@ -1,15 +1,12 @@
-use Rattle.std.proofs.Common.{◌≡◌, ◌<◌, ◌-◌, ℕ, true, length}
+use Rattle.std.proofs.Common.{◌≡◌, ℕ, true, take}
+use Rattle.std.specs.List.{All}
 use Rattle.order.specs.Bare.{plan_of}
-use Rattle.order.specs.Rows.{IsPart, is_in, match_at}
+use Rattle.order.specs.Rows.{HasMatchesOf, IsPart, is_in}
 use Rattle.order.proofs.rows.add_matches.Given as goal
 
-abbrev pub invariant-loop-next : goal.invariant-loop-next
-invariant-loop-next l = record {
-  later : l.item < l.next;
+abbrev pub invariant-loop-depend : goal.invariant-loop-depend
+invariant-loop-depend l = record {
   part : IsPart (plan_of l.items) l.item l.row;
   kept : (k : ℕ) → is_in l.initial.row k ≡ true → is_in l.row k ≡ true;
-  asked : (k : ℕ) → l.item < k → k < l.next → match_at (plan_of l.items) l.item k ≡ true → is_in l.row k ≡ true;
+  matches : All (HasMatchesOf (plan_of l.items) l.item l.row) (take l.depend-index l.depends);
 }
-
-abbrev pub decreases-loop-next : goal.decreases-loop-next
-decreases-loop-next l = length l.items - l.next

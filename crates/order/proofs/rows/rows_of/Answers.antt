@@ -20,6 +20,7 @@ loop-item-preserved-then-is_bare_wait c =
     let inside : i < length rows = omega (arith, next, top, all) in
     let size : length (slice_set rows i c.in_ok-rows-2.field-0) ≡ length rows = length-set rows i c.in_ok-rows-2.field-0 in
     record {
+      touches = c.loop-item.invariant.touches;
       many = size ∙ all;
       wait = wait_here p i (omega (arith, many, next, top))
           (one_read its i c.index-items-item.result is_bare_wait (omega (arith, next, top)) c.index-items-item.is
@@ -40,6 +41,7 @@ loop-item-preserved c =
     let inside : i < length rows = omega (arith, next, top, all) in
     let size : length (slice_set rows i c.in_ok-rows-2.field-0) ≡ length rows = length-set rows i c.in_ok-rows-2.field-0 in
     record {
+      touches = c.loop-item.invariant.touches;
       many = size ∙ all;
       wait = wait_later p i c.loop-item.wait
           (one_read its i c.index-items-item.result is_bare_wait (omega (arith, next, top)) c.index-items-item.is
