@@ -1,8 +1,9 @@
 -- Why an item is refused by itself, and the first cause.
-use Rattle.std.specs.Prelude.{ℕ, ◌≡◌, ◌<◌, Bool, true, false, not, nat_lt, ◌&&◌, ◌||◌, ◌==◌, List, Option, Some, None}
+use Rattle.std.specs.Prelude.{ℕ, ◌≡◌, ◌<◌, ◌≤◌, Bool, true, false, not, nat_lt, ◌&&◌, ◌||◌, ◌==◌, List, Option, Some, None}
 use Rattle.std.specs.List.{list_any}
 use Rattle.base.specs.declared.item.Cell.{Cell}
 use Rattle.base.specs.declared.item.ItemKind.{ItemKind}
+use Rattle.base.specs.declared.item.MapItem.{MapItem}
 use Rattle.base.specs.declared.fault.Refusal.{Refusal}
 use Rattle.base.specs.declared.fault.RefusalCode.{RefusalCode}
 use Rattle.base.specs.declared.fault.RefusalCode.TheVariants.{OverlapsInPart, ExitOfAbsent, UpdateOfAbsent, NotPresent, Unmapped, HostNotCurrent, DeviceNotCurrent, Conflict}
@@ -73,3 +74,9 @@ region_causes w k Conflict c = false
 -- each of these cells is one of the first arrays
 abbrev pub AreBelow : ℕ → (Cell → Bool) → Type 0
 AreBelow n cells = (c : Cell) → cells c ≡ true → c.array.0 < n
+
+-- the cells of the array from this one on, up to an end behind it, are in the sections of map items
+pub record AreMapped (maps : List MapItem) (cell : Cell) (end : ℕ) : Type 0 where
+  pub ahead : cell.index < end
+  pub each : (j : ℕ) → cell.index ≤ j → j < end →
+      list_any (λ m. is_in (record { array = cell.array; index = j }) m.section) maps ≡ true

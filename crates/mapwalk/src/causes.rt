@@ -1,6 +1,6 @@
 // Why an item is refused by itself: the least cells.
 
-ghost use Rattle.std.specs.Prelude.{◌≡◌, ◌<◌, ◌^◌, ◌&&◌, ◌||◌, nat_le, not, List, length};
+ghost use Rattle.std.specs.Prelude.{◌≡◌, ◌<◌, ◌^◌, ◌&&◌, ◌||◌, false, nat_le, not, IfNone, IfSome, List, length};
 ghost use Rattle.std.specs.List.{list_any};
 ghost use Rattle.base.specs.Memory.{is_in};
 ghost use Rattle.base.specs.Actions.{Met};
@@ -10,7 +10,7 @@ ghost use Rattle.bits.specs.Sets as bits;
 ghost use Rattle.mapwalk.specs.Current.{AreInside, marks_in, row_lengths};
 ghost use Rattle.bits.specs.Sets.{IsFirstAt};
 ghost use Rattle.base.specs.Least.{IsLeast};
-ghost use Rattle.mapwalk.specs.Causes.{AreBelow, IsFirstOf, cause_at, met_causes};
+ghost use Rattle.mapwalk.specs.Causes.{AreBelow, AreMapped, IsFirstOf, cause_at, met_causes};
 ghost use Rattle.mapwalk.specs.Seen.{nothing, seen_all};
 
 use crate::blocks::end;
@@ -57,16 +57,17 @@ fn has_cell(section: &Section, cell: Cell) -> bool
         && u128::from(cell.index) < end(section)
 }
 
-// Whether a map item has a cell.
-fn is_mapped(maps: &[MapItem], cell: Cell) -> bool
-    ensures { result ≡ list_any (λ m. is_in cell m.section) maps.now }
+// The end of the section of a map item that has a cell.
+fn mapped_end(maps: &[MapItem], cell: Cell) -> Option<u128>
+    ensures none { IfNone result (list_any (λ m. is_in cell m.section) maps.now ≡ false) }
+    ensures some { IfSome result (AreMapped maps.now cell) }
 {
     'maps: for item in maps {
         if has_cell(&item.section, cell) {
-            return true;
+            return Some(end(&item.section));
         }
     }
-    false
+    None
 }
 
 // The first cell of an array, from an index on, that is read or written.
@@ -91,10 +92,10 @@ fn first_unmapped(read: &BitSet, write: &BitSet, maps: &[MapItem], array: ArrayI
             return None;
         };
         let index = i as u64;
-        if !is_mapped(maps, Cell { array, index }) {
+        let Some(behind) = mapped_end(maps, Cell { array, index }) else {
             return Some(i);
-        }
-        from = i + 1;
+        };
+        from = behind.min(end as u128) as usize;
     }
     None
 }

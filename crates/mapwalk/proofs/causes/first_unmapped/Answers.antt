@@ -13,17 +13,18 @@ returns-in_default c =
     (λ j. list_any (λ m. is_in (record { array = c.args.array; index = j }) m.section) c.args.maps.now) c.cells.from
     c.cells.invariant c.in_default.ensures
 
-pub returns-then-not-is_mapped : goal.returns-then-not-is_mapped
-returns-then-not-is_mapped c =
+pub returns-in_default-mapped_end : goal.returns-in_default-mapped_end
+returns-in_default-mapped_end c =
     first_lacking (λ j. has c.args.read.now j || has c.args.write.now j)
     (λ j. list_any (λ m. is_in (record { array = c.args.array; index = j }) m.section) c.args.maps.now) c.cells.from
-    c.cells.invariant c.in-Some.i c.in-Some.ensures (sym c.is_mapped.ensures ∙ c.if-not-is_mapped.true)
+    c.cells.invariant c.in-Some.i c.in-Some.ensures c.in_default-mapped_end.ensures.none
 
 pub cells-preserved : goal.cells-preserved
-cells-preserved c =
-    past_had (λ j. has c.args.read.now j || has c.args.write.now j)
-    (λ j. list_any (λ m. is_in (record { array = c.args.array; index = j }) m.section) c.args.maps.now) c.cells.from
-    c.cells.invariant c.in-Some.i c.in-Some.ensures (sym c.is_mapped.ensures ∙ c.if-not-is_mapped.false)
+cells-preserved c j l =
+    past_had (λ k. has c.args.read.now k || has c.args.write.now k)
+    (λ k. list_any (λ m. is_in (record { array = c.args.array; index = k }) m.section) c.args.maps.now) c.cells.from
+    c.cells.invariant c.in-Some.i c.in-Some-mapped_end.behind c.in-Some.ensures c.in-Some-mapped_end.ensures.some.each j
+    (let lower = c.min-from.ensures in omega (arith, lower, l))
 
 pub returns : goal.returns
 returns c =
