@@ -59,5 +59,5 @@ for source in steps waits; do
     fi
 done
 for items in 2048 4096 8192; do measure cells "$items"; done
-# of these the order looks at each pair
+# of these the order takes a bit for each pair
 for items in 2048 4096 8192; do measure chains "$items"; done

@@ -8,6 +8,10 @@ mod counters_tests;
 #[cfg(test)]
 mod device_tests;
 #[cfg(test)]
+mod fine_tests;
+#[cfg(test)]
+mod footprint_tests;
+#[cfg(test)]
 mod jobs;
 #[cfg(test)]
 mod order_tests;

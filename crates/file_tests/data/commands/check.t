@@ -7,6 +7,9 @@ current A
 current B
 $ ompc check part_updated.c
 accepted
+$ ompc check thousand_kernels.c
+accepted
+current A
 $ ompc check both_read.c
 accepted
 current A
@@ -106,6 +109,9 @@ $ ompc list written_or_not_and_read.c
 ! E506 item 2 A[0]
 [1]
 $ ompc check stale_on_the_device.c
+! E507 item 2 A[0]
+[1]
+$ ompc check thousand_kernels_to.c
 ! E507 item 2 A[0]
 [1]
 $ ompc list stale_on_the_device.c

@@ -1,0 +1,9 @@
+uint64_t A[4];
+int main(void) {
+for (uint64_t i = 0; i < 4; i += 1) { A[i] = i; }
+for (uint64_t k = 0; k < 1000; k += 1) {
+#pragma omp target map(tofrom: A[0:4])
+for (uint64_t i = 0; i < 4; i += 1) { A[i] = A[i] * 2 + 1; }
+}
+for (uint64_t i = 0; i < 4; i += 1) { print(A[i]); }
+}

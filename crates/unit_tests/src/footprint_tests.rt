@@ -1,0 +1,150 @@
+// Footprints of a long loop, whose turns are not walked one by one, beside those of the same turns in two short ones.
+
+use base::item::Cell;
+use base::tree::ArrayId;
+use c_read::read_program;
+use mapcheck::passes::footprints_of;
+use mapwalk::{Footprints, repeats};
+use outline::{Outlined, outline};
+use ranges::{CellSet, Footprint};
+use std::alloc::{AllocError, Global};
+use std::test::Fail;
+
+const BODIES: [&str; 12] = [
+    "A[i] = A[i] + B[i];",
+    "A[i] = A[i - 1];",
+    "A[i] = A[i + 1];",
+    "A[i + 2] = A[i + 1]; A[i] = A[i + 2];",
+    "A[i] = 1; B[i] = A[i];",
+    "B[i] = A[i]; A[i] = 1;",
+    "A[i + 16 * k] = A[16 * k + i + 1] + B[i - k];",
+    "A[i - 2] = B[2 + i]; B[i + 3] = A[i - 1] + A[i - 2];",
+    "A[i] = A[3];",
+    "A[2 * i - i] = A[i] + 1;",
+    "A[i] = A[i - k] + k;",
+    "A[i + k * k - k] = A[i + 1 - k]; A[i + k] = A[i] + A[i + k];",
+];
+
+// Two targets, in which these turns stand in one loop or in two.
+fn source(alloc: Global, body: &str, heads: &[&str]) -> Result<Vec<u8>, AllocError> {
+    let mut text = Vec::new(alloc);
+    text.extend_from_slice(b"uint64_t A[64];\nuint64_t B[64];\nint main(void) {\n")?;
+    text.extend_from_slice(b"for (uint64_t k = 0; k < 2; k += 1) {\n")?;
+    text.extend_from_slice(b"#pragma omp target map(tofrom: A) map(tofrom: B)\n{\n")?;
+    for head in heads {
+        text.extend_from_slice(head.as_bytes())?;
+        text.extend_from_slice(body.as_bytes())?;
+        text.extend_from_slice(b"}\n")?;
+    }
+    text.extend_from_slice(b"}\n}\n}\n")?;
+    Ok(text)
+}
+
+const LONG: [&str; 1] = ["for (uint64_t i = 2; i < 32; i += 1) {"];
+
+const SHORT: [&str; 2] = [
+    "for (uint64_t i = 2; i < 17; i += 1) {",
+    "for (uint64_t i = 17; i < 32; i += 1) {",
+];
+
+// For each cell whether the set has it.
+fn add_cells(set: &CellSet, cells: &mut Vec<bool>) -> Result<(), AllocError> {
+    for array in 0..2 {
+        for index in 0..64 {
+            cells.push(set.contains(Cell {
+                array: ArrayId(array),
+                index,
+            }))?;
+        }
+    }
+    Ok(())
+}
+
+fn add_footprint(found: &Option<Footprint>, cells: &mut Vec<bool>) -> Result<(), AllocError> {
+    if let Some(footprint) = found {
+        add_cells(&footprint.exposed, cells)?;
+        add_cells(&footprint.read, cells)?;
+        add_cells(&footprint.write, cells)?;
+        add_cells(&footprint.sure, cells)?;
+    }
+    Ok(())
+}
+
+fn cells_of(alloc: Global, found: &Footprints) -> Result<Vec<bool>, AllocError> {
+    let mut cells = Vec::new(alloc);
+    for item in 0..found.len() {
+        add_footprint(found.get(item), &mut cells)?;
+    }
+    Ok(cells)
+}
+
+fn all_cells(alloc: Global, outlined: &Outlined<'_>) -> Result<Vec<bool>, Fail> {
+    let found = footprints_of(alloc, outlined, &repeats(alloc, outlined)?)?;
+    Ok(cells_of(alloc, &found)?)
+}
+
+fn touched(alloc: Global, text: &[u8]) -> Result<Vec<bool>, Fail> {
+    let program = read_program(alloc, text)?;
+    let outlined = outline(alloc, &program)?;
+    all_cells(alloc, &outlined)
+}
+
+fn are_alike(alloc: Global, body: &str) -> Result<bool, Fail> {
+    let long = touched(alloc, &source(alloc, body, &LONG)?)?;
+    let short = touched(alloc, &source(alloc, body, &SHORT)?)?;
+    Ok(long.len() == 1024 && long == short)
+}
+
+#[test]
+fn turns_need_not_be_walked(rt: HostRuntime) -> Result<(), Fail> {
+    for body in BODIES {
+        assert!(rt; are_alike(rt.alloc(), body)?);
+    }
+    Ok(())
+}
+
+const EACH_FROM_THE_LAST: &str = "\
+uint64_t A[65536];
+int main(void) {
+for (uint64_t i = 1; i < 65536; i += 1) { A[i] = A[i - 1]; }
+}
+";
+
+// Whether the set has these cells of the array and no others.
+fn is_run(set: &CellSet, first: u64, end: u64) -> bool {
+    for index in 0..65536 {
+        let cell = Cell {
+            array: ArrayId(0),
+            index,
+        };
+        if set.contains(cell) != (first <= index && index < end) {
+            return false;
+        }
+    }
+    true
+}
+
+fn is_known(found: &Option<Footprint>) -> bool {
+    match found {
+        None => false,
+        Some(footprint) => {
+            is_run(&footprint.exposed, 0, 1)
+                && is_run(&footprint.read, 0, 65535)
+                && is_run(&footprint.write, 1, 65536)
+                && is_run(&footprint.sure, 1, 65536)
+        }
+    }
+}
+
+fn first_is_known(alloc: Global, outlined: &Outlined<'_>) -> Result<bool, Fail> {
+    let found = footprints_of(alloc, outlined, &repeats(alloc, outlined)?)?;
+    Ok(found.len() > 0 && is_known(found.get(0)))
+}
+
+#[test]
+fn one_cell_is_exposed(rt: HostRuntime) -> Result<(), Fail> {
+    let program = read_program(rt.alloc(), EACH_FROM_THE_LAST.as_bytes())?;
+    let outlined = outline(rt.alloc(), &program)?;
+    assert!(rt; first_is_known(rt.alloc(), &outlined)?);
+    Ok(())
+}
