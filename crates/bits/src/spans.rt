@@ -1,6 +1,6 @@
 // The members of a set from one number up to another.
 
-ghost use Rattle.std.specs.Prelude.{◌≡◌, ◌+◌, ◌-◌, ◌%◌, ◌^◌, ◌<◌, ◌≤◌, ◌==◌, ◌&&◌, ◌||◌, ◌↔◌, not, ℕ, true, if◌then◌else◌, IsTrue};
+ghost use Rattle.std.specs.Prelude.{◌≡◌, ◌+◌, ◌-◌, ◌/◌, ◌%◌, ◌^◌, ◌<◌, ◌≤◌, ◌==◌, ◌&&◌, ◌||◌, ◌↔◌, not, ℕ, true, if◌then◌else◌, IsTrue};
 ghost use Rattle.bits.specs.Sets.{has, is_from, room, start};
 
 use crate::BitSet;
@@ -112,5 +112,30 @@ impl BitSet {
             }
         }
         count <= self.room()
+    }
+
+    // Whether all numbers of a word are members.
+    #[inline]
+    fn is_full_word(&self, k: usize) -> bool
+        ensures { IsTrue result → (i : ℕ) → i / 64 ≡ k → has self.now i ≡ true }
+    {
+        k < self.end_word() && self.word(k) == u64::MAX
+    }
+
+    /// Whether all numbers from the first up to the end are members. A word that is whole in it takes one step.
+    pub fn has_range(&self, first: usize, end: usize) -> bool
+        ensures { IsTrue result ↔ ((i : ℕ) → first ≤ i → i < end → has self.now i ≡ true) }
+    {
+        let mut i = first;
+        while i < end {
+            if is_whole(i, end) && self.is_full_word(i / 64) {
+                i += 64;
+            } else if self.contains(i) {
+                i += 1;
+            } else {
+                return false;
+            }
+        }
+        true
     }
 }

@@ -48,11 +48,11 @@ all_start x [] h = tt
 all_start x (s ∷ slides) h = (h 0 (omega arith), all_start x slides (λ k lt. h (suc k) (omega (arith, lt))))
 
 -- a list is what stands before a place, at it and behind it
-split_at : (slides : List Slide) (p : ℕ) (s : Slide) → p < length slides → s ≡ get_or slides p s →
-    slides ≡ take p slides ++ s ∷ drop (suc p) slides
-split_at [] p s lt is = absurd (omega (arith, lt))
-split_at (t ∷ slides) zero s lt is = ap (λ (u : Slide). u ∷ slides) (sym is)
-split_at (t ∷ slides) (suc p) s lt is = ap (λ (us : List Slide). t ∷ us) (split_at slides p s (omega (arith, lt)) is)
+pub split_at : {A : Type 0} (xs : List A) (p : ℕ) (x : A) → p < length xs → x ≡ get_or xs p x →
+    xs ≡ take p xs ++ x ∷ drop (suc p) xs
+split_at [] p x lt is = absurd (omega (arith, lt))
+split_at (y ∷ xs) zero x lt is = ap (λ z. z ∷ xs) (sym is)
+split_at (y ∷ xs) (suc p) x lt is = ap (λ zs. y ∷ zs) (split_at xs p x (omega (arith, lt)) is)
 
 start_in_take : (slides : List Slide) (p k : ℕ) → k < length (take p slides) → slice_index (starts (take p slides)) k ≡ slice_index (starts slides) k
 start_in_take slides zero k lt = absurd (omega (arith, lt))

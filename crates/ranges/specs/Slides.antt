@@ -1,5 +1,5 @@
 -- Accesses whose cell moves on by one in each turn of a loop.
-use Rattle.std.specs.Prelude.{ℕ, zero, suc, ◌≡◌, ◌+◌, ◌-◌, ◌<◌, ◌≤◌, Bool, List, [], ◌∷◌, ◌++◌, map, length, slice_index, ◌&&◌, ◌||◌, not, cond, ◌⊎◌}
+use Rattle.std.specs.Prelude.{ℕ, zero, suc, ◌≡◌, ◌+◌, ◌-◌, ◌*◌, ◌<◌, ◌≤◌, min, Bool, List, [], ◌∷◌, ◌++◌, map, length, slice_index, ◌&&◌, ◌||◌, not, cond, ◌⊎◌}
 use Rattle.base.specs.declared.tree.Bounds.{Bounds}
 use Rattle.base.specs.Footprint.{Touch}
 use Rattle.base.specs.Interval.{exactly, interval}
@@ -100,3 +100,13 @@ IsFixed loops e n = (v : ℕ) → interval e (loops ++ v ∷ []) ≡ exactly n
 abbrev pub Slides : List ℕ → Bounds → Expr → ℕ → Type 0
 Slides loops b e start =
     (v : ℕ) → b.first ≤ v → v < b.end → interval e (loops ++ v ∷ []) ≡ exactly (start + (v - b.first))
+
+-- some turns of a loop, and those that come after them
+pub record AreSplit (b now later : Bounds) (turns : ℕ) : Type 0 where
+  pub first : now.first ≡ b.first
+  pub now_step : now.step ≡ b.step
+  pub later_step : later.step ≡ b.step
+  pub meet : later.first ≡ now.end
+  pub end : later.end ≡ b.end
+  pub ahead : b.first < now.end
+  pub middle : now.end ≡ min (b.first + b.step * turns) b.end

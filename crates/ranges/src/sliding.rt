@@ -1,8 +1,8 @@
 // Loops over a straight body, in each turn of which all cells move on by one, or not.
 
-ghost use Rattle.std.specs.Prelude.{◌≡◌, ◌-◌, ◌<◌, IfOk, IfSome, OnOk};
+ghost use Rattle.std.specs.Prelude.{◌≡◌, ◌-◌, ◌<◌, ◌≤◌, IfOk, IfSome, OnOk};
 ghost use Rattle.ranges.specs.Seen.{after, seen_in};
-ghost use Rattle.ranges.specs.Slides.{AllFit, AreSlidesOf, Fits, IsSlideOf};
+ghost use Rattle.ranges.specs.Slides.{AllFit, AreSlidesOf, AreSplit, Fits, IsSlideOf};
 ghost use Rattle.ranges.specs.Straight.{turns_at};
 
 use crate::access::Access;
@@ -54,25 +54,49 @@ fn slides_of(
     Ok(Some(slides))
 }
 
+// So many turns of a loop, and those that come after them.
+fn split(bounds: Bounds, turns: u64) -> (Bounds, Bounds)
+    requires some { bounds.first < bounds.end }
+    requires turns { 1 ≤ turns }
+    ensures { AreSplit bounds result.0 result.1 turns }
+{
+    let Bounds { first, end, step } = bounds;
+    let next = step.checked_mul(turns).and_then(|by| first.checked_add(by));
+    let middle = next.unwrap_or(end).min(end);
+    (Bounds { first, end: middle, step }, Bounds { first: middle, end, step })
+}
+
 impl Walk {
-    /// The accesses in each turn of a loop, in a few steps for each access where all cells move on by one.
+    /// The accesses in each turn of a loop. Those of which nothing new can be seen are left out of the turns that follow, and
+    /// where all cells move on by one, a few steps for each access are all.
     pub fn note_loop(
         &mut self,
         alloc: Global,
         lengths: &[u32],
         bounds: Bounds,
-        accesses: &[Access<'_>],
+        accesses: &mut Vec<Access<'_>>,
         loops: &mut Vec<u64>,
         certain: bool,
     ) -> Result<(), AllocError>
         ensures loops { OnOk result (loops.new.items ≡ loops.old.items) }
-        ensures seen { OnOk result (seen_in self.new ≡ after lengths.now (turns_at bounds.first bounds accesses.now loops.old.items certain) (seen_in self.old)) }
+        ensures seen { OnOk result (seen_in self.new ≡ after lengths.now (turns_at bounds.first bounds accesses.old.items loops.old.items certain) (seen_in self.old)) }
     {
-        if bounds.step == 1 && bounds.first < bounds.end {
-            if let Some(mut slides) = slides_of(alloc, lengths, accesses, loops, bounds)? {
-                return self.note_slides(lengths, &mut slides, bounds.end - bounds.first, certain);
+        let mut rest = bounds;
+        let mut turns = 1;
+        while rest.first < rest.end {
+            if rest.step == 1 {
+                if let Some(mut slides) = slides_of(alloc, lengths, accesses, loops, rest)? {
+                    return self.note_slides(lengths, &mut slides, rest.end - rest.first, certain);
+                }
             }
+            let (now, later) = split(rest, turns);
+            self.note_turns(lengths, now, accesses, loops, certain)?;
+            rest = later;
+            if rest.first < rest.end {
+                self.leave_settled(alloc, lengths, rest, accesses, loops, certain)?;
+            }
+            turns = turns.saturating_mul(2);
         }
-        self.note_turns(lengths, bounds, accesses, loops, certain)
+        Ok(())
     }
 }

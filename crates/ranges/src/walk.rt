@@ -22,8 +22,11 @@ use std::alloc::{AllocError, Global};
 // From how many values of its name on the accesses of a loop's body are listed.
 const MANY_TURNS: u64 = 16;
 
+// From how many values of its name on it is looked whether the turns of a loop that are left can see anything new.
+const SOME_TURNS: u64 = 8;
+
 // Whether cells up to this one leave their array.
-fn leaves(lengths: &[u32], array: ArrayId, cells: Interval) -> bool
+pub(crate) fn leaves(lengths: &[u32], array: ArrayId, cells: Interval) -> bool
     ensures { result ≡ Rattle.ranges.specs.Seen.leaves lengths.now array cells }
 {
     let length = lengths.get(array.0 as usize).copied().unwrap_or(0);
@@ -73,19 +76,19 @@ impl Walk {
     }
 }
 
-fn is_zero(a: Interval) -> bool
+pub(crate) fn is_zero(a: Interval) -> bool
     ensures { result ≡ is_known_zero a }
 {
     a.hi == 0
 }
 
-fn is_nonzero(a: Interval) -> bool
+pub(crate) fn is_nonzero(a: Interval) -> bool
     ensures { result ≡ is_known_nonzero a }
 {
     a.lo >= 1
 }
 
-fn both(a: bool, b: bool) -> bool
+pub(crate) fn both(a: bool, b: bool) -> bool
     ensures { result ≡ (a && b) }
 {
     a && b
@@ -221,14 +224,19 @@ fn walk_loop(
 {
     if bounds.end.saturating_sub(bounds.first) >= MANY_TURNS {
         let alloc = walk.found.alloc();
-        if let Some(accesses) = accesses_of(alloc, body)? {
-            return walk.note_loop(alloc, lengths, bounds, &accesses, loops, certain);
+        if let Some(mut accesses) = accesses_of(alloc, body)? {
+            return walk.note_loop(alloc, lengths, bounds, &mut accesses, loops, certain);
         }
     }
     walk_turns(bounds, body, certain, lengths, loops, walk)
 }
 
-// Each turn of a loop.
+// Whether it is looked after so many turns whether the others can see anything new.
+fn is_tested(bounds: Bounds, turns: u64) -> bool {
+    bounds.end.saturating_sub(bounds.first) >= SOME_TURNS && turns & turns.wrapping_sub(1) == 0
+}
+
+// Each turn of a loop, up to one from which on nothing new is seen.
 #[cycle(walk)]
 fn walk_turns(
     bounds: Bounds,
@@ -241,12 +249,18 @@ fn walk_turns(
     ensures loops { OnOk result (loops.new.items ≡ loops.old.items) }
     ensures seen { OnOk result (seen_in walk.new ≡ after lengths.now (turns_from bounds.first bounds body.now loops.old.items certain) (seen_in walk.old)) }
 {
-    let mut v = bounds.first;
-    while v < bounds.end {
+    let Bounds { first, end, step } = bounds;
+    let mut v = first;
+    let mut turns = 0_u64;
+    while v < end {
         loops.push(v)?;
         walk_all(body, certain, lengths, loops, walk)?;
         let _ = loops.pop();
-        v += bounds.step;
+        v += step;
+        turns = turns.wrapping_add(1);
+        if is_tested(bounds, turns) && walk.settles_rest(lengths, v, bounds, body, loops, certain)? {
+            return Ok(());
+        }
     }
     Ok(())
 }
