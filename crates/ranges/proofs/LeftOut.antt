@@ -1,6 +1,5 @@
 -- Accesses of which nothing new is seen are left out of the turns of a loop.
-use Rattle.std.proofs.Common.{◌≡◌, ℕ, ◌+◌, ◌-◌, ◌<◌, ◌≤◌, Bool, List, [], ◌∷◌, ◌++◌, refl, sym, ap, ◌∙◌, subst, arith, length, take, drop, get_or}
-use Rattle.std.specs.Prelude.{map}
+use Rattle.std.proofs.Common.{◌≡◌, ℕ, ◌-◌, ◌<◌, ◌≤◌, Bool, List, [], ◌∷◌, ◌++◌, refl, sym, ap, ◌∙◌, subst, arith}
 use Rattle.base.specs.declared.tree.Bounds.{Bounds}
 use Rattle.base.specs.Footprint.{Touch}
 use Rattle.base.specs.Meaning.{turns_left}
@@ -8,7 +7,7 @@ use Rattle.ranges.specs.declared.access.Access.{Access}
 use Rattle.ranges.specs.Seen.{Seen, after}
 use Rattle.ranges.specs.Settled.{IsSettled, Settles}
 use Rattle.ranges.specs.Straight.{touch_at, touches_at, turns_at}
-use Rattle.ranges.proofs.SettledTouches.{Grows, Known, grows_not, left_out, same_turns, settled_still}
+use Rattle.ranges.proofs.SettledTouches.{Known, grows_not, left_out, same_turns, settled_still}
 use Rattle.ranges.proofs.Spans.{between_push, between_self}
 
 touches_both : (xs ys : List Access) (loops : List ℕ) (certain : Bool) →

@@ -1,12 +1,12 @@
 -- Statements of which nothing new is seen.
-use Rattle.std.proofs.Common.{◌≡◌, ℕ, suc, ◌+◌, ◌-◌, ◌<◌, ◌≤◌, Bool, true, false, List, [], ◌∷◌, ◌++◌, refl, sym, ap, ◌∙◌, subst, arith, Vec, Global, take, length, get_or}
+use Rattle.std.proofs.Common.{◌≡◌, ℕ, ◌+◌, ◌-◌, ◌<◌, ◌≤◌, Bool, true, false, List, [], ◌∷◌, ◌++◌, refl, sym, ap, ◌∙◌, subst, arith, Vec, Global, take, length, get_or}
 use Rattle.std.specs.Prelude.{◌&&◌, IfOk, Result, Ok, Err}
 use Rattle.std.proofs.lemmas.Bool.{and_parts, false≢true}
 use Rattle.std.proofs.lemmas.List.{take_more}
 use Rattle.base.specs.declared.tree.Bounds.{Bounds}
 use Rattle.base.specs.declared.tree.Expr.{Expr}
 use Rattle.base.specs.declared.tree.Stmt.{Stmt, Block, Loop, If}
-use Rattle.base.specs.Footprint.{Touch, expr_touches, stmt_touches, turns_touch, unless}
+use Rattle.base.specs.Footprint.{Touch, expr_touches, stmt_touches, unless}
 use Rattle.base.specs.Interval.{interval, is_known_nonzero, is_known_zero}
 use Rattle.base.specs.Meaning.{turns_left}
 use Rattle.ranges.specs.declared.settled.Told.{Told}

@@ -10,7 +10,7 @@ use Rattle.base.specs.Meaning.{turns_left}
 use Rattle.base.proofs.LoopTurns.{one_turn_less, no_turn_left}
 use Rattle.ranges.specs.Cells.{AreKnown, is_among}
 use Rattle.ranges.specs.Seen.{Seen, after, after_touch}
-use Rattle.ranges.specs.Settled.{AllSettled, AreSettled, IsSeen, IsSettled}
+use Rattle.ranges.specs.Settled.{AllSettled, IsSeen, IsSettled}
 use Rattle.ranges.proofs.AllSeen.{beyond, touch_is, with_read, with_write}
 use Rattle.ranges.proofs.Swaps.{staying}
 use Rattle.ranges.proofs.Walked.{after_append}

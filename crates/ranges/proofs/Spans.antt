@@ -1,17 +1,15 @@
 -- Values of loops between a least and a greatest one, and what is known of expressions with them.
-use Rattle.std.proofs.Common.{◌≡◌, ℕ, zero, suc, ◌+◌, ◌-◌, ◌*◌, ◌/◌, ◌%◌, ◌^◌, ◌<◌, ◌≤◌, min, Bool, true, false, List, [], ◌∷◌, ◌++◌, refl, sym, ap, ap₂, ◌∙◌, subst, ⊎_elim, arith, length, length-append, leb-true}
-use Rattle.std.specs.Prelude.{◌&&◌, ◌==◌, nat_le, slice_index, if◌then◌else◌}
-use Rattle.std.proofs.lemmas.Bool.{and_parts, cases_lt, cond_both, le-leb}
+use Rattle.std.proofs.Common.{◌≡◌, ℕ, zero, suc, ◌+◌, ◌-◌, ◌<◌, ◌≤◌, min, true, List, [], ◌∷◌, ◌++◌, refl, sym, ap, ◌∙◌, ⊎_elim, arith, length, length-append}
+use Rattle.std.specs.Prelude.{◌&&◌, slice_index}
+use Rattle.std.proofs.lemmas.Bool.{and_parts, cases_lt, cond_both}
 use Rattle.std.proofs.lemmas.Bool.Decides.{nat_tests}
 use Rattle.std.proofs.lemmas.List.{get_or_append_left, get_or-append_right}
-use Rattle.std.proofs.lemmas.Nat.{and_le_l, and_le_r, mul-le, mod_below, le-div, div-add-mod', pow_pos}
-use Rattle.base.specs.declared.tree.BinaryOp.TheVariants.{Add, Subtract, Multiply, BitAnd}
-use Rattle.base.specs.declared.tree.ShiftOp.TheVariants.{Left, Right}
-use Rattle.base.specs.declared.tree.DivideOp.TheVariants.{Quotient, Remainder}
+use Rattle.std.proofs.lemmas.Nat.{and_le_l, and_le_r}
+use Rattle.base.specs.declared.tree.BinaryOp.TheVariants.{BitAnd}
 use Rattle.base.specs.declared.fault.Interval.{Interval}
-use Rattle.base.specs.Value.{modulus, binary}
-use Rattle.base.specs.Interval.{exactly, from_to, full, if_single, interval, interval_binary, interval_divide, interval_product, interval_shift, is_single, most}
-use Rattle.ranges.specs.Spans.{AreBetween, IsBound, IsPart, IsTheSame}
+use Rattle.base.specs.Value.{binary}
+use Rattle.base.specs.Interval.{exactly, from_to, interval_binary, is_single}
+use Rattle.ranges.specs.Spans.{AreBetween, IsPart}
 
 one_at : (a b : ℕ) → a ≤ b → (j : ℕ) → slice_index (a ∷ []) j ≤ slice_index (b ∷ []) j
 one_at a b h zero = h

@@ -55,7 +55,10 @@ impl CellSet {
     fn has_all(&self, array: ArrayId, cells: Interval) -> bool
         ensures { IsTrue result → HasAll self.now array cells }
     {
-        cells.hi < u64::MAX && self.row(array).has_range(cells.lo as usize, cells.hi as usize + 1)
+        cells.hi < u64::MAX
+            && self
+                .row(array)
+                .has_range(cells.lo as usize, cells.hi as usize + 1)
     }
 }
 
@@ -95,7 +98,13 @@ impl Walk {
         let (array, writes) = (access.array, access.writes);
         if is_the_same(access.subscript, &span.lows, &span.highs) {
             let cells = interval(access.subscript, &span.lows);
-            return self.has_seen(lengths, array, cells, writes, both(certain, cells.lo == cells.hi));
+            return self.has_seen(
+                lengths,
+                array,
+                cells,
+                writes,
+                both(certain, cells.lo == cells.hi),
+            );
         }
         match bound(access.subscript, &span.lows, &span.highs) {
             Some(cells) => self.has_seen(lengths, array, cells, writes, certain),
@@ -194,8 +203,21 @@ impl Walk {
                     return Ok(false);
                 }
                 let told = told_of(c, span);
-                Ok(self.settles_unless(told.fails, lengths, first, both(certain, told.may_hold), span)?
-                    && self.settles_unless(told.holds, lengths, second, both(certain, told.may_fail), span)?)
+                Ok(
+                    self.settles_unless(
+                        told.fails,
+                        lengths,
+                        first,
+                        both(certain, told.may_hold),
+                        span,
+                    )? && self.settles_unless(
+                        told.holds,
+                        lengths,
+                        second,
+                        both(certain, told.may_fail),
+                        span,
+                    )?,
+                )
             }
         }
     }

@@ -63,7 +63,18 @@ fn split(bounds: Bounds, turns: u64) -> (Bounds, Bounds)
     let Bounds { first, end, step } = bounds;
     let next = step.checked_mul(turns).and_then(|by| first.checked_add(by));
     let middle = next.unwrap_or(end).min(end);
-    (Bounds { first, end: middle, step }, Bounds { first: middle, end, step })
+    (
+        Bounds {
+            first,
+            end: middle,
+            step,
+        },
+        Bounds {
+            first: middle,
+            end,
+            step,
+        },
+    )
 }
 
 impl Walk {

@@ -258,7 +258,9 @@ fn walk_turns(
         let _ = loops.pop();
         v += step;
         turns = turns.wrapping_add(1);
-        if is_tested(bounds, turns) && walk.settles_rest(lengths, v, bounds, body, loops, certain)? {
+        if is_tested(bounds, turns)
+            && walk.settles_rest(lengths, v, bounds, body, loops, certain)?
+        {
             return Ok(());
         }
     }

@@ -1,10 +1,12 @@
-use Rattle.std.proofs.Common.{◌++◌, ◌∷◌, [], sym, ◌∙◌, ap, arith, rules}
+use Rattle.std.proofs.Common.{◌≡◌, ℕ, ◌+◌, List, ◌++◌, ◌∷◌, [], sym, subst, ◌∙◌, ap, arith, rules}
 use Rattle.std.proofs.lemmas.Grind.{common_steps}
 use Rattle.base.specs.Interval.{interval}
 use Rattle.base.specs.Footprint.{expr_touches}
-use Rattle.ranges.specs.Seen.{after, seen_in}
+use Rattle.ranges.specs.Seen.{after, seen_in, turns_from}
+use Rattle.ranges.specs.Settled.{AllSettled}
 use Rattle.ranges.proofs.Outcomes.{ok_end}
 use Rattle.ranges.proofs.FirstTurns.{told_Loop}
+use Rattle.ranges.proofs.SettledTouches.{all_noop}
 use Rattle.ranges.proofs.Walked.{walked_If, walked_next, walked_turn, no_turn_touches}
 use Rattle.ranges.proofs.Touches.{touches_Block}
 use Rattle.ranges.proofs.walk.+walk.Goals as goal
@@ -69,3 +71,19 @@ walk_all-returns-clause-seen t c = grind (arith, common_steps)
 
 pub walk_stmt-returns-in-Block-clause-seen : goal.walk_stmt-returns-in-Block-clause-seen
 walk_stmt-returns-in-Block-clause-seen t c = grind (arith, touches_Block)
+
+pub walk_turns-returns-then-branch-clause-seen : goal.walk_turns-returns-then-branch-clause-seen
+walk_turns-returns-then-branch-clause-seen t c =
+    let lengths = c.args.lengths.now in
+    let b = c.args.bounds in
+    let v = c.loop-v.v in
+    let loops = c.args.loops.now.items in
+    let seen = seen_in c.walk_all.new.walk in
+    let same : c.deref.result.now ≡ loops = grind (arith, common_steps) in
+    sym (all_noop lengths (turns_from (v + b.step) b c.args.body.now loops c.args.certain) seen c.walk_all.new.walk.known
+    (subst (λ (ls : List ℕ). AllSettled lengths seen (turns_from (v + b.step) b c.args.body.now ls c.args.certain)) same
+    (c.in_ok-settles_rest.ensures c.if-branch.true)))
+    ∙ walked_turn lengths v b c.args.body.now loops c.push.new.self.items c.args.certain (seen_in c.loop-v.walk) seen
+    c.loop-v-test.true (c.in_ok-push.ensures.items ∙ ap (λ ls. ls ++ v ∷ []) c.loop-v.invariant.loops)
+    c.in_ok-walk_all.ensures.seen
+    ∙ c.loop-v.invariant.rest

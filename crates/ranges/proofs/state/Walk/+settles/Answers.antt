@@ -1,4 +1,4 @@
-use Rattle.std.proofs.Common.{ℕ, List, sym, subst, ap, ◌∙◌, arith, take}
+use Rattle.std.proofs.Common.{ℕ, List, subst, ap, ◌∙◌, arith, take}
 use Rattle.std.proofs.Math.Seq.{take-length}
 use Rattle.base.specs.declared.tree.Stmt.{Stmt}
 use Rattle.base.specs.Footprint.{stmt_touches}

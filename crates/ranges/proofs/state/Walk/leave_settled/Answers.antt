@@ -1,4 +1,4 @@
-use Rattle.std.proofs.Common.{List, suc, ◌-◌, ◌∷◌, ◌++◌, [], sym, ap, ◌∙◌, subst, take, drop, arith}
+use Rattle.std.proofs.Common.{List, suc, ◌-◌, ◌∷◌, ◌++◌, [], sym, ap, ◌∙◌, take, drop, arith}
 use Rattle.ranges.specs.declared.access.Access.{Access}
 use Rattle.ranges.specs.Seen.{after, seen_in}
 use Rattle.ranges.specs.Straight.{turns_at}

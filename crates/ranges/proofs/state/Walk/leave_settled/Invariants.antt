@@ -1,4 +1,4 @@
-use Rattle.std.proofs.Common.{◌≡◌, ◌-◌, ◌∷◌, ◌++◌, [], length}
+use Rattle.std.proofs.Common.{◌≡◌, ◌-◌, length}
 use Rattle.ranges.specs.Seen.{after, seen_in}
 use Rattle.ranges.specs.Straight.{turns_at}
 use Rattle.ranges.proofs.state.Walk.leave_settled.Given as goal

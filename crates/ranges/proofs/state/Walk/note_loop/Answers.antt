@@ -48,15 +48,16 @@ loop-rest-preserved c =
       turns = omega (arith, c.saturating_mul-turns.ensures, c.loop-rest.invariant.turns);
       rest =
           elim c.if-rest.branch [
-            then-rest+in_ok-leave_settled w ↦
-              ap (λ (xs : Vec Access Global). after lengths (turns_at later.first later xs.items loops c.args.certain) seen) w.accesses-is
-              ∙ subst (λ (ls : List ℕ). after lengths (turns_at later.first later w.leave_settled.new.accesses.items ls c.args.certain) seen
-              ≡ after lengths (turns_at later.first later c.loop-rest.accesses.items ls c.args.certain) seen)
-              (w.deref-then-rest.ensures.value ∙ same) w.in_ok-leave_settled.ensures
-              ∙ noted
-          | else-rest w ↦
-              ap (λ (xs : Vec Access Global). after lengths (turns_at later.first later xs.items loops c.args.certain) seen) w.accesses-is
-              ∙ noted ]
+            | then-rest+in_ok-leave_settled w ↦
+                ap (λ (xs : Vec Access Global). after lengths (turns_at later.first later xs.items loops c.args.certain) seen) w.accesses-is
+                ∙ subst (λ (ls : List ℕ). after lengths (turns_at later.first later w.leave_settled.new.accesses.items ls c.args.certain) seen
+                ≡ after lengths (turns_at later.first later c.loop-rest.accesses.items ls c.args.certain) seen)
+                (w.deref-then-rest.ensures.value ∙ same) w.in_ok-leave_settled.ensures
+                ∙ noted
+            | else-rest w ↦
+                ap (λ (xs : Vec Access Global). after lengths (turns_at later.first later xs.items loops c.args.certain) seen) w.accesses-is
+                ∙ noted
+          ]
           ∙ c.loop-rest.invariant.rest;
     }
 

@@ -14,12 +14,13 @@ returns-then-settles_source c h loops d between weaker =
     let seen = seen_in c.args.self.now in
     let a = c.args.access.now in
     let here = subst (λ (w : Bool). AllSettled lengths seen (record { array = a.array; cells = interval a.subscript.now loops; is_write = w; certain = d; place = a.place } ∷ []))
-        c.requires (c.settles_access.ensures h loops d between weaker) in
+    c.requires (c.settles_access.ensures h loops d between weaker) in
     elim c.if-settles_expr.branch [
-      then-settles_expr w ↦
-        both_settled lengths seen (expr_touches a.subscript.now loops d) _
-        (c.settles_expr.ensures w.if-settles_expr.true loops d between weaker)
-        (both_settled lengths seen (source_touches c.args.v.now loops d) _
-        (w.settles_source.ensures (sym w.value-is ∙ c.if-settles_source.true) loops d between weaker)
-        here)
-    | else-settles_expr w ↦ absurd (false≢true (sym w.if-settles_expr.false ∙ sym w.value-is ∙ c.if-settles_source.true)) ]
+      | then-settles_expr w ↦
+          both_settled lengths seen (expr_touches a.subscript.now loops d) _
+          (c.settles_expr.ensures w.if-settles_expr.true loops d between weaker)
+          (both_settled lengths seen (source_touches c.args.v.now loops d) _
+          (w.settles_source.ensures (sym w.value-is ∙ c.if-settles_source.true) loops d between weaker)
+          here)
+      | else-settles_expr w ↦ absurd (false≢true (sym w.if-settles_expr.false ∙ sym w.value-is ∙ c.if-settles_source.true))
+    ]
