@@ -1,4 +1,4 @@
-// Footprints of a long loop, whose turns are not walked one by one, beside those of the same turns in two short ones.
+// Footprints of a long loop, not all of whose turns are walked, beside those of the same turns in short ones, which are.
 
 use base::item::Cell;
 use base::tree::ArrayId;
@@ -10,7 +10,7 @@ use ranges::{CellSet, Footprint};
 use std::alloc::{AllocError, Global};
 use std::test::Fail;
 
-const BODIES: [&str; 12] = [
+const BODIES: [&str; 23] = [
     "A[i] = A[i] + B[i];",
     "A[i] = A[i - 1];",
     "A[i] = A[i + 1];",
@@ -23,9 +23,20 @@ const BODIES: [&str; 12] = [
     "A[2 * i - i] = A[i] + 1;",
     "A[i] = A[i - k] + k;",
     "A[i + k * k - k] = A[i + 1 - k]; A[i + k] = A[i] + A[i + k];",
+    "A[5] = A[5] + B[i];",
+    "A[i % 8] = A[i % 8] + B[i];",
+    "A[B[i] & 7] = A[B[i] & 7] + 1;",
+    "A[i & 3] = B[i]; B[2 * i] = A[i & 7] + A[1];",
+    "A[i >> 2] = B[(i << 1) & 31]; B[i & k] = A[i >> 3];",
+    "if (i % 3 == 0) { A[i / 3] = i; } B[i % 4] = A[i / 4];",
+    "if (B[0]) { A[1] = 2; } else { A[i & 3] = A[2]; }",
+    "if (i < 16) { A[0] = 1; } B[0] = A[0]; A[20 - i % 4] = A[63 - i];",
+    "if (k) { A[i % 5] = 1; } B[i % 3] = A[i % 4];",
+    "for (uint64_t j = 0; j < 4; j += 1) { A[4 * j + i % 4] = A[4 * j + 1] + B[i]; }",
+    "for (uint64_t j = 1; j < 5; j += 2) { if (i > j + 9) { A[j] = B[i]; } B[j + 40] = A[i % 5]; }",
 ];
 
-// Two targets, in which these turns stand in one loop or in two.
+// Two targets, in which these turns stand in one loop or in several.
 fn source(alloc: Global, body: &str, heads: &[&str]) -> Result<Vec<u8>, AllocError> {
     let mut text = Vec::new(alloc);
     text.extend_from_slice(b"uint64_t A[64];\nuint64_t B[64];\nint main(void) {\n")?;
@@ -42,9 +53,12 @@ fn source(alloc: Global, body: &str, heads: &[&str]) -> Result<Vec<u8>, AllocErr
 
 const LONG: [&str; 1] = ["for (uint64_t i = 2; i < 32; i += 1) {"];
 
-const SHORT: [&str; 2] = [
-    "for (uint64_t i = 2; i < 17; i += 1) {",
-    "for (uint64_t i = 17; i < 32; i += 1) {",
+const SHORT: [&str; 5] = [
+    "for (uint64_t i = 2; i < 8; i += 1) {",
+    "for (uint64_t i = 8; i < 14; i += 1) {",
+    "for (uint64_t i = 14; i < 20; i += 1) {",
+    "for (uint64_t i = 20; i < 26; i += 1) {",
+    "for (uint64_t i = 26; i < 32; i += 1) {",
 ];
 
 // For each cell whether the set has it.
