@@ -8,3 +8,4 @@ pub mod Found
 pub mod ItemFaults
 pub mod Deciding
 pub mod Reach
+pub mod RunLists

@@ -13,6 +13,7 @@ ghost use Rattle.ranges.specs.ItemFaults.{AreByParts};
 
 pub use crate::cells::{CellSet, Footprint};
 pub use crate::reached::{no_reach, reach};
+pub use crate::run_list::{Part, Run};
 use crate::section::{note_depends, note_maps};
 use crate::state::Walk;
 use crate::turns::turns_in_all;
@@ -32,6 +33,7 @@ mod least;
 mod offsets;
 mod reached;
 mod row;
+mod run_list;
 mod section;
 mod slide;
 mod slides;
