@@ -24,3 +24,4 @@ pub mod SlideOrder
 pub mod SlideTurns
 pub mod SlidingTurns
 pub mod LeastRuns
+pub mod RunSteps

@@ -1,6 +1,4 @@
-use Rattle.std.proofs.Common.{◌-◌, ℕ}
-use Rattle.bits.specs.Sets.{IsEndOf}
-use Rattle.bits.specs.Sets.{has as has_number}
+use Rattle.std.proofs.Common.{◌-◌}
 use Rattle.ranges.specs.Cells.{has}
 use Rattle.ranges.specs.RunLists.{AreRunsUpTo}
 use Rattle.ranges.proofs.cells.CellSet.add_runs.Given as goal
