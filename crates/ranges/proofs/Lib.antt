@@ -25,3 +25,4 @@ pub mod SlideTurns
 pub mod SlidingTurns
 pub mod LeastRuns
 pub mod RunSteps
+pub mod RunsUnique

@@ -56,3 +56,7 @@ pub record IsEndOfRun (p : ℕ → Bool) (first after : ℕ) : Type 0 where
   pub some : first < after
   pub inside : (i : ℕ) → first ≤ i → i < after → p i ≡ true
   pub behind : p after ≡ false
+
+-- a set of cells has one list of maximal runs
+abbrev pub AreUnique : Type 0
+AreUnique = (p : Cell → Bool) (a b : List Run) → AreRuns p a → AreRuns p b → a ≡ b

@@ -3,7 +3,7 @@
 ghost use Rattle.std.specs.Prelude.{◌≡◌, ◌+◌, ◌≤◌, ◌^◌, true, IfOk, OnOk};
 ghost use Rattle.bits.specs.Sets.{IsEndOf, has as has_number};
 ghost use Rattle.ranges.specs.Cells.{has};
-ghost use Rattle.ranges.specs.RunLists.{AreRuns, AreRunsUpTo, IsEndOfRun, set_of};
+ghost use Rattle.ranges.specs.RunLists.{AreRuns, AreRunsUpTo, AreUnique, IsEndOfRun, set_of};
 
 use crate::cells::{CellSet, Footprint};
 use base::tree::ArrayId;
@@ -94,3 +94,8 @@ impl Footprint {
         self.set(part).runs(alloc)
     }
 }
+
+/// A set of cells has one list of maximal runs in order.
+pub fn runs_are_unique()
+    ensures { AreUnique }
+{}
