@@ -26,3 +26,5 @@ pub mod SlidingTurns
 pub mod LeastRuns
 pub mod RunSteps
 pub mod RunsUnique
+pub mod MovingParts
+pub mod RunStarts

@@ -58,9 +58,6 @@ HaveSame xs ys = (c : Cell) → list_any (is_in_run c) xs ≡ list_any (is_in_ru
 
 module _ (r s : Run) (rs ss : List Run) (some : 1 ≤ r.length) (apart : AreApart (r ∷ rs)) (apart' : AreApart (s ∷ ss))
     (same : HaveSame (r ∷ rs) (s ∷ ss)) where
-  first_cell : Cell
-  first_cell = cell_of r.array.0 r.first
-
   -- it does not begin before the other
   not_earlier : (r.array.0 < s.array.0) ⊎ ((r.array.0 ≡ s.array.0) × (r.first < s.first)) → ⊥
   not_earlier before =

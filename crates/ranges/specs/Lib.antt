@@ -9,3 +9,4 @@ pub mod ItemFaults
 pub mod Deciding
 pub mod Reach
 pub mod RunLists
+pub mod FewRuns
