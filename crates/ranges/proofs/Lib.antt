@@ -28,3 +28,5 @@ pub mod RunSteps
 pub mod RunsUnique
 pub mod MovingParts
 pub mod RunStarts
+pub mod PlainLoops
+pub mod PlainRegions

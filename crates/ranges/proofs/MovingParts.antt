@@ -1,8 +1,8 @@
 -- Where all cells move on by one in each turn, a cell that no access begins at is in a set only if the one before it is.
-use Rattle.std.proofs.Common.{◌≡◌, ℕ, zero, suc, ◌+◌, ◌<◌, ◌≤◌, Bool, true, false, List, [], ◌∷◌, ◌++◌, map, sym, ◌∙◌, ap, ap₂, refl, ⊎_elim, inl, inr, arith, append_assoc}
-use Rattle.std.specs.Prelude.{not, nat_le, ◌&&◌, ◌||◌, ◌==◌, ◌⊎◌}
+use Rattle.std.proofs.Common.{◌≡◌, ℕ, zero, suc, ◌+◌, Bool, true, false, List, [], ◌∷◌, ◌++◌, map, sym, ◌∙◌, ap, ap₂, refl, inl, inr, arith, append_assoc}
+use Rattle.std.specs.Prelude.{not, ◌&&◌, ◌||◌, ◌==◌, ◌⊎◌}
 use Rattle.std.specs.List.{list_any}
-use Rattle.std.proofs.lemmas.Bool.{false≢true}
+use Rattle.std.proofs.lemmas.Bool.{false≢true, or_parts}
 use Rattle.std.proofs.lemmas.Bool.Decides.{nat_tests}
 use Rattle.std.proofs.lemmas.List.{append-nil}
 use Rattle.base.specs.declared.item.Cell.{Cell}
@@ -26,35 +26,27 @@ unread : (w h : Bool) → h ≡ false → (w && h) ≡ false
 unread true h e = e
 unread false h e = refl
 
-left_false : (x y : Bool) → (x || y) ≡ false → x ≡ false
-left_false true y e = e
-left_false false y e = refl
-
-right_false : (x y : Bool) → (x || y) ≡ false → y ≡ false
-right_false true y e = absurd (false≢true (sym e))
-right_false false y e = e
-
 pub not_there : (part : Part) (xs ys : List Touch) (c : Cell) → list_any (has_cell c) xs ≡ false →
     is_in_part part (xs ++ ys) c ≡ is_in_part part ys c
 not_there part [] ys c h = refl
 not_there Exposed (t ∷ xs) ys c h =
-    let out = left_false (has_cell c t) (list_any (has_cell c) xs) h in
+    let out = (or_parts (has_cell c t) (list_any (has_cell c) xs) h).0 in
     let sure = unsure t.is_write t.certain (t.cells.lo == t.cells.hi) (has_cell c t) out in
     let read = unread (not t.is_write) (has_cell c t) out in
     ap₂ (λ s r. not s && (r || exposes (xs ++ ys) c)) sure read
-    ∙ not_there Exposed xs ys c (right_false (has_cell c t) (list_any (has_cell c) xs) h)
+    ∙ not_there Exposed xs ys c (or_parts (has_cell c t) (list_any (has_cell c) xs) h).1
 not_there Read (t ∷ xs) ys c h =
-    let out = left_false (has_cell c t) (list_any (has_cell c) xs) h in
+    let out = (or_parts (has_cell c t) (list_any (has_cell c) xs) h).0 in
     ap (λ r. r || reads (xs ++ ys) c) (unread (not t.is_write) (has_cell c t) out)
-    ∙ not_there Read xs ys c (right_false (has_cell c t) (list_any (has_cell c) xs) h)
+    ∙ not_there Read xs ys c (or_parts (has_cell c t) (list_any (has_cell c) xs) h).1
 not_there Write (t ∷ xs) ys c h =
-    let out = left_false (has_cell c t) (list_any (has_cell c) xs) h in
+    let out = (or_parts (has_cell c t) (list_any (has_cell c) xs) h).0 in
     ap (λ r. r || writes (xs ++ ys) c) (unread t.is_write (has_cell c t) out)
-    ∙ not_there Write xs ys c (right_false (has_cell c t) (list_any (has_cell c) xs) h)
+    ∙ not_there Write xs ys c (or_parts (has_cell c t) (list_any (has_cell c) xs) h).1
 not_there Sure (t ∷ xs) ys c h =
-    let out = left_false (has_cell c t) (list_any (has_cell c) xs) h in
+    let out = (or_parts (has_cell c t) (list_any (has_cell c) xs) h).0 in
     ap (λ r. r || surely_writes (xs ++ ys) c) (unsure t.is_write t.certain (t.cells.lo == t.cells.hi) (has_cell c t) out)
-    ∙ not_there Sure xs ys c (right_false (has_cell c t) (list_any (has_cell c) xs) h)
+    ∙ not_there Sure xs ys c (or_parts (has_cell c t) (list_any (has_cell c) xs) h).1
 
 -- more touches take no cell away
 

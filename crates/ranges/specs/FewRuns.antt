@@ -1,6 +1,6 @@
 -- Regions with few runs: one loop of step 1 without loops and conditions in it, in whose subscripts its name stands alone,
 -- or with a number that is added or taken away.
-use Rattle.std.specs.Prelude.{ℕ, ◌≡◌, ◌+◌, ◌^◌, ◌<◌, ◌≤◌, Bool, true, false, ◌&&◌, ◌==◌, nat_le, List, [], ◌∷◌, length, slice_index, Some}
+use Rattle.std.specs.Prelude.{ℕ, ◌≡◌, ◌+◌, ◌^◌, ◌<◌, ◌≤◌, Bool, true, false, ◌&&◌, ◌==◌, nat_le, List, [], ◌∷◌, length, slice_index, sum_by, Some}
 use Rattle.base.specs.declared.tree.Expr.{Expr}
 use Rattle.base.specs.declared.tree.Expr.TheVariants.{Number, Scalar, LoopName, Cell', Unary', Binary', And', Or', Shift', Divide'}
 use Rattle.base.specs.declared.tree.BinaryOp.TheVariants.{Add, Subtract}
@@ -107,3 +107,15 @@ abbrev mutual
   pub cells_in_row : {m : _} → Row_of-Stmt m → ℕ
   cells_in_row end_of-Stmt = 0
   cells_in_row (more_of-Stmt first rest) = cells_in first + cells_in_row rest
+
+abbrev pub cells_in_list : List Stmt → ℕ
+cells_in_list all = sum_by cells_in all
+
+-- where a region that is such a loop stays in its arrays, each of its sets has at most as many runs as its body names
+-- cells of arrays
+abbrev pub AreFew : Type 0
+AreFew =
+    (lengths loops : List ℕ) (r : Region) (part : Part) (runs : List Run) →
+    ((a : ℕ) → slice_index lengths a < 2 ^ 32) → region_faults lengths loops (Some r) ≡ [] →
+    is_plain_loop (length loops) r.body.items ≡ true → AreRuns (is_in_part part (touches_of r loops)) runs →
+    length runs ≤ cells_in_list r.body.items

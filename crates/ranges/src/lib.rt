@@ -13,7 +13,7 @@ ghost use Rattle.ranges.specs.ItemFaults.{AreByParts};
 
 pub use crate::cells::{CellSet, Footprint};
 pub use crate::reached::{no_reach, reach};
-pub use crate::run_list::{Part, Run, runs_are_unique};
+pub use crate::run_list::{Part, Run, runs_are_few, runs_are_unique};
 use crate::section::{note_depends, note_maps};
 use crate::state::Walk;
 use crate::turns::turns_in_all;

@@ -1,6 +1,4 @@
 use Rattle.ranges.proofs.RunsUnique.{one_list}
-use Rattle.ranges.proofs.MovingParts.{reached}
-use Rattle.ranges.proofs.RunStarts.{few_runs}
 use Rattle.ranges.proofs.run_list.runs_are_unique.Goals as goal
 
 pub returns : goal.returns
