@@ -134,12 +134,15 @@ same_number n = grind (arith, nat_tests)
 alike_turn : (a i k : ℕ) (slides : List Slide) →
     AreAlike (cell_of a (suc i)) (cell_of a i) (map (slide_touch true (k + 1)) slides) (map (slide_touch true k) slides)
 alike_turn a i k [] = tt
-alike_turn a i k (s ∷ slides) = (record {
-  write = refl;
-  cell = next_cell a i k s;
-  sure = ap₂ (λ one h. s.writes && (true && (one && h)))
-      (same_number (s.start + (k + 1)) ∙ sym (same_number (s.start + k))) (next_cell a i k s);
-}, alike_turn a i k slides)
+alike_turn a i k (s ∷ slides) = (
+  record {
+    write = refl;
+    cell = next_cell a i k s;
+    sure = ap₂ (λ one h. s.writes && (true && (one && h)))
+        (same_number (s.start + (k + 1)) ∙ sym (same_number (s.start + k))) (next_cell a i k s);
+  },
+  alike_turn a i k slides,
+)
 
 alike_turns : (a i n k : ℕ) (slides : List Slide) →
     AreAlike (cell_of a (suc i)) (cell_of a i) (slide_turns true n (k + 1) slides) (slide_turns true n k slides)

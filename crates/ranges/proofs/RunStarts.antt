@@ -30,7 +30,7 @@ all_there [] h = tt
 all_there (r ∷ runs) h = (
   ap (λ x. x || list_any (is_in_run (first_cell r)) runs) (first_in r h.0),
   all_weaker (IsThere runs) (IsThere (r ∷ runs)) runs
-      (λ s e. ap (λ x. is_in_run (first_cell s) r || x) e ∙ or-true (is_in_run (first_cell s) r)) (all_there runs h.1)
+      (λ s e. ap (λ x. is_in_run (first_cell s) r || x) e ∙ or-true (is_in_run (first_cell s) r)) (all_there runs h.1),
 )
 
 -- the cell before its first one is in no run
@@ -51,7 +51,7 @@ all_gaps (r ∷ runs) h = (
       let out : is_in_run (cell_of r.array.0 i) r ≡ false = grind (arith, nat_tests) in
       ap₂ (λ x y. x || y) out (not_in_rest r runs (cell_of r.array.0 i) (inr (refl, omega arith)) h.0),
   all_both (λ s. EndsBefore s.array.0 s.first r) (IsGap runs) (IsGap (r ∷ runs)) runs
-      (λ s ends gap. gap_behind r s runs ends gap) h.0 (all_gaps runs h.1)
+      (λ s ends gap. gap_behind r s runs ends gap) h.0 (all_gaps runs h.1),
 )
 
 abbrev Begins : List Slide → Run → Type 0
