@@ -1,5 +1,5 @@
 -- In a plain loop each access has the next cell in the next turn.
-use Rattle.std.proofs.Common.{◌≡◌, ℕ, ◌+◌, ◌-◌, ◌^◌, ◌%◌, ◌<◌, ◌≤◌, Bool, true, false, List, [], ◌∷◌, ◌++◌, length, map, sym, ◌∙◌, ap, ap₂, refl, subst, ⊎_elim, arith, eqb-true, length-append}
+use Rattle.std.proofs.Common.{◌≡◌, ℕ, ◌+◌, ◌-◌, ◌^◌, ◌<◌, ◌≤◌, Bool, true, false, List, [], ◌∷◌, ◌++◌, length, map, sym, ◌∙◌, ap, ap₂, refl, ⊎_elim, arith, eqb-true, length-append}
 use Rattle.std.specs.Prelude.{◌&&◌, ◌==◌, nat_le, slice_index, if◌then◌else◌}
 use Rattle.std.specs.List.{list_any}
 use Rattle.std.proofs.lemmas.Bool.{false≢true, or_parts, cases_lt, le-leb}
@@ -17,9 +17,9 @@ use Rattle.base.specs.declared.tree.Source.TheVariants.{Value, Read as Input}
 use Rattle.base.specs.declared.tree.Stmt.{Stmt, Row_of-Stmt, end_of-Stmt, more_of-Stmt}
 use Rattle.base.specs.declared.tree.Stmt.TheVariants.{Declare, Assign, Store, Print, Block', Loop', If'}
 use Rattle.base.specs.declared.fault.Interval.{Interval}
-use Rattle.base.specs.Value.{binary, modulus}
+use Rattle.base.specs.Value.{binary}
 use Rattle.base.specs.Interval.{exactly, from_to, full, if_single, interval, interval_binary, most}
-use Rattle.base.specs.Footprint.{Touch, expr_touches, leaves_array, row_touches, source_touches, stmt_touches}
+use Rattle.base.specs.Footprint.{Touch, expr_touches, row_touches, source_touches, stmt_touches}
 use Rattle.ranges.specs.declared.slide.Slide.{Slide}
 use Rattle.ranges.specs.FewRuns.{cells_in, cells_in_expr, cells_in_row, cells_in_source, is_name, is_near, is_plain, is_plain_expr, is_plain_row, is_plain_source, is_small}
 use Rattle.ranges.specs.Slides.{slide_touch}
@@ -80,15 +80,26 @@ difference_is v n le =
 same_number : (n : ℕ) → (n == n) ≡ true
 same_number n = grind (arith, nat_tests)
 
+-- a cell further than a set has bits
+abbrev pub reaches_far : Interval → Bool
+reaches_far cells = nat_le cells.lo cells.hi && nat_le (2 ^ 38) cells.hi
+
+abbrev pub is_far : Touch → Bool
+is_far t = reaches_far t.cells
+
+far_number : (n : ℕ) → 2 ^ 38 ≤ n → reaches_far (exactly n) ≡ true
+far_number n le = grind (arith, nat_tests, le)
+
 -- a difference that wraps is a large number
-wrapped_is : (v n : ℕ) → v < n → n ≤ 65536 → 2 ^ 32 ≤ (interval_binary Subtract (exactly v) (exactly n)).hi
+wrapped_is : (v n : ℕ) → v < n → n ≤ 65536 → reaches_far (interval_binary Subtract (exactly v) (exactly n)) ≡ true
 wrapped_is v n lt le =
     let over : nat_le n v ≡ false = grind (arith, nat_tests, lt) in
     let is : interval_binary Subtract (exactly v) (exactly n) ≡ exactly (binary Subtract v n) =
     ap (λ b. if b then from_to (v - n) (v - n) else if_single Subtract (exactly v) (exactly n) full) over
     ∙ ap₂ (λ b c. if b && c then exactly (binary Subtract v n) else full) (same_number v) (same_number n) in
-    let large : 2 ^ 32 ≤ (v + modulus - n) % modulus = omega (arith, lt, le) in
-    subst (λ (x : Interval). 2 ^ 32 ≤ x.hi) (sym is) large
+    let large : 2 ^ 38 ≤ binary Subtract v n = omega (arith, lt, le) in
+    let far : reaches_far (exactly (binary Subtract v n)) ≡ true = far_number (binary Subtract v n) large in
+    ap reaches_far is ∙ far
 
 -- a subscript of this form names no cell
 
@@ -144,14 +155,13 @@ near_plain level (Or' p e q f) h = absurd (false≢true h)
 near_plain level (Shift' op p e n) h = absurd (false≢true h)
 near_plain level (Divide' op p e n) h = absurd (false≢true h)
 
-module _ (lengths loops : List ℕ) (first last : ℕ) (short : (a : ℕ) → slice_index lengths a < 2 ^ 32) (some : first < last)
-    (few : last ≤ 65536) where
+module _ (loops : List ℕ) (first last : ℕ) (some : first < last) (few : last ≤ 65536) where
   -- in each turn the subscript is one more
   pub record IsMoving (e : Expr) : Type 0 where
     pub start : ℕ
     pub turns : (v : ℕ) → first ≤ v → v < last → interval e (loops ++ v ∷ []) ≡ exactly (start + (v - first))
 
-  near_moves : (e : Expr) → is_near (length loops) e ≡ true → (interval e (loops ++ first ∷ [])).hi < 2 ^ 32 → IsMoving e
+  near_moves : (e : Expr) → is_near (length loops) e ≡ true → reaches_far (interval e (loops ++ first ∷ [])) ≡ false → IsMoving e
   near_moves (LoopName level) h low = record {
     start = first;
     turns = λ v le lt. ap exactly (last_value loops v level (eqb-true level (length loops) h) ∙ omega (arith, le));
@@ -176,10 +186,7 @@ module _ (lengths loops : List ℕ) (first last : ℕ) (short : (a : ℕ) → sl
       λ v. ap₂ (interval_binary Subtract) (name_is e loops v name) (number.is (loops ++ v ∷ [])) in
       ⊎_elim
       (λ (lt : first < n).
-      let large = wrapped_is first n lt small in
-      let least : (interval_binary Subtract (exactly first) (exactly n)).hi < 2 ^ 32 =
-      subst (λ (x : Interval). x.hi < 2 ^ 32) (at first) low in
-      absurd (omega (arith, large, least)))
+      absurd (false≢true (sym low ∙ ap reaches_far (at first) ∙ wrapped_is first n lt small)))
       (λ (le : n ≤ first). record {
         start = first - n;
         turns = λ v from lt. at v ∙ difference_is v n (omega (arith, le, from)) ∙ ap exactly (omega (arith, le, from));
@@ -210,9 +217,9 @@ module _ (lengths loops : List ℕ) (first last : ℕ) (short : (a : ℕ) → sl
     pub many : length slides ≡ count
     pub turns : (v : ℕ) → first ≤ v → v < last → touches (loops ++ v ∷ []) true ≡ map (slide_touch true (v - first)) slides
 
-  -- none leaves its array in the first turn
-  abbrev pub StaysIn : (List ℕ → Bool → List Touch) → Type 0
-  StaysIn touches = list_any (leaves_array lengths) (touches (loops ++ first ∷ []) true) ≡ false
+  -- the cells of the first turn are not far
+  abbrev pub IsNear : (List ℕ → Bool → List Touch) → Type 0
+  IsNear touches = list_any is_far (touches (loops ++ first ∷ []) true) ≡ false
 
   nothing : Moves (λ ls c. []) 0
   nothing = record { slides = []; many = refl; turns = λ v le lt. refl }
@@ -226,30 +233,26 @@ module _ (lengths loops : List ℕ) (first last : ℕ) (short : (a : ℕ) → sl
         ∙ sym (map-append (slide_touch true (v - first)) h.slides k.slides);
   }
 
-  stays_left : (f g : List ℕ → Bool → List Touch) → StaysIn (λ ls c. f ls c ++ g ls c) → StaysIn f
+  stays_left : (f g : List ℕ → Bool → List Touch) → IsNear (λ ls c. f ls c ++ g ls c) → IsNear f
   stays_left f g h =
       let at = loops ++ first ∷ [] in
-      (or_parts (list_any (leaves_array lengths) (f at true)) (list_any (leaves_array lengths) (g at true))
-      (sym (list_any-append (leaves_array lengths) (f at true) (g at true)) ∙ h)).0
+      (or_parts (list_any is_far (f at true)) (list_any is_far (g at true))
+      (sym (list_any-append is_far (f at true) (g at true)) ∙ h)).0
 
-  stays_right : (f g : List ℕ → Bool → List Touch) → StaysIn (λ ls c. f ls c ++ g ls c) → StaysIn g
+  stays_right : (f g : List ℕ → Bool → List Touch) → IsNear (λ ls c. f ls c ++ g ls c) → IsNear g
   stays_right f g h =
       let at = loops ++ first ∷ [] in
-      (or_parts (list_any (leaves_array lengths) (f at true)) (list_any (leaves_array lengths) (g at true))
-      (sym (list_any-append (leaves_array lengths) (f at true) (g at true)) ∙ h)).1
+      (or_parts (list_any is_far (f at true)) (list_any is_far (g at true))
+      (sym (list_any-append is_far (f at true) (g at true)) ∙ h)).1
 
   abbrev one_touch : ArrayId → Place → Bool → Expr → List ℕ → Bool → List Touch
   one_touch a place write e ls c =
       record { array = a; cells = interval e ls; is_write = write; certain = c; place = place } ∷ []
 
-  one : (a : ArrayId) (place : Place) (write : Bool) (e : Expr) → is_near (length loops) e ≡ true → StaysIn (one_touch a place write e) →
+  one : (a : ArrayId) (place : Place) (write : Bool) (e : Expr) → is_near (length loops) e ≡ true → IsNear (one_touch a place write e) →
       Moves (one_touch a place write e) 1
   one a place write e near h =
-      let hi = (interval e (loops ++ first ∷ [])).hi in
-      let inside = (or_parts (nat_le (slice_index lengths a.0) hi) false h).0 in
-      let below : hi < slice_index lengths a.0 = grind (arith, nat_tests, inside) in
-      let length_is = short a.0 in
-      let moving = near_moves e near (omega (arith, below, length_is)) in
+      let moving = near_moves e near (or_parts (reaches_far (interval e (loops ++ first ∷ []))) false h).0 in
       record {
         slides = record { array = a; place = place; start = moving.start; writes = write } ∷ [];
         many = refl;
@@ -257,7 +260,7 @@ module _ (lengths loops : List ℕ) (first last : ℕ) (short : (a : ℕ) → sl
             record { array = a; cells = moving.turns v le lt i; is_write = write; certain = true; place = place } ∷ [];
       }
 
-  expr_moves : (e : Expr) → is_plain_expr (length loops) e ≡ true → StaysIn (expr_touches e) → Moves (expr_touches e) (cells_in_expr e)
+  expr_moves : (e : Expr) → is_plain_expr (length loops) e ≡ true → IsNear (expr_touches e) → Moves (expr_touches e) (cells_in_expr e)
   expr_moves (Number n) h stays = nothing
   expr_moves (Scalar x) h stays = nothing
   expr_moves (LoopName level) h stays = nothing
@@ -287,13 +290,13 @@ module _ (lengths loops : List ℕ) (first last : ℕ) (short : (a : ℕ) → sl
   expr_moves (Shift' op p e n) h stays = expr_moves e h stays
   expr_moves (Divide' op p e n) h stays = expr_moves e h stays
 
-  source_moves : (s : Source) → is_plain_source (length loops) s ≡ true → StaysIn (source_touches s) →
+  source_moves : (s : Source) → is_plain_source (length loops) s ≡ true → IsNear (source_touches s) →
       Moves (source_touches s) (cells_in_source s)
   source_moves (Value e) h stays = expr_moves e h stays
   source_moves Input h stays = nothing
 
   mutual
-    pub stmt_moves : (s : Stmt) → is_plain (length loops) s ≡ true → StaysIn (stmt_touches s) → Moves (stmt_touches s) (cells_in s)
+    pub stmt_moves : (s : Stmt) → is_plain (length loops) s ≡ true → IsNear (stmt_touches s) → Moves (stmt_touches s) (cells_in s)
     stmt_moves (Declare x v) h stays = source_moves v h stays
     stmt_moves (Assign x v) h stays = source_moves v h stays
     stmt_moves (Store a place e v) h stays =
@@ -312,7 +315,7 @@ module _ (lengths loops : List ℕ) (first last : ℕ) (short : (a : ℕ) → sl
     stmt_moves (Loop' b shape all) h stays = absurd (false≢true h)
     stmt_moves (If' c shape all shape' all') h stays = absurd (false≢true h)
 
-    pub row_moves : {m : _} (all : Row_of-Stmt m) → is_plain_row (length loops) all ≡ true → StaysIn (row_touches all) →
+    pub row_moves : {m : _} (all : Row_of-Stmt m) → is_plain_row (length loops) all ≡ true → IsNear (row_touches all) →
         Moves (row_touches all) (cells_in_row all)
     row_moves end_of-Stmt h stays = nothing
     row_moves (more_of-Stmt s rest) h stays =

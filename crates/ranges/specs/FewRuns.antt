@@ -1,6 +1,6 @@
 -- Regions with few runs: one loop of step 1 without loops and conditions in it, in whose subscripts its name stands alone,
 -- or with a number that is added or taken away.
-use Rattle.std.specs.Prelude.{ℕ, ◌≡◌, ◌+◌, ◌^◌, ◌<◌, ◌≤◌, Bool, true, false, ◌&&◌, ◌==◌, nat_le, List, [], ◌∷◌, length, slice_index, sum_by, Some}
+use Rattle.std.specs.Prelude.{ℕ, ◌≡◌, ◌+◌, ◌≤◌, Bool, true, false, ◌&&◌, ◌==◌, nat_le, List, [], ◌∷◌, length, sum_by}
 use Rattle.base.specs.declared.tree.Expr.{Expr}
 use Rattle.base.specs.declared.tree.Expr.TheVariants.{Number, Scalar, LoopName, Cell', Unary', Binary', And', Or', Shift', Divide'}
 use Rattle.base.specs.declared.tree.BinaryOp.TheVariants.{Add, Subtract}
@@ -10,12 +10,13 @@ use Rattle.base.specs.declared.tree.Stmt.{Stmt, Row_of-Stmt, end_of-Stmt, more_o
 use Rattle.base.specs.declared.tree.Stmt.TheVariants.{Declare, Assign, Store, Print, Block', Loop', If'}
 use Rattle.base.specs.declared.tree.Region.{Region}
 use Rattle.base.specs.declared.item.Cell.{Cell}
-use Rattle.base.specs.Accepted.{region_faults}
-use Rattle.base.specs.Footprint.{Touch, exposes, reads, surely_writes, touches_of, writes}
+use Rattle.base.specs.Footprint.{Touch, exposes, reads, surely_writes, writes}
 use Rattle.ranges.specs.declared.run_list.Part.{Part}
 use Rattle.ranges.specs.declared.run_list.Part.TheVariants.{Exposed, Read, Write, Sure}
 use Rattle.ranges.specs.declared.run_list.Run.{Run}
-use Rattle.ranges.specs.RunLists.{AreRuns}
+use Rattle.ranges.specs.declared.cells.Footprint.{Footprint}
+use Rattle.ranges.specs.Cells.{has}
+use Rattle.ranges.specs.RunLists.{AreRuns, set_of}
 
 -- the cells of one of the sets
 abbrev pub is_in_part : Part → List Touch → Cell → Bool
@@ -111,11 +112,8 @@ abbrev mutual
 abbrev pub cells_in_list : List Stmt → ℕ
 cells_in_list all = sum_by cells_in all
 
--- where a region that is such a loop stays in its arrays, each of its sets has at most as many runs as its body names
--- cells of arrays
-abbrev pub AreFew : Type 0
-AreFew =
-    (lengths loops : List ℕ) (r : Region) (part : Part) (runs : List Run) →
-    ((a : ℕ) → slice_index lengths a < 2 ^ 32) → region_faults lengths loops (Some r) ≡ [] →
-    is_plain_loop (length loops) r.body.items ≡ true → AreRuns (is_in_part part (touches_of r loops)) runs →
+-- where a region is such a loop, each set of its footprint has at most as many runs as it names cells of arrays
+abbrev pub HasFewRuns : Region → List ℕ → Footprint → Type 0
+HasFewRuns r loops f =
+    is_plain_loop (length loops) r.body.items ≡ true → (part : Part) (runs : List Run) → AreRuns (has (set_of part f)) runs →
     length runs ≤ cells_in_list r.body.items

@@ -8,12 +8,13 @@ ghost use Rattle.base.specs.Accepted.{region_faults, section_faults};
 ghost use Rattle.base.specs.Footprint.{exposes, reads, surely_writes, touches_of, writes};
 ghost use Rattle.ranges.specs.Cells.{has};
 ghost use Rattle.ranges.specs.Faults.{IsFirst};
+ghost use Rattle.ranges.specs.FewRuns.{HasFewRuns};
 ghost use Rattle.ranges.specs.Found.{IsFootprintFault};
 ghost use Rattle.ranges.specs.ItemFaults.{AreByParts};
 
 pub use crate::cells::{CellSet, Footprint};
 pub use crate::reached::{no_reach, reach};
-pub use crate::run_list::{Part, Run, runs_are_few, runs_are_unique};
+pub use crate::run_list::{Part, Run, runs_are_unique};
 use crate::section::{note_depends, note_maps};
 use crate::state::Walk;
 use crate::turns::turns_in_all;
@@ -107,6 +108,7 @@ pub fn footprint(
     ensures read { IfOk result (λ f. (c : Cell) → has f.read c ≡ reads (touches_of region.now loops.now.values.items) c) }
     ensures write { IfOk result (λ f. (c : Cell) → has f.write c ≡ writes (touches_of region.now loops.now.values.items) c) }
     ensures sure { IfOk result (λ f. (c : Cell) → has f.sure c ≡ surely_writes (touches_of region.now loops.now.values.items) c) }
+    ensures few { IfOk result (HasFewRuns region.now loops.now.values.items) }
     ensures fault { IfErr result (IsFootprintFault (region_faults (lengths_of program.now) loops.now.values.items (Some region.now))) }
 {
     if turns_in_all(&region.body) > MOST_TURNS {

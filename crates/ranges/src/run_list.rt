@@ -3,7 +3,6 @@
 ghost use Rattle.std.specs.Prelude.{◌≡◌, ◌+◌, ◌≤◌, ◌^◌, true, IfOk, OnOk};
 ghost use Rattle.bits.specs.Sets.{IsEndOf, has as has_number};
 ghost use Rattle.ranges.specs.Cells.{has};
-ghost use Rattle.ranges.specs.FewRuns.{AreFew};
 ghost use Rattle.ranges.specs.RunLists.{AreRuns, AreRunsUpTo, AreUnique, IsEndOfRun, set_of};
 
 use crate::cells::{CellSet, Footprint};
@@ -99,11 +98,4 @@ impl Footprint {
 /// A set of cells has one list of maximal runs in order.
 pub fn runs_are_unique()
     ensures { AreUnique }
-{}
-
-/// A region that is one loop of step 1 up to at most 65,536, which has no loops and conditions in it and in whose subscripts
-/// its name stands alone or with a number of at most 65,536 that is added or subtracted: where it has no fault of range,
-/// each of its four sets has at most as many runs as the region names cells of arrays.
-pub fn runs_are_few()
-    ensures { AreFew }
 {}
