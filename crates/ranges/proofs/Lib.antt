@@ -30,3 +30,4 @@ pub mod MovingParts
 pub mod RunStarts
 pub mod PlainLoops
 pub mod PlainRegions
+pub mod PlainExamples

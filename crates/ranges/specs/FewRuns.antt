@@ -74,6 +74,7 @@ abbrev mutual
   is_plain_row level end_of-Stmt = true
   is_plain_row level (more_of-Stmt first rest) = is_plain level first && is_plain_row level rest
 
+-- one loop of step 1 up to at most 65,536, with such statements in it
 abbrev pub is_plain_loop : ℕ → List Stmt → Bool
 is_plain_loop level (Loop' b shape all ∷ []) = (b.step == 1) && (nat_le b.end 65536 && is_plain_row level all)
 is_plain_loop level _ = false
@@ -96,6 +97,7 @@ cells_in_source (Value e) = cells_in_expr e
 cells_in_source Input = 0
 
 abbrev mutual
+  -- the same of a statement
   pub cells_in : Stmt → ℕ
   cells_in (Declare x v) = cells_in_source v
   cells_in (Assign x v) = cells_in_source v

@@ -93,6 +93,10 @@ pub fn sections(program: &Program, item: &Item) -> Result<(), RangeFault>
 /// walked; else E301 at the least place, by line and then by column, of the array name of a subscript that can leave
 /// its array. An array that the program does not have is left by each subscript.
 ///
+/// Where the region is one loop of step 1 up to at most 65,536, with no loop and no condition in it, and each subscript is
+/// the loop's name, alone or with a number of at most 65,536 that is added or subtracted, each set has at most as many runs
+/// as the region names cells of arrays.
+///
 /// It takes time for each turn that is walked and each subscript, and for the cells of a subscript's interval, unless all
 /// of them lie in the one run of cells that is kept for an array; of a loop no turn of which is walked, for the cells that
 /// it touches and for pairs of its accesses. It takes four bits of memory for each cell of an array up to the last one
