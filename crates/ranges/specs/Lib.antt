@@ -1,10 +1,12 @@
 pub mod Cells
 pub mod Deciding
 pub mod Faults
+pub mod FewRuns
 pub mod Found
 pub mod ItemFaults
 pub mod Reach
 pub mod Rows
+pub mod RunLists
 pub mod Seen
 pub mod Settled
 pub mod Slides

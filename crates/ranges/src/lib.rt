@@ -8,11 +8,13 @@ ghost use Rattle.base.specs.Accepted.{region_faults, section_faults};
 ghost use Rattle.base.specs.Footprint.{exposes, reads, surely_writes, touches_of, writes};
 ghost use Rattle.ranges.specs.Cells.{has};
 ghost use Rattle.ranges.specs.Faults.{IsFirst};
+ghost use Rattle.ranges.specs.FewRuns.{HasFewRuns};
 ghost use Rattle.ranges.specs.Found.{IsFootprintFault};
 ghost use Rattle.ranges.specs.ItemFaults.{AreByParts};
 
 pub use crate::cells::{CellSet, Footprint};
 pub use crate::reached::{no_reach, reach};
+pub use crate::run_list::{Part, Run, runs_are_unique};
 use crate::section::{note_depends, note_maps};
 use crate::state::Walk;
 use crate::turns::turns_in_all;
@@ -33,6 +35,7 @@ mod least;
 mod offsets;
 mod reached;
 mod row;
+mod run_list;
 mod section;
 mod settled;
 mod slide;
@@ -93,6 +96,10 @@ pub fn sections(program: &Program, item: &Item) -> Result<(), RangeFault>
 /// walked; else E301 at the least place, by line and then by column, of the array name of a subscript that can leave
 /// its array. An array that the program does not have is left by each subscript.
 ///
+/// Where the region is one loop of step 1 up to at most 65,536, with no loop and no condition in it, and each subscript is
+/// the loop's name, alone or with a number of at most 65,536 that is added or subtracted, each set has at most as many runs
+/// as the region names cells of arrays.
+///
 /// It takes time for each turn that is walked and each subscript, and for the cells of a subscript's interval, unless all
 /// of them lie in the one run of cells that is kept for an array; of a loop no turn of which is walked, for the cells that
 /// it touches and for pairs of its accesses. It takes four bits of memory for each cell of an array up to the last one
@@ -108,6 +115,7 @@ pub fn footprint(
     ensures read { IfOk result (λ f. (c : Cell) → has f.read c ≡ reads (touches_of region.now loops.now.values.items) c) }
     ensures write { IfOk result (λ f. (c : Cell) → has f.write c ≡ writes (touches_of region.now loops.now.values.items) c) }
     ensures sure { IfOk result (λ f. (c : Cell) → has f.sure c ≡ surely_writes (touches_of region.now loops.now.values.items) c) }
+    ensures few { IfOk result (HasFewRuns region.now loops.now.values.items) }
     ensures fault { IfErr result (IsFootprintFault (region_faults (lengths_of program.now) loops.now.values.items (Some region.now))) }
 {
     if turns_in_all(&region.body) > MOST_TURNS {

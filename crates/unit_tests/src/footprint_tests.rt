@@ -6,7 +6,7 @@ use c_read::read_program;
 use mapcheck::passes::footprints_of;
 use mapwalk::{Footprints, repeats};
 use outline::{Outlined, outline};
-use ranges::{CellSet, Footprint};
+use ranges::{CellSet, Footprint, Part, Run};
 use std::alloc::{AllocError, Global};
 use std::test::Fail;
 
@@ -160,5 +160,43 @@ fn one_cell_is_exposed(rt: HostRuntime) -> Result<(), Fail> {
     let program = read_program(rt.alloc(), EACH_FROM_THE_LAST.as_bytes())?;
     let outlined = outline(rt.alloc(), &program)?;
     assert!(rt; first_is_known(rt.alloc(), &outlined)?);
+    Ok(())
+}
+
+const PARTS: [(Part, u64, u64); 4] = [
+    (Part::Exposed, 0, 1),
+    (Part::Read, 0, 65535),
+    (Part::Write, 1, 65535),
+    (Part::Sure, 1, 65535),
+];
+
+// Whether each part is one run of the array.
+fn are_known_runs(alloc: Global, found: &Option<Footprint>) -> Result<bool, AllocError> {
+    let Some(footprint) = found else {
+        return Ok(false);
+    };
+    for (part, first, length) in PARTS {
+        let run = Run {
+            array: ArrayId(0),
+            first,
+            length,
+        };
+        if footprint.runs(alloc, part)?[..] != [run] {
+            return Ok(false);
+        }
+    }
+    Ok(true)
+}
+
+fn runs_are_known(alloc: Global, outlined: &Outlined<'_>) -> Result<bool, Fail> {
+    let found = footprints_of(alloc, outlined, &repeats(alloc, outlined)?)?;
+    Ok(found.len() > 0 && are_known_runs(alloc, found.get(0))?)
+}
+
+#[test]
+fn one_run_is_read(rt: HostRuntime) -> Result<(), Fail> {
+    let program = read_program(rt.alloc(), EACH_FROM_THE_LAST.as_bytes())?;
+    let outlined = outline(rt.alloc(), &program)?;
+    assert!(rt; runs_are_known(rt.alloc(), &outlined)?);
     Ok(())
 }

@@ -8,6 +8,7 @@ use Rattle.ranges.specs.Seen.{list_turns, seen_in, Seen}
 use Rattle.ranges.specs.Found.{nothing_seen}
 use Rattle.ranges.proofs.AllSeen.{all_seen, least_seen}
 use Rattle.ranges.proofs.RegionFaults.{above_most, up_to_most, no_fault, subscript_first, turns_first}
+use Rattle.ranges.proofs.PlainRegions.{each_part, few_in_footprint}
 use Rattle.ranges.proofs.footprint.Goals as goal
 
 pub returns-then-turns_in_all-gt-MOST_TURNS-clause-fault : goal.returns-then-turns_in_all-gt-MOST_TURNS-clause-fault
@@ -73,3 +74,11 @@ returns-in-Some-clause-fault c =
     c.if-turns_in_all-gt-MOST_TURNS.false)
     (sym (ap (λ (s : Seen). s.least) c.in-Ok.ensures ∙ least_seen lengths (touches_of r loops) nothing_seen)
     ∙ c.in-Some.is))
+
+pub returns-in-None-clause-few : goal.returns-in-None-clause-few
+returns-in-None-clause-few c =
+    let r = c.args.region.now in
+    let loops = c.args.loops.now.values.items in
+    few_in_footprint r loops c.in-Ok.walk.found
+    (each_part c.in-Ok.walk.found (touches_of r loops) (returns-in-None-clause-exposed c) (returns-in-None-clause-read c)
+    (returns-in-None-clause-write c) (returns-in-None-clause-sure c))
