@@ -90,7 +90,8 @@ pub fn sections(program: &Program, item: &Item) -> Result<(), RangeFault>
 /// that no subscript and no condition names the first turn is walked alone, since the others touch the same. No turn is
 /// walked of a loop of step 1 that has neither loops nor conditions in it, and in whose subscripts its name alone stands,
 /// or with fixed values that are added or subtracted: numbers, names of loops around it, and sums, differences and
-/// products of these.
+/// products of these. The turns of a loop that are left are not walked once the cells that they can touch were all seen:
+/// `A[i % 16]` after 16 turns.
 ///
 /// The error is E303 at the region's first token where its loops have more than 1,048,576 turns, and then nothing is
 /// walked; else E301 at the least place, by line and then by column, of the array name of a subscript that can leave
