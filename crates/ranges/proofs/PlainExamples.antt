@@ -1,5 +1,5 @@
 -- Statements in a loop with no loop around it, and how often they name a cell.
-use Rattle.std.proofs.Common.{◌≡◌, ℕ, Bool, true, false, refl, Box, Global}
+use Rattle.std.proofs.Common.{◌≡◌, true, false, refl, Box, Global}
 use Rattle.base.specs.declared.tree.ArrayId.{ArrayId}
 use Rattle.base.specs.declared.tree.Place.{Place}
 use Rattle.base.specs.declared.tree.BinaryOp.TheVariants.{Multiply, Subtract}
