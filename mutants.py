@@ -90,7 +90,8 @@ def verdict_of(said, function):
     file, kind, name = function
     if is_outside(function):
         ends = {"logic=not-proved": "refused", "logic=proved": "proved"}
-        return ends.get(next(iter(re.findall(r"^(logic=\S+)", said, re.M)), ""), "not judged")
+        # a check of libraries that were checked again comes before the crate's own
+        return ends.get((re.findall(r"^(logic=\S+)", said, re.M) or [""])[-1], "not judged")
     module = re.sub(r"^(lib|main)$", "", os.path.basename(file)[:-len(".rt")])
     owner = kind or module
     lines = re.findall(rf"^fn \S*?{owner}\w*::{name}(?:::\S+)?: (.*)$", said, re.M) or re.findall(rf"^fn \S*::{name}: (.*)$", said, re.M)
