@@ -1,5 +1,7 @@
 -- The command line of `ompc` as the library of command lines sees it, and what its words ask for.
-use Rattle.std.specs.Prelude.{ℕ, ◌≡◌, ◌⊎◌, Bool, true, false, List, [], ◌∷◌, Option, Some, None, IfSome, unwrap_or, codes}
+use Rattle.std.specs.Prelude.{ℕ, ◌≡◌, ◌⊎◌, Bool, true, false, List, [], ◌∷◌, Option, Some, None, IfSome, unwrap_or, if◌then◌else◌, codes}
+use Rattle.std.specs.Option.{option_map_or}
+use Rattle.std.specs.Str.{bytes_eq}
 use Rattle.std.specs.Str.Parse.{digits_value, without_leading_plus}
 use Rattle.clap.specs.Values.{IsUnsignedIn}
 use Rattle.clap.specs.Walk.{Row, Rule, Text, first_of, one_of, rule_of}
@@ -11,6 +13,9 @@ use Rattle.clap.specs.declared.builder.action.ArgAction.TheVariants.{SetTrue}
 use Rattle.clap.specs.declared.builder.value_parser.ValueParser.TheVariants.{Unsigned}
 use Rattle.command.specs.declared.request.Request.{Request}
 use Rattle.command.specs.declared.request.Request.TheVariants as request
+use Rattle.command.specs.declared.request.Explain.{Explain}
+use Rattle.command.specs.declared.request.Format.{Format}
+use Rattle.command.specs.declared.request.Format.TheVariants as format
 use Rattle.command.specs.declared.request.Run.{Run}
 use Rattle.command.specs.declared.request.Step.{Step}
 
@@ -43,6 +48,15 @@ command name rules = record (new_shape name) { rules = rules }
 abbrev pub check : Shape
 check = command (codes "check") (file ∷ [])
 
+abbrev pub explain : Shape
+explain = command (codes "explain") (file ∷ text_option (codes "format") ∷ [])
+
+abbrev pub fix : Shape
+fix = command (codes "fix") (file ∷ [])
+
+abbrev pub witness : Shape
+witness = command (codes "witness") (file ∷ [])
+
 abbrev pub list : Shape
 list = command (codes "list") (file ∷ [])
 
@@ -57,11 +71,12 @@ abbrev pub ompc : App
 ompc = record {
   top = record (new_shape (codes "ompc")) {
     is_leaf = false;
+    has_version = true;
     no_binary_name = true;
     arg_required_else_help = true;
     subcommand_required = true;
   };
-  subs = check ∷ list ∷ run ∷ step ∷ [];
+  subs = check ∷ explain ∷ fix ∷ witness ∷ list ∷ run ∷ step ∷ [];
 }
 
 -- an argument that the library reads so
@@ -113,17 +128,37 @@ pub record IsStep (rows : List Row) (s : Step) : Type 0 where
   pub capacity : IsCapacity rows s.capacity
   pub fine : IsFlag (one_of (codes "fine") rows) s.fine
 
+-- the form of a report that has this name
+abbrev pub format_named : Text → Option Format
+format_named name =
+    if bytes_eq name (codes "text") then Some format.Text
+    else (if bytes_eq name (codes "json") then Some format.Json
+    else (if bytes_eq name (codes "sarif") then Some format.Sarif else None))
+
+-- the form that is asked for, which is text where none is
+abbrev pub format_in : List Row → Option Format
+format_in rows = option_map_or format_named (first_of (codes "format") rows) (Some format.Text)
+
+pub record IsExplain (rows : List Row) (e : Explain) : Type 0 where
+  pub file : e.file.now ≡ text_in (codes "FILE") rows
+  pub format : e.format ≡ format_in rows
+
 -- the request of a command of that name with these entries
 abbrev pub Asks : Text → List Row → Request → Type 0
 Asks name rows (request.Check source) = (name ≡ codes "check") × (source.now ≡ text_in (codes "FILE") rows)
+Asks name rows (request.Explain e) = (name ≡ codes "explain") × IsExplain rows e
+Asks name rows (request.Fix source) = (name ≡ codes "fix") × (source.now ≡ text_in (codes "FILE") rows)
+Asks name rows (request.Witness source) = (name ≡ codes "witness") × (source.now ≡ text_in (codes "FILE") rows)
 Asks name rows (request.List source) = (name ≡ codes "list") × (source.now ≡ text_in (codes "FILE") rows)
 Asks name rows (request.Run r) = (name ≡ codes "run") × IsRun rows r
 Asks name rows (request.Step s) = (name ≡ codes "step") × IsStep rows s
 
--- the name of a command and its entries, of one of the four
+-- the name of a command and its entries, of one of the seven
 abbrev pub IsNamed : Option (Text × List Row) → Type 0
 IsNamed None = ⊥
-IsNamed (Some p) = (p.0 ≡ codes "check") ⊎ ((p.0 ≡ codes "list") ⊎ ((p.0 ≡ codes "run") ⊎ (p.0 ≡ codes "step")))
+IsNamed (Some p) =
+    (p.0 ≡ codes "check") ⊎ ((p.0 ≡ codes "explain") ⊎ ((p.0 ≡ codes "fix") ⊎ ((p.0 ≡ codes "witness")
+    ⊎ ((p.0 ≡ codes "list") ⊎ ((p.0 ≡ codes "run") ⊎ (p.0 ≡ codes "step"))))))
 
 -- what the words ask for
 abbrev pub AskedBy : List Text → Request → Type 0

@@ -10,6 +10,27 @@ pub enum Request<'a> {
     Check(&'a str),
     /// The items of the program in the file.
     List(&'a str),
+    Explain(Explain<'a>),
+    /// The source in the file with directives that are accepted.
+    Fix(&'a str),
+    /// A run of the program in the file that prints something else than without directives.
+    Witness(&'a str),
+}
+
+/// In which form a report is printed.
+#[derive(Clone, Copy, Debug, PartialEq, Eq)]
+pub enum Format {
+    Text,
+    Json,
+    Sarif,
+}
+
+/// Why a program is refused.
+#[derive(Clone, Copy)]
+pub struct Explain<'a> {
+    pub file: &'a str,
+    /// None where the words name a form that there is not.
+    pub format: Option<Format>,
 }
 
 /// How many worker threads there are.

@@ -4,11 +4,13 @@ ghost use Rattle.std.specs.Prelude.{◌≡◌, ◌≤◌, ℕ, [], ◌∷◌, �
 ghost use Rattle.clap.specs.Simple.{App, Shape, with_subcommand};
 ghost use Rattle.clap.specs.Walk.{Rule};
 ghost use Rattle.clap.specs.Words.{FailsBy, fault_of, found_of, one_of, rows_of, subcommand_of, subcommand_rows_of};
-ghost use Rattle.command.specs.CommandLine.{AreWorkers, AskedBy, Asks, IsArg, IsCommand, IsNamed, IsNumber, IsProgram, IsReadAs, IsRun, IsStep, capacity, check, command, file, flag, list, ompc, run, step, text_in, text_option, workers};
+ghost use Rattle.command.specs.CommandLine.{AreWorkers, AskedBy, Asks, IsArg, IsCommand, IsExplain, IsNamed, IsNumber, IsProgram, IsReadAs, IsRun, IsStep, capacity, check, command, explain, file, fix, flag, format_in, format_named, list, ompc, run, step, text_in, text_option, witness, workers};
 
-use crate::request::{Request, Run, Step, Workers};
+use crate::request::{Explain, Format, Request, Run, Step, Workers};
 use clap::{Arg, ArgAction, ArgMatches, Command, Error, value_parser};
 use std::alloc::{AllocError, Global};
+
+const VERSION: &str = "0.1.0";
 
 /// The device's capacity in cells, where none is given.
 const DEFAULT_CAPACITY: u64 = 4_194_304;
@@ -90,6 +92,15 @@ fn fine_arg<'a>(alloc: Global) -> Arg<'a>
         )
 }
 
+fn format_arg<'a>(alloc: Global) -> Arg<'a>
+    ensures { IsArg (text_option (codes "format")) result }
+{
+    Arg::new(alloc, "format")
+        .long("format")
+        .value_name("F")
+        .help("text, json or sarif; text where it is not given")
+}
+
 /// A command that takes the source.
 fn file_command<'a>(
     alloc: Global,
@@ -151,6 +162,29 @@ fn list_command<'a>(alloc: Global) -> Result<Command<'a>, AllocError>
     )
 }
 
+fn explain_command<'a>(alloc: Global) -> Result<Command<'a>, AllocError>
+    ensures { IfOk result (IsCommand explain) }
+{
+    let about = "says why a program is refused: the places in the source, and what happens there";
+    with_arg(file_command(alloc, "explain", about), format_arg(alloc))
+}
+
+fn fix_command<'a>(alloc: Global) -> Result<Command<'a>, AllocError>
+    ensures { IfOk result (IsCommand fix) }
+{
+    let about =
+        "prints the source with its directives changed so that it is accepted, in at most 4 steps and 64 checks";
+    file_command(alloc, "fix", about)
+}
+
+fn witness_command<'a>(alloc: Global) -> Result<Command<'a>, AllocError>
+    ensures { IfOk result (IsCommand witness) }
+{
+    let about =
+        "looks for choices by which a refused program prints something else than without directives, in at most 512 runs";
+    file_command(alloc, "witness", about)
+}
+
 /// What the words are read by, with one more command.
 fn with_command<'a>(
     program: Result<Command<'a>, AllocError>,
@@ -167,11 +201,15 @@ fn program<'a>(alloc: Global) -> Result<Command<'a>, AllocError>
 {
     let program = Command::new(alloc, "ompc")
         .about("checks and runs C programs with OpenMP target directives")
+        .version(VERSION)
         .subcommand_required(true)
         .arg_required_else_help(true)
         .no_binary_name(true)
         .bin_name("ompc");
     let program = with_command(program, check_command(alloc));
+    let program = with_command(program, explain_command(alloc));
+    let program = with_command(program, fix_command(alloc));
+    let program = with_command(program, witness_command(alloc));
     let program = with_command(program, list_command(alloc));
     let program = with_command(program, run_command(alloc));
     with_command(program, step_command(alloc))
@@ -238,12 +276,45 @@ fn step_of<'a>(given: &ArgMatches<'a>) -> Step<'a>
     }
 }
 
+/// The form of that name.
+fn format_named(name: &str) -> Option<Format>
+    ensures { result ≡ format_named name.now }
+{
+    match name {
+        "text" => Some(Format::Text),
+        "json" => Some(Format::Json),
+        "sarif" => Some(Format::Sarif),
+        _ => None,
+    }
+}
+
+fn format_of(given: &ArgMatches<'_>) -> Option<Format>
+    ensures { result ≡ format_in (rows_of (found_of given.now)) }
+{
+    match given.get_str("format") {
+        Some(name) => format_named(name),
+        None => Some(Format::Text),
+    }
+}
+
+fn explain_of<'a>(given: &ArgMatches<'a>) -> Explain<'a>
+    ensures { IsExplain (rows_of (found_of given.now)) result }
+{
+    Explain {
+        file: text_of(given, "FILE"),
+        format: format_of(given),
+    }
+}
+
 fn request_of<'a>(given: &ArgMatches<'a>) -> Request<'a>
     requires { IsNamed (subcommand_rows_of given.now) }
     ensures { IfSome (subcommand_rows_of given.now) (λ p. Asks p.0 p.1 result) }
 {
     match given.subcommand() {
         Some(("check", given)) => Request::Check(text_of(given, "FILE")),
+        Some(("explain", given)) => Request::Explain(explain_of(given)),
+        Some(("fix", given)) => Request::Fix(text_of(given, "FILE")),
+        Some(("witness", given)) => Request::Witness(text_of(given, "FILE")),
         Some(("list", given)) => Request::List(text_of(given, "FILE")),
         Some(("run", given)) => Request::Run(run_of(given)),
         Some(("step", given)) => Request::Step(step_of(given)),

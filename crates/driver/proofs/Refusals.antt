@@ -1,6 +1,6 @@
 -- What a refusal of a part of a command is of the whole.
-use Rattle.std.proofs.Common.{◌≡◌, ◌≤◌, ℕ, Bool, true, false, List, length, refl, sym, subst, true≢false}
-use Rattle.std.specs.Prelude.{Result, Ok, Err, IfErr, IsErrAnd}
+use Rattle.std.proofs.Common.{◌≡◌, ◌≢◌, ◌≤◌, ℕ, Bool, true, false, List, Option, length, refl, sym, subst, true≢false}
+use Rattle.std.specs.Prelude.{Result, Ok, Err, IfErr, IfOk, IfSome, IsErrAnd}
 use Rattle.base.specs.declared.tree.Program.{Program}
 use Rattle.base.specs.declared.fault.OutlineFault.TheVariants as outline
 use Rattle.base.specs.declared.fault.CheckFault.TheVariants as check
@@ -10,16 +10,18 @@ use Rattle.c_read.specs.Spells.{Spells}
 use Rattle.pipeline.specs.Checking.{IsRefused}
 use Rattle.driver.specs.declared.perform.Ending.{Ending}
 use Rattle.driver.specs.declared.perform.Ending.TheVariants as ending
-use Rattle.driver.specs.Statuses.{ending_of}
+use Rattle.driver.specs.Statuses.{ending_of, status_of}
 use Rattle.base.specs.Items.{plan}
 use Rattle.base.specs.Limits.{most_items}
 use Rattle.mapcheck.specs.Passes.{IsCheckFault}
 use Rattle.pipeline.specs.Checking.{IsUnaccepted}
-use Rattle.driver.specs.Refused.{IsNoRefusal, IsPlanFault, IsRefusalBy, IsSought}
+use Rattle.driver.specs.Refused.{IsNoRefusal, IsPlanFault, IsRefusalBy, IsRefusedOf, IsSought}
+use Rattle.driver.proofs.Requests.{of_source}
 
 -- a refusal by a fault of one kind is one by a fault of a wider kind
 pub by_wider : (P Q : SourceFault → Type 0) (e : Ending) → ((f : SourceFault) → P f → Q f) → IsRefusalBy P e → IsRefusalBy Q e
 by_wider P Q ending.BadChoices wider h = tt
+by_wider P Q ending.BadFormat wider h = tt
 by_wider P Q (ending.Unreadable name) wider h = tt
 by_wider P Q (ending.Source f) wider h = λ refuses. wider f (h refuses)
 by_wider P Q ending.Refused wider h = record { fault = h.fault; refuses = h.refuses; is = wider h.fault h.is }
@@ -74,3 +76,22 @@ pub handed_up : {X : Type 0} (P : SourceFault → Type 0) (r : Result X Ending) 
     → IfErr r (IsRefusalBy P)
 handed_up P (Ok x) e is h = absurd is
 handed_up P (Err y) e is h = subst (IsRefusalBy P) (sym is) h
+
+-- a refusal of the bytes that were found is one of the source
+pub of_refused : {X : Type 0} (r : Result X Ending) (source : Option (List ℕ)) (found bytes : List ℕ) → IfSome source (λ xs. found ≡ xs) → bytes ≡ found
+    → IfErr r (IsRefusalBy (IsRefused bytes)) → IfErr r (IsRefusalBy (IsRefusedOf true source))
+of_refused (Ok x) source found bytes are same h = tt
+of_refused (Err e) source found bytes are same h = by_wider (IsRefused bytes) (IsRefusedOf true source) e (λ f is. (
+  tt,
+  of_source source (λ bs. IsRefused bs f) found bytes are same is,
+)) h
+
+-- what has another status has not this one
+pub not_two : {X : Type 0} (r : Result X Ending) (P : Type 0) → IfErr r (λ e. status_of e ≢ 2) → IfErr r (λ e. status_of e ≡ 2 → P)
+not_two (Ok x) P h = tt
+not_two (Err e) P h = λ two. absurd (h two)
+
+-- what is never answered is answered as one likes
+pub never : {X : Type 0} {E : Type 0} (r : Result X E) (P : X → Type 0) → IfOk r (λ x. ⊥) → IfOk r P
+never (Ok x) P h = absurd h
+never (Err e) P h = tt

@@ -7,16 +7,21 @@ use Rattle.c_read.specs.Spells.{Spells}
 use Rattle.pipeline.specs.Source.{Answers, IsAcceptedAnswer, by_choices, on_threads}
 use Rattle.pipeline.specs.Checking.{IsChecked}
 use Rattle.pipeline.specs.Listing.{IsListed}
+use Rattle.explain.specs.Explained.{SpellsAccepted}
 use Rattle.report.specs.Runs.{log_bytes, finals_bytes}
 use Rattle.numbers.specs.Numbers.{input_of, choices_of}
 use Rattle.command.specs.CommandLine.{AskedBy}
 use Rattle.command.specs.declared.request.Request.{Request}
-use Rattle.command.specs.declared.request.Request.TheVariants.{Run, Step, Check, List as Items}
+use Rattle.command.specs.declared.request.Request.TheVariants.{Run, Step, Check, Explain, Fix, Witness, List as Items}
 use Rattle.driver.specs.declared.perform.Next.{Next}
 use Rattle.driver.specs.declared.perform.Next.TheVariants.{Choices, Workers}
 use Rattle.driver.specs.declared.perform.Way.{Way}
 use Rattle.driver.specs.declared.perform.Way.TheVariants.{Checked, Fine}
 use Rattle.stepper.specs.Answering.{IsFineAnswer}
+use Rattle.mend.specs.Mends.{IsMend}
+use Rattle.witness.specs.declared.trial.Witness.{Witness as FoundWitness}
+use Rattle.witness.specs.Witnesses.{IsWitness}
+use Rattle.witness.specs.Texts.{witness_bytes}
 
 -- the numbers that a reader has left, where its bytes are known
 pub record IsInput (known : Option (List ℕ)) (input : List ℕ) : Type 0 where
@@ -79,12 +84,41 @@ pub record IsStepped (fine : Bool) (text : List ℕ) (capacity : ℕ) (bytes : L
   pub are_choices : choices_of text ≡ Some choices
   pub printed : IsPrinted (stepped fine choices capacity) true false bytes known old new
 
+-- a text that spells an accepted program, and differs from the bytes in directives alone
+pub record IsFixed (bytes : List ℕ) (old new : Option (List ℕ)) : Type 0 where
+  pub text : List ℕ
+  pub mend : IsMend bytes text
+  pub written : Appends old new text
+
+-- choices by which the program that the bytes spell, run action by action, prints something else than the program that
+-- they spell without directive lines, or stops; and both outputs
+pub record IsWitnessed (name bytes : List ℕ) (known old new : Option (List ℕ)) : Type 0 where
+  pub input : List ℕ
+  pub is_input : IsInput known input
+  pub found : FoundWitness
+  pub plain : Answer
+  pub is : IsWitness bytes input 4194304 found plain
+  pub written : Appends old new (witness_bytes name found plain)
+
 -- what a request prints of the bytes of a source
 abbrev pub IsDone : Request → List ℕ → Option (List ℕ) → Option (List ℕ) → Option (List ℕ) → Type 0
 IsDone (Run run) bytes known old new = IsPrinted (accepted_by (by_workers run.capacity)) run.log run.finals bytes known old new
 IsDone (Step step) bytes known old new = IsStepped step.fine step.choices.now step.capacity bytes known old new
 IsDone (Check name) bytes known old new = IsChecked bytes old new
 IsDone (Items name) bytes known old new = IsListed bytes old new
+IsDone (Explain explain) bytes known old new = SpellsAccepted bytes
+IsDone (Fix name) bytes known old new = IsFixed bytes old new
+IsDone (Witness name) bytes known old new = IsWitnessed name.now bytes known old new
+
+-- a request that writes to standard output why a program is refused
+abbrev pub is_report : Request → Bool
+is_report (Run run) = false
+is_report (Step step) = false
+is_report (Check name) = false
+is_report (Items name) = false
+is_report (Explain explain) = true
+is_report (Fix name) = false
+is_report (Witness name) = false
 
 -- the bytes of each source, by its name, where they are known
 abbrev pub KnownSources : Type 0
@@ -96,12 +130,21 @@ file_of (Run run) = run.file.now
 file_of (Step step) = step.file.now
 file_of (Check name) = name.now
 file_of (Items name) = name.now
+file_of (Explain explain) = explain.file.now
+file_of (Fix name) = name.now
+file_of (Witness name) = name.now
 
 -- that is so of the bytes of a source, which are these where they are known
 pub record OfSource (source : Option (List ℕ)) (P : List ℕ → Type 0) : Type 0 where
   pub bytes : List ℕ
   pub are : IfSome source (λ xs. bytes ≡ xs)
   pub holds : P bytes
+
+-- that is so where the request that the words ask for is no report
+pub record IsUnlessReport (words : List (List ℕ)) (P : Type 0) : Type 0 where
+  pub request : Request
+  pub asked : AskedBy words request
+  pub holds : is_report request ≡ false → P
 
 -- that is so of the request that the words ask for, and of the source that it names
 pub record IsCommandDone (words : List (List ℕ)) (sources : KnownSources) (known old new : Option (List ℕ)) : Type 0 where

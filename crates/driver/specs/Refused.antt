@@ -29,6 +29,9 @@ checks (request.Run run) = true
 checks (request.Step step) = not step.fine
 checks (request.Check name) = true
 checks (request.List name) = true
+checks (request.Explain explain) = true
+checks (request.Fix name) = true
+checks (request.Witness name) = true
 
 -- a fault that is looked for: what the check finds only where programs have to be accepted
 abbrev pub IsSought : Bool → SourceFault → Type 0

@@ -25,9 +25,10 @@ abbrev pub usage_status : ErrorKind → ℕ
 usage_status kind.OutOfMemory = 3
 usage_status _ = 2
 
--- choices, a source and an input that cannot be read have 2 too
+-- choices, a format, a source and an input that cannot be read have 2 too
 abbrev pub status_of : Ending → ℕ
 status_of ending.BadChoices = 2
+status_of ending.BadFormat = 2
 status_of (ending.Unreadable name) = 2
 status_of (ending.Source f) = source_status f
 status_of ending.Refused = 1

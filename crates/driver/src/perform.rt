@@ -1,19 +1,20 @@
 //! One command, over any sources, reader and writers.
 
-ghost use Rattle.std.specs.Prelude.{◌≡◌, ◌≢◌, ◌≤◌, ◌⊎◌, [], IfErr, IfOk, IfSome, None, OnErr, OnOk, map, not, true};
+ghost use Rattle.std.specs.Prelude.{◌≡◌, ◌≢◌, ◌≤◌, ◌⊎◌, [], IfErr, IfOk, IfSome, None, OnErr, OnOk, false, map, not, true};
 ghost use Rattle.std.specs.Io.KnownBytes.{Appends};
 ghost use Rattle.clap.specs.Faults.{fault_of};
 ghost use Rattle.clap.specs.Values.{kind_of};
 ghost use Rattle.base.specs.Limits.{AreShort};
-ghost use Rattle.pipeline.specs.Checking.{IsChecked, IsUnaccepted};
+ghost use Rattle.pipeline.specs.Checking.{IsChecked, IsRefused, IsUnaccepted};
 ghost use Rattle.pipeline.specs.Listing.{IsListed};
 ghost use Rattle.command.specs.CommandLine.{ompc};
 ghost use Rattle.driver.specs.Statuses.{ending_of, source_status, status_of, usage_status};
-ghost use Rattle.driver.specs.Printed.{IsCommandDone, IsDone, IsInput, IsPrinted, IsReadAnswer, KnownSources, OfSource, answer_bytes, accepted_by, answers_of, by_actions, file_of, next_of};
+ghost use Rattle.driver.specs.Printed.{IsCommandDone, IsDone, IsFixed, IsInput, IsPrinted, IsReadAnswer, IsUnlessReport, IsWitnessed, KnownSources, OfSource, accepted_by, answer_bytes, answers_of, by_actions, file_of, is_report, next_of};
 ghost use Rattle.driver.specs.Misused.{IsMisused, IsMisusedRequest};
 ghost use Rattle.driver.specs.Refused.{IsCommandRefused, IsNoRefusal, IsPlanFault, IsRefusalBy, IsRefusedOf, IsRefusedSource, checks, is_checked};
 ghost use Rattle.driver.specs.Stepping.{IsStepWay};
 
+use crate::explained::do_explain;
 use base::fault::{CheckFault, OutlineFault, ReadFault, RunFault, SourceFault};
 use base::item::Answer;
 use base::tree::Program;
@@ -21,6 +22,7 @@ use c_read::read_program;
 use clap::error::ErrorKind;
 use command::{Request, Run, Step, Workers, parse};
 use mapcheck::{Accepted, check};
+use mend::mend;
 use numbers::{NumbersFault, choice_list, input_numbers};
 use outline::{Outlined, outline};
 use pipeline::{check_source, list_source, run_accepted, run_accepted_on_threads, tell};
@@ -31,6 +33,7 @@ use std::io::{Read, Write};
 use std::sync::Wait;
 use std::thread::Threads;
 use stepper::run_fine;
+use witness::{Finding, MOST_TRIES, witness, witness_text};
 
 /// Why a source has no bytes.
 #[derive(Clone, Copy, Debug, PartialEq, Eq)]
@@ -51,7 +54,7 @@ pub trait Sources {
 }
 
 /// The command did what was asked.
-const DONE: u8 = 0;
+pub(crate) const DONE: u8 = 0;
 
 /// The program is refused.
 const REFUSED: u8 = 1;
@@ -60,12 +63,16 @@ const REFUSED: u8 = 1;
 const MISUSED: u8 = 2;
 
 /// The run stopped before its end, or memory ran out.
-const FAILED: u8 = 3;
+pub(crate) const FAILED: u8 = 3;
+
+/// The device's capacity in cells for the runs of `witness`: what `step` has where none is given.
+const CAPACITY: u64 = 4_194_304;
 
 /// Why a command of well-formed words prints nothing to standard output.
 #[derive(Clone, Copy)]
-enum Ending<'a> {
+pub(crate) enum Ending<'a> {
     BadChoices,
+    BadFormat,
     Unreadable(&'a str),
     Source(SourceFault),
     /// The program is not accepted, and the line that says why is written.
@@ -83,7 +90,8 @@ impl Ending<'_> {
         ensures status { result ≡ status_of self.now }
     {
         match self {
-            Ending::BadChoices | Ending::Unreadable(_) | Ending::BadInput => MISUSED,
+            Ending::BadChoices | Ending::BadFormat | Ending::Unreadable(_) | Ending::BadInput =>
+                MISUSED,
             Ending::Source(fault) => status_of(*fault),
             Ending::Refused => REFUSED,
             Ending::OutOfMemory => FAILED,
@@ -93,6 +101,7 @@ impl Ending<'_> {
     fn write<E: Write>(&self, err: &mut E) -> io::Result<()> {
         match self {
             Ending::BadChoices => writeln!(err, "bad choices"),
+            Ending::BadFormat => writeln!(err, "bad format"),
             Ending::Unreadable(name) => writeln!(err, "cannot read {name}"),
             Ending::Source(fault) => writeln!(err, "{fault}"),
             Ending::Refused => Ok(()),
@@ -116,7 +125,7 @@ fn status_of(fault: SourceFault) -> u8
 }
 
 /// What a fault of a source that is checked ends with: of the checker only want of memory is still to be said.
-fn ending_of<'a>(fault: SourceFault) -> Ending<'a>
+pub(crate) fn ending_of<'a>(fault: SourceFault) -> Ending<'a>
     ensures { result ≡ ending_of fault }
 {
     match fault {
@@ -161,7 +170,10 @@ fn read_input<'a, R: Read>(alloc: Global, input: &mut R) -> Result<Vec<u64>, End
 }
 
 /// The bytes of the source of that name.
-fn bytes_of<'a, S: Sources>(sources: &mut S, name: &'a str) -> Result<Vec<u8>, Ending<'a>>
+pub(crate) fn bytes_of<'a, S: Sources>(
+    sources: &mut S,
+    name: &'a str,
+) -> Result<Vec<u8>, Ending<'a>>
     ensures bytes { IfOk result (λ v. IfSome (S.known sources.old name.now) (λ xs. v.items ≡ xs)) }
     ensures refused { IfErr result IsNoRefusal }
     ensures misused { IfErr result (λ e. status_of e ≡ 2 → S.known sources.old name.now ≡ None) }
@@ -446,6 +458,86 @@ fn do_list<'a, S: Sources, W: Write, E: Write>(
     }
 }
 
+/// Refuses a source as the check refuses it. Where the check accepts it, memory ran out before.
+fn refuse<'a, E: Write>(alloc: Global, bytes: &[u8], err: &mut E) -> Result<u8, Ending<'a>>
+    ensures none { IfOk result (λ s. ⊥) }
+    ensures refused { IfErr result (IsRefusalBy (IsRefused bytes.now)) }
+    ensures used { IfErr result (λ e. status_of e ≢ 2) }
+{
+    let mut told = Vec::new(alloc);
+    match check_source(alloc, bytes, &mut told, err) {
+        Ok(_) => Err(Ending::OutOfMemory),
+        Err(fault) => Err(ending_of(fault)),
+    }
+}
+
+/// Writes a text.
+fn write_text<W: Write>(text: &[u8], out: &mut W) -> io::Result<()>
+    ensures { OnOk result (Appends (W.contents out.old) (W.contents out.new) text.now) }
+{
+    out.write_all(text)?;
+    out.flush()
+}
+
+/// Prints a source with its directives changed so that it is accepted. Where none is found it is refused as the check
+/// refuses it.
+fn do_fix<'a, S: Sources, W: Write, E: Write>(
+    alloc: Global,
+    name: &'a str,
+    sources: &mut S,
+    out: &mut W,
+    err: &mut E,
+) -> Result<u8, Ending<'a>>
+    ensures status { IfOk result (λ s. (s ≡ 0) ⊎ (s ≡ 3)) }
+    ensures quiet { OnErr result (W.contents out.new ≡ W.contents out.old) }
+    ensures refused { IfErr result (IsRefusalBy (IsRefusedOf true (S.known sources.old name.now))) }
+    ensures misused { IfErr result (λ e. status_of e ≡ 2 → S.known sources.old name.now ≡ None) }
+    ensures done { IfOk result (λ s. s ≡ 0 → OfSource (S.known sources.old name.now) (λ bytes. IsFixed bytes (W.contents out.old) (W.contents out.new))) }
+{
+    let bytes = bytes_of(sources, name)?;
+    match mend(alloc, &bytes) {
+        Ok(Some(mended)) => match write_text(&mended.text, out) {
+            Ok(()) => Ok(DONE),
+            Err(_) => Ok(FAILED),
+        },
+        Ok(None) | Err(_) => refuse(alloc, &bytes, err),
+    }
+}
+
+/// Prints choices by which a program prints something else than without its directives.
+fn do_witness<'a, S: Sources, R: Read, W: Write, E: Write>(
+    alloc: Global,
+    name: &'a str,
+    sources: &mut S,
+    input: &mut R,
+    out: &mut W,
+    err: &mut E,
+) -> Result<u8, Ending<'a>>
+    ensures status { IfOk result (λ s. (s ≡ 0) ⊎ (s ≡ 3)) }
+    ensures quiet { OnErr result (W.contents out.new ≡ W.contents out.old) }
+    ensures refused { IfErr result (IsRefusalBy (IsRefusedOf true (S.known sources.old name.now))) }
+    ensures done { IfOk result (λ s. s ≡ 0 → OfSource (S.known sources.old name.now) (λ bytes. IsWitnessed name.now bytes (R.remaining input.old) (W.contents out.old) (W.contents out.new))) }
+{
+    let bytes = bytes_of(sources, name)?;
+    let numbers = read_input(alloc, input)?;
+    match witness(alloc, &bytes, &numbers, CAPACITY) {
+        Ok(Finding::Differs(found, plain)) => match witness_text(name, &found, &plain, out) {
+            Ok(()) => Ok(DONE),
+            Err(_) => Ok(FAILED),
+        },
+        Ok(Finding::Accepted) => {
+            let _ = writeln!(err, "accepted: no schedule differs");
+            Ok(FAILED)
+        }
+        Ok(Finding::None) => {
+            let _ = writeln!(err, "no schedule found in {MOST_TRIES} tries");
+            Ok(FAILED)
+        }
+        Ok(Finding::OutOfRange(_)) => refuse(alloc, &bytes, err),
+        Err(fault) => Err(ending_of(fault)),
+    }
+}
+
 /// Does what the words ask for.
 fn do_request<'a, T: Threads + Wait + Sync, S: Sources, R: Read, W: Write, E: Write>(
     rt: &T,
@@ -457,7 +549,8 @@ fn do_request<'a, T: Threads + Wait + Sync, S: Sources, R: Read, W: Write, E: Wr
     err: &mut E,
 ) -> Result<u8, Ending<'a>>
     ensures status { IfOk result (λ s. (s ≡ 0) ⊎ (s ≡ 3)) }
-    ensures quiet { OnErr result (W.contents out.new ≡ W.contents out.old) }
+    ensures quiet { IfErr result (λ e. is_report request.entry ≡ false → W.contents out.new ≡ W.contents out.old) }
+    ensures quiet_misuse { IfErr result (λ e. status_of e ≡ 2 → W.contents out.new ≡ W.contents out.old) }
     ensures refused { IfErr result (IsRefusalBy (IsRefusedOf (checks request.entry) (S.known sources.old (file_of request.entry)))) }
     ensures misused { IfErr result (λ e. status_of e ≡ 2 → IsMisusedRequest request.entry (S.known sources.old (file_of request.entry))) }
     ensures done { IfOk result (λ s. s ≡ 0 → OfSource (S.known sources.old (file_of request.entry)) (λ bytes. IsDone request.entry bytes (R.remaining input.old) (W.contents out.old) (W.contents out.new))) }
@@ -467,6 +560,9 @@ fn do_request<'a, T: Threads + Wait + Sync, S: Sources, R: Read, W: Write, E: Wr
         Request::Step(step) => do_step(rt, alloc, step, sources, input, out, err),
         Request::Check(name) => do_check(alloc, name, sources, out, err),
         Request::List(name) => do_list(alloc, name, sources, out, err),
+        Request::Explain(explain) => do_explain(alloc, explain, sources, out, err),
+        Request::Fix(name) => do_fix(alloc, name, sources, out, err),
+        Request::Witness(name) => do_witness(alloc, name, sources, input, out, err),
     }
 }
 
@@ -481,7 +577,8 @@ fn perform<T: Threads + Wait + Sync, S: Sources, R: Read, W: Write, E: Write>(
     err: &mut E,
 ) -> u8
     ensures status { result ≤ 3 }
-    ensures quiet { (result ≡ 1) ⊎ (result ≡ 2) → W.contents out.new ≡ W.contents out.old }
+    ensures quiet { result ≡ 1 → is_report request.entry ≡ false → W.contents out.new ≡ W.contents out.old }
+    ensures quiet_misuse { result ≡ 2 → W.contents out.new ≡ W.contents out.old }
     ensures refused { result ≡ 1 → IsRefusedSource (checks request.entry) (S.known sources.old (file_of request.entry)) }
     ensures misused { result ≡ 2 → IsMisusedRequest request.entry (S.known sources.old (file_of request.entry)) }
     ensures done { result ≡ 0 → OfSource (S.known sources.old (file_of request.entry)) (λ bytes. IsDone request.entry bytes (R.remaining input.old) (W.contents out.old) (W.contents out.new)) }
@@ -517,7 +614,8 @@ fn misused<E: Write>(error: &clap::Error, err: &mut E) -> u8
 /// where the program is refused, 2 where the command cannot be done as it was given, 3 where the run stopped before its
 /// end, where memory ran out, or where standard output cannot be written.
 ///
-/// What a command prints goes to `out` at its end, and only where it succeeds; the text of a fault goes to `err`. `rt`
+/// What a command prints goes to `out` at its end, and only where it succeeds, but for `explain`, which prints why a program
+/// is refused; the text of a fault goes to `err`. `rt`
 /// starts the worker threads of `run`; every other command waits for nobody.
 pub fn drive<T: Threads + Wait + Sync, S: Sources, R: Read, W: Write, E: Write>(
     rt: &T,
@@ -529,7 +627,8 @@ pub fn drive<T: Threads + Wait + Sync, S: Sources, R: Read, W: Write, E: Write>(
     err: &mut E,
 ) -> u8
     ensures status { result ≤ 3 }
-    ensures quiet { (result ≡ 1) ⊎ (result ≡ 2) → W.contents out.new ≡ W.contents out.old }
+    ensures quiet { result ≡ 1 → IsUnlessReport (map (λ w. w.now) words.now) (W.contents out.new ≡ W.contents out.old) }
+    ensures quiet_misuse { result ≡ 2 → W.contents out.new ≡ W.contents out.old }
     ensures refused { result ≡ 1 → IsCommandRefused (map (λ w. w.now) words.now) (S.known sources.old) }
     ensures misused { result ≡ 2 → IsMisused (map (λ w. w.now) words.now) (S.known sources.old) }
     ensures usage { fault_of ompc (map (λ w. w.now) words.now) ≢ [] → (result ≡ 2) ⊎ (result ≡ 3) }

@@ -42,14 +42,18 @@ $ ompc
 ! Usage: ompc <COMMAND>
 ! 
 ! Commands:
-!   check  says whether a program is accepted, and which arrays are current at its end
-!   list   prints the items of an accepted program, a line each
-!   run    runs a program on what standard input holds, by worker threads, and prints its output
-!   step   runs a program likewise, but event by event, and prints its output and its log
-!   help   Print this message or the help of the given subcommand(s)
+!   check    says whether a program is accepted, and which arrays are current at its end
+!   explain  says why a program is refused: the places in the source, and what happens there
+!   fix      prints the source with its directives changed so that it is accepted, in at most 4 steps and 64 checks
+!   witness  looks for choices by which a refused program prints something else than without directives, in at most 512 runs
+!   list     prints the items of an accepted program, a line each
+!   run      runs a program on what standard input holds, by worker threads, and prints its output
+!   step     runs a program likewise, but event by event, and prints its output and its log
+!   help     Print this message or the help of the given subcommand(s)
 ! 
 ! Options:
-!   -h, --help  Print help
+!   -h, --help     Print help
+!   -V, --version  Print version
 [2]
 $ ompc --help
 ! checks and runs C programs with OpenMP target directives
@@ -57,14 +61,18 @@ $ ompc --help
 ! Usage: ompc <COMMAND>
 ! 
 ! Commands:
-!   check  says whether a program is accepted, and which arrays are current at its end
-!   list   prints the items of an accepted program, a line each
-!   run    runs a program on what standard input holds, by worker threads, and prints its output
-!   step   runs a program likewise, but event by event, and prints its output and its log
-!   help   Print this message or the help of the given subcommand(s)
+!   check    says whether a program is accepted, and which arrays are current at its end
+!   explain  says why a program is refused: the places in the source, and what happens there
+!   fix      prints the source with its directives changed so that it is accepted, in at most 4 steps and 64 checks
+!   witness  looks for choices by which a refused program prints something else than without directives, in at most 512 runs
+!   list     prints the items of an accepted program, a line each
+!   run      runs a program on what standard input holds, by worker threads, and prints its output
+!   step     runs a program likewise, but event by event, and prints its output and its log
+!   help     Print this message or the help of the given subcommand(s)
 ! 
 ! Options:
-!   -h, --help  Print help
+!   -h, --help     Print help
+!   -V, --version  Print version
 [2]
 $ ompc run double.c --workers 0
 ! error: invalid value '0' for '--workers <N>': 0 is not in 1..=16
@@ -78,6 +86,17 @@ $ ompc run double.c --workers 17
 [2]
 $ ompc run double.c --workers x
 ! error: invalid value 'x' for '--workers <N>': invalid digit found in string
+! 
+! For more information, try '--help'.
+[2]
+$ ompc --version
+! ompc 0.1.0
+[2]
+$ ompc fix
+! error: the following required arguments were not provided:
+!   <FILE>
+! 
+! Usage: ompc fix <FILE>
 ! 
 ! For more information, try '--help'.
 [2]

@@ -1,0 +1,167 @@
+// From a source to why its program is refused.
+
+ghost use Rattle.std.specs.Prelude.{◌≡◌, IfErr, IfOk, OnOk};
+ghost use Rattle.base.specs.Accepted.{IsAccepted};
+ghost use Rattle.base.specs.Items.{plan};
+ghost use Rattle.explain.specs.Explained.{SpellsAccepted};
+ghost use Rattle.pipeline.specs.Checking.{IsRefused, IsSilent, IsUnaccepted};
+
+use crate::diagnosis::Diagnosis;
+use crate::faults::check_diagnosis;
+use crate::limits::too_many;
+use crate::objects::as_json;
+use crate::sarif::as_sarif;
+use crate::text::as_text;
+use crate::texts::text_diagnosis;
+use base::fault::{CheckFault, OutlineFault, ReadFault, SourceFault};
+use base::tree::Program;
+use c_read::read_program;
+use mapcheck::check;
+use outline::{Outlined, outline};
+use pipeline::tell;
+use std::alloc::{AllocError, Global};
+use std::io;
+use std::io::Write;
+
+/// In which form a report is printed.
+#[derive(Clone, Copy, Debug, PartialEq, Eq)]
+pub enum Form {
+    Text,
+    Json,
+    Sarif,
+}
+
+/// The name of a file, its bytes, and the form of the report.
+#[derive(Clone, Copy)]
+struct Report<'a> {
+    alloc: Global,
+    file: &'a str,
+    bytes: &'a [u8],
+    form: Form,
+}
+
+fn with_end(text: String) -> Result<Vec<u8>, AllocError> {
+    let mut bytes = text.into_bytes();
+    bytes.push(b'\n')?;
+    Ok(bytes)
+}
+
+impl Report<'_> {
+    fn text(&self, diagnoses: &[Diagnosis]) -> Result<Vec<u8>, AllocError> {
+        match self.form {
+            Form::Text => as_text(self.alloc, self.file, self.bytes, diagnoses),
+            Form::Json => with_end(as_json(self.alloc, self.file, diagnoses)?),
+            Form::Sarif => with_end(as_sarif(self.alloc, self.file, diagnoses)?),
+        }
+    }
+
+    fn write<W: Write>(&self, diagnoses: &[Diagnosis], out: &mut W) -> io::Result<()> {
+        let text = self.text(diagnoses)?;
+        out.write_all(&text)
+    }
+
+    fn write_one<W: Write>(
+        &self,
+        told: Result<Diagnosis, AllocError>,
+        out: &mut W,
+    ) -> io::Result<()> {
+        self.write(&[told?], out)
+    }
+}
+
+// Checks a program, and tells why it is refused.
+fn explain_outlined<W: Write, E: Write>(
+    report: &Report<'_>,
+    outlined: &Outlined<'_>,
+    out: &mut W,
+    err: &mut E,
+) -> Result<io::Result<()>, SourceFault>
+    ensures accepted { IfOk result (λ w. OnOk w (IsAccepted (plan outlined.now))) }
+    ensures fault { IfErr result (IsUnaccepted outlined.now) }
+    ensures silent { IsSilent result (E.contents err.old) (E.contents err.new) }
+{
+    let fault = match check(report.alloc, outlined) {
+        Ok(accepted) => {
+            accepted.is_accepted();
+            return Ok(report.write(&[], out));
+        }
+        Err(CheckFault::OutOfMemory) => return Err(SourceFault::Check(CheckFault::OutOfMemory)),
+        Err(fault) => fault,
+    };
+    let told = check_diagnosis(report.alloc, report.bytes, outlined, &fault);
+    match report.write_one(told, out) {
+        Ok(()) => Err(tell(report.alloc, outlined.program(), fault, err)),
+        Err(error) => Ok(Err(error)),
+    }
+}
+
+// Why a text is not read.
+fn explain_text<W: Write>(
+    report: &Report<'_>,
+    fault: ReadFault,
+    out: &mut W,
+) -> Result<io::Result<()>, SourceFault>
+    ensures err { IfErr result (λ f. f ≡ SourceFault.Read fault) }
+    ensures ok { IfOk result (λ w. OnOk w ⊥) }
+{
+    let ReadFault::Text(text) = fault else {
+        return Err(SourceFault::Read(fault));
+    };
+    let told = text_diagnosis(report.alloc, report.bytes, &text);
+    match report.write_one(told, out) {
+        Ok(()) => Err(SourceFault::Read(fault)),
+        Err(error) => Ok(Err(error)),
+    }
+}
+
+// Why a program has no items.
+fn explain_items<W: Write>(
+    report: &Report<'_>,
+    program: &Program,
+    fault: OutlineFault,
+    out: &mut W,
+) -> Result<io::Result<()>, SourceFault>
+    ensures err { IfErr result (λ f. f ≡ SourceFault.Outline fault) }
+    ensures ok { IfOk result (λ w. OnOk w ⊥) }
+{
+    let OutlineFault::TooManyItems = fault else {
+        return Err(SourceFault::Outline(fault));
+    };
+    let told = too_many(report.alloc, report.bytes, program);
+    match report.write_one(told, out) {
+        Ok(()) => Err(SourceFault::Outline(fault)),
+        Err(error) => Ok(Err(error)),
+    }
+}
+
+/// Reads a source, checks its program, and writes why it is refused, or that it is accepted. The fault is the one that
+/// `check_source` answers, and what is written tells of it; why a program is not accepted is written to `err` besides,
+/// in one line. Where what is to be told cannot be written, or there is no memory for it, that is answered.
+pub fn explain_source<W: Write, E: Write>(
+    alloc: Global,
+    file: &str,
+    bytes: &[u8],
+    form: Form,
+    out: &mut W,
+    err: &mut E,
+) -> Result<io::Result<()>, SourceFault>
+    ensures accepted { IfOk result (λ w. OnOk w (SpellsAccepted bytes.now)) }
+    ensures fault { IfErr result (λ f. IsRefused bytes.now f) }
+    ensures silent { IsSilent result (E.contents err.old) (E.contents err.new) }
+{
+    let report = Report {
+        alloc,
+        file,
+        bytes,
+        form,
+    };
+    let program = match read_program(alloc, bytes) {
+        Ok(program) => program,
+        Err(fault) => return explain_text(&report, fault, out),
+    };
+    let outlined = match outline(alloc, &program) {
+        Ok(outlined) => outlined,
+        Err(fault) => return explain_items(&report, &program, fault, out),
+    };
+    explain_outlined(&report, &outlined, out, err)
+}

@@ -1,0 +1,552 @@
+# why a program is refused: the place with its line, what earlier items have to do with it, what could be written; the line of check besides
+
+# subscripts, sections and counts out of range
+$ ompc explain below_the_array.c
+below_the_array.c:3:39: error: the subscript of A is 18446744073709551615, and A has 4 cells (in the turn i = 0) [E301]
+    for (uint64_t i = 0; i < 4; i += 1) { A[i - 1] = i; }
+                                          ^
+below_the_array.c:1:10: note: A has the cells 0 to 3
+    uint64_t A[4];
+             ^
+below_the_array.c:3:39: help: put it under an `if` that the values of the loops decide, or change the bounds of the loop
+    for (uint64_t i = 0; i < 4; i += 1) { A[i - 1] = i; }
+                                          ^
+! E301 item 0 line 3 column 39
+[1]
+$ ompc explain too_far.c
+too_far.c:5:39: error: the subscript of A is 4, and A has 4 cells (in the turn i = 4) [E301]
+    for (uint64_t i = 0; i < 5; i += 1) { A[i] = A[i] * 2 + 1; }
+                                          ^
+too_far.c:1:10: note: A has the cells 0 to 3
+    uint64_t A[4];
+             ^
+too_far.c:5:39: help: put it under an `if` that the values of the loops decide, or change the bounds of the loop
+    for (uint64_t i = 0; i < 5; i += 1) { A[i] = A[i] * 2 + 1; }
+                                          ^
+! E301 item 1 line 5 column 39
+[1]
+$ ompc explain past_the_array.c
+past_the_array.c:3:39: error: the section A[1:4] has the cells 1 to 4, and A has 4 cells [E302]
+    #pragma omp target enter data map(to: A[1:4])
+                                          ^
+past_the_array.c:1:10: note: A has the cells 0 to 3
+    uint64_t A[4];
+             ^
+past_the_array.c:3:39: help: a section is FIRST:LENGTH; A[1:3] is what fits at most
+    #pragma omp target enter data map(to: A[1:4])
+                                          ^
+! E302 item 0 line 3 column 39
+[1]
+$ ompc explain empty_section.c
+empty_section.c:3:39: error: the section A[1:0] is empty [E302]
+    #pragma omp target enter data map(to: A[1:0])
+                                          ^
+empty_section.c:1:10: note: A has the cells 0 to 3
+    uint64_t A[4];
+             ^
+empty_section.c:3:39: help: a section is FIRST:LENGTH; A[1:3] is what fits at most
+    #pragma omp target enter data map(to: A[1:0])
+                                          ^
+! E302 item 0 line 3 column 39
+[1]
+$ ompc explain long_loop.c
+long_loop.c:2:1: error: the loops of this region have 1048577 turns together, and 1048576 is the most [E303]
+    for (uint64_t i = 0; i < 1048577; i += 1) { print(i); }
+    ^
+long_loop.c:2:1: help: split the region in two, by a directive between, or lower the counts of its loops
+! E303 item 0 line 2 column 1
+[1]
+$ ompc explain one_item_more.c
+one_item_more.c:3:1: error: the program has 65537 items, and 65536 is the most [E401]
+    #pragma omp taskwait
+    ^
+one_item_more.c:3:1: note: each turn of the loop over i has items of its own: a run of statements between directives is one, a directive is one, a `target data` two
+one_item_more.c:3:1: help: move the loop into a target, or lower its count
+! E401
+[1]
+
+# sections that are not where a directive needs them
+$ ompc explain mapped_in_part.c
+mapped_in_part.c:6:1: error: the implicit `map(tofrom: A[0:8])` overlaps A[0:4], which is on device 0, without lying inside it [E501]
+    for (uint64_t i = 0; i < 4; i += 1) { A[i] = i + 5; }
+    ^
+mapped_in_part.c:3:36: note: A[0:4] is on device 0 since item 0, which entered it here
+    #pragma omp target data map(alloc: A[0:4])
+                                       ^
+mapped_in_part.c:6:1: help: name A[0:4] here, or a section inside it; or enter all of A[0:8] there
+    for (uint64_t i = 0; i < 4; i += 1) { A[i] = i + 5; }
+    ^
+! E501 item 1 A[0]
+[1]
+$ ompc explain in_part_on_one_device.c
+in_part_on_one_device.c:4:39: error: `map(to: A[1:3])` overlaps A[0:3], which is on device 0, without lying inside it [E501]
+    #pragma omp target enter data map(to: A[1:3])
+                                          ^
+in_part_on_one_device.c:3:39: note: A[0:3] is on device 0 since item 0, which entered it here
+    #pragma omp target enter data map(to: A[0:3])
+                                          ^
+in_part_on_one_device.c:4:39: help: name A[0:3] here, or a section inside it; or enter all of A[1:3] there
+    #pragma omp target enter data map(to: A[1:3])
+                                          ^
+! E501 item 1 A[1]
+[1]
+$ ompc explain left_twice.c
+left_twice.c:3:33: error: the end of `target data` leaves A[0:2], which is not on device 0 [E502]
+    #pragma omp target data map(to: A)
+                                    ^
+left_twice.c:5:42: note: item 1 removed A[0] from device 0 here
+    #pragma omp target exit data map(delete: A)
+                                             ^
+left_twice.c:3:1: help: enter it before, as by `#pragma omp target enter data map(to: A[0:2])`
+    #pragma omp target data map(to: A)
+    ^
+! E502 item 2 A[0]
+[1]
+$ ompc explain update_alone.c
+update_alone.c:3:30: error: `target update` copies A[0:4], which is not on device 0 [E503]
+    #pragma omp target update to(A)
+                                 ^
+update_alone.c:3:30: note: nothing before has entered A[0] on device 0
+update_alone.c:3:1: help: enter it before, as by `#pragma omp target enter data map(to: A[0:4])`
+    #pragma omp target update to(A)
+    ^
+! E503 item 0 A[0]
+[1]
+$ ompc explain not_mapped.c
+not_mapped.c:4:3: error: the target writes A[2], which no map item of it has [E504]
+    { A[2] = 1; }
+      ^
+not_mapped.c:3:32: note: `map(tofrom: A[0:2])` maps no more than A[0:2] to the device
+    #pragma omp target map(tofrom: A[0:2])
+                                   ^
+not_mapped.c:3:32: help: widen the section here so that it has A[2]
+! E504 item 0 A[2]
+[1]
+$ ompc explain present_alone.c
+present_alone.c:3:37: error: `map(present, to: A[0:4])` of the target says that A[0:4] is present, and it is not on device 0 [E509]
+    #pragma omp target map(present, to: A)
+                                        ^
+present_alone.c:3:37: note: nothing before has entered A[0] on device 0
+present_alone.c:3:1: help: enter it before, as by `#pragma omp target enter data map(to: A[0:4])`
+    #pragma omp target map(present, to: A)
+    ^
+! E509 item 0 A[0]
+[1]
+$ ompc explain present_update_alone.c
+present_update_alone.c:3:39: error: `to(present: A[0:4])` of `target update` says that A[0:4] is present, and it is not on device 0 [E509]
+    #pragma omp target update to(present: A)
+                                          ^
+present_update_alone.c:3:39: note: nothing before has entered A[0] on device 0
+present_update_alone.c:3:1: help: enter it before, as by `#pragma omp target enter data map(to: A[0:4])`
+    #pragma omp target update to(present: A)
+    ^
+! E509 item 0 A[0]
+[1]
+
+# cells that are not current, with the last item that made them so
+$ ompc explain mapped_to_only.c
+mapped_to_only.c:6:45: error: the host reads A[0], whose last value is on device 0: nothing has copied it to the host since (in the turn i = 0) [E506]
+    for (uint64_t i = 0; i < 4; i += 1) { print(A[i]); }
+                                                ^
+mapped_to_only.c:5:39: note: A[0] is written here, on device 0, by the target (item 1) (in the turn i = 0)
+    for (uint64_t i = 0; i < 4; i += 1) { A[i] = A[i] * 2 + 1; }
+                                          ^
+mapped_to_only.c:4:28: note: `map(to: A[0:4])` of item 1 removes A[0] from device 0 here without copying it to the host
+    #pragma omp target map(to: A[0:4])
+                               ^
+mapped_to_only.c:4:28: help: write `tofrom` in place of `to` here, which copies it to the host
+! E506 item 2 A[0]
+[1]
+$ ompc explain stale_part.c
+stale_part.c:8:7: error: the host reads A[2], whose last value is on device 0: nothing has copied it to the host since [E506]
+    print(A[2]);
+          ^
+stale_part.c:6:39: note: A[2] is written here, on device 0, by the target (item 1) (in the turn i = 2)
+    for (uint64_t i = 0; i < 4; i += 1) { A[i] = i + 5; }
+                                          ^
+stale_part.c:8:7: help: write `#pragma omp target update from(A[2:1])` before this, or an update of all that is read
+    print(A[2]);
+          ^
+! E506 item 3 A[2]
+[1]
+$ ompc explain written_or_not_and_read.c
+written_or_not_and_read.c:6:7: error: the host reads A[0], which was copied to the host from device 0, where it was not current itself [E506]
+    print(A[0]);
+          ^
+written_or_not_and_read.c:4:30: note: `map(from: A[0:2])` of item 1 copies A[0] from device 0 to the host here, whatever it is there
+    #pragma omp target map(from: A)
+                                 ^
+written_or_not_and_read.c:4:30: note: `map(from: A[0:2])` of item 1 creates A[0] on device 0 here, and copies nothing to it
+written_or_not_and_read.c:4:30: help: write `tofrom` in place of `from` here, which copies A[0] from the host, or write A[0] on the device before it is read
+! E506 item 2 A[0]
+[1]
+$ ompc explain stale_on_the_device.c
+stale_on_the_device.c:7:46: error: the target reads A[0], whose last value is on the host: nothing has copied it to device 0 since (in the turn i = 0) [E507]
+    for (uint64_t i = 0; i < 2; i += 1) { B[i] = A[i] + 1; }
+                                                 ^
+stale_on_the_device.c:5:1: note: A[0] is written here, on the host, by item 1
+    A[0] = 5;
+    ^
+stale_on_the_device.c:6:28: note: `map(to: A[0:2])` copies nothing here, since A[0:2] is on device 0 already
+    #pragma omp target map(to: A) map(from: B)
+                               ^
+stale_on_the_device.c:4:39: note: A[0:2] is on device 0 since item 0, which entered it here
+    #pragma omp target enter data map(to: A)
+                                          ^
+stale_on_the_device.c:6:1: help: write `#pragma omp target update to(A[0:1])` before this, or `map(always, to: A[0:2])` in it
+    #pragma omp target map(to: A) map(from: B)
+    ^
+! E507 item 2 A[0]
+[1]
+$ ompc explain stale_on_another_device.c
+stale_on_another_device.c:8:10: error: the target reads A[0], whose last value is on device 0: nothing has copied it to device 1 since [E507]
+    { A[1] = A[0]; }
+             ^
+stale_on_another_device.c:6:3: note: A[0] is written here, on device 0, by the target (item 2)
+    { A[0] = 7; }
+      ^
+stale_on_another_device.c:8:1: note: the implicit `map(tofrom: A[0:2])` copies nothing here, since A[0:2] is on device 1 already
+    { A[1] = A[0]; }
+    ^
+stale_on_another_device.c:4:39: note: A[0:2] is on device 1 since item 1, which entered it here
+    #pragma omp target enter data map(to: A) device(1)
+                                          ^
+stale_on_another_device.c:7:1: help: write `#pragma omp target update from(A[0:1])` before this, or an update of all that is read
+    #pragma omp target device(1)
+    ^
+stale_on_another_device.c:7:1: help: then write `#pragma omp target update to(A[0:1]) device(1)` before this
+! E507 item 3 A[0]
+[1]
+
+# items with no order between them
+$ ompc explain depends_overlap.c
+depends_overlap.c:5:53: error: `depend(in: A[2:4])` overlaps `depend(out: A[0:4])` of item 0 in A[2], and is not the same section [E505]
+    #pragma omp target map(tofrom: A) nowait depend(in: A[2:4])
+                                                        ^
+depends_overlap.c:3:54: note: `depend(out: A[0:4])` of item 0 stands here
+    #pragma omp target map(tofrom: A) nowait depend(out: A[0:4])
+                                                         ^
+depends_overlap.c:5:53: help: name the same section in both: tasks are ordered by equal sections alone
+    #pragma omp target map(tofrom: A) nowait depend(in: A[2:4])
+                                                        ^
+! E505 item 1 A[2] with item 0
+[1]
+$ ompc explain broken_chain.c
+broken_chain.c:10:3: error: the target (item 2) writes C[0] on device 0, and the target (item 0) writes C[0] on device 0, with no order between them [E508]
+    { C[0] = C[0] + 5; }
+      ^
+broken_chain.c:6:3: note: the target (item 0) writes C[0] on device 0 here
+    { C[0] = 1; }
+      ^
+broken_chain.c:5:1: note: item 0 is deferred by `nowait`: what stands after it does not wait for it
+    #pragma omp target map(tofrom: C) nowait depend(out: A)
+    ^
+broken_chain.c:9:1: note: no `taskwait` between the two waits for it, and their `depend` clauses name no section in common
+    #pragma omp target map(tofrom: C) nowait depend(in: B)
+    ^
+broken_chain.c:9:1: help: write `#pragma omp taskwait` before this, or `depend(inout: C)` on both
+! E508 item 2 C[0] with item 0
+[1]
+$ ompc explain readers_create_both.c
+readers_create_both.c:7:28: error: the target (item 1) copies A[0] from the host to device 0, and the target (item 0) reads A[0] on device 0, with no order between them [E508]
+    #pragma omp target map(to: A) map(from: C) nowait
+                               ^
+readers_create_both.c:6:46: note: the target (item 0) reads A[0] on device 0 here (in the turn i = 0)
+    for (uint64_t i = 0; i < 4; i += 1) { B[i] = A[i] + 1; }
+                                                 ^
+readers_create_both.c:5:1: note: item 0 is deferred by `nowait`: what stands after it does not wait for it
+    #pragma omp target map(to: A) map(from: B) nowait
+    ^
+readers_create_both.c:7:1: note: no `taskwait` between the two waits for it, and neither has a `depend` clause
+    #pragma omp target map(to: A) map(from: C) nowait
+    ^
+readers_create_both.c:7:1: help: write `#pragma omp taskwait` before this, or `depend(inout: A)` on both
+! E508 item 1 A[0] with item 0
+[1]
+$ ompc explain host_beside_a_copy_in.c
+host_beside_a_copy_in.c:5:24: error: item 2 writes A[5] on the host, and `target update` (item 1) copies A[5] from the host to device 0, with no order between them [E508]
+    A[1] = 1; print(A[6]); A[5] = 1;
+                           ^
+host_beside_a_copy_in.c:4:30: note: `target update` (item 1) copies A[5] from the host to device 0 here
+    #pragma omp target update to(A[4:4]) nowait
+                                 ^
+host_beside_a_copy_in.c:4:1: note: item 1 is deferred by `nowait`: what stands after it does not wait for it
+    #pragma omp target update to(A[4:4]) nowait
+    ^
+host_beside_a_copy_in.c:5:1: note: no `taskwait` between the two waits for it, and neither has a `depend` clause
+    A[1] = 1; print(A[6]); A[5] = 1;
+    ^
+host_beside_a_copy_in.c:5:1: help: write `#pragma omp taskwait` before this
+! E508 item 2 A[5] with item 1
+[1]
+$ ompc explain exit_before_the_wait.c
+exit_before_the_wait.c:8:40: error: `target exit data` (item 3) copies A[0] from device 0 to the host, and the target (item 1) writes A[0] on device 0, with no order between them [E508]
+    #pragma omp target exit data map(from: A)
+                                           ^
+exit_before_the_wait.c:5:39: note: the target (item 1) writes A[0] on device 0 here (in the turn i = 0)
+    for (uint64_t i = 0; i < 4; i += 1) { A[i] = i + 1; }
+                                          ^
+exit_before_the_wait.c:4:1: note: item 1 is deferred by `nowait`: what stands after it does not wait for it
+    #pragma omp target map(tofrom: A[0:4]) nowait
+    ^
+exit_before_the_wait.c:8:1: note: no `taskwait` between the two waits for it, and neither has a `depend` clause
+    #pragma omp target exit data map(from: A)
+    ^
+exit_before_the_wait.c:8:1: help: write `#pragma omp taskwait` before this, or `depend(inout: A)` on both
+! E508 item 3 A[0] with item 1
+[1]
+$ ompc explain several_cells.c
+several_cells.c:8:16: error: the target (item 2) writes A[5] on device 0, and the target (item 1) reads A[5] on device 0, with no order between them [E508]
+    { B[0] = A[7]; A[5] = 1; }
+                   ^
+several_cells.c:6:30: note: the target (item 1) reads A[5] on device 0 here
+    { B[0] = 1; A[7] = 1; B[1] = A[5]; }
+                                 ^
+several_cells.c:5:1: note: item 1 is deferred by `nowait`: what stands after it does not wait for it
+    #pragma omp target nowait
+    ^
+several_cells.c:7:1: note: no `taskwait` between the two waits for it, and neither has a `depend` clause
+    #pragma omp target nowait
+    ^
+several_cells.c:7:1: help: write `#pragma omp taskwait` before this, or `depend(inout: A)` on both
+! E508 item 2 A[5] with item 1
+[1]
+
+# faults of the text
+$ ompc explain cut_off.c
+cut_off.c:1:17: error: the end of the line cannot stand here [E102]
+    int main(void) {
+                    ^
+cut_off.c:1:17: help: write the token that is missing before it, or take it away
+! E102 line 1 column 17
+[1]
+$ ompc explain undeclared.c
+undeclared.c:2:28: error: `B` is not declared here, or is used as what it is not: an array has a subscript, a scalar has none [E103]
+    #pragma omp target map(to: B)
+                               ^
+undeclared.c:2:28: help: declare it before, or write the subscript that is missing, or take it away
+! E103 line 2 column 28
+[1]
+$ ompc explain large_number.c
+large_number.c:2:7: error: `18446744073709551616` is above 18446744073709551615, or begins with a superfluous 0 [E105]
+    print(18446744073709551616);
+          ^
+large_number.c:2:7: help: write a smaller number, or take its first 0 away
+! E105 line 2 column 7
+[1]
+
+# an accepted program, and the other forms
+$ ompc explain halves.c --format text
+halves.c: accepted
+$ ompc explain halves.c --format json
+{
+  "accepted": true,
+  "diagnostics": [],
+  "file": "halves.c",
+  "version": 1
+}
+$ ompc explain mapped_to_only.c --format json
+{
+  "accepted": false,
+  "diagnostics": [
+    {
+      "array": "A",
+      "cell": 0,
+      "code": "E506",
+      "column": 45,
+      "item": 2,
+      "line": 6,
+      "loops": [
+        {
+          "name": "i",
+          "value": 0
+        }
+      ],
+      "message": "the host reads A[0], whose last value is on device 0: nothing has copied it to the host since (in the turn i = 0)",
+      "notes": [
+        {
+          "column": 39,
+          "kind": "note",
+          "line": 5,
+          "message": "A[0] is written here, on device 0, by the target (item 1) (in the turn i = 0)"
+        },
+        {
+          "column": 28,
+          "kind": "note",
+          "line": 4,
+          "message": "`map(to: A[0:4])` of item 1 removes A[0] from device 0 here without copying it to the host"
+        },
+        {
+          "column": 28,
+          "kind": "help",
+          "line": 4,
+          "message": "write `tofrom` in place of `to` here, which copies it to the host"
+        }
+      ],
+      "rule": "the host reads current values alone"
+    }
+  ],
+  "file": "mapped_to_only.c",
+  "version": 1
+}
+! E506 item 2 A[0]
+[1]
+$ ompc explain undeclared.c --format json
+{
+  "accepted": false,
+  "diagnostics": [
+    {
+      "array": null,
+      "cell": null,
+      "code": "E103",
+      "column": 28,
+      "item": null,
+      "line": 2,
+      "loops": [],
+      "message": "`B` is not declared here, or is used as what it is not: an array has a subscript, a scalar has none",
+      "notes": [
+        {
+          "column": 28,
+          "kind": "help",
+          "line": 2,
+          "message": "declare it before, or write the subscript that is missing, or take it away"
+        }
+      ],
+      "rule": "a name is declared before it is used; an array has a subscript, a scalar has none"
+    }
+  ],
+  "file": "undeclared.c",
+  "version": 1
+}
+! E103 line 2 column 28
+[1]
+$ ompc explain halves.c --format sarif
+{
+  "$schema": "https://docs.oasis-open.org/sarif/sarif/v2.1.0/errata01/os/schemas/sarif-schema-2.1.0.json",
+  "runs": [
+    {
+      "results": [],
+      "tool": {
+        "driver": {
+          "name": "ompc",
+          "rules": [],
+          "version": "0.1.0"
+        }
+      }
+    }
+  ],
+  "version": "2.1.0"
+}
+$ ompc explain mapped_to_only.c --format sarif
+{
+  "$schema": "https://docs.oasis-open.org/sarif/sarif/v2.1.0/errata01/os/schemas/sarif-schema-2.1.0.json",
+  "runs": [
+    {
+      "results": [
+        {
+          "level": "error",
+          "locations": [
+            {
+              "physicalLocation": {
+                "artifactLocation": {
+                  "uri": "mapped_to_only.c"
+                },
+                "region": {
+                  "startColumn": 45,
+                  "startLine": 6
+                }
+              }
+            }
+          ],
+          "message": {
+            "text": "the host reads A[0], whose last value is on device 0: nothing has copied it to the host since (in the turn i = 0)"
+          },
+          "properties": {
+            "array": "A",
+            "cell": 0,
+            "item": 2,
+            "loops": [
+              {
+                "name": "i",
+                "value": 0
+              }
+            ]
+          },
+          "relatedLocations": [
+            {
+              "id": 0,
+              "message": {
+                "text": "note: A[0] is written here, on device 0, by the target (item 1) (in the turn i = 0)"
+              },
+              "physicalLocation": {
+                "artifactLocation": {
+                  "uri": "mapped_to_only.c"
+                },
+                "region": {
+                  "startColumn": 39,
+                  "startLine": 5
+                }
+              }
+            },
+            {
+              "id": 1,
+              "message": {
+                "text": "note: `map(to: A[0:4])` of item 1 removes A[0] from device 0 here without copying it to the host"
+              },
+              "physicalLocation": {
+                "artifactLocation": {
+                  "uri": "mapped_to_only.c"
+                },
+                "region": {
+                  "startColumn": 28,
+                  "startLine": 4
+                }
+              }
+            },
+            {
+              "id": 2,
+              "message": {
+                "text": "help: write `tofrom` in place of `to` here, which copies it to the host"
+              },
+              "physicalLocation": {
+                "artifactLocation": {
+                  "uri": "mapped_to_only.c"
+                },
+                "region": {
+                  "startColumn": 28,
+                  "startLine": 4
+                }
+              }
+            }
+          ],
+          "ruleId": "E506"
+        }
+      ],
+      "tool": {
+        "driver": {
+          "name": "ompc",
+          "rules": [
+            {
+              "id": "E506",
+              "shortDescription": {
+                "text": "the host reads current values alone"
+              }
+            }
+          ],
+          "version": "0.1.0"
+        }
+      }
+    }
+  ],
+  "version": "2.1.0"
+}
+! E506 item 2 A[0]
+[1]
+
+# a form that there is not, a file that there is not
+$ ompc explain halves.c --format xml
+! bad format
+[2]
+$ ompc explain absent.c
+! cannot read absent.c
+[2]

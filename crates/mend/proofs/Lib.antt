@@ -1,0 +1,3 @@
+pub mod Kept
+pub mod Unfit
+pub mod Verdicts

@@ -1,0 +1,101 @@
+// Which loops are around a line, and where the block behind a line ends.
+
+use crate::lines::cut;
+use c_tokens::{Kind, Sign, Token, tokens};
+use std::alloc::{AllocError, Global};
+
+// A block that is open.
+#[derive(Clone, Copy)]
+struct Opened {
+    line: usize,
+    is_loop: bool,
+}
+
+// What is open where a token stands.
+#[derive(Drop)]
+struct Blocks {
+    open: Vec<Opened>,
+    /// Where the loop begins whose body comes next; with its directive, where it has one.
+    pending: Option<usize>,
+    /// The line of the directive that stands directly before.
+    directive: Option<usize>,
+}
+
+impl Blocks {
+    fn start(&self, token: &Token) -> usize {
+        self.directive.unwrap_or(token.line)
+    }
+
+    fn take(&mut self, text: &[u8], token: &Token) -> Result<(), AllocError> {
+        match token.kind {
+            Kind::Name => {
+                if cut(text, token.first, token.last.saturating_add(1)) == b"for".as_slice() {
+                    self.pending = Some(self.start(token));
+                }
+            }
+            Kind::Sign(Sign::OpenBrace) => {
+                self.open.push(Opened {
+                    line: self.pending.unwrap_or(token.line),
+                    is_loop: self.pending.is_some(),
+                })?;
+                self.pending = None;
+            }
+            Kind::Sign(Sign::CloseBrace) => {
+                let _ = self.open.pop();
+            }
+            _ => {}
+        }
+        self.directive = match token.kind {
+            Kind::Line => Some(token.line),
+            _ => None,
+        };
+        Ok(())
+    }
+
+    // The lines at which the loops begin, the outermost first.
+    fn loops(&self, alloc: Global) -> Result<Vec<usize>, AllocError> {
+        let mut lines = Vec::new(alloc);
+        for block in self.open.as_slice() {
+            if block.is_loop {
+                lines.push(block.line)?;
+            }
+        }
+        Ok(lines)
+    }
+}
+
+/// The lines at which the loops around a line begin, the outermost first.
+pub fn loops_around(alloc: Global, text: &[u8], line: usize) -> Result<Vec<usize>, AllocError> {
+    let mut blocks = Blocks {
+        open: Vec::new(alloc),
+        pending: None,
+        directive: None,
+    };
+    for token in tokens(text) {
+        if token.line >= line {
+            break;
+        }
+        blocks.take(text, &token)?;
+    }
+    blocks.loops(alloc)
+}
+
+/// The line of the brace that ends the block or loop behind a directive.
+pub fn block_end(text: &[u8], directive: usize) -> Option<usize> {
+    let mut depth = 0usize;
+    for token in tokens(text) {
+        if token.line > directive {
+            match token.kind {
+                Kind::Sign(Sign::OpenBrace) => depth = depth.saturating_add(1),
+                Kind::Sign(Sign::CloseBrace) => {
+                    depth = depth.saturating_sub(1);
+                    if depth == 0 {
+                        return Some(token.line);
+                    }
+                }
+                _ => {}
+            }
+        }
+    }
+    None
+}

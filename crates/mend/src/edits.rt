@@ -1,0 +1,66 @@
+// Which lines differ.
+
+use crate::lines::lines;
+use std::alloc::{AllocError, Global};
+
+/// A line that is changed or inserted.
+#[derive(Drop)]
+pub struct Edit {
+    /// The number of the line in the source, counted from 1; of an inserted one, that of the line before which it
+    /// stands.
+    pub line: usize,
+    /// What stood there; none where the line is inserted.
+    pub old: Option<Vec<u8>>,
+    pub new: Vec<u8>,
+}
+
+fn line_at<'t>(lines: &[&'t [u8]], place: usize) -> Option<&'t [u8]> {
+    lines.get(place).copied()
+}
+
+// Whether one of the next lines of the new text, as far as lines were inserted, is this line of the old one.
+fn comes_later(new: &[&[u8]], place: usize, inserted: usize, old: &[u8]) -> bool {
+    let last = place.saturating_add(inserted);
+    for next in place.saturating_add(1)..last.saturating_add(1) {
+        if let Some(line) = line_at(new, next)
+            && line == old
+        {
+            return true;
+        }
+    }
+    false
+}
+
+/// The lines of a text that are not those of another, which has only lines changed and inserted.
+pub fn edits_of(alloc: Global, old: &[u8], new: &[u8]) -> Result<Vec<Edit>, AllocError> {
+    let old = lines(alloc, old)?;
+    let new = lines(alloc, new)?;
+    let mut edits = Vec::new(alloc);
+    let mut inserted = new.len().saturating_sub(old.len());
+    let mut at = 0usize;
+    for place in 0..new.len() {
+        let line = new[place];
+        let was = match line_at(&old, at) {
+            Some(was) => was,
+            None => &[],
+        };
+        if line == was {
+            at = at.saturating_add(1);
+        } else if inserted > 0 && comes_later(&new, place, inserted, was) {
+            inserted = inserted.saturating_sub(1);
+            edits.push(Edit {
+                line: at.saturating_add(1),
+                old: None,
+                new: Vec::from_slice(alloc, line)?,
+            })?;
+        } else {
+            at = at.saturating_add(1);
+            edits.push(Edit {
+                line: at,
+                old: Some(Vec::from_slice(alloc, was)?),
+                new: Vec::from_slice(alloc, line)?,
+            })?;
+        }
+    }
+    Ok(edits)
+}

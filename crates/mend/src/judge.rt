@@ -1,0 +1,209 @@
+// What the check says of a text.
+
+ghost use Rattle.std.specs.Prelude.{IfOk};
+ghost use Rattle.mend.specs.Mends.{IsPlanVerdict, IsVerdict, IsVerdictOn};
+
+use crate::bare::without_directives;
+use base::fault::{CheckFault, RefusalCode};
+use base::item::{Cell, Item, ItemKind};
+use c_read::read_program;
+use mapcheck::check;
+use outline::{Outlined, outline};
+use std::alloc::{AllocError, Global};
+
+/// Where the first fault is. Places are counted from the end, so that lines inserted before them leave them as they
+/// are.
+#[derive(Clone, Copy)]
+pub struct Rank {
+    pass: u8,
+    /// How many items follow that no inserted line makes.
+    items_left: usize,
+    /// How many lines follow.
+    lines_left: usize,
+    code: u8,
+    array: u32,
+    index: u64,
+    other_left: usize,
+}
+
+/// What comes of a text.
+#[derive(Clone, Copy)]
+pub enum Verdict {
+    /// Its program is accepted, and it has the same text without directives.
+    Accepted,
+    /// It has this text, and its program is refused.
+    Refused(Rank),
+    Unfit,
+}
+
+impl Rank {
+    /// Whether it is later than another.
+    pub fn is_later(&self, other: &Rank) -> bool {
+        let (a, b) = (self, other);
+        if a.pass != b.pass {
+            return a.pass > b.pass;
+        }
+        if a.items_left != b.items_left {
+            return a.items_left < b.items_left;
+        }
+        if a.lines_left != b.lines_left {
+            return a.lines_left < b.lines_left;
+        }
+        if a.code != b.code {
+            return a.code > b.code;
+        }
+        if a.array != b.array {
+            return a.array > b.array;
+        }
+        if a.index != b.index {
+            return a.index > b.index;
+        }
+        a.other_left < b.other_left
+    }
+}
+
+fn code_rank(code: RefusalCode) -> u8 {
+    match code {
+        RefusalCode::OverlapsInPart => 1,
+        RefusalCode::ExitOfAbsent => 2,
+        RefusalCode::UpdateOfAbsent => 3,
+        RefusalCode::NotPresent => 4,
+        RefusalCode::Unmapped => 5,
+        RefusalCode::HostNotCurrent => 6,
+        RefusalCode::DeviceNotCurrent => 7,
+        RefusalCode::Conflict => 8,
+    }
+}
+
+fn is_kept(item: &Item) -> bool {
+    matches!(
+        item.kind,
+        ItemKind::Target | ItemKind::Begin | ItemKind::End | ItemKind::Exit
+    )
+}
+
+// How many items from one on are such that no inserted line makes them.
+fn items_from(items: &[Item], first: usize) -> usize {
+    let mut count = 0usize;
+    let mut number = 0usize;
+    for item in items {
+        if number >= first && is_kept(item) {
+            count = count.saturating_add(1);
+        }
+        number = number.saturating_add(1);
+    }
+    count
+}
+
+fn line_of(items: &[Item], number: usize) -> usize {
+    match items.get(number) {
+        Some(item) => item.place.line,
+        None => 0,
+    }
+}
+
+fn lines_in(text: &[u8]) -> usize {
+    let mut count = 1usize;
+    for byte in text {
+        if *byte == b'\n' {
+            count = count.saturating_add(1);
+        }
+    }
+    count
+}
+
+fn rank_at(
+    text: &[u8],
+    items: &[Item],
+    pass: u8,
+    code: u8,
+    item: u32,
+    cell: Cell,
+    other: Option<u32>,
+) -> Rank {
+    Rank {
+        pass,
+        items_left: items_from(items, item as usize),
+        lines_left: lines_in(text).saturating_sub(line_of(items, item as usize)),
+        code,
+        array: cell.array.0,
+        index: cell.index,
+        other_left: match other {
+            Some(other) => items_from(items, other as usize),
+            None => 0,
+        },
+    }
+}
+
+/// Where a fault is; nowhere for want of memory.
+pub fn rank_of(text: &[u8], outlined: &Outlined<'_>, fault: &CheckFault) -> Option<Rank> {
+    let items = outlined.items();
+    match fault {
+        CheckFault::Range { item, fault } => {
+            let cell = Cell {
+                array: base::tree::ArrayId(0),
+                index: fault.column as u64,
+            };
+            Some(rank_at(text, items, 1, 0, *item, cell, None))
+        }
+        CheckFault::Order(f) => { Some(rank_at(text, items, 2, 0, f.item, f.cell, Some(f.other))) }
+        CheckFault::Refused(r) => Some(rank_at(
+            text,
+            items,
+            3,
+            code_rank(r.code),
+            r.item,
+            r.cell,
+            r.other,
+        )),
+        CheckFault::OutOfMemory => None,
+    }
+}
+
+// Checks a program, whatever the borrows that are in it outlive.
+fn check_outlined(
+    alloc: Global,
+    text: &[u8],
+    outlined: &Outlined<'_>,
+) -> Result<Verdict, AllocError>
+    ensures { IfOk result (IsPlanVerdict outlined.now) }
+{
+    match check(alloc, outlined) {
+        Ok(accepted) => {
+            accepted.is_accepted();
+            Ok(Verdict::Accepted)
+        }
+        Err(fault) => match rank_of(text, outlined, &fault) {
+            Some(rank) => Ok(Verdict::Refused(rank)),
+            None => Err(AllocError),
+        },
+    }
+}
+
+// Checks a text.
+#[tactic(auto, using(crate::proofs::Verdicts::on_text))]
+fn check_text(alloc: Global, text: &[u8]) -> Result<Verdict, AllocError>
+    ensures { IfOk result (IsVerdictOn text.now) }
+{
+    let program = match read_program(alloc, text) {
+        Ok(program) => program,
+        Err(_) => return Ok(Verdict::Unfit),
+    };
+    let outlined = match outline(alloc, &program) {
+        Ok(outlined) => outlined,
+        Err(_) => return Ok(Verdict::Unfit),
+    };
+    check_outlined(alloc, text, &outlined)
+}
+
+/// What comes of a text, which is fit only where it has that text without directives.
+#[tactic(auto, using(crate::proofs::Verdicts::of_same))]
+pub fn judge(alloc: Global, bare: &[u8], text: &[u8]) -> Result<Verdict, AllocError>
+    ensures { IfOk result (IsVerdict bare.now text.now) }
+{
+    let own = without_directives(alloc, text)?;
+    if own.as_slice() != bare {
+        return Ok(Verdict::Unfit);
+    }
+    check_text(alloc, text)
+}

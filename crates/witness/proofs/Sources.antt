@@ -1,0 +1,52 @@
+-- What is found of a source.
+use Rattle.std.proofs.Common.{◌≡◌, ℕ, ◌<◌, ◌≤◌, List, [], length, refl, subst}
+use Rattle.std.specs.Prelude.{◌↔◌}
+use Rattle.base.specs.declared.item.Answer.{Answer}
+use Rattle.base.specs.declared.tree.Program.{Program}
+use Rattle.base.specs.declared.fault.CheckFault.{CheckFault}
+use Rattle.base.specs.declared.fault.CheckFault.TheVariants as check
+use Rattle.base.specs.declared.fault.RangeFault.{RangeFault}
+use Rattle.base.specs.declared.fault.OutlineFault.{OutlineFault}
+use Rattle.base.specs.declared.fault.OutlineFault.TheVariants as outline
+use Rattle.base.specs.Accepted.{IsAccepted}
+use Rattle.base.specs.Items.{plan}
+use Rattle.base.specs.Limits.{most_items}
+use Rattle.c_read.specs.Spells.{Spells}
+use Rattle.erasure.specs.Erased.{erased_text}
+use Rattle.mapcheck.specs.Passes.{IsCheckFault}
+use Rattle.pipeline.specs.Checking.{IsOutlineFault, IsRefusedProgram}
+use Rattle.pipeline.specs.Fine.{IsFineSourceAnswer}
+use Rattle.witness.specs.declared.trial.Trials.{Trials}
+use Rattle.witness.specs.declared.trial.Witness.{Witness}
+use Rattle.witness.specs.Witnesses.{IsAcceptedSource, IsOther, IsTrial, IsWitness}
+
+pub outline_fault : (bytes : List ℕ) (p : Program) (f : OutlineFault) → Spells bytes p →
+    ((f ≡ outline.TooManyItems) ↔ (most_items < length (plan p).items)) → IsOutlineFault bytes f
+outline_fault bytes p outline.TooManyItems s h = record { program = p; spelled = s; many = h.0 refl }
+outline_fault bytes p outline.OutOfMemory s h = tt
+
+pub accepted_source : (bytes : List ℕ) (p q : Program) → q ≡ p → Spells bytes p → IsAccepted (plan q) → IsAcceptedSource bytes
+accepted_source bytes p q e s a =
+    record { program = p; spelled = s; accepted = subst (λ (u : Program). IsAccepted (plan u)) e a }
+
+pub refused_range : (bytes : List ℕ) (p q : Program) (f : CheckFault) (item : ℕ) (fault : RangeFault) → q ≡ p → Spells bytes p
+    → length (plan p).items ≤ most_items → f ≡ check.Range item fault → IsCheckFault (plan q) f → IsRefusedProgram bytes (check.Range item fault)
+refused_range bytes p q f item fault e s few is h =
+    let here : IsCheckFault (plan q) (check.Range item fault) = subst (λ (x : CheckFault). IsCheckFault (plan q) x) is h in
+    record {
+      program = p;
+      spelled = s;
+      few = few;
+      fault = subst (λ (u : Program). IsCheckFault (plan u) (check.Range item fault)) e here;
+    }
+
+-- a run that differs from that of the erased text, which is that without directives
+pub differing : (t : Trials) (w : Witness) (erased : List ℕ) (plain : Answer) → erased ≡ erased_text t.bytes.now
+    → IsFineSourceAnswer erased t.input.now [] t.capacity plain → t.plain.now ≡ plain.out.items → IsTrial t w
+    → IsWitness t.bytes.now t.input.now t.capacity w plain
+differing t w erased plain e a o h =
+    record {
+      end = h.end;
+      without = subst (λ (text : List ℕ). IsFineSourceAnswer text t.input.now [] t.capacity plain) e a;
+      differs = subst (λ (out : List ℕ). IsOther out w.end) o h.differs;
+    }

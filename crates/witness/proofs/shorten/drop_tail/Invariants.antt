@@ -1,0 +1,5 @@
+use Rattle.witness.specs.Witnesses.{IsTrial}
+use Rattle.witness.proofs.shorten.drop_tail.Given as goal
+
+abbrev pub invariant-cuts : goal.invariant-cuts
+invariant-cuts l = IsTrial l.trials l.kept

@@ -1,0 +1,31 @@
+-- A witness as text.
+use Rattle.std.specs.Prelude.{ℕ, ◌==◌, Bool, true, if◌then◌else◌, List, [], ◌∷◌, ◌++◌, codes, decimal}
+use Rattle.base.specs.declared.item.Answer.{Answer}
+use Rattle.witness.specs.declared.trial.Ended.{Ended}
+use Rattle.witness.specs.declared.trial.Ended.TheVariants.{Absent, Done}
+use Rattle.witness.specs.declared.trial.Witness.{Witness}
+
+-- numbers with commas between them; `before` stands before the first
+abbrev pub comma_list : List ℕ → List ℕ → List ℕ
+comma_list before [] = []
+comma_list before (n ∷ ns) = before ++ (decimal n ++ comma_list (codes ",") ns)
+
+-- a text with a word before each line; `begins` says whether a line begins
+abbrev pub prefixed : List ℕ → Bool → List ℕ → List ℕ
+prefixed word begins [] = []
+prefixed word begins (b ∷ bs) = (if begins then word else []) ++ b ∷ prefixed word (b == 10) bs
+
+abbrev pub end_bytes : Ended → List ℕ
+end_bytes (Done a) = prefixed (codes "output ") true a.out.items
+end_bytes Absent = codes "stopped F4\n"
+
+abbrev pub choices_option : List ℕ → List ℕ
+choices_option [] = []
+choices_option (n ∷ ns) = codes " --choices" ++ comma_list (codes " ") (n ∷ ns)
+
+-- the choices, both outputs, and the command that makes the run again
+abbrev pub witness_bytes : List ℕ → Witness → Answer → List ℕ
+witness_bytes name w plain =
+    codes "choices" ++ (comma_list (codes " ") w.choices.items ++ (codes "\n" ++ (end_bytes w.end
+    ++ (prefixed (codes "erased output ") true plain.out.items
+    ++ (codes "ompc step --fine " ++ (name ++ (choices_option w.choices.items ++ codes "\n")))))))

@@ -1,0 +1,57 @@
+-- Runs that print something else than the source without directives.
+use Rattle.std.specs.Prelude.{⊤, ℕ, ◌≢◌, List, []}
+use Rattle.base.specs.declared.tree.Program.{Program}
+use Rattle.base.specs.declared.item.Answer.{Answer}
+use Rattle.base.specs.declared.fault.RunFault.TheVariants as run
+use Rattle.base.specs.declared.fault.SourceFault.TheVariants.{Run}
+use Rattle.base.specs.Accepted.{IsAccepted}
+use Rattle.base.specs.Items.{plan}
+use Rattle.c_read.specs.Spells.{Spells}
+use Rattle.erasure.specs.Erased.{erased_text}
+use Rattle.pipeline.specs.Checking.{IsRefusedProgram}
+use Rattle.pipeline.specs.Fine.{IsFineSourceAnswer, IsFineSourceFault}
+use Rattle.witness.specs.declared.trial.Ended.{Ended}
+use Rattle.witness.specs.declared.trial.Ended.TheVariants.{Absent, Done}
+use Rattle.witness.specs.declared.trial.Run.{Run as RunOutcome}
+use Rattle.witness.specs.declared.trial.Run.TheVariants.{Ended as EndedSo, Full}
+use Rattle.witness.specs.declared.trial.Trials.{Trials}
+use Rattle.witness.specs.declared.trial.Witness.{Witness}
+use Rattle.witness.specs.declared.search.Finding.{Finding}
+use Rattle.witness.specs.declared.search.Finding.TheVariants as finding
+
+-- what the run of a source by these choices, action by action, ends with
+abbrev pub IsEnd : List ℕ → List ℕ → List ℕ → ℕ → Ended → Type 0
+IsEnd bytes input choices capacity (Done a) = IsFineSourceAnswer bytes input choices capacity a
+IsEnd bytes input choices capacity Absent = IsFineSourceFault bytes input choices capacity (Run run.Absent)
+
+-- it printed something else, or stopped
+abbrev pub IsOther : List ℕ → Ended → Type 0
+IsOther plain (Done a) = a.out.items ≢ plain
+IsOther plain Absent = ⊤
+
+abbrev pub IsRun : Trials → List ℕ → RunOutcome → Type 0
+IsRun t choices (EndedSo e) = IsEnd t.bytes.now t.input.now choices t.capacity e
+IsRun t choices Full = ⊤
+
+pub record IsTrial (t : Trials) (w : Witness) : Type 0 where
+  pub end : IsEnd t.bytes.now t.input.now w.choices.items t.capacity w.end
+  pub differs : IsOther t.plain.now w.end
+
+-- a run of the source by choices that prints something else than its text without directive lines, or that stops, and what
+-- that text prints
+pub record IsWitness (bytes input : List ℕ) (capacity : ℕ) (w : Witness) (plain : Answer) : Type 0 where
+  pub end : IsEnd bytes input w.choices.items capacity w.end
+  pub without : IsFineSourceAnswer (erased_text bytes) input [] capacity plain
+  pub differs : IsOther plain.out.items w.end
+
+-- the bytes spell a program that is accepted
+pub record IsAcceptedSource (bytes : List ℕ) : Type 0 where
+  pub program : Program
+  pub spelled : Spells bytes program
+  pub accepted : IsAccepted (plan program)
+
+abbrev pub IsFinding : List ℕ → List ℕ → ℕ → Finding → Type 0
+IsFinding bytes input capacity (finding.Differs w plain) = IsWitness bytes input capacity w plain
+IsFinding bytes input capacity finding.None = ⊤
+IsFinding bytes input capacity finding.Accepted = IsAcceptedSource bytes
+IsFinding bytes input capacity (finding.OutOfRange f) = IsRefusedProgram bytes f

@@ -1,0 +1,13 @@
+//! Runs of a program that print something else than the program does without its directives.
+#![tactic(auto)]
+
+mod lists;
+mod search;
+mod shorten;
+mod text;
+mod trial;
+
+pub use search::{Finding, MOST_EVENTS, MOST_TRIES, witness};
+pub use shorten::MOST_CUTS;
+pub use text::witness_text;
+pub use trial::{Ended, Witness};

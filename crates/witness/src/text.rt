@@ -1,0 +1,84 @@
+// A witness as text.
+
+ghost use Rattle.std.specs.Prelude.{◌++◌, ◌∷◌, [], OnOk, codes, if◌then◌else◌, true};
+ghost use Rattle.std.specs.Io.KnownBytes.{Appends};
+ghost use Rattle.witness.specs.Texts.{choices_option, comma_list, end_bytes, prefixed, witness_bytes};
+
+use crate::trial::{Ended, Witness};
+use base::item::Answer;
+use std::io;
+use std::io::Write;
+
+// The numbers with commas between them, and a blank before the first.
+fn choices_text<W: Write>(choices: &[u32], out: &mut W) -> io::Result<()>
+    ensures { OnOk result (Appends (W.contents out.old) (W.contents out.new) (comma_list (codes " ") choices.now)) }
+{
+    let mut before = " ";
+    'choices: for choice in choices {
+        write!(out, "{before}{choice}")?;
+        before = ",";
+    }
+    Ok(())
+}
+
+// A byte, with a word before it where a line begins.
+fn byte_text<W: Write>(word: &[u8], begins: bool, byte: u8, out: &mut W) -> io::Result<()>
+    ensures { OnOk result (Appends (W.contents out.old) (W.contents out.new) ((if begins then word.now else []) ++ byte ∷ [])) }
+{
+    if begins {
+        out.write_all(word)?;
+    }
+    out.write_all([byte].as_slice())
+}
+
+// Each line with a word before it.
+fn lines_text<W: Write>(word: &[u8], lines: &[u8], out: &mut W) -> io::Result<()>
+    ensures { OnOk result (Appends (W.contents out.old) (W.contents out.new) (prefixed word.now true lines.now)) }
+{
+    let mut begins = true;
+    'bytes: for byte in lines {
+        byte_text(word, begins, *byte, out)?;
+        begins = *byte == b'\n';
+    }
+    Ok(())
+}
+
+fn end_text<W: Write>(end: &Ended, out: &mut W) -> io::Result<()>
+    ensures { OnOk result (Appends (W.contents out.old) (W.contents out.new) (end_bytes end.now)) }
+{
+    match end {
+        Ended::Done(answer) => lines_text(b"output ".as_slice(), &answer.out, out),
+        Ended::Absent => writeln!(out, "stopped F4"),
+    }
+}
+
+// The option that gives the choices; nothing where there are none.
+fn choices_option<W: Write>(choices: &[u32], out: &mut W) -> io::Result<()>
+    ensures { OnOk result (Appends (W.contents out.old) (W.contents out.new) (choices_option choices.now)) }
+{
+    if choices.is_empty() {
+        return Ok(());
+    }
+    write!(out, " --choices")?;
+    choices_text(choices, out)
+}
+
+/// Writes a witness: the choices, what their run prints, what the source prints without its directives, and a command that
+/// makes the run of the source of that name again. An error of the writer is answered, and ends the text.
+pub fn witness_text<W: Write>(
+    name: &str,
+    witness: &Witness,
+    plain: &Answer,
+    out: &mut W,
+) -> io::Result<()>
+    ensures { OnOk result (Appends (W.contents out.old) (W.contents out.new) (witness_bytes name.now witness.now plain.now)) }
+{
+    write!(out, "choices")?;
+    choices_text(&witness.choices, out)?;
+    writeln!(out)?;
+    end_text(&witness.end, out)?;
+    lines_text(b"erased output ".as_slice(), &plain.out, out)?;
+    write!(out, "ompc step --fine {name}")?;
+    choices_option(&witness.choices, out)?;
+    writeln!(out)
+}
