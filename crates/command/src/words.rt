@@ -10,7 +10,8 @@ use crate::request::{Explain, Format, Request, Run, Step, Workers};
 use clap::{Arg, ArgAction, ArgMatches, Command, Error, value_parser};
 use std::alloc::{AllocError, Global};
 
-const VERSION: &str = "0.1.0";
+/// The version of the program, and behind it the kit that proves and builds it.
+const VERSION: &str = "0.1.0 (rattle-kit-13f logic dac8208d650f15bf)";
 
 /// The device's capacity in cells, where none is given.
 const DEFAULT_CAPACITY: u64 = 4_194_304;

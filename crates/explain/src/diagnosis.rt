@@ -1,7 +1,9 @@
 // What is told of a program that is refused.
 
+use crate::remedy::Remedy;
 use base::item::Cell;
 use base::tree::Place;
+use std::alloc::Global;
 
 /// What a note adds.
 #[derive(Clone, Copy, Debug, PartialEq, Eq)]
@@ -57,4 +59,25 @@ pub struct Diagnosis {
     /// The loops around the place, the outermost first.
     pub loops: Vec<Turn>,
     pub notes: Vec<Note>,
+}
+
+/// What is told of a program that is refused; nothing of one that is accepted.
+#[derive(Drop)]
+pub struct Told {
+    /// The first fault first.
+    pub diagnoses: Vec<Diagnosis>,
+    /// How many more faults were found.
+    pub more: u64,
+    pub remedy: Remedy,
+}
+
+impl Told {
+    /// Nothing.
+    pub fn new(alloc: Global) -> Told {
+        Told {
+            diagnoses: Vec::new(alloc),
+            more: 0,
+            remedy: Remedy::Missing,
+        }
+    }
 }

@@ -6,8 +6,8 @@ ghost use Rattle.base.specs.Items.{plan};
 ghost use Rattle.explain.specs.Explained.{SpellsAccepted};
 ghost use Rattle.pipeline.specs.Checking.{IsRefused, IsSilent, IsUnaccepted};
 
-use crate::diagnosis::Diagnosis;
-use crate::faults::check_diagnosis;
+use crate::diagnosis::{Diagnosis, Told};
+use crate::faults::all_told;
 use crate::limits::too_many;
 use crate::objects::as_json;
 use crate::sarif::as_sarif;
@@ -47,25 +47,36 @@ fn with_end(text: String) -> Result<Vec<u8>, AllocError> {
 }
 
 impl Report<'_> {
-    fn text(&self, diagnoses: &[Diagnosis]) -> Result<Vec<u8>, AllocError> {
+    fn text(&self, told: &Told) -> Result<Vec<u8>, AllocError> {
         match self.form {
-            Form::Text => as_text(self.alloc, self.file, self.bytes, diagnoses),
-            Form::Json => with_end(as_json(self.alloc, self.file, diagnoses)?),
-            Form::Sarif => with_end(as_sarif(self.alloc, self.file, diagnoses)?),
+            Form::Text => as_text(self.alloc, self.file, self.bytes, told),
+            Form::Json => with_end(as_json(self.alloc, self.file, told)?),
+            Form::Sarif => with_end(as_sarif(self.alloc, self.file, told)?),
         }
     }
 
-    fn write<W: Write>(&self, diagnoses: &[Diagnosis], out: &mut W) -> io::Result<()> {
-        let text = self.text(diagnoses)?;
+    fn write<W: Write>(&self, told: &Told, out: &mut W) -> io::Result<()> {
+        let text = self.text(told)?;
         out.write_all(&text)
+    }
+
+    // That the program is accepted.
+    fn write_none<W: Write>(&self, out: &mut W) -> io::Result<()> {
+        self.write(&Told::new(self.alloc), out)
+    }
+
+    fn write_told<W: Write>(&self, told: Result<Told, AllocError>, out: &mut W) -> io::Result<()> {
+        self.write(&told?, out)
     }
 
     fn write_one<W: Write>(
         &self,
-        told: Result<Diagnosis, AllocError>,
+        diagnosis: Result<Diagnosis, AllocError>,
         out: &mut W,
     ) -> io::Result<()> {
-        self.write(&[told?], out)
+        let mut told = Told::new(self.alloc);
+        told.diagnoses.push(diagnosis?)?;
+        self.write(&told, out)
     }
 }
 
@@ -83,13 +94,13 @@ fn explain_outlined<W: Write, E: Write>(
     let fault = match check(report.alloc, outlined) {
         Ok(accepted) => {
             accepted.is_accepted();
-            return Ok(report.write(&[], out));
+            return Ok(report.write_none(out));
         }
         Err(CheckFault::OutOfMemory) => return Err(SourceFault::Check(CheckFault::OutOfMemory)),
         Err(fault) => fault,
     };
-    let told = check_diagnosis(report.alloc, report.bytes, outlined, &fault);
-    match report.write_one(told, out) {
+    let told = all_told(report.alloc, report.bytes, outlined, &fault);
+    match report.write_told(told, out) {
         Ok(()) => Err(tell(report.alloc, outlined.program(), fault, err)),
         Err(error) => Ok(Err(error)),
     }

@@ -3,14 +3,18 @@
 #![tactic(auto)]
 
 mod absent;
+mod conflicts;
 mod diagnosis;
 mod explaining;
 mod faults;
+mod further;
 mod history;
 mod limits;
 mod objects;
+mod remedy;
 mod rules;
 mod sarif;
+mod sarif_fixes;
 mod scene;
 mod search;
 mod source;
@@ -18,7 +22,9 @@ mod stale;
 mod text;
 mod texts;
 mod unordered;
+mod weights;
 mod words;
 
-pub use diagnosis::{Diagnosis, NamedCell, Note, Turn, Weight};
+pub use diagnosis::{Diagnosis, NamedCell, Note, Told, Turn, Weight};
 pub use explaining::{Form, explain_source};
+pub use remedy::{Remedy, seek};

@@ -30,7 +30,7 @@ fn turns_in(s: &Stmt) -> u64 {
 }
 
 #[cycle(turns)]
-fn turns_in_all(all: &[Stmt]) -> u64 {
+pub fn turns_in_all(all: &[Stmt]) -> u64 {
     let mut total = 0u64;
     for s in all {
         total = total.saturating_add(turns_in(s));

@@ -1,6 +1,8 @@
 // A diagnosis as an object of JSON.
 
-use crate::diagnosis::{Diagnosis, NamedCell, Note, Turn};
+use crate::diagnosis::{Diagnosis, NamedCell, Note, Told, Turn};
+use crate::remedy::{ACCEPTED, Remedy};
+use mend::{Edit, Mended};
 use serde_json::{Value, json, push};
 use std::alloc::{AllocError, Global};
 
@@ -66,19 +68,59 @@ fn diagnosis_object(alloc: Global, diagnosis: &Diagnosis) -> Result<Value, Alloc
     })
 }
 
-/// The diagnoses of a file, as one object.
-pub fn as_json(alloc: Global, file: &str, diagnoses: &[Diagnosis]) -> Result<String, AllocError> {
+// The text of a line that is changed or inserted, which is UTF-8.
+fn line_text(line: &[u8]) -> &str {
+    str::from_utf8(line).unwrap_or("")
+}
+
+// The bytes that go, by the places where they begin and end, and the text that comes.
+fn edit_object(alloc: Global, edit: &Edit) -> Result<Value, AllocError> {
+    let (line, new) = (edit.line, line_text(&edit.new));
+    match &edit.old {
+        Some(old) => {
+            let end = old.len().saturating_add(1);
+            json!(in alloc; {"line": line, "column": 1, "end_line": line, "end_column": end, "text": new})
+        }
+        None => {
+            let text = format!(in alloc; "{new}\n")?;
+            json!(in alloc; {"line": line, "column": 1, "end_line": line, "end_column": 1, "text": &text})
+        }
+    }
+}
+
+fn fix_object(alloc: Global, mended: &Mended) -> Result<Value, AllocError> {
     let mut list = Vec::new(alloc);
-    'diagnoses: for diagnosis in diagnoses {
+    'edits: for edit in &mended.edits {
+        push(&mut list, edit_object(alloc, edit)?)?;
+    }
+    let edits = Value::Array(list);
+    json!(in alloc; {"message": ACCEPTED, "edits": edits})
+}
+
+fn fix_objects(alloc: Global, remedy: &Remedy) -> Result<Value, AllocError> {
+    let mut list = Vec::new(alloc);
+    if let Remedy::Found(mended) = remedy {
+        push(&mut list, fix_object(alloc, mended)?)?;
+    }
+    Ok(Value::Array(list))
+}
+
+/// What is told of a file, as one object.
+pub fn as_json(alloc: Global, file: &str, told: &Told) -> Result<String, AllocError> {
+    let mut list = Vec::new(alloc);
+    'diagnoses: for diagnosis in &told.diagnoses {
         push(&mut list, diagnosis_object(alloc, diagnosis)?)?;
     }
-    let accepted = diagnoses.is_empty();
+    let accepted = told.diagnoses.is_empty();
     let all = Value::Array(list);
+    let fixes = fix_objects(alloc, &told.remedy)?;
     let report = json!(in alloc; {
         "version": FORM,
         "file": file,
         "accepted": accepted,
-        "diagnostics": all
+        "diagnostics": all,
+        "more": told.more,
+        "fixes": fixes
     })?;
     report.to_string_pretty(alloc)
 }

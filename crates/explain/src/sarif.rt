@@ -1,6 +1,7 @@
 // A diagnosis in the Static Analysis Results Interchange Format (SARIF), version 2.1.0.
 
-use crate::diagnosis::{Diagnosis, Note};
+use crate::diagnosis::{Diagnosis, Note, Told};
+use crate::sarif_fixes::fix_values;
 use base::tree::Place;
 use serde_json::{Value, json, push};
 use std::alloc::{AllocError, Global};
@@ -60,7 +61,13 @@ fn properties(alloc: Global, diagnosis: &Diagnosis) -> Result<Value, AllocError>
     }
 }
 
-fn result(alloc: Global, file: &str, diagnosis: &Diagnosis) -> Result<Value, AllocError> {
+// A fault with the changes that mend the file.
+fn result(
+    alloc: Global,
+    file: &str,
+    diagnosis: &Diagnosis,
+    fixes: Value,
+) -> Result<Value, AllocError> {
     let location = location(alloc, file, diagnosis.place)?;
     let related = all_related(alloc, file, &diagnosis.notes)?;
     let properties = properties(alloc, diagnosis)?;
@@ -70,7 +77,8 @@ fn result(alloc: Global, file: &str, diagnosis: &Diagnosis) -> Result<Value, All
         "message": {"text": &diagnosis.message},
         "locations": [location],
         "relatedLocations": related,
-        "properties": properties
+        "properties": properties,
+        "fixes": fixes
     })
 }
 
@@ -98,19 +106,29 @@ fn rules(alloc: Global, diagnoses: &[Diagnosis]) -> Result<Value, AllocError> {
     Ok(Value::Array(list))
 }
 
-/// The diagnoses of a file, as one log with one run.
-pub fn as_sarif(alloc: Global, file: &str, diagnoses: &[Diagnosis]) -> Result<String, AllocError> {
-    let rules = rules(alloc, diagnoses)?;
-    let mut results = Vec::new(alloc);
-    'diagnoses: for diagnosis in diagnoses {
-        push(&mut results, result(alloc, file, diagnosis)?)?;
+// The faults, the first of which has the change that was found.
+fn results(alloc: Global, file: &str, told: &Told) -> Result<Value, AllocError> {
+    let mut list = Vec::new(alloc);
+    'diagnoses: for (number, diagnosis) in told.diagnoses.iter().enumerate() {
+        let fixes = if number == 0 {
+            fix_values(alloc, file, &told.remedy)?
+        } else {
+            Value::Array(Vec::new(alloc))
+        };
+        push(&mut list, result(alloc, file, diagnosis, fixes)?)?;
     }
-    let all = Value::Array(results);
+    Ok(Value::Array(list))
+}
+
+/// What is told of a file, as one log with one run.
+pub fn as_sarif(alloc: Global, file: &str, told: &Told) -> Result<String, AllocError> {
+    let rules = rules(alloc, &told.diagnoses)?;
+    let results = results(alloc, file, told)?;
     let driver = json!(in alloc; {"name": TOOL, "version": TOOL_VERSION, "rules": rules})?;
     let log = json!(in alloc; {
         "version": SARIF_VERSION,
         "$schema": SCHEMA,
-        "runs": [{"tool": {"driver": driver}, "results": all}]
+        "runs": [{"tool": {"driver": driver}, "results": results, "properties": {"more": told.more}}]
     })?;
     log.to_string_pretty(alloc)
 }

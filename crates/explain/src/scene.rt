@@ -90,6 +90,14 @@ impl<'a> Scene<'a> {
         self.outlined.items().get(number as usize)
     }
 
+    /// Where an item stands.
+    pub fn place_of_item(&self, number: u32) -> Place {
+        match self.item(number) {
+            None => Place { line: 1, column: 1 },
+            Some(item) => item.place,
+        }
+    }
+
     /// The footprint of the region of an item.
     pub fn footprint(&self, number: usize) -> Option<&'a Footprint> {
         if number < self.found.len() {

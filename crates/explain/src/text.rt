@@ -1,8 +1,10 @@
 // A diagnosis as compilers print one.
 
-use crate::diagnosis::Diagnosis;
+use crate::diagnosis::{Diagnosis, Told};
+use crate::remedy::{ACCEPTED, Remedy};
 use crate::source::line_of;
 use base::tree::Place;
+use mend::{Edit, Mended};
 use std::alloc::{AllocError, Global};
 
 // Where the texts go, and what they are of.
@@ -79,14 +81,72 @@ impl Page<'_> {
         }
         Ok(())
     }
+
+    // A line of a change, behind the sign that says whether it goes or comes.
+    fn add_side(&mut self, sign: u8, line: &[u8]) -> Result<(), AllocError> {
+        self.text.push(sign)?;
+        self.text.extend_from_slice(line)?;
+        self.text.push(b'\n')?;
+        Ok(())
+    }
+
+    // A line that is changed or inserted, where so many were inserted before it.
+    fn add_edit(&mut self, edit: &Edit, inserted: usize) -> Result<(), AllocError> {
+        let new = edit.line.saturating_add(inserted);
+        match &edit.old {
+            Some(old) => {
+                let head = format!(in self.alloc; "@@ -{} +{new} @@\n", edit.line)?;
+                self.add(&head)?;
+                self.add_side(b'-', old)?;
+            }
+            None => {
+                let before = edit.line.saturating_sub(1);
+                let head = format!(in self.alloc; "@@ -{before},0 +{new} @@\n")?;
+                self.add(&head)?;
+            }
+        }
+        self.add_side(b'+', &edit.new)
+    }
+
+    // A change, as the program `patch` reads it.
+    fn add_fix(&mut self, mended: &Mended) -> Result<(), AllocError> {
+        let Some(first) = mended.edits.first() else {
+            return Ok(());
+        };
+        let place = Place {
+            line: first.line,
+            column: 1,
+        };
+        self.add_place(place, "help", ACCEPTED)?;
+        let head = format!(in self.alloc; "--- {}\n+++ {}\n", self.file, self.file)?;
+        self.add(&head)?;
+        let mut inserted = 0usize;
+        'edits: for edit in &mended.edits {
+            self.add_edit(edit, inserted)?;
+            if edit.old.is_none() {
+                inserted = inserted.saturating_add(1);
+            }
+        }
+        Ok(())
+    }
+
+    // How many more faults were found.
+    fn add_more(&mut self, more: u64) -> Result<(), AllocError> {
+        let line = match more {
+            0 => return Ok(()),
+            1 => format!(in self.alloc; "{}: 1 more fault was found\n", self.file)?,
+            _ => format!(in self.alloc; "{}: {more} more faults were found\n", self.file)?,
+        };
+        self.add(&line)
+    }
 }
 
-/// The diagnoses of a file whose bytes these are; where there is none, that its program is accepted.
+/// What is told of a file whose bytes these are; where that is nothing, that its program is accepted.
 pub fn as_text(
     alloc: Global,
     file: &str,
     bytes: &[u8],
-    diagnoses: &[Diagnosis],
+    told: &Told,
 ) -> Result<Vec<u8>, AllocError> {
     let mut page = Page {
         alloc,
@@ -94,12 +154,16 @@ pub fn as_text(
         bytes,
         text: Vec::new(alloc),
     };
-    if diagnoses.is_empty() {
+    if told.diagnoses.is_empty() {
         let line = format!(in alloc; "{file}: accepted\n")?;
         page.add(&line)?;
     }
-    'diagnoses: for diagnosis in diagnoses {
+    'diagnoses: for diagnosis in &told.diagnoses {
         page.add_diagnosis(diagnosis)?;
+    }
+    page.add_more(told.more)?;
+    if let Remedy::Found(mended) = &told.remedy {
+        page.add_fix(mended)?;
     }
     let Page { text, .. } = page;
     Ok(text)

@@ -2,7 +2,8 @@
 //!
 //! A transcript has lines that begin with `$ ompc`, each a command as a shell takes it: its words, and behind ` < ` the
 //! file of its standard input. Below it stands what the command prints, a line of standard error behind `! `, and the
-//! status in brackets where it is not 0. Empty lines and those that begin with `#` are remarks.
+//! status in brackets where it is not 0. Empty lines and those that begin with `#` and a blank are remarks; a directive
+//! that a command prints is none.
 
 use crate::tally::Tally;
 use crate::text::Text;
@@ -108,7 +109,7 @@ fn tell_line<R: Threads + Wait + Sync + Files + Alloc<A = Global>>(
         told.add_line(line);
         return tell_command(rt, line, told);
     }
-    if line.is_empty() || line.starts_with('#') {
+    if line.is_empty() || line.starts_with("# ") {
         told.add_line(line);
     }
     Ok(())

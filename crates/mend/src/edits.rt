@@ -31,6 +31,26 @@ fn comes_later(new: &[&[u8]], place: usize, inserted: usize, old: &[u8]) -> bool
     false
 }
 
+// How many bytes two lines begin with alike.
+fn alike(left: &[u8], right: &[u8]) -> usize {
+    let mut count = 0usize;
+    for byte in left {
+        match right.get(count) {
+            Some(other) if *other == *byte => count = count.saturating_add(1),
+            _ => return count,
+        }
+    }
+    count
+}
+
+// Whether the next line of the new text is more like a line of the old one than this line is.
+fn is_nearer(new: &[&[u8]], place: usize, old: &[u8]) -> bool {
+    match (line_at(new, place), line_at(new, place.saturating_add(1))) {
+        (Some(line), Some(next)) => alike(next, old) > alike(line, old),
+        _ => false,
+    }
+}
+
 /// The lines of a text that are not those of another, which has only lines changed and inserted.
 pub fn edits_of(alloc: Global, old: &[u8], new: &[u8]) -> Result<Vec<Edit>, AllocError> {
     let old = lines(alloc, old)?;
@@ -46,7 +66,9 @@ pub fn edits_of(alloc: Global, old: &[u8], new: &[u8]) -> Result<Vec<Edit>, Allo
         };
         if line == was {
             at = at.saturating_add(1);
-        } else if inserted > 0 && comes_later(&new, place, inserted, was) {
+        } else if inserted > 0
+            && (comes_later(&new, place, inserted, was) || is_nearer(&new, place, was))
+        {
             inserted = inserted.saturating_sub(1);
             edits.push(Edit {
                 line: at.saturating_add(1),

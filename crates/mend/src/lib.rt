@@ -17,4 +17,4 @@ mod words;
 
 pub use bare::without_directives;
 pub use edits::Edit;
-pub use search::{MOST_CHECKS, MOST_STEPS, Mended, mend};
+pub use search::{MOST_CHECKS, MOST_STEPS, Mended, mend, mend_within};

@@ -111,12 +111,13 @@ fn steps(
     bare: &[u8],
     text: &[u8],
     first: Rank,
+    most: usize,
 ) -> Result<Option<Vec<u8>>, AllocError>
     ensures { IfOk result (λ found. IfSome found (λ t. IsAcceptedOf bare.now t.items)) }
 {
     let mut text = Vec::from_slice(alloc, text)?;
     let mut rank = first;
-    let mut checks = MOST_CHECKS - 1;
+    let mut checks = most.saturating_sub(1);
     for _ in 0..MOST_STEPS {
         match step(alloc, bare, &text, &rank, &mut checks)? {
             Outcome::Accepted(found) => return Ok(Some(found)),
@@ -131,21 +132,21 @@ fn steps(
 }
 
 // The text of a mend.
-fn mended_text(alloc: Global, bytes: &[u8]) -> Result<Option<Vec<u8>>, AllocError>
+fn mended_text(alloc: Global, bytes: &[u8], most: usize) -> Result<Option<Vec<u8>>, AllocError>
     ensures { IfOk result (λ found. IfSome found (λ t. IsMend bytes.now t.items)) }
 {
     let bare = without_directives(alloc, bytes)?;
     match judge(alloc, &bare, bytes)? {
         Verdict::Accepted => Ok(Some(Vec::from_slice(alloc, bytes)?)),
-        Verdict::Refused(rank) => steps(alloc, &bare, bytes, rank),
+        Verdict::Refused(rank) => steps(alloc, &bare, bytes, rank, most),
         Verdict::Unfit => Ok(None),
     }
 }
 
-fn search(alloc: Global, bytes: &[u8]) -> Result<Option<Mended>, AllocError>
+fn search(alloc: Global, bytes: &[u8], most: usize) -> Result<Option<Mended>, AllocError>
     ensures { IfOk result (λ found. IfSome found (λ m. IsMend bytes.now m.text.items)) }
 {
-    match mended_text(alloc, bytes)? {
+    match mended_text(alloc, bytes, most)? {
         Some(text) => {
             let edits = edits_of(alloc, bytes, &text)?;
             Ok(Some(Mended { text, edits }))
@@ -162,8 +163,16 @@ fn search(alloc: Global, bytes: &[u8]) -> Result<Option<Mended>, AllocError>
 /// What is tried is what the first fault asks for: another type for a map item, a section that is wider or
 /// narrower, a map or depend item more, an entry, an update or a wait on a line of its own. Of the texts of a step
 /// the first that is accepted is taken, else the first whose first fault is later.
-#[tactic(auto, using(crate::proofs::Unfit::outline_unfit, crate::proofs::Unfit::read_unfit))]
 pub fn mend(alloc: Global, bytes: &[u8]) -> Result<Option<Mended>, SourceFault>
+    ensures mended { IfOk result (λ found. IfSome found (λ m. IsMend bytes.now m.text.items)) }
+    ensures fault { IfErr result (IsUnfit bytes.now) }
+{
+    mend_within(alloc, bytes, MOST_CHECKS)
+}
+
+/// The same, where at most so many texts are checked, the source among them.
+#[tactic(auto, using(crate::proofs::Unfit::outline_unfit, crate::proofs::Unfit::read_unfit))]
+pub fn mend_within(alloc: Global, bytes: &[u8], most: usize) -> Result<Option<Mended>, SourceFault>
     ensures mended { IfOk result (λ found. IfSome found (λ m. IsMend bytes.now m.text.items)) }
     ensures fault { IfErr result (IsUnfit bytes.now) }
 {
@@ -174,7 +183,7 @@ pub fn mend(alloc: Global, bytes: &[u8]) -> Result<Option<Mended>, SourceFault>
     if let Err(fault) = outline(alloc, &program) {
         return Err(SourceFault::Outline(fault));
     }
-    match search(alloc, bytes) {
+    match search(alloc, bytes, most) {
         Ok(found) => Ok(found),
         Err(_) => Err(SourceFault::Read(ReadFault::OutOfMemory)),
     }

@@ -1,4 +1,5 @@
-# why a program is refused: the place with its line, what earlier items have to do with it, what could be written; the line of check besides
+# why a program is refused: the place with its line, what earlier items have to do with it, what could be written, which change is accepted;
+# the line of check besides
 
 # subscripts, sections and counts out of range
 $ ompc explain below_the_array.c
@@ -35,6 +36,12 @@ past_the_array.c:1:10: note: A has the cells 0 to 3
 past_the_array.c:3:39: help: a section is FIRST:LENGTH; A[1:3] is what fits at most
     #pragma omp target enter data map(to: A[1:4])
                                           ^
+past_the_array.c:3:1: help: this change is accepted
+--- past_the_array.c
++++ past_the_array.c
+@@ -3 +3 @@
+-#pragma omp target enter data map(to: A[1:4])
++#pragma omp target enter data map(to: A[1:3])
 ! E302 item 0 line 3 column 39
 [1]
 $ ompc explain empty_section.c
@@ -76,6 +83,12 @@ mapped_in_part.c:3:36: note: A[0:4] is on device 0 since item 0, which entered i
 mapped_in_part.c:6:1: help: name A[0:4] here, or a section inside it; or enter all of A[0:8] there
     for (uint64_t i = 0; i < 4; i += 1) { A[i] = i + 5; }
     ^
+mapped_in_part.c:5:1: help: this change is accepted
+--- mapped_in_part.c
++++ mapped_in_part.c
+@@ -5 +5 @@
+-#pragma omp target
++#pragma omp target map(tofrom: A[0:4])
 ! E501 item 1 A[0]
 [1]
 $ ompc explain in_part_on_one_device.c
@@ -88,6 +101,12 @@ in_part_on_one_device.c:3:39: note: A[0:3] is on device 0 since item 0, which en
 in_part_on_one_device.c:4:39: help: name A[0:3] here, or a section inside it; or enter all of A[1:3] there
     #pragma omp target enter data map(to: A[1:3])
                                           ^
+in_part_on_one_device.c:4:1: help: this change is accepted
+--- in_part_on_one_device.c
++++ in_part_on_one_device.c
+@@ -4 +4 @@
+-#pragma omp target enter data map(to: A[1:3])
++#pragma omp target enter data map(to: A[0:3])
 ! E501 item 1 A[1]
 [1]
 $ ompc explain left_twice.c
@@ -110,6 +129,11 @@ update_alone.c:3:30: note: nothing before has entered A[0] on device 0
 update_alone.c:3:1: help: enter it before, as by `#pragma omp target enter data map(to: A[0:4])`
     #pragma omp target update to(A)
     ^
+update_alone.c:3:1: help: this change is accepted
+--- update_alone.c
++++ update_alone.c
+@@ -2,0 +3 @@
++#pragma omp target enter data map(to: A)
 ! E503 item 0 A[0]
 [1]
 $ ompc explain not_mapped.c
@@ -120,6 +144,12 @@ not_mapped.c:3:32: note: `map(tofrom: A[0:2])` maps no more than A[0:2] to the d
     #pragma omp target map(tofrom: A[0:2])
                                    ^
 not_mapped.c:3:32: help: widen the section here so that it has A[2]
+not_mapped.c:3:1: help: this change is accepted
+--- not_mapped.c
++++ not_mapped.c
+@@ -3 +3 @@
+-#pragma omp target map(tofrom: A[0:2])
++#pragma omp target map(tofrom: A[0:3])
 ! E504 item 0 A[2]
 [1]
 $ ompc explain present_alone.c
@@ -130,6 +160,11 @@ present_alone.c:3:37: note: nothing before has entered A[0] on device 0
 present_alone.c:3:1: help: enter it before, as by `#pragma omp target enter data map(to: A[0:4])`
     #pragma omp target map(present, to: A)
     ^
+present_alone.c:3:1: help: this change is accepted
+--- present_alone.c
++++ present_alone.c
+@@ -2,0 +3 @@
++#pragma omp target enter data map(to: A)
 ! E509 item 0 A[0]
 [1]
 $ ompc explain present_update_alone.c
@@ -140,6 +175,11 @@ present_update_alone.c:3:39: note: nothing before has entered A[0] on device 0
 present_update_alone.c:3:1: help: enter it before, as by `#pragma omp target enter data map(to: A[0:4])`
     #pragma omp target update to(present: A)
     ^
+present_update_alone.c:3:1: help: this change is accepted
+--- present_update_alone.c
++++ present_update_alone.c
+@@ -2,0 +3 @@
++#pragma omp target enter data map(to: A)
 ! E509 item 0 A[0]
 [1]
 
@@ -155,6 +195,12 @@ mapped_to_only.c:4:28: note: `map(to: A[0:4])` of item 1 removes A[0] from devic
     #pragma omp target map(to: A[0:4])
                                ^
 mapped_to_only.c:4:28: help: write `tofrom` in place of `to` here, which copies it to the host
+mapped_to_only.c:4:1: help: this change is accepted
+--- mapped_to_only.c
++++ mapped_to_only.c
+@@ -4 +4 @@
+-#pragma omp target map(to: A[0:4])
++#pragma omp target map(tofrom: A[0:4])
 ! E506 item 2 A[0]
 [1]
 $ ompc explain stale_part.c
@@ -167,6 +213,11 @@ stale_part.c:6:39: note: A[2] is written here, on device 0, by the target (item 
 stale_part.c:8:7: help: write `#pragma omp target update from(A[2:1])` before this, or an update of all that is read
     print(A[2]);
           ^
+stale_part.c:8:1: help: this change is accepted
+--- stale_part.c
++++ stale_part.c
+@@ -7,0 +8 @@
++#pragma omp target update from(A)
 ! E506 item 3 A[2]
 [1]
 $ ompc explain written_or_not_and_read.c
@@ -178,6 +229,12 @@ written_or_not_and_read.c:4:30: note: `map(from: A[0:2])` of item 1 copies A[0] 
                                  ^
 written_or_not_and_read.c:4:30: note: `map(from: A[0:2])` of item 1 creates A[0] on device 0 here, and copies nothing to it
 written_or_not_and_read.c:4:30: help: write `tofrom` in place of `from` here, which copies A[0] from the host, or write A[0] on the device before it is read
+written_or_not_and_read.c:4:1: help: this change is accepted
+--- written_or_not_and_read.c
++++ written_or_not_and_read.c
+@@ -4 +4 @@
+-#pragma omp target map(from: A)
++#pragma omp target map(tofrom: A)
 ! E506 item 2 A[0]
 [1]
 $ ompc explain stale_on_the_device.c
@@ -196,6 +253,11 @@ stale_on_the_device.c:4:39: note: A[0:2] is on device 0 since item 0, which ente
 stale_on_the_device.c:6:1: help: write `#pragma omp target update to(A[0:1])` before this, or `map(always, to: A[0:2])` in it
     #pragma omp target map(to: A) map(from: B)
     ^
+stale_on_the_device.c:6:1: help: this change is accepted
+--- stale_on_the_device.c
++++ stale_on_the_device.c
+@@ -5,0 +6 @@
++#pragma omp target update to(A[0:1])
 ! E507 item 2 A[0]
 [1]
 $ ompc explain stale_on_another_device.c
@@ -215,6 +277,13 @@ stale_on_another_device.c:7:1: help: write `#pragma omp target update from(A[0:1
     #pragma omp target device(1)
     ^
 stale_on_another_device.c:7:1: help: then write `#pragma omp target update to(A[0:1]) device(1)` before this
+stale_on_another_device.c:7:1: help: this change is accepted
+--- stale_on_another_device.c
++++ stale_on_another_device.c
+@@ -6,0 +7 @@
++#pragma omp target update from(A[0:1])
+@@ -6,0 +8 @@
++#pragma omp target update to(A[0:1]) device(1)
 ! E507 item 3 A[0]
 [1]
 
@@ -229,6 +298,15 @@ depends_overlap.c:3:54: note: `depend(out: A[0:4])` of item 0 stands here
 depends_overlap.c:5:53: help: name the same section in both: tasks are ordered by equal sections alone
     #pragma omp target map(tofrom: A) nowait depend(in: A[2:4])
                                                         ^
+depends_overlap.c:3:1: help: this change is accepted
+--- depends_overlap.c
++++ depends_overlap.c
+@@ -3 +3 @@
+-#pragma omp target map(tofrom: A) nowait depend(out: A[0:4])
++#pragma omp target map(tofrom: A) nowait depend(out: A[0:6])
+@@ -5 +5 @@
+-#pragma omp target map(tofrom: A) nowait depend(in: A[2:4])
++#pragma omp target map(tofrom: A) nowait depend(in: A[0:6])
 ! E505 item 1 A[2] with item 0
 [1]
 $ ompc explain broken_chain.c
@@ -245,6 +323,15 @@ broken_chain.c:9:1: note: no `taskwait` between the two waits for it, and their 
     #pragma omp target map(tofrom: C) nowait depend(in: B)
     ^
 broken_chain.c:9:1: help: write `#pragma omp taskwait` before this, or `depend(inout: C)` on both
+broken_chain.c:5:1: help: this change is accepted
+--- broken_chain.c
++++ broken_chain.c
+@@ -5 +5 @@
+-#pragma omp target map(tofrom: C) nowait depend(out: A)
++#pragma omp target map(tofrom: C) nowait depend(out: A) depend(inout: C)
+@@ -9 +9 @@
+-#pragma omp target map(tofrom: C) nowait depend(in: B)
++#pragma omp target map(tofrom: C) nowait depend(in: B) depend(inout: C)
 ! E508 item 2 C[0] with item 0
 [1]
 $ ompc explain readers_create_both.c
@@ -261,6 +348,15 @@ readers_create_both.c:7:1: note: no `taskwait` between the two waits for it, and
     #pragma omp target map(to: A) map(from: C) nowait
     ^
 readers_create_both.c:7:1: help: write `#pragma omp taskwait` before this, or `depend(inout: A)` on both
+readers_create_both.c:5:1: help: this change is accepted
+--- readers_create_both.c
++++ readers_create_both.c
+@@ -5 +5 @@
+-#pragma omp target map(to: A) map(from: B) nowait
++#pragma omp target map(to: A) map(from: B) nowait depend(inout: A)
+@@ -7 +7 @@
+-#pragma omp target map(to: A) map(from: C) nowait
++#pragma omp target map(to: A) map(from: C) nowait depend(inout: A)
 ! E508 item 1 A[0] with item 0
 [1]
 $ ompc explain host_beside_a_copy_in.c
@@ -277,6 +373,11 @@ host_beside_a_copy_in.c:5:1: note: no `taskwait` between the two waits for it, a
     A[1] = 1; print(A[6]); A[5] = 1;
     ^
 host_beside_a_copy_in.c:5:1: help: write `#pragma omp taskwait` before this
+host_beside_a_copy_in.c:5:1: help: this change is accepted
+--- host_beside_a_copy_in.c
++++ host_beside_a_copy_in.c
+@@ -4,0 +5 @@
++#pragma omp taskwait
 ! E508 item 2 A[5] with item 1
 [1]
 $ ompc explain exit_before_the_wait.c
@@ -293,6 +394,29 @@ exit_before_the_wait.c:8:1: note: no `taskwait` between the two waits for it, an
     #pragma omp target exit data map(from: A)
     ^
 exit_before_the_wait.c:8:1: help: write `#pragma omp taskwait` before this, or `depend(inout: A)` on both
+exit_before_the_wait.c:10:32: error: `target update` copies A[0:8], which is not on device 0 [E503]
+    #pragma omp target update from(A)
+                                   ^
+exit_before_the_wait.c:8:40: note: item 3 removed A[0] from device 0 here
+    #pragma omp target exit data map(from: A)
+                                           ^
+exit_before_the_wait.c:10:1: help: enter it before, as by `#pragma omp target enter data map(to: A[0:8])`
+    #pragma omp target update from(A)
+    ^
+exit_before_the_wait.c:4:1: help: this change is accepted
+--- exit_before_the_wait.c
++++ exit_before_the_wait.c
+@@ -3,0 +4 @@
++#pragma omp target enter data map(to: A)
+@@ -4 +5 @@
+-#pragma omp target map(tofrom: A[0:4]) nowait
++#pragma omp target map(tofrom: A[0:4]) nowait depend(inout: A)
+@@ -6 +7 @@
+-#pragma omp target map(tofrom: A[4:4]) nowait
++#pragma omp target map(tofrom: A[4:4]) nowait depend(inout: A)
+@@ -8 +9 @@
+-#pragma omp target exit data map(from: A)
++#pragma omp target exit data map(from: A) depend(inout: A)
 ! E508 item 3 A[0] with item 1
 [1]
 $ ompc explain several_cells.c
@@ -309,7 +433,223 @@ several_cells.c:7:1: note: no `taskwait` between the two waits for it, and neith
     #pragma omp target nowait
     ^
 several_cells.c:7:1: help: write `#pragma omp taskwait` before this, or `depend(inout: A)` on both
+several_cells.c:5:1: help: this change is accepted
+--- several_cells.c
++++ several_cells.c
+@@ -5 +5 @@
+-#pragma omp target nowait
++#pragma omp target nowait depend(inout: A)
+@@ -7 +7 @@
+-#pragma omp target nowait
++#pragma omp target nowait depend(inout: A)
 ! E508 item 2 A[5] with item 1
+[1]
+
+# faults that do not follow from one before: of range, of depend items, conflicts and the item behind them that is refused by itself
+$ ompc explain four_faults_of_range.c
+four_faults_of_range.c:3:39: error: the subscript of A is 4, and A has 4 cells (in the turn i = 4) [E301]
+    for (uint64_t i = 0; i < 5; i += 1) { A[i] = i; }
+                                          ^
+four_faults_of_range.c:1:10: note: A has the cells 0 to 3
+    uint64_t A[4];
+             ^
+four_faults_of_range.c:3:39: help: put it under an `if` that the values of the loops decide, or change the bounds of the loop
+    for (uint64_t i = 0; i < 5; i += 1) { A[i] = i; }
+                                          ^
+four_faults_of_range.c:5:3: error: the subscript of A is 4, and A has 4 cells [E301]
+    { A[4] = 1; }
+      ^
+four_faults_of_range.c:1:10: note: A has the cells 0 to 3
+    uint64_t A[4];
+             ^
+four_faults_of_range.c:5:3: help: put it under an `if` that the values of the loops decide, or change the bounds of the loop
+    { A[4] = 1; }
+      ^
+four_faults_of_range.c:6:32: error: the section A[2:4] has the cells 2 to 5, and A has 4 cells [E302]
+    #pragma omp target map(tofrom: A[2:4])
+                                   ^
+four_faults_of_range.c:1:10: note: A has the cells 0 to 3
+    uint64_t A[4];
+             ^
+four_faults_of_range.c:6:32: help: a section is FIRST:LENGTH; A[2:2] is what fits at most
+    #pragma omp target map(tofrom: A[2:4])
+                                   ^
+four_faults_of_range.c:10:3: error: the subscript of A is 4, and A has 4 cells (in the turn k = 4) [E301]
+    { A[k] = 1; }
+      ^
+four_faults_of_range.c:1:10: note: A has the cells 0 to 3
+    uint64_t A[4];
+             ^
+four_faults_of_range.c:10:3: help: put it under an `if` that the values of the loops decide, or change the bounds of the loop
+    { A[k] = 1; }
+      ^
+! E301 item 0 line 3 column 39
+[1]
+$ ompc explain two_overlaps.c
+two_overlaps.c:5:53: error: `depend(in: A[2:4])` overlaps `depend(out: A[0:4])` of item 0 in A[2], and is not the same section [E505]
+    #pragma omp target map(tofrom: A) nowait depend(in: A[2:4])
+                                                        ^
+two_overlaps.c:3:54: note: `depend(out: A[0:4])` of item 0 stands here
+    #pragma omp target map(tofrom: A) nowait depend(out: A[0:4])
+                                                         ^
+two_overlaps.c:5:53: help: name the same section in both: tasks are ordered by equal sections alone
+    #pragma omp target map(tofrom: A) nowait depend(in: A[2:4])
+                                                        ^
+two_overlaps.c:7:53: error: `depend(in: A[3:4])` overlaps `depend(out: A[0:4])` of item 0 in A[3], and is not the same section [E505]
+    #pragma omp target map(tofrom: A) nowait depend(in: A[3:4])
+                                                        ^
+two_overlaps.c:3:54: note: `depend(out: A[0:4])` of item 0 stands here
+    #pragma omp target map(tofrom: A) nowait depend(out: A[0:4])
+                                                         ^
+two_overlaps.c:7:53: help: name the same section in both: tasks are ordered by equal sections alone
+    #pragma omp target map(tofrom: A) nowait depend(in: A[3:4])
+                                                        ^
+! E505 item 1 A[2] with item 0
+[1]
+$ ompc explain three_faults.c
+three_faults.c:8:3: error: the target (item 1) writes A[0] on device 0, and the target (item 0) writes A[0] on device 0, with no order between them [E508]
+    { A[0] = A[0] + 1; }
+      ^
+three_faults.c:6:3: note: the target (item 0) writes A[0] on device 0 here
+    { A[0] = A[0] + 1; }
+      ^
+three_faults.c:5:1: note: item 0 is deferred by `nowait`: what stands after it does not wait for it
+    #pragma omp target map(tofrom: A) nowait
+    ^
+three_faults.c:7:1: note: no `taskwait` between the two waits for it, and neither has a `depend` clause
+    #pragma omp target map(tofrom: A) nowait
+    ^
+three_faults.c:7:1: help: write `#pragma omp taskwait` before this, or `depend(inout: A)` on both
+three_faults.c:10:3: error: the target (item 2) writes A[0] on device 0, and the target (item 0) writes A[0] on device 0, with no order between them [E508]
+    { A[0] = A[0] + 1; C[0] = 1; }
+      ^
+three_faults.c:6:3: note: the target (item 0) writes A[0] on device 0 here
+    { A[0] = A[0] + 1; }
+      ^
+three_faults.c:5:1: note: item 0 is deferred by `nowait`: what stands after it does not wait for it
+    #pragma omp target map(tofrom: A) nowait
+    ^
+three_faults.c:9:1: note: no `taskwait` between the two waits for it, and neither has a `depend` clause
+    #pragma omp target map(tofrom: A) map(to: C) nowait
+    ^
+three_faults.c:9:1: help: write `#pragma omp taskwait` before this, or `depend(inout: A)` on both
+three_faults.c:12:7: error: the host reads C[0], whose last value is on device 0: nothing has copied it to the host since [E506]
+    print(C[0]);
+          ^
+three_faults.c:10:20: note: C[0] is written here, on device 0, by the target (item 2)
+    { A[0] = A[0] + 1; C[0] = 1; }
+                       ^
+three_faults.c:9:43: note: `map(to: C[0:8])` of item 2 removes C[0] from device 0 here without copying it to the host
+    #pragma omp target map(tofrom: A) map(to: C) nowait
+                                              ^
+three_faults.c:9:43: help: write `tofrom` in place of `to` here, which copies it to the host
+three_faults.c:5:1: help: this change is accepted
+--- three_faults.c
++++ three_faults.c
+@@ -5 +5 @@
+-#pragma omp target map(tofrom: A) nowait
++#pragma omp target map(tofrom: A) nowait depend(inout: A)
+@@ -7 +7 @@
+-#pragma omp target map(tofrom: A) nowait
++#pragma omp target map(tofrom: A) nowait depend(inout: A)
+@@ -9 +9 @@
+-#pragma omp target map(tofrom: A) map(to: C) nowait
++#pragma omp target map(tofrom: A) map(tofrom: C) nowait depend(inout: A)
+! E508 item 1 A[0] with item 0
+[1]
+$ ompc explain eleven_faults.c
+eleven_faults.c:4:3: error: the subscript of A is 4, and A has 4 cells [E301]
+    { A[4] = 1; }
+      ^
+eleven_faults.c:1:10: note: A has the cells 0 to 3
+    uint64_t A[4];
+             ^
+eleven_faults.c:4:3: help: put it under an `if` that the values of the loops decide, or change the bounds of the loop
+    { A[4] = 1; }
+      ^
+eleven_faults.c:6:3: error: the subscript of A is 5, and A has 4 cells [E301]
+    { A[5] = 1; }
+      ^
+eleven_faults.c:1:10: note: A has the cells 0 to 3
+    uint64_t A[4];
+             ^
+eleven_faults.c:6:3: help: put it under an `if` that the values of the loops decide, or change the bounds of the loop
+    { A[5] = 1; }
+      ^
+eleven_faults.c:8:3: error: the subscript of A is 6, and A has 4 cells [E301]
+    { A[6] = 1; }
+      ^
+eleven_faults.c:1:10: note: A has the cells 0 to 3
+    uint64_t A[4];
+             ^
+eleven_faults.c:8:3: help: put it under an `if` that the values of the loops decide, or change the bounds of the loop
+    { A[6] = 1; }
+      ^
+eleven_faults.c:10:3: error: the subscript of A is 7, and A has 4 cells [E301]
+    { A[7] = 1; }
+      ^
+eleven_faults.c:1:10: note: A has the cells 0 to 3
+    uint64_t A[4];
+             ^
+eleven_faults.c:10:3: help: put it under an `if` that the values of the loops decide, or change the bounds of the loop
+    { A[7] = 1; }
+      ^
+eleven_faults.c:12:3: error: the subscript of A is 8, and A has 4 cells [E301]
+    { A[8] = 1; }
+      ^
+eleven_faults.c:1:10: note: A has the cells 0 to 3
+    uint64_t A[4];
+             ^
+eleven_faults.c:12:3: help: put it under an `if` that the values of the loops decide, or change the bounds of the loop
+    { A[8] = 1; }
+      ^
+eleven_faults.c:14:3: error: the subscript of A is 9, and A has 4 cells [E301]
+    { A[9] = 1; }
+      ^
+eleven_faults.c:1:10: note: A has the cells 0 to 3
+    uint64_t A[4];
+             ^
+eleven_faults.c:14:3: help: put it under an `if` that the values of the loops decide, or change the bounds of the loop
+    { A[9] = 1; }
+      ^
+eleven_faults.c:16:3: error: the subscript of A is 10, and A has 4 cells [E301]
+    { A[10] = 1; }
+      ^
+eleven_faults.c:1:10: note: A has the cells 0 to 3
+    uint64_t A[4];
+             ^
+eleven_faults.c:16:3: help: put it under an `if` that the values of the loops decide, or change the bounds of the loop
+    { A[10] = 1; }
+      ^
+eleven_faults.c:18:3: error: the subscript of A is 11, and A has 4 cells [E301]
+    { A[11] = 1; }
+      ^
+eleven_faults.c:1:10: note: A has the cells 0 to 3
+    uint64_t A[4];
+             ^
+eleven_faults.c:18:3: help: put it under an `if` that the values of the loops decide, or change the bounds of the loop
+    { A[11] = 1; }
+      ^
+eleven_faults.c: 3 more faults were found
+! E301 item 0 line 4 column 3
+[1]
+
+# a source whose check is dear: no change is looked for
+$ ompc explain dear_check.c
+dear_check.c:13:7: error: the host reads A[0], whose last value is on device 0: nothing has copied it to the host since [E506]
+    print(A[0]);
+          ^
+dear_check.c:12:3: note: A[0] is written here, on device 0, by the target (item 8)
+    { A[0] = 1; }
+      ^
+dear_check.c:11:28: note: `map(to: A[0:4])` of item 8 removes A[0] from device 0 here without copying it to the host
+    #pragma omp target map(to: A)
+                               ^
+dear_check.c:11:28: help: write `tofrom` in place of `to` here, which copies it to the host
+dear_check.c:13:7: help: run `ompc fix` to look for a change
+    print(A[0]);
+          ^
+! E506 item 9 A[0]
 [1]
 
 # faults of the text
@@ -343,6 +683,8 @@ $ ompc explain halves.c --format json
   "accepted": true,
   "diagnostics": [],
   "file": "halves.c",
+  "fixes": [],
+  "more": 0,
   "version": 1
 }
 $ ompc explain mapped_to_only.c --format json
@@ -387,6 +729,21 @@ $ ompc explain mapped_to_only.c --format json
     }
   ],
   "file": "mapped_to_only.c",
+  "fixes": [
+    {
+      "edits": [
+        {
+          "column": 1,
+          "end_column": 35,
+          "end_line": 4,
+          "line": 4,
+          "text": "#pragma omp target map(tofrom: A[0:4])"
+        }
+      ],
+      "message": "this change is accepted"
+    }
+  ],
+  "more": 0,
   "version": 1
 }
 ! E506 item 2 A[0]
@@ -416,6 +773,8 @@ $ ompc explain undeclared.c --format json
     }
   ],
   "file": "undeclared.c",
+  "fixes": [],
+  "more": 0,
   "version": 1
 }
 ! E103 line 2 column 28
@@ -425,6 +784,9 @@ $ ompc explain halves.c --format sarif
   "$schema": "https://docs.oasis-open.org/sarif/sarif/v2.1.0/errata01/os/schemas/sarif-schema-2.1.0.json",
   "runs": [
     {
+      "properties": {
+        "more": 0
+      },
       "results": [],
       "tool": {
         "driver": {
@@ -442,8 +804,36 @@ $ ompc explain mapped_to_only.c --format sarif
   "$schema": "https://docs.oasis-open.org/sarif/sarif/v2.1.0/errata01/os/schemas/sarif-schema-2.1.0.json",
   "runs": [
     {
+      "properties": {
+        "more": 0
+      },
       "results": [
         {
+          "fixes": [
+            {
+              "artifactChanges": [
+                {
+                  "artifactLocation": {
+                    "uri": "mapped_to_only.c"
+                  },
+                  "replacements": [
+                    {
+                      "deletedRegion": {
+                        "startColumn": 1,
+                        "startLine": 4
+                      },
+                      "insertedContent": {
+                        "text": "#pragma omp target map(tofrom: A[0:4])"
+                      }
+                    }
+                  ]
+                }
+              ],
+              "description": {
+                "text": "this change is accepted"
+              }
+            }
+          ],
           "level": "error",
           "locations": [
             {

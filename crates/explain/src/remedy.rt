@@ -1,0 +1,87 @@
+// A change of a source by which its program is accepted.
+
+ghost use Rattle.std.specs.Prelude.{IfOk};
+ghost use Rattle.explain.specs.Explained.{IsRemedy};
+
+use crate::weights::checks_for;
+use base::fault::{CheckFault, RangeCode, RangeFault};
+use mend::{MOST_CHECKS, Mended, mend_within};
+use outline::Outlined;
+use std::alloc::{AllocError, Global};
+
+/// What is said of a change.
+pub const ACCEPTED: &str = "this change is accepted";
+
+/// What comes of the search for a change.
+#[derive(Drop)]
+pub enum Remedy {
+    /// A text that differs from the source in its directives alone, and whose program is accepted, with the lines that
+    /// differ.
+    Found(Mended),
+    /// None of the changes that are tried helps.
+    Missing,
+    /// None was looked for, or not as far as `fix` looks.
+    Unsought,
+}
+
+// Whether another directive can help.
+fn may_be_mended(fault: &CheckFault) -> bool {
+    match fault {
+        CheckFault::Range {
+            fault: RangeFault { code, .. },
+            ..
+        } => matches!(code, RangeCode::SectionOutside),
+        CheckFault::Order(_) | CheckFault::Refused(_) => true,
+        CheckFault::OutOfMemory => false,
+    }
+}
+
+// Whether the lines of both can be shown as text.
+fn are_texts(source: &[u8], text: &[u8]) -> bool {
+    str::from_utf8(source).is_ok() && str::from_utf8(text).is_ok()
+}
+
+// What comes of the search, where at most so many texts are checked.
+fn sought(alloc: Global, source: &[u8], checks: usize) -> Result<Remedy, AllocError>
+    ensures { IfOk result (IsRemedy source.now) }
+{
+    let Ok(found) = mend_within(alloc, source, checks) else {
+        return Err(AllocError);
+    };
+    match found {
+        Some(mended) => {
+            if !are_texts(source, &mended.text) {
+                return Ok(Remedy::Unsought);
+            }
+            Ok(Remedy::Found(mended))
+        }
+        None => {
+            if checks < MOST_CHECKS {
+                Ok(Remedy::Unsought)
+            } else {
+                Ok(Remedy::Missing)
+            }
+        }
+    }
+}
+
+/// A change by which the program of a source, whose first fault this is, is accepted. It takes no more than about a
+/// second: of a source with more than 2,000 statements and directives none is looked for, and where its check is dear,
+/// fewer texts are checked. The error comes where an allocation fails.
+pub fn seek(
+    alloc: Global,
+    source: &[u8],
+    outlined: &Outlined<'_>,
+    fault: &CheckFault,
+) -> Result<Remedy, AllocError>
+    ensures { IfOk result (IsRemedy source.now) }
+{
+    if !may_be_mended(fault) {
+        return Ok(Remedy::Missing);
+    }
+    let checks = checks_for(alloc, outlined)?;
+    if checks < 2 {
+        return Ok(Remedy::Unsought);
+    }
+    sought(alloc, source, checks)
+}
