@@ -2,3 +2,4 @@ pub mod Requests
 pub mod Refusals
 pub mod Misuses
 pub mod Steps
+pub mod Meanings

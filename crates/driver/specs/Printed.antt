@@ -3,8 +3,11 @@ use Rattle.std.specs.Prelude.{ℕ, ◌≡◌, Bool, true, false, if◌then◌els
 use Rattle.std.specs.Io.KnownBytes.{Appends}
 use Rattle.base.specs.declared.tree.Program.{Program}
 use Rattle.base.specs.declared.item.Answer.{Answer}
+use Rattle.base.specs.Accepted.{IsAccepted}
+use Rattle.base.specs.Items.{plan}
 use Rattle.c_read.specs.Spells.{Spells}
-use Rattle.pipeline.specs.Source.{Answers, IsAcceptedAnswer, by_choices, on_threads}
+use Rattle.erasure.specs.Erased.{erased_text}
+use Rattle.pipeline.specs.Source.{Answers, IsAcceptedAnswer, IsPlainAnswer, by_choices, on_threads}
 use Rattle.pipeline.specs.Checking.{IsChecked}
 use Rattle.pipeline.specs.Listing.{IsListed}
 use Rattle.explain.specs.Explained.{SpellsAccepted}
@@ -65,12 +68,14 @@ abbrev pub answer_bytes : Bool → Bool → Program → Answer → List ℕ
 answer_bytes log finals p a =
     a.out.items ++ ((if log then log_bytes a.history.items else []) ++ (if finals then finals_bytes p a.finals.items else []))
 
--- that is appended, of the program that the bytes spell
+-- that is appended, of the program that the bytes spell; where it is accepted, that is the answer of the program that they
+-- spell without directive lines
 pub record IsPrinted (is : List ℕ → Answers) (log finals : Bool) (bytes : List ℕ) (known old new : Option (List ℕ)) : Type 0 where
   pub program : Program
   pub spelled : Spells bytes program
   pub answer : Answer
   pub answered : IsReadAnswer is known program answer
+  pub without : IsAccepted (plan program) → (q : Program) → Spells (erased_text bytes) q → IsPlainAnswer program q answered.input answer
   pub written : Appends old new (answer_bytes log finals program answer)
 
 -- what is answered on an input by choices, on the machine that is asked for

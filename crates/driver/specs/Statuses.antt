@@ -1,5 +1,5 @@
--- The status of a command that prints nothing.
-use Rattle.std.specs.Prelude.{ℕ}
+-- The status of a command that prints nothing, and what it says.
+use Rattle.std.specs.Prelude.{ℕ, List, []}
 use Rattle.base.specs.declared.fault.ReadFault.TheVariants as read
 use Rattle.base.specs.declared.fault.OutlineFault.TheVariants as outline
 use Rattle.base.specs.declared.fault.CheckFault.TheVariants as check
@@ -7,6 +7,9 @@ use Rattle.base.specs.declared.fault.SourceFault.{SourceFault}
 use Rattle.base.specs.declared.fault.SourceFault.TheVariants.{Read, Outline, Check, Run}
 use Rattle.clap.specs.declared.error.kind.ErrorKind.{ErrorKind}
 use Rattle.clap.specs.declared.error.kind.ErrorKind.TheVariants as kind
+use Rattle.report.specs.declared.faults.Misuse.TheVariants as misuse
+use Rattle.base.specs.declared.fault.RunFault.TheVariants as run
+use Rattle.report.specs.Faults.{fault_line, misuse_line, run_line}
 use Rattle.driver.specs.declared.perform.Ending.{Ending}
 use Rattle.driver.specs.declared.perform.Ending.TheVariants as ending
 
@@ -42,3 +45,13 @@ ending_of (Outline f) = ending.Source (Outline f)
 ending_of (Check check.OutOfMemory) = ending.OutOfMemory
 ending_of (Check _) = ending.Refused
 ending_of (Run f) = ending.Source (Run f)
+
+-- the line of it; why a program is refused is written already
+abbrev pub ending_line : Ending → List ℕ
+ending_line ending.BadChoices = misuse_line misuse.Choices
+ending_line ending.BadFormat = misuse_line misuse.Format
+ending_line (ending.Unreadable name) = misuse_line (misuse.Source name)
+ending_line (ending.Source f) = fault_line f
+ending_line ending.Refused = []
+ending_line ending.BadInput = misuse_line misuse.Input
+ending_line ending.OutOfMemory = run_line run.OutOfMemory

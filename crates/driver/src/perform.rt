@@ -21,12 +21,13 @@ use base::tree::Program;
 use c_read::read_program;
 use clap::error::ErrorKind;
 use command::{Request, Run, Step, Workers, parse};
+use erased_meaning::erased_text_runs;
 use mapcheck::{Accepted, check};
 use mend::mend;
 use numbers::{NumbersFault, choice_list, input_numbers};
 use outline::{Outlined, outline};
 use pipeline::{check_source, list_source, run_accepted, run_accepted_on_threads, tell};
-use report::{finals_text, log_text};
+use report::{Misuse, fault_text, finals_text, log_text, misuse_text};
 use std::alloc::Global;
 use std::io;
 use std::io::{Read, Write};
@@ -82,8 +83,9 @@ pub(crate) enum Ending<'a> {
 }
 
 impl Ending<'_> {
-    ghost use Rattle.std.specs.Prelude.{◌≡◌, ◌≤◌};
-    ghost use Rattle.driver.specs.Statuses.{status_of};
+    ghost use Rattle.std.specs.Prelude.{◌≡◌, ◌≤◌, OnOk};
+    ghost use Rattle.std.specs.Io.KnownBytes.{Appends};
+    ghost use Rattle.driver.specs.Statuses.{ending_line, status_of};
 
     fn status(&self) -> u8
         ensures within { (1 ≤ result) × (result ≤ 3) }
@@ -98,15 +100,17 @@ impl Ending<'_> {
         }
     }
 
-    fn write<E: Write>(&self, err: &mut E) -> io::Result<()> {
+    fn write<E: Write>(&self, err: &mut E) -> io::Result<()>
+        ensures { OnOk result (Appends (E.contents err.old) (E.contents err.new) (ending_line self.now)) }
+    {
         match self {
-            Ending::BadChoices => writeln!(err, "bad choices"),
-            Ending::BadFormat => writeln!(err, "bad format"),
-            Ending::Unreadable(name) => writeln!(err, "cannot read {name}"),
-            Ending::Source(fault) => writeln!(err, "{fault}"),
+            Ending::BadChoices => misuse_text(Misuse::Choices, err),
+            Ending::BadFormat => misuse_text(Misuse::Format, err),
+            Ending::Unreadable(name) => misuse_text(Misuse::Source(name), err),
+            Ending::Source(fault) => fault_text(*fault, err),
             Ending::Refused => Ok(()),
-            Ending::BadInput => writeln!(err, "bad input"),
-            Ending::OutOfMemory => writeln!(err, "F1"),
+            Ending::BadInput => misuse_text(Misuse::Input, err),
+            Ending::OutOfMemory => fault_text(SourceFault::Run(RunFault::OutOfMemory), err),
         }
     }
 }
@@ -341,6 +345,7 @@ fn run_file<'a, T: Threads + Wait + Sync, S: Sources, R: Read, W: Write, E: Writ
         Ok(program) => program,
         Err(fault) => return Err(Ending::Source(SourceFault::Read(fault))),
     };
+    erased_text_runs();
     let answer = answer(rt, alloc, &program, asked, input, err)?;
     match write_answer(&program, &answer, asked, out) {
         Ok(()) => Ok(DONE),
@@ -600,7 +605,7 @@ fn misused<E: Write>(error: &clap::Error, err: &mut E) -> u8
 {
     match error.kind() {
         ErrorKind::OutOfMemory => {
-            let _ = writeln!(err, "F1");
+            let _ = Ending::OutOfMemory.write(err);
             FAILED
         }
         _ => {

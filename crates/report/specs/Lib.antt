@@ -2,3 +2,4 @@ pub mod Listing
 pub mod Refusals
 pub mod Checked
 pub mod Runs
+pub mod Faults

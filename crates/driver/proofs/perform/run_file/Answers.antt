@@ -2,6 +2,7 @@ use Rattle.pipeline.specs.Checking.{IsRefused}
 use Rattle.driver.specs.Printed.{IsPrinted, answers_of}
 use Rattle.driver.specs.Refused.{IsPlanFault, IsRefusedOf, is_checked}
 use Rattle.driver.proofs.Refusals.{by_wider, handed_up, is_sought, of_bytes}
+use Rattle.driver.proofs.Meanings.{without_directives}
 use Rattle.driver.proofs.Requests.{of_source}
 use Rattle.driver.proofs.perform.run_file.Goals as goal
 
@@ -27,5 +28,7 @@ returns-in-Ok-write_answer-clause-printed g c =
       spelled = c.in-Ok.ensures.found;
       answer = c.in_ok-answer.answer;
       answered = c.in_ok-answer.ensures.answered;
+      without = without_directives c.erased_text_runs.ensures c.args.asked.way c.args.asked.capacity c.in_ok-answer.ensures.answered.input
+          c.deref.result.now c.in-Ok.program c.in_ok-answer.answer c.in-Ok.ensures.found c.in_ok-answer.ensures.answered.answer;
       written = c.in-Ok-write_answer.ensures;
     })
