@@ -15,3 +15,11 @@ pub mod RegionRuns
 pub mod Advancing
 pub mod Runnables
 pub mod TrimmedScalars
+pub mod Gathers
+pub mod Overs
+pub mod Runs
+pub mod BlockLanes
+pub mod Looseness
+pub mod BlockTurns
+pub mod LoneLoops
+pub mod LoadedRuns

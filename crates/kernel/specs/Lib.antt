@@ -3,4 +3,7 @@ pub mod Machine
 pub mod Codes
 pub mod Kept
 pub mod States
+pub mod Lanes
+pub mod Loops
 pub mod Runnable
+pub mod Lone

@@ -8,12 +8,18 @@ pub use crate::runnable::frame_runs;
 pub use crate::scalars::Scalars;
 pub use crate::state::{flag, loop_value, of_both, of_division, of_one, of_shift};
 
+mod apart;
+mod block;
 mod emit;
 mod execute;
 mod follow;
 mod frames;
+mod lone;
 mod op;
 mod runnable;
 mod scalars;
 mod state;
 mod step;
+mod stores;
+mod turns;
+mod values;

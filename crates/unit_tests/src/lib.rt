@@ -14,6 +14,8 @@ mod footprint_tests;
 #[cfg(test)]
 mod jobs;
 #[cfg(test)]
+mod kernel_tests;
+#[cfg(test)]
 mod order_tests;
 #[cfg(test)]
 mod orders;

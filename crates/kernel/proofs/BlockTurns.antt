@@ -1,0 +1,140 @@
+-- Blocks of turns, one after another.
+use Rattle.std.proofs.Common.{◌≡◌, ℕ, zero, suc, ◌+◌, ◌-◌, ◌<◌, ◌≤◌, List, length, Option, Some, None, refl, sym, ap, ap₂, ◌∙◌, arith, subst}
+use mathlib.Core.Path.{fun_ext}
+use Rattle.base.specs.declared.item.Cell.{Cell}
+use Rattle.base.specs.declared.tree.Stmt.{Stmt}
+use Rattle.base.specs.Memory.{View}
+use Rattle.base.specs.Meaning.{Run, turn}
+use Rattle.lanes.specs.Apart.{in_block, Block, block_body, block_start}
+use Rattle.lanes.specs.There.{BodyThere}
+use Rattle.lanes.specs.Turned.{IsRun}
+use Rattle.lanes.proofs.Blocks.{block_is_turns}
+use Rattle.kernel.specs.Lanes.{begun_block, IsBlock}
+use Rattle.kernel.specs.Loops.{assigned_in, stored_in, AreApart, does, Stands, Begins, Ends}
+use Rattle.kernel.specs.declared.frames.KeptRow.{KeptRow}
+use Rattle.kernel.proofs.Looseness.{none_loose}
+use Rattle.kernel.proofs.Stepping.{there}
+
+-- some turns, and those that are left
+pub record Split (a b v : ℕ) (f : ℕ → Run → Option Run) (s t : Run) : Type 0 where
+  pub mid : Run
+  pub front : turn a v 1 f s ≡ Some mid
+  pub back : turn b (v + a) 1 f mid ≡ Some t
+
+pub turn_split : (a b n v : ℕ) (f : ℕ → Run → Option Run) (s t : Run) → n ≡ a + b → turn n v 1 f s ≡ Some t →
+    Split a b v f s t
+turn_split zero b n v f s t e h =
+    let same : n ≡ b = omega (arith, e) in
+    let at : v ≡ v + 0 = omega arith in
+    record { mid = s; front = refl; back = ap₂ (λ m w. turn m w 1 f s) (sym same) (sym at) ∙ h }
+turn_split (suc a) b zero v f s t e h = absurd (omega (arith, e))
+turn_split (suc a) b (suc n) v f s t e h =
+    go (f v s) refl (λ w k. turn_split a b n (v + 1) f w t (omega (arith, e)) k) h
+  where
+    go : (o : Option Run) → f v s ≡ o → ((w : Run) → turn n (v + 1) 1 f w ≡ Some t → Split a b (v + 1) f w t) →
+        elim o as (λ x. Option Run) [ None ↦ None | Some u ↦ turn n (v + 1) 1 f u ] ≡ Some t → Split (suc a) b v f s t
+    go None is again h = absurd cc
+    go (Some w) is again h =
+        let p = again w h in
+        let at : v + 1 + a ≡ v + suc a = omega arith in
+        record {
+          mid = p.mid;
+          front = ap (λ o. elim o as (λ x. Option Run) [ None ↦ None | Some u ↦ turn a (v + 1) 1 f u ]) is ∙ p.front;
+          back = ap (λ w. turn b w 1 f p.mid) (sym at) ∙ p.back;
+        }
+
+-- the same turns, one more at least, from where the rows stand
+pub begun_there : (body : List Stmt) (outer : List ℕ) (view : View) (s t : Run) (v count : ℕ) (scalars : List ℕ) (rows : List KeptRow) →
+    0 < count → AreApart (length outer) body → Stands view s scalars rows →
+    turn count v 1 (does view outer body) s ≡ Some t →
+    BodyThere (in_block v count) outer body (begun_block scalars rows)
+    × IsRun view (block_body (in_block v count) outer body (begun_block scalars rows)) (v + (count - 1)) s t
+begun_there body outer view s t v zero scalars rows some apart h e = absurd (omega arith)
+begun_there body outer view s t v (suc more) scalars rows some apart h e =
+    let r = block_is_turns body view outer (stored_in body) (assigned_in body) v more s t apart.0 (none_loose body) e in
+    let last : v + more ≡ v + (suc more - 1) = omega arith in
+    let same : block_start view s ≡ begun_block scalars rows =
+    λ i. record { scalars = λ w. sym h.scalars i; cells = sym h.cells i; stored = sym h.stored i } in (
+      subst (λ (b : Block). BodyThere (in_block v (suc more)) outer body b) same r.0,
+      subst (λ (b : Block). IsRun view (block_body (in_block v (suc more)) outer body b) (v + (suc more - 1)) s t) same
+          (subst (λ (w : ℕ). IsRun view (block_body (in_block v (suc more)) outer body (block_start view s)) w s t) last r.1),
+    )
+
+-- where a block is left, its run stands
+pub left_there : (view : View) (s t : Run) (b : Block) (last : ℕ) (scalars : List ℕ) (rows : List KeptRow) →
+    IsBlock b last scalars rows → IsRun view b last s t → Stands view t scalars rows
+left_there view s t b last scalars rows h r =
+    record {
+      scalars = h.scalars ∙ fun_ext (λ (x : ℕ). r.scalars x);
+      cells = h.cells ∙ fun_ext (λ (c : Cell). r.cells c);
+      stored = h.stored ∙ fun_ext (λ (c : Cell). r.stored c);
+    }
+
+-- what is left of the turns from v on
+pub record Left (body : List Stmt) (outer : List ℕ) (view : View) (s t : Run) (v end : ℕ) (scalars : List ℕ) (rows : List KeptRow) : Type 0 where
+  pub now : Run
+  pub rest : turn (end - v) v 1 (does view outer body) now ≡ Some t
+  pub stands : Stands view now scalars rows
+  pub input : s.input ≡ now.input
+  pub printed : s.printed ≡ now.printed
+
+-- of each run that begins so
+abbrev pub Carries : List Stmt → List ℕ → ℕ → ℕ → ℕ → List ℕ → List KeptRow → List ℕ → List KeptRow → Type 0
+Carries body outer first end v scalars rows scalars' rows' =
+    (view : View) (s t : Run) → Stands view s scalars rows →
+    turn (end - first) first 1 (does view outer body) s ≡ Some t →
+    Left body outer view s t v end scalars' rows'
+
+pub carried_all : (body : List Stmt) (outer : List ℕ) (first end : ℕ) (scalars : List ℕ) (rows : List KeptRow) →
+    Carries body outer first end first scalars rows scalars rows
+carried_all body outer first end scalars rows view s t h e =
+    record { now = s; rest = e; stands = h; input = refl; printed = refl }
+
+module _ (body : List Stmt) (outer : List ℕ) (first end v count : ℕ) (some : 0 < count) (within : count ≤ end - v)
+    (apart : AreApart (length outer) body) where
+  first_block : (view : View) (s t : Run) → turn (end - v) v 1 (does view outer body) s ≡ Some t →
+      Split count (end - (v + count)) v (does view outer body) s t
+  first_block view s t e =
+      turn_split count (end - (v + count)) (end - v) v (does view outer body) s t (omega arith) e
+
+  -- the next block has what it needs
+  pub next_there : (scalars : List ℕ) (rows : List KeptRow) (scalars' : List ℕ) (rows' : List KeptRow) →
+      Begins body outer first end scalars rows → Carries body outer first end v scalars rows scalars' rows' →
+      BodyThere (in_block v count) outer body (begun_block scalars' rows')
+  next_there scalars rows scalars' rows' h carried =
+      let t = there (turn (end - first) first 1 (does h.0 outer body) h.1) h.3 in
+      let l = carried h.0 h.1 t.0 h.2 t.1 in
+      let p = first_block h.0 l.now t.0 l.rest in
+      (begun_there body outer h.0 l.now p.mid v count scalars' rows' some apart l.stands p.front).0
+
+  -- and fewer turns are left after it
+  pub carried_on : (scalars : List ℕ) (rows : List KeptRow) (scalars' : List ℕ) (rows' : List KeptRow)
+      (scalars'' : List ℕ) (rows'' : List KeptRow) →
+      Carries body outer first end v scalars rows scalars' rows' →
+      IsBlock (block_body (in_block v count) outer body (begun_block scalars' rows')) (v + (count - 1)) scalars'' rows'' →
+      Carries body outer first end (v + count) scalars rows scalars'' rows''
+  carried_on scalars rows scalars' rows' scalars'' rows'' carried done view s t h e =
+      let l = carried view s t h e in
+      let p = first_block view l.now t l.rest in
+      let b = (begun_there body outer view l.now p.mid v count scalars' rows' some apart l.stands p.front).1 in
+      record {
+        now = p.mid;
+        rest = p.back;
+        stands = left_there view l.now p.mid _ (v + (count - 1)) scalars'' rows'' done b;
+        input = l.input ∙ b.input;
+        printed = l.printed ∙ b.printed;
+      }
+
+-- at the end nothing is left
+pub carried_end : (body : List Stmt) (outer : List ℕ) (first end v : ℕ) (scalars : List ℕ) (rows : List KeptRow)
+    (scalars' : List ℕ) (rows' : List KeptRow) → end ≤ v →
+    Carries body outer first end v scalars rows scalars' rows' → Ends body outer first end scalars rows scalars' rows'
+carried_end body outer first end v scalars rows scalars' rows' le carried view s t h e =
+    let l = carried view s t h e in
+    let none : end - v ≡ 0 = omega (arith, le) in
+    let same : ◌≡◌ {A = Option Run} (Some l.now) (Some t) = sym (ap (λ n. turn n v 1 (does view outer body) l.now) none) ∙ l.rest in
+    let is : l.now ≡ t = cc in (
+      subst (λ (u : Run). Stands view u scalars' rows') is l.stands,
+      l.input ∙ ap (λ (u : Run). u.input) is,
+      l.printed ∙ ap (λ (u : Run). u.printed) is,
+    )

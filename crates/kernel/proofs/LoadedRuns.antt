@@ -1,0 +1,52 @@
+-- Cells whose indices are the turns of a block.
+use Rattle.std.proofs.Common.{◌≡◌, ℕ, ◌+◌, ◌-◌, ◌<◌, ◌≤◌, Bool, true, false, List, length, get_or, take, drop, Option, Some, None, refl, sym, ap, ◌∙◌, arith, subst}
+use Rattle.std.specs.Prelude.{nat_le, slice_get, slice_index, slice_range, IsSome, option_and_then}
+use Rattle.std.proofs.lemmas.Bool.Decides.{nat_tests}
+use Rattle.std.proofs.lemmas.List.{get_or-take, get_or-drop}
+use Rattle.std.proofs.lemmas.Option.{slice_get-get_or}
+use Rattle.base.specs.declared.tree.ArrayId.{ArrayId}
+use Rattle.base.specs.declared.tree.Expr.{Expr}
+use Rattle.base.specs.Rows.{at_index}
+use Rattle.base.specs.Value.{value}
+use Rattle.lanes.specs.Apart.{is_turn}
+use Rattle.lanes.proofs.Deltas.{turn_value}
+use Rattle.kernel.specs.Rows.{cells_kept}
+use Rattle.kernel.specs.Lanes.{cell_of, names_of}
+use Rattle.kernel.specs.declared.frames.KeptRow.{KeptRow}
+use Rattle.kernel.specs.declared.turns.Reads.{Reads}
+use Rattle.kernel.proofs.Runs.{HasRun}
+
+from_below : (from first k : ℕ) → from ≤ first → nat_le from (first + k) ≡ true
+from_below from first k h = grind (arith, nat_tests)
+
+part_at : (xs : List ℕ) (at n k : ℕ) → k < n → slice_index (slice_range xs at (at + n)) k ≡ slice_index xs (at + k)
+part_at xs at n k h =
+    let size : at + n - at ≡ n = omega arith in
+    get_or-take (at + n - at) (drop at xs) k 0 (omega (arith, h, size)) ∙ get_or-drop at xs k 0
+
+-- a run of a row has what the row has
+pub loaded_run : (rows : List KeptRow) (a : ArrayId) (first n : ℕ) (r : KeptRow) → HasRun rows a.0 first n r → (k : ℕ) → k < n →
+    cells_kept rows (record { array = a; index = first + k })
+    ≡ Some (slice_index (slice_range r.cells.items (first - r.first) (first - r.first + n)) k)
+loaded_run rows a first n r has k h =
+    let low = has.from in
+    let fits = has.fits in
+    let place : first + k - r.first ≡ first - r.first + k = omega arith in
+    let inside : first - r.first + k < length r.cells.items = omega arith in
+    ap (λ o. elim o as (λ x. Option ℕ) [ None ↦ None | Some q ↦ at_index q.first q.cells.items (first + k) ]) has.is
+    ∙ ap (λ b. elim b as (λ x. Option ℕ) [ true ↦ slice_get r.cells.items (first + k - r.first) | false ↦ None ])
+    (from_below r.first first k low)
+    ∙ ap (slice_get r.cells.items) place
+    ∙ slice_get-get_or r.cells.items (first - r.first + k) 0 inside
+    ∙ ap Some (sym (part_at r.cells.items (first - r.first) n k h))
+
+-- a cell whose subscript is the turn
+pub turn_cell : (a : ArrayId) (e : Expr) (b : Reads) (k : ℕ) → is_turn (length b.at.now.outer.now) e ≡ true →
+    cell_of a e (names_of b k) ≡ cells_kept b.rows.now (record { array = a; index = b.at.now.first + k })
+turn_cell a e b k h =
+    ap (option_and_then (λ i. cells_kept b.rows.now (record { array = a; index = i })))
+    (turn_value b.at.now.outer.now (b.at.now.first + k) e (names_of b k) refl h)
+
+pub turn_there : (a : ArrayId) (e : Expr) (b : Reads) (k : ℕ) → is_turn (length b.at.now.outer.now) e ≡ true →
+    IsSome (cell_of a e (names_of b k)) → IsSome (cells_kept b.rows.now (record { array = a; index = b.at.now.first + k }))
+turn_there a e b k h there = subst (λ (o : Option ℕ). IsSome o) (turn_cell a e b k h) there

@@ -1,0 +1,92 @@
+-- The scalars of a body that are not assigned yet.
+use Rattle.std.proofs.Common.{◌≡◌, ℕ, Bool, true, false, List, [], ◌∷◌, ◌++◌, take, drop, length, get_or, ◌+◌, ◌<◌, ◌≤◌, refl, sym, ap, ◌∙◌}
+use Rattle.std.specs.Prelude.{not, ◌&&◌, ◌||◌}
+use Rattle.std.proofs.lemmas.List.{take_more, drop_more, drop_all}
+use mathlib.Core.Path.{fun_ext}
+use Rattle.base.specs.declared.tree.Stmt.{Stmt}
+use Rattle.base.specs.declared.tree.Stmt.TheVariants.{Declare, Assign, Store, Print, Block', Loop', If'}
+use Rattle.lanes.specs.Apart.{Set, loose_after, loose_body, body_apart, stmt_apart}
+use Rattle.kernel.specs.Loops.{assigned_by, assigned_in, stored_in, loose_in}
+
+-- what is loose after a statement was loose before, and is not assigned by it
+after_is : (loose : Set) (s : Stmt) (x : ℕ) → loose_after loose s x ≡ (not (assigned_by s x) && loose x)
+after_is loose (Declare y v) x = refl
+after_is loose (Assign y v) x = refl
+after_is loose (Store a place e v) x = refl
+after_is loose (Print e) x = refl
+after_is loose (Block' shape all) x = refl
+after_is loose (Loop' b shape all) x = refl
+after_is loose (If' c shape all shape' all') x = refl
+
+-- so it is for a body
+loose_is : (body : List Stmt) (loose : Set) (x : ℕ) → loose_body loose body x ≡ (not (assigned_in body x) && loose x)
+loose_is [] loose x = refl
+loose_is (s ∷ rest) loose x =
+    loose_is rest (loose_after loose s) x
+    ∙ ap (λ b. not (assigned_in rest x) && b) (after_is loose s x)
+    ∙ both (assigned_by s x) (assigned_in rest x) (loose x)
+  where
+    both : (p q r : Bool) → (not q && (not p && r)) ≡ (not (p || q) && r)
+    both true true r = refl
+    both true false r = refl
+    both false true r = refl
+    both false false r = refl
+
+-- at the end of a body no scalar is loose that it assigns
+pub none_loose : (body : List Stmt) (x : ℕ) → loose_body (assigned_in body) body x ≡ false
+none_loose body x = loose_is body (assigned_in body) x ∙ never (assigned_in body x)
+  where
+    never : (b : Bool) → (not b && b) ≡ false
+    never true = refl
+    never false = refl
+
+in_more : (before : List Stmt) (s : Stmt) (x : ℕ) → assigned_in (before ++ s ∷ []) x ≡ (assigned_in before x || assigned_by s x)
+in_more [] s x = go (assigned_by s x)
+  where
+    go : (b : Bool) → (b || false) ≡ b
+    go true = refl
+    go false = refl
+in_more (first ∷ rest) s x =
+    ap (λ b. assigned_by first x || b) (in_more rest s x) ∙ go (assigned_by first x)
+  where
+    go : (p : Bool) → (p || (assigned_in rest x || assigned_by s x)) ≡ ((p || assigned_in rest x) || assigned_by s x)
+    go true = refl
+    go false = refl
+
+-- what is loose after one more statement
+loose_more : (body before : List Stmt) (s : Stmt) → loose_after (loose_in body before) s ≡ loose_in body (before ++ s ∷ [])
+loose_more body before s =
+    fun_ext (λ (x : ℕ). after_is (loose_in body before) s x ∙ go (assigned_in body x) (assigned_in before x) (assigned_by s x)
+    ∙ ap (λ b. assigned_in body x && not b) (sym (in_more before s x)))
+  where
+    go : (p q r : Bool) → (not r && (p && not q)) ≡ (p && not (q || r))
+    go true true true = refl
+    go true true false = refl
+    go true false true = refl
+    go true false false = refl
+    go false q true = refl
+    go false q false = refl
+
+-- nothing is assigned before the first statement
+pub all_loose : (body : List Stmt) → loose_in body [] ≡ assigned_in body
+all_loose body = fun_ext (λ (x : ℕ). go (assigned_in body x))
+  where
+    go : (p : Bool) → (p && true) ≡ p
+    go true = refl
+    go false = refl
+
+-- the statements from a place on, and the one there with those behind it
+pub one_apart : (body : List Stmt) (level k : ℕ) (d : Stmt) → k < length body →
+    (stmt_apart (stored_in body) (assigned_in body) (loose_in body (take k body)) level (get_or body k d)
+    && body_apart (stored_in body) (assigned_in body) (loose_in body (take (k + 1) body)) level (drop (k + 1) body))
+    ≡ body_apart (stored_in body) (assigned_in body) (loose_in body (take k body)) level (drop k body)
+one_apart body level k d h =
+    ap (λ loose. stmt_apart (stored_in body) (assigned_in body) (loose_in body (take k body)) level (get_or body k d)
+    && body_apart (stored_in body) (assigned_in body) loose level (drop (k + 1) body))
+    (ap (loose_in body) (take_more body k d h) ∙ sym (loose_more body (take k body) (get_or body k d)))
+    ∙ sym (ap (body_apart (stored_in body) (assigned_in body) (loose_in body (take k body)) level) (drop_more body k d h))
+
+pub none_apart : (body : List Stmt) (level k : ℕ) (loose : Set) → length body ≤ k →
+    true ≡ body_apart (stored_in body) (assigned_in body) loose level (drop k body)
+none_apart body level k loose h =
+    sym (ap (body_apart (stored_in body) (assigned_in body) loose level) (drop_all k body h))

@@ -1,0 +1,76 @@
+-- A block of turns in the machine.
+use Rattle.std.specs.Prelude.{ℕ, ◌≡◌, ◌+◌, ◌-◌, ◌<◌, nat_le, nat_lt, ◌&&◌, if◌then◌else◌, Bool, List, [], ◌∷◌, ◌++◌, length, Some, slice_get, slice_index, option_and_then, Option}
+use Rattle.base.specs.declared.tree.ArrayId.{ArrayId}
+use Rattle.base.specs.declared.tree.Expr.{Expr}
+use Rattle.base.specs.Memory.{Scalars}
+use Rattle.base.specs.Value.{Names, value}
+use Rattle.base.specs.Meaning.{set_scalar}
+use Rattle.lanes.specs.Apart.{Block, in_block, numbers, set_lanes, store_lanes}
+use Rattle.kernel.specs.Rows.{cells_kept, cells_stored}
+use Rattle.kernel.specs.declared.frames.KeptRow.{KeptRow}
+use Rattle.kernel.specs.declared.turns.Lane.{Lane}
+use Rattle.kernel.specs.declared.turns.Turns.{Turns}
+use Rattle.kernel.specs.declared.turns.Reads.{Reads}
+
+-- the scalars of a turn: what it has assigned, the last first, and else what was there
+abbrev pub lane_scalars : List Lane → Scalars → ℕ → Scalars
+lane_scalars [] before k = before
+lane_scalars (l ∷ rest) before k = set_scalar l.scalar.0 (slice_index l.numbers.items k) (lane_scalars rest before k)
+
+-- each lane has a number for each turn
+abbrev pub HaveSize : ℕ → List Lane → Type 0
+HaveSize n [] = Unit {0}
+HaveSize n (l ∷ rest) = (length l.numbers.items ≡ n) × HaveSize n rest
+
+-- what a turn sees, by its place in the block
+abbrev pub names_of : Reads → ℕ → Names
+names_of b k =
+    record {
+      scalars = lane_scalars b.lanes.now (slice_index b.at.now.scalars.now) k;
+      loops = b.at.now.outer.now ++ (b.at.now.first + k) ∷ [];
+      cells = cells_kept b.rows.now;
+    }
+
+-- what stands at a cell of an array by its index
+abbrev pub cell_of : ArrayId → Expr → Names → Option ℕ
+cell_of a index names = option_and_then (λ i. names.cells (record { array = a; index = i })) (value index names)
+
+-- the numbers of an expression in the turns of a block
+abbrev pub AreValues : Expr → Reads → List ℕ → Type 0
+AreValues e b ys = (k : ℕ) → k < length ys → value e (names_of b k) ≡ Some (slice_index ys k)
+
+abbrev pub inside_of : Turns → ℕ → Bool
+inside_of at v = in_block at.first at.count v
+
+-- where a block of turns stands
+abbrev pub block_of : Turns → List Lane → List KeptRow → Block
+block_of at lanes rows =
+    record {
+      scalars =
+          λ v. if in_block at.first at.count v then lane_scalars lanes (slice_index at.scalars.now) (v - at.first)
+          else slice_index at.scalars.now;
+      cells = cells_kept rows;
+      stored = cells_stored rows;
+    }
+
+-- before its first statement
+abbrev pub begun_block : List ℕ → List KeptRow → Block
+begun_block scalars rows = record { scalars = λ v. slice_index scalars; cells = cells_kept rows; stored = cells_stored rows }
+
+-- the scalars and the rows are as a block leaves them, with the scalars of its last turn
+pub record IsBlock (b : Block) (last : ℕ) (numbers : List ℕ) (rows : List KeptRow) : Type 0 where
+  pub scalars : slice_index numbers ≡ b.scalars last
+  pub cells : cells_kept rows ≡ b.cells
+  pub stored : cells_stored rows ≡ b.stored
+
+-- a scalar that all turns of a block assign, and cells that they store
+abbrev pub assigned_lanes : (ℕ → Bool) → List ℕ → ℕ → Expr → Block → Block
+assigned_lanes inside loops x e b = set_lanes inside x (numbers e b loops) b
+
+abbrev pub stored_lanes : (ℕ → Bool) → List ℕ → ℕ → Expr → Block → Block
+stored_lanes inside loops a e b = store_lanes inside a (numbers e b loops) b
+
+-- from a place on, as many elements of a list became what f makes of their number
+pub record Over (A : Type 0) (f : ℕ → A) (at n : ℕ) (xs ys : List A) : Type 0 where
+  pub size : length ys ≡ length xs
+  pub each : (k : ℕ) → slice_get ys k ≡ (if nat_le at k && nat_lt k (at + n) then Some (f (k - at)) else slice_get xs k)

@@ -1,0 +1,157 @@
+// Whether the turns of a loop are apart, so that they can be done in blocks.
+
+ghost use Rattle.std.specs.Prelude.{◌≡◌, ◌≤◌, ◌∷◌, [], true, drop, length, take};
+ghost use Rattle.kernel.specs.Loops.{AreApart, assigned_by, assigned_in, loose_in, stored_by, stored_in};
+ghost use Rattle.lanes.specs.Apart as lanes;
+ghost use Rattle.lanes.specs.There as there;
+
+use base::tree::{ArrayId, Expr, ScalarId, Source, Stmt};
+
+/// The most statements of a body that is looked at.
+const MOST: usize = 32;
+
+fn is_assigned_by(s: &Stmt, x: ScalarId) -> bool
+    ensures { result ≡ assigned_by s.now x.0 }
+{
+    match s {
+        Stmt::Declare(y, _) | Stmt::Assign(y, _) => y.0 == x.0,
+        _ => false,
+    }
+}
+
+fn is_assigned(all: &[Stmt], x: ScalarId) -> bool
+    ensures { result ≡ assigned_in all.now x.0 }
+{
+    match all {
+        [] => false,
+        [first, rest @ ..] => is_assigned_by(first, x) || is_assigned(rest, x),
+    }
+}
+
+fn is_stored_by(s: &Stmt, array: ArrayId) -> bool
+    ensures { result ≡ stored_by s.now array.0 }
+{
+    match s {
+        Stmt::Store(other, _, _, _) => other.0 == array.0,
+        _ => false,
+    }
+}
+
+fn is_stored(all: &[Stmt], array: ArrayId) -> bool
+    ensures { result ≡ stored_in all.now array.0 }
+{
+    match all {
+        [] => false,
+        [first, rest @ ..] => is_stored_by(first, array) || is_stored(rest, array),
+    }
+}
+
+// A scalar of the turn that no statement before assigns.
+fn is_loose(body: &[Stmt], before: &[Stmt], x: ScalarId) -> bool
+    ensures { result ≡ loose_in body.now before.now x.0 }
+{
+    is_assigned(body, x) && !is_assigned(before, x)
+}
+
+/// Whether an expression is the value of the loop at a level alone.
+pub fn is_turn(level: usize, e: &Expr) -> bool
+    ensures { result ≡ lanes.is_turn level e.now }
+{
+    match e {
+        Expr::LoopName(l) => *l as usize == level,
+        _ => false,
+    }
+}
+
+fn expr_apart(body: &[Stmt], before: &[Stmt], level: usize, e: &Expr) -> bool
+    ensures { result ≡ lanes.is_apart (stored_in body.now) (loose_in body.now before.now) level e.now }
+{
+    match e {
+        Expr::Number(_) | Expr::LoopName(_) => true,
+        Expr::Scalar(x) => !is_loose(body, before, *x),
+        Expr::Cell(array, _, index) => {
+            (is_turn(level, index) || !is_stored(body, *array))
+                && expr_apart(body, before, level, index)
+        }
+        Expr::Unary(_, a) | Expr::Shift(_, a, _) | Expr::Divide(_, a, _) => expr_apart(
+            body, before, level, a,
+        ),
+        Expr::Binary(_, a, b) | Expr::And(a, b) | Expr::Or(a, b) => {
+            expr_apart(body, before, level, a) && expr_apart(body, before, level, b)
+        }
+    }
+}
+
+fn source_apart(body: &[Stmt], before: &[Stmt], level: usize, v: &Source) -> bool
+    ensures { result ≡ lanes.source_apart (stored_in body.now) (loose_in body.now before.now) level v.now }
+{
+    match v {
+        Source::Value(e) => expr_apart(body, before, level, e),
+        Source::Read => false,
+    }
+}
+
+fn stmt_apart(body: &[Stmt], before: &[Stmt], level: usize, s: &Stmt) -> bool
+    ensures { result ≡ lanes.stmt_apart (stored_in body.now) (assigned_in body.now) (loose_in body.now before.now) level s.now }
+{
+    match s {
+        Stmt::Declare(x, v) | Stmt::Assign(x, v) => is_assigned(body, *x)
+            && source_apart(body, before, level, v),
+        Stmt::Store(array, _, index, v) => {
+            is_stored(body, *array)
+                && (is_turn(level, index) && source_apart(body, before, level, v))
+        }
+        _ => false,
+    }
+}
+
+// The statements from a place on.
+#[tactic(auto, using(crate::proofs::Looseness::one_apart, crate::proofs::Looseness::none_apart))]
+fn body_apart(body: &[Stmt], level: usize, k: usize) -> bool
+    requires { k ≤ length body.now }
+    ensures { result ≡ lanes.body_apart (stored_in body.now) (assigned_in body.now) (loose_in body.now (take k body.now)) level (drop k body.now) }
+{
+    if k == body.len() {
+        return true;
+    }
+    stmt_apart(body, &body[..k], level, &body[k]) && body_apart(body, level, k + 1)
+}
+
+fn expr_plain(e: &Expr) -> bool
+    ensures { result ≡ there.is_plain e.now }
+{
+    match e {
+        Expr::Number(_) | Expr::Scalar(_) | Expr::LoopName(_) => true,
+        Expr::Cell(_, _, a) | Expr::Unary(_, a) | Expr::Shift(_, a, _) | Expr::Divide(_, a, _) =>
+            expr_plain(a),
+        Expr::Binary(_, a, b) => expr_plain(a) && expr_plain(b),
+        Expr::And(_, _) | Expr::Or(_, _) => false,
+    }
+}
+
+fn stmt_plain(s: &Stmt) -> bool
+    ensures { result ≡ there.stmt_plain s.now }
+{
+    match s {
+        Stmt::Declare(_, Source::Value(e)) => expr_plain(e),
+        Stmt::Assign(_, Source::Value(e)) => expr_plain(e),
+        Stmt::Store(_, _, _, Source::Value(e)) => expr_plain(e),
+        _ => false,
+    }
+}
+
+fn body_plain(all: &[Stmt]) -> bool
+    ensures { result ≡ there.body_plain all.now }
+{
+    match all {
+        [] => true,
+        [first, rest @ ..] => stmt_plain(first) && body_plain(rest),
+    }
+}
+
+/// Whether the turns of a loop at this level with this body are apart. A long body is not looked at.
+pub fn are_apart(body: &[Stmt], level: usize) -> bool
+    ensures { result ≡ true → AreApart level body.now }
+{
+    body.len() <= MOST && body_plain(body) && body_apart(body, level, 0)
+}

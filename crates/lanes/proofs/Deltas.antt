@@ -1,0 +1,199 @@
+-- What a turn adds: its run is that, and it lies in the turn's own cells and scalars.
+use Rattle.std.proofs.Common.{◌≡◌, ℕ, ◌==◌, Bool, true, false, List, [], ◌∷◌, ◌++◌, length, Option, Some, None, refl, sym, ap, ap₂, ◌∙◌, arith, subst, if◌then◌else◌, eqb-true, append_assoc, append-nil}
+use Rattle.std.specs.Prelude.{◌&&◌, option_and_then, option_map, slice_index}
+use Rattle.std.proofs.lemmas.Bool.{and_parts, false≢true}
+use Rattle.std.proofs.lemmas.Bool.Decides.{nat_tests}
+use Rattle.base.specs.declared.item.Cell.{Cell}
+use Rattle.base.specs.declared.tree.Expr.{Expr}
+use Rattle.base.specs.declared.tree.Expr.TheVariants.{Number, Scalar, LoopName, Cell', Unary', Binary', And', Or', Shift', Divide'}
+use Rattle.base.specs.declared.tree.ArrayId.{ArrayId}
+use Rattle.base.specs.declared.tree.Source.TheVariants.{Value, Read}
+use Rattle.base.specs.declared.tree.Stmt.{Stmt}
+use Rattle.base.specs.declared.tree.Stmt.TheVariants.{Declare, Assign, Store, Print, Block', Loop', If'}
+use Rattle.base.specs.Memory.{View, Scalars, Stores, same_cell, last_stored}
+use Rattle.base.specs.Value.{Names, value}
+use Rattle.base.specs.Meaning.{Run, names_in, set_scalar, assigned, stored, run_stmt, run_list}
+use Rattle.lanes.specs.Apart.{Set, is_turn, source_apart, stmt_apart, loose_after, body_apart, Delta, apply, idle, join, own_value, setting, storing, store_delta, stmt_delta, join_all, body_delta}
+
+pub apply_idle : (s : Run) → apply s idle ≡ s
+apply_idle s = ap (λ (xs : Stores). record s { stores = xs }) (append-nil s.stores)
+
+pub apply_join : (s : Run) (d e : Delta) → apply (apply s d) e ≡ apply s (join d e)
+apply_join s d e =
+    ap (λ (xs : Stores). record s { stores = xs; scalars = e.set (d.set s.scalars) }) (append_assoc s.stores d.stores e.stores)
+
+pub apply_all : (s : Run) (d : Delta) (o : Option Delta) →
+    option_map (apply (apply s d)) o ≡ option_map (apply s) (option_map (join d) o)
+apply_all s d None = refl
+apply_all s d (Some e) = ap Some (apply_join s d e)
+
+set_is : (s : Run) (x : ℕ) (o : Option ℕ) →
+    assigned x (option_map (λ v. (v, s)) o) ≡ option_map (apply s) (option_map (setting x) o)
+set_is s x None = refl
+set_is s x (Some n) = ap (λ (xs : Stores). Some (record s { stores = xs; scalars = set_scalar x n s.scalars })) (sym (append-nil s.stores))
+
+store_there : (s : Run) (c : Cell) (n : ℕ) (there : Option ℕ) →
+    option_map (λ old. record s { stores = s.stores ++ (c, n) ∷ [] }) there
+    ≡ option_map (apply s) (option_map (λ old. storing c n) there)
+store_there s c n None = refl
+store_there s c n (Some old) = refl
+
+store_is : (view : View) (s : Run) (a : ArrayId) (oi ov : Option ℕ) →
+    option_and_then (λ i. stored view (record { array = a; index = i }) (option_map (λ v. (v, s)) ov)) oi
+    ≡ option_map (apply s) (option_and_then (λ i. store_delta view (record { array = a; index = i }) ov) oi)
+store_is view s a None ov = refl
+store_is view s a (Some i) None = refl
+store_is view s a (Some i) (Some n) = store_there s (record { array = a; index = i }) n (view (record { array = a; index = i }))
+
+module _ (taken own : Set) (view : View) where
+  stmt_is : (loose : Set) (level : ℕ) (loops : List ℕ) (s : Run) (first : Stmt) →
+      stmt_apart taken own loose level first ≡ true →
+      run_stmt first view loops s ≡ option_map (apply s) (stmt_delta first view loops s)
+  stmt_is loose level loops s (Declare x (Value e)) h = set_is s x.0 (value e (names_in view loops s))
+  stmt_is loose level loops s (Declare x Read) h = absurd (false≢true (and_parts (own x.0) false h).1)
+  stmt_is loose level loops s (Assign x (Value e)) h = set_is s x.0 (value e (names_in view loops s))
+  stmt_is loose level loops s (Assign x Read) h = absurd (false≢true (and_parts (own x.0) false h).1)
+  stmt_is loose level loops s (Store a place e (Value f)) h =
+      store_is view s a (value e (names_in view loops s)) (value f (names_in view loops s))
+  stmt_is loose level loops s (Store a place e Read) h =
+      absurd (false≢true (and_parts (is_turn level e) false (and_parts (taken a.0) (is_turn level e && false) h).1).1)
+  stmt_is loose level loops s (Print e) h = absurd (false≢true h)
+  stmt_is loose level loops s (Block' shape all) h = absurd (false≢true h)
+  stmt_is loose level loops s (Loop' b shape all) h = absurd (false≢true h)
+  stmt_is loose level loops s (If' c shape all shape' all') h = absurd (false≢true h)
+
+  rest_is : (s : Run) (f : Run → Option Run) (g : Delta → Option Delta) (o : Option Delta) →
+      ((d : Delta) → f (apply s d) ≡ option_map (apply (apply s d)) (g d)) →
+      option_and_then f (option_map (apply s) o) ≡ option_map (apply s) (join_all o g)
+  rest_is s f g None h = refl
+  rest_is s f g (Some d) h = h d ∙ apply_all s d (g d)
+
+  pub body_is : (loose : Set) (level : ℕ) (loops : List ℕ) (s : Run) (body : List Stmt) →
+      body_apart taken own loose level body ≡ true →
+      run_list body view loops s ≡ option_map (apply s) (body_delta body view loops s)
+  body_is loose level loops s [] h = ap Some (sym (apply_idle s))
+  body_is loose level loops s (first ∷ rest) h =
+      let k = and_parts (stmt_apart taken own loose level first) (body_apart taken own (loose_after loose first) level rest) h in
+      ap (option_and_then (run_list rest view loops)) (stmt_is loose level loops s first k.0)
+      ∙ rest_is s (run_list rest view loops) (λ d. body_delta rest view loops (apply s d)) (stmt_delta first view loops s)
+      (λ d. body_is (loose_after loose first) level loops (apply s d) rest k.1)
+
+-- later stores that leave a cell alone
+pub last_over : (xs ys : Stores) (c : Cell) → last_stored ys c ≡ None → last_stored (xs ++ ys) c ≡ last_stored xs c
+last_over [] ys c h = h
+last_over (x ∷ xs) ys c h =
+    ap (λ o. elim o as (λ q. Option ℕ) [ Some v ↦ Some v | None ↦ if same_cell x.0 c then Some x.1 else None ])
+    (last_over xs ys c h)
+
+at_seam : (xs : List ℕ) (v : ℕ) → slice_index (xs ++ v ∷ []) (length xs) ≡ v
+at_seam [] v = refl
+at_seam (x ∷ xs) v = at_seam xs v
+
+-- the loop's own value
+pub turn_value : (loops : List ℕ) (v : ℕ) (e : Expr) (names : Names) → names.loops ≡ loops ++ v ∷ [] →
+    is_turn (length loops) e ≡ true → value e names ≡ Some v
+turn_value loops v (LoopName l) names is h =
+    ap Some (ap₂ slice_index is (eqb-true l (length loops) h) ∙ at_seam loops v)
+turn_value loops v (Number n) names is h = absurd (false≢true h)
+turn_value loops v (Scalar x) names is h = absurd (false≢true h)
+turn_value loops v (Cell' a place p e) names is h = absurd (false≢true h)
+turn_value loops v (Unary' op p e) names is h = absurd (false≢true h)
+turn_value loops v (Binary' op p e q f) names is h = absurd (false≢true h)
+turn_value loops v (And' p e q f) names is h = absurd (false≢true h)
+turn_value loops v (Or' p e q f) names is h = absurd (false≢true h)
+turn_value loops v (Shift' op p e n) names is h = absurd (false≢true h)
+turn_value loops v (Divide' op p e n) names is h = absurd (false≢true h)
+
+module _ (taken own : Set) (view : View) where
+  -- the cells of a turn
+  abbrev pub is_mine : ℕ → Cell → Bool
+  is_mine v c = taken c.array.0 && (c.index == v)
+
+  -- a delta of a turn's own cells and scalars
+  pub record Within (v : ℕ) (d : Delta) : Type 0 where
+    pub sets : (f : Scalars) (x : ℕ) → own x ≡ false → d.set f x ≡ f x
+    pub clear : (c : Cell) → is_mine v c ≡ false → last_stored d.stores c ≡ None
+
+  abbrev pub AllWithin : ℕ → Option Delta → Type 0
+  AllWithin v None = Unit {0}
+  AllWithin v (Some d) = Within v d
+
+  idle_within : (v : ℕ) → Within v idle
+  idle_within v = record { sets = λ f x h. refl; clear = λ c h. refl }
+
+  join_within : (v : ℕ) (d e : Delta) → Within v d → Within v e → Within v (join d e)
+  join_within v d e h k =
+      record {
+        sets = λ f x o. k.sets (d.set f) x o ∙ h.sets f x o;
+        clear = λ c o. last_over d.stores e.stores c (k.clear c o) ∙ h.clear c o;
+      }
+
+  all_join : (v : ℕ) (d : Delta) (o : Option Delta) → Within v d → AllWithin v o → AllWithin v (option_map (join d) o)
+  all_join v d None h k = tt
+  all_join v d (Some e) h k = join_within v d e h k
+
+  all_then : (v : ℕ) (o : Option Delta) (f : Delta → Option Delta) → AllWithin v o → ((d : Delta) → AllWithin v (f d)) →
+      AllWithin v (join_all o f)
+  all_then v None f h k = tt
+  all_then v (Some d) f h k = all_join v d (f d) h (k d)
+
+  set_within : (v x : ℕ) (o : Option ℕ) → own x ≡ true → AllWithin v (option_map (setting x) o)
+  set_within v x None h = tt
+  set_within v x (Some n) h = record { sets = λ f y k. go f y k (x == y) refl; clear = λ c k. refl }
+    where
+      go : (f : Scalars) (y : ℕ) → own y ≡ false → (b : Bool) → (x == y) ≡ b → (if b then n else f y) ≡ f y
+      go f y k true e = absurd (false≢true (sym k ∙ ap own (sym (eqb-true x y e)) ∙ h))
+      go f y k false e = refl
+
+  one_within : (v : ℕ) (c : Cell) (n : ℕ) (there : Option ℕ) → taken c.array.0 ≡ true → c.index ≡ v →
+      AllWithin v (option_map (λ old. storing c n) there)
+  one_within v c n None h k = tt
+  one_within v c n (Some old) h k = record { sets = λ f x o. refl; clear = λ d o. go d o (same_cell c d) refl }
+    where
+      go : (d : Cell) → is_mine v d ≡ false → (b : Bool) → same_cell c d ≡ b → (if b then Some n else None) ≡ None
+      go d o false e = refl
+      go d o true e =
+          let p = and_parts (c.array.0 == d.array.0) (c.index == d.index) e in
+          let a = eqb-true c.array.0 d.array.0 p.0 in
+          let i = eqb-true c.index d.index p.1 in
+          let here : taken d.array.0 ≡ true = ap taken (sym a) ∙ h in
+          let at : (d.index == v) ≡ true = let j : d.index ≡ v = sym i ∙ k in grind (arith, nat_tests) in
+          absurd (false≢true (sym o ∙ ap₂ (λ x y. x && y) here at))
+
+  store_within : (v : ℕ) (a : ArrayId) (oi ov : Option ℕ) → taken a.0 ≡ true → oi ≡ Some v →
+      AllWithin v (option_and_then (λ i. store_delta view (record { array = a; index = i }) ov) oi)
+  store_within v a oi ov h k =
+      subst (λ o. AllWithin v (option_and_then (λ i. store_delta view (record { array = a; index = i }) ov) o)) (sym k) (go ov)
+    where
+      go : (ov : Option ℕ) → AllWithin v (store_delta view (record { array = a; index = v }) ov)
+      go None = tt
+      go (Some n) = one_within v (record { array = a; index = v }) n (view (record { array = a; index = v })) h refl
+
+  module _ (loops : List ℕ) (v : ℕ) where
+    stmt_within : (loose : Set) (s : Run) (first : Stmt) → stmt_apart taken own loose (length loops) first ≡ true →
+        AllWithin v (stmt_delta first view (loops ++ v ∷ []) s)
+    stmt_within loose s (Declare x w) h =
+        set_within v x.0 (own_value w view (loops ++ v ∷ []) s)
+        (and_parts (own x.0) (source_apart taken loose (length loops) w) h).0
+    stmt_within loose s (Assign x w) h =
+        set_within v x.0 (own_value w view (loops ++ v ∷ []) s)
+        (and_parts (own x.0) (source_apart taken loose (length loops) w) h).0
+    stmt_within loose s (Store a place e w) h =
+        let k = and_parts (taken a.0) (is_turn (length loops) e && source_apart taken loose (length loops) w) h in
+        let l = and_parts (is_turn (length loops) e) (source_apart taken loose (length loops) w) k.1 in
+        store_within v a (value e (names_in view (loops ++ v ∷ []) s)) (own_value w view (loops ++ v ∷ []) s) k.0
+        (turn_value loops v e (names_in view (loops ++ v ∷ []) s) refl l.0)
+    stmt_within loose s (Print e) h = tt
+    stmt_within loose s (Block' shape all) h = tt
+    stmt_within loose s (Loop' b shape all) h = tt
+    stmt_within loose s (If' c shape all shape' all') h = tt
+
+    pub body_within : (loose : Set) (s : Run) (body : List Stmt) →
+        body_apart taken own loose (length loops) body ≡ true →
+        AllWithin v (body_delta body view (loops ++ v ∷ []) s)
+    body_within loose s [] h = idle_within v
+    body_within loose s (first ∷ rest) h =
+        let k = and_parts (stmt_apart taken own loose (length loops) first)
+        (body_apart taken own (loose_after loose first) (length loops) rest) h in
+        all_then v (stmt_delta first view (loops ++ v ∷ []) s) (λ d. body_delta rest view (loops ++ v ∷ []) (apply s d))
+        (stmt_within loose s first k.0) (λ d. body_within (loose_after loose first) (apply s d) rest k.1)

@@ -1,0 +1,7 @@
+use Rattle.std.specs.Prelude.{slice_index}
+use Rattle.base.specs.Value.{binary}
+use Rattle.lanes.proofs.Rows.{Done}
+use Rattle.lanes.proofs.numbers.each_both.Given as goal
+
+abbrev pub invariant-lanes : goal.invariant-lanes
+invariant-lanes l = Done (λ k x. binary l.op x (slice_index l.s k)) l.fn.d l.d l.j

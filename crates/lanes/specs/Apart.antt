@@ -1,0 +1,216 @@
+-- Loops whose turns are apart, and what a turn does.
+use Rattle.std.specs.Prelude.{ℕ, ◌≡◌, zero, suc, ◌+◌, ◌≤◌, nat_lt, nat_le, if◌then◌else◌, unwrap_or, Bool, true, false, not, ◌&&◌, ◌||◌, ◌==◌, List, [], ◌∷◌, ◌++◌, length, Option, Some, None, option_and_then, option_map}
+use Rattle.base.specs.declared.item.Cell.{Cell}
+use Rattle.base.specs.declared.tree.Expr.{Expr}
+use Rattle.base.specs.declared.tree.Expr.TheVariants.{Number, Scalar, LoopName, Cell', Unary', Binary', And', Or', Shift', Divide'}
+use Rattle.base.specs.declared.tree.Source.{Source}
+use Rattle.base.specs.declared.tree.Source.TheVariants.{Value, Read}
+use Rattle.base.specs.declared.tree.Stmt.{Stmt}
+use Rattle.base.specs.declared.tree.Stmt.TheVariants.{Declare, Assign, Store, Print, Block', Loop', If'}
+use Rattle.base.specs.Memory.{View, Scalars, Stores, last_stored}
+use Rattle.base.specs.Value.{Names, value}
+use Rattle.base.specs.Meaning.{Run, names_in, seen, set_scalar, turn, run_list}
+
+-- a set of arrays or of scalars, by their numbers
+abbrev pub Set : Type 0
+Set = ℕ → Bool
+
+-- whether an expression is the value of the loop at a level, and nothing else
+abbrev pub is_turn : ℕ → Expr → Bool
+is_turn level (Number n) = false
+is_turn level (Scalar x) = false
+is_turn level (LoopName l) = l == level
+is_turn level (Cell' a place p e) = false
+is_turn level (Unary' op p e) = false
+is_turn level (Binary' op p e q f) = false
+is_turn level (And' p e q f) = false
+is_turn level (Or' p e q f) = false
+is_turn level (Shift' op p e n) = false
+is_turn level (Divide' op p e n) = false
+
+-- whether an expression names the stored arrays at the loop's value alone, and no loose scalar
+abbrev pub is_apart : Set → Set → ℕ → Expr → Bool
+is_apart stored loose level (Number n) = true
+is_apart stored loose level (Scalar x) = not (loose x.0)
+is_apart stored loose level (LoopName l) = true
+is_apart stored loose level (Cell' a place p e) =
+    (is_turn level e || not (stored a.0)) && is_apart stored loose level e
+is_apart stored loose level (Unary' op p e) = is_apart stored loose level e
+is_apart stored loose level (Binary' op p e q f) = is_apart stored loose level e && is_apart stored loose level f
+is_apart stored loose level (And' p e q f) = is_apart stored loose level e && is_apart stored loose level f
+is_apart stored loose level (Or' p e q f) = is_apart stored loose level e && is_apart stored loose level f
+is_apart stored loose level (Shift' op p e n) = is_apart stored loose level e
+is_apart stored loose level (Divide' op p e n) = is_apart stored loose level e
+
+abbrev pub source_apart : Set → Set → ℕ → Source → Bool
+source_apart stored loose level (Value e) = is_apart stored loose level e
+source_apart stored loose level Read = false
+
+-- whether a statement is such, stores in the stored arrays at the loop's value alone, and assigns scalars of the turn
+abbrev pub stmt_apart : Set → Set → Set → ℕ → Stmt → Bool
+stmt_apart stored own loose level (Declare x v) = own x.0 && source_apart stored loose level v
+stmt_apart stored own loose level (Assign x v) = own x.0 && source_apart stored loose level v
+stmt_apart stored own loose level (Store a place e v) =
+    stored a.0 && (is_turn level e && source_apart stored loose level v)
+stmt_apart stored own loose level (Print e) = false
+stmt_apart stored own loose level (Block' shape all) = false
+stmt_apart stored own loose level (Loop' b shape all) = false
+stmt_apart stored own loose level (If' c shape all shape' all') = false
+
+-- the scalars of the turn that are not yet assigned after a statement
+abbrev pub loose_after : Set → Stmt → Set
+loose_after loose (Declare x v) y = not (x.0 == y) && loose y
+loose_after loose (Assign x v) y = not (x.0 == y) && loose y
+loose_after loose (Store a place e v) y = loose y
+loose_after loose (Print e) y = loose y
+loose_after loose (Block' shape all) y = loose y
+loose_after loose (Loop' b shape all) y = loose y
+loose_after loose (If' c shape all shape' all') y = loose y
+
+abbrev pub body_apart : Set → Set → Set → ℕ → List Stmt → Bool
+body_apart stored own loose level [] = true
+body_apart stored own loose level (first ∷ rest) =
+    stmt_apart stored own loose level first && body_apart stored own (loose_after loose first) level rest
+
+-- what a run adds: its stores in order, and what becomes of the scalars
+pub record Delta : Type 0 where
+  pub stores : Stores
+  pub set : Scalars → Scalars
+
+abbrev pub apply : Run → Delta → Run
+apply s d = record s { stores = s.stores ++ d.stores; scalars = d.set s.scalars }
+
+abbrev pub idle : Delta
+idle = record { stores = []; set = λ f. f }
+
+abbrev pub join : Delta → Delta → Delta
+join d e = record { stores = d.stores ++ e.stores; set = λ f. e.set (d.set f) }
+
+-- the value that is assigned; the input is not read here
+abbrev pub own_value : Source → View → List ℕ → Run → Option ℕ
+own_value (Value e) view loops s = value e (names_in view loops s)
+own_value Read view loops s = None
+
+abbrev pub setting : ℕ → ℕ → Delta
+setting x n = record { stores = []; set = set_scalar x n }
+
+abbrev pub storing : Cell → ℕ → Delta
+storing c n = record { stores = (c, n) ∷ []; set = λ f. f }
+
+-- a store in a cell, which has to be there
+abbrev pub store_delta : View → Cell → Option ℕ → Option Delta
+store_delta view c o = option_and_then (λ n. option_map (λ old. storing c n) (view c)) o
+
+-- what an assignment adds
+abbrev pub stmt_delta : Stmt → View → List ℕ → Run → Option Delta
+stmt_delta (Declare x v) view loops s = option_map (setting x.0) (own_value v view loops s)
+stmt_delta (Assign x v) view loops s = option_map (setting x.0) (own_value v view loops s)
+stmt_delta (Store a place e v) view loops s =
+    option_and_then (λ i. store_delta view (record { array = a; index = i }) (own_value v view loops s))
+    (value e (names_in view loops s))
+stmt_delta (Print e) view loops s = None
+stmt_delta (Block' shape all) view loops s = None
+stmt_delta (Loop' b shape all) view loops s = None
+stmt_delta (If' c shape all shape' all') view loops s = None
+
+-- one delta, and what comes after it
+abbrev pub join_all : Option Delta → (Delta → Option Delta) → Option Delta
+join_all o f = option_and_then (λ d. option_map (join d) (f d)) o
+
+abbrev pub body_delta : List Stmt → View → List ℕ → Run → Option Delta
+body_delta [] view loops s = Some idle
+body_delta (first ∷ rest) view loops s =
+    join_all (stmt_delta first view loops s) (λ d. body_delta rest view loops (apply s d))
+
+-- the deltas of as many turns
+abbrev pub all_deltas : ℕ → ℕ → ℕ → (ℕ → Option Delta) → Option Delta
+all_deltas zero v step f = Some idle
+all_deltas (suc n) v step f = join_all (f v) (λ d. all_deltas n (v + step) step f)
+
+-- each turn does what it does from where the first one begins
+abbrev pub TurnsApart : Type 0
+TurnsApart =
+    (body : List Stmt) (view : View) (loops : List ℕ) (stored own : Set) (n first step : ℕ) (s : Run) →
+    1 ≤ step → body_apart stored own own (length loops) body ≡ true →
+    turn n first step (λ v. run_list body view (loops ++ v ∷ [])) s
+    ≡ option_map (apply s) (all_deltas n first step (λ v. body_delta body view (loops ++ v ∷ []) s))
+
+-- as many turns, from this one on
+abbrev pub in_block : ℕ → ℕ → ℕ → Bool
+in_block first count v = nat_le first v && nat_lt v (first + count)
+
+-- where a block of turns stands: the scalars of each turn, the cells, and those that were stored
+pub record Block : Type 0 where
+  pub scalars : ℕ → Scalars
+  pub cells : View
+  pub stored : View
+
+-- what a turn's expressions see of a block
+abbrev pub names_at : Block → List ℕ → ℕ → Names
+names_at b loops v = record { scalars = b.scalars v; loops = loops ++ v ∷ []; cells = b.cells }
+
+-- the number of each turn
+abbrev pub numbers : Expr → Block → List ℕ → ℕ → ℕ
+numbers e b loops v = unwrap_or (value e (names_at b loops v)) 0
+
+-- a scalar of each turn of the block takes the turn's number
+abbrev pub set_lanes : (ℕ → Bool) → ℕ → (ℕ → ℕ) → Block → Block
+set_lanes inside x n b =
+    record b { scalars = λ v. if inside v then set_scalar x (n v) (b.scalars v) else b.scalars v }
+
+-- so do the cells of an array whose indices are the turns of the block
+abbrev pub with_lanes : (ℕ → Bool) → ℕ → (ℕ → ℕ) → View → View
+with_lanes inside a n view c = if (a == c.array.0) && inside c.index then Some (n c.index) else view c
+
+abbrev pub store_lanes : (ℕ → Bool) → ℕ → (ℕ → ℕ) → Block → Block
+store_lanes inside a n b =
+    record b { cells = with_lanes inside a n b.cells; stored = with_lanes inside a n b.stored }
+
+-- an assignment, for all turns of a block
+abbrev pub block_stmt : (ℕ → Bool) → List ℕ → Stmt → Block → Block
+block_stmt inside loops (Declare x (Value e)) b = set_lanes inside x.0 (numbers e b loops) b
+block_stmt inside loops (Declare x Read) b = b
+block_stmt inside loops (Assign x (Value e)) b = set_lanes inside x.0 (numbers e b loops) b
+block_stmt inside loops (Assign x Read) b = b
+block_stmt inside loops (Store a place e (Value f)) b = store_lanes inside a.0 (numbers f b loops) b
+block_stmt inside loops (Store a place e Read) b = b
+block_stmt inside loops (Print e) b = b
+block_stmt inside loops (Block' shape all) b = b
+block_stmt inside loops (Loop' c shape all) b = b
+block_stmt inside loops (If' c shape all shape' all') b = b
+
+-- each assignment in turn, for all turns of a block
+abbrev pub block_body : (ℕ → Bool) → List ℕ → List Stmt → Block → Block
+block_body inside loops [] b = b
+block_body inside loops (first ∷ rest) b = block_body inside loops rest (block_stmt inside loops first b)
+
+-- a block before its first assignment
+abbrev pub block_start : View → Run → Block
+block_start view s =
+    record { scalars = λ v. s.scalars; cells = seen view s.stores; stored = last_stored s.stores }
+
+-- a block beside the runs of its turns, each from the same state: each turn has its scalars, and each cell is as the turn
+-- of its index left it
+pub record StandsFor (view : View) (b : Block) (lane : ℕ → Run) : Type 0 where
+  pub scalars : (v x : ℕ) → b.scalars v x ≡ (lane v).scalars x
+  pub cells : (c : Cell) → b.cells c ≡ seen view (lane c.index).stores c
+  pub stored : (c : Cell) → b.stored c ≡ last_stored (lane c.index).stores c
+
+-- the turns of a block run alone, the others do nothing
+pub record RunAlone (inside : ℕ → Bool) (run : ℕ → Run → Option Run) (lane end : ℕ → Run) : Type 0 where
+  pub there : (v : ℕ) → inside v ≡ true → run v (lane v) ≡ Some (end v)
+  pub elsewhere : (v : ℕ) → inside v ≡ false → end v ≡ lane v
+
+-- what is done assignment by assignment is what each turn does alone
+abbrev pub ByAssignments : Type 0
+ByAssignments =
+    (body : List Stmt) (view : View) (loops : List ℕ) (stored own : Set) (inside : ℕ → Bool)
+    (s : Run) (end : ℕ → Run) →
+    body_apart stored own own (length loops) body ≡ true →
+    RunAlone inside (λ v. run_list body view (loops ++ v ∷ [])) (λ v. s) end →
+    StandsFor view (block_body inside loops body (block_start view s)) end
+
+-- the scalars of the turn that are not yet assigned at the end of a body
+abbrev pub loose_body : Set → List Stmt → Set
+loose_body loose [] x = loose x
+loose_body loose (first ∷ rest) x = loose_body (loose_after loose first) rest x

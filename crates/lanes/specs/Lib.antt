@@ -1,0 +1,4 @@
+pub mod Apart
+pub mod Numbers
+pub mod There
+pub mod Turned

@@ -1,0 +1,62 @@
+-- What a block of turns needs: a value for each expression in each of its turns, and each cell that it stores.
+use Rattle.std.specs.Prelude.{ℕ, ◌≡◌, ◌&&◌, Bool, true, false, List, [], ◌∷◌, IsSome}
+use Rattle.base.specs.declared.tree.Expr.{Expr}
+use Rattle.base.specs.declared.tree.Expr.TheVariants.{Number, Scalar, LoopName, Cell', Unary', Binary', And', Or', Shift', Divide'}
+use Rattle.base.specs.declared.tree.Source.TheVariants.{Value, Read}
+use Rattle.base.specs.declared.tree.Stmt.{Stmt}
+use Rattle.base.specs.declared.tree.Stmt.TheVariants.{Declare, Assign, Store, Print, Block', Loop', If'}
+use Rattle.base.specs.Value.{value}
+use Rattle.lanes.specs.Apart.{Block, names_at, block_stmt}
+
+-- an expression whose operands all have a value, where it has one
+abbrev pub is_plain : Expr → Bool
+is_plain (Number n) = true
+is_plain (Scalar x) = true
+is_plain (LoopName l) = true
+is_plain (Cell' a place p e) = is_plain e
+is_plain (Unary' op p e) = is_plain e
+is_plain (Binary' op p e q f) = is_plain e && is_plain f
+is_plain (And' p e q f) = false
+is_plain (Or' p e q f) = false
+is_plain (Shift' op p e n) = is_plain e
+is_plain (Divide' op p e n) = is_plain e
+
+-- an assignment of such a value
+abbrev pub stmt_plain : Stmt → Bool
+stmt_plain (Declare x (Value e)) = is_plain e
+stmt_plain (Declare x Read) = false
+stmt_plain (Assign x (Value e)) = is_plain e
+stmt_plain (Assign x Read) = false
+stmt_plain (Store a place e (Value f)) = is_plain f
+stmt_plain (Store a place e Read) = false
+stmt_plain (Print e) = false
+stmt_plain (Block' shape all) = false
+stmt_plain (Loop' b shape all) = false
+stmt_plain (If' c shape all shape' all') = false
+
+abbrev pub body_plain : List Stmt → Bool
+body_plain [] = true
+body_plain (first ∷ rest) = stmt_plain first && body_plain rest
+
+-- an expression has a value in each turn of a block
+abbrev pub HasValues : (ℕ → Bool) → List ℕ → Expr → Block → Type 0
+HasValues inside loops e b = (v : ℕ) → inside v ≡ true → IsSome (value e (names_at b loops v))
+
+abbrev pub StmtThere : (ℕ → Bool) → List ℕ → Stmt → Block → Type 0
+StmtThere inside loops (Declare x (Value e)) b = HasValues inside loops e b
+StmtThere inside loops (Declare x Read) b = Unit {0}
+StmtThere inside loops (Assign x (Value e)) b = HasValues inside loops e b
+StmtThere inside loops (Assign x Read) b = Unit {0}
+StmtThere inside loops (Store a place e (Value f)) b =
+    HasValues inside loops f b × ((v : ℕ) → inside v ≡ true → IsSome (b.cells (record { array = a; index = v })))
+StmtThere inside loops (Store a place e Read) b = Unit {0}
+StmtThere inside loops (Print e) b = Unit {0}
+StmtThere inside loops (Block' shape all) b = Unit {0}
+StmtThere inside loops (Loop' c shape all) b = Unit {0}
+StmtThere inside loops (If' c shape all shape' all') b = Unit {0}
+
+-- so it is for each statement of a body, in turn
+abbrev pub BodyThere : (ℕ → Bool) → List ℕ → List Stmt → Block → Type 0
+BodyThere inside loops [] b = Unit {0}
+BodyThere inside loops (first ∷ rest) b =
+    StmtThere inside loops first b × BodyThere inside loops rest (block_stmt inside loops first b)

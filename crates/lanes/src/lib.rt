@@ -1,0 +1,24 @@
+//! Loops whose turns are apart.
+#![tactic(auto)]
+
+ghost use Rattle.lanes.specs.Apart.{ByAssignments, TurnsApart};
+ghost use Rattle.lanes.specs.Turned.{BlockIsTurns};
+
+pub mod numbers;
+
+/// In a loop whose body names each array that it stores at the loop's own value alone, and reads no scalar that another
+/// turn assigns, each turn does what it does from where the first one begins.
+pub fn turns_apart()
+    ensures { TurnsApart }
+{}
+
+/// What such a body does assignment by assignment, each for all turns of a block, is what each turn does alone.
+pub fn by_assignments()
+    ensures { ByAssignments }
+{}
+
+/// Some turns of such a loop, one after another, do what the block of them does assignment by assignment, and the block
+/// has what it needs where the turns have.
+pub fn block_is_turns()
+    ensures { BlockIsTurns }
+{}

@@ -1,0 +1,114 @@
+// Loops that are done in blocks of turns, beside the same loops one operation after another.
+
+use crate::sources::{Look, look_at};
+use device::run_choices;
+use lower::Image;
+use std::alloc::{AllocError, Global};
+use std::test::Fail;
+
+// How many turns: none, few, about a block, and more than two.
+const TURNS: [u64; 9] = [0, 1, 2, 8, 9, 511, 512, 513, 1100];
+
+// What a turn does on the arrays A and B and the scalar s, and the same on C, D and t.
+const BODIES: [(&str, &str); 13] = [
+    ("A[i] = B[i] * 3 + (i ^ 5);", "C[i] = D[i] * 3 + (i ^ 5);"),
+    ("A[i] = A[i - 1] + B[i];", "C[i] = C[i - 1] + D[i];"),
+    ("A[i] = A[i + 1] + B[i];", "C[i] = C[i + 1] + D[i];"),
+    ("A[i] = B[i]; B[i] = A[i - 1];", "C[i] = D[i]; D[i] = C[i - 1];"),
+    ("A[i] = B[(i * 7) % 1200] + B[1199 - i];", "C[i] = D[(i * 7) % 1200] + D[1199 - i];"),
+    ("uint64_t u = B[i] + 1; A[i] = u * u; B[i] = u;", "uint64_t u = D[i] + 1; C[i] = u * u; D[i] = u;"),
+    ("s = B[i] * 2; A[i] = s + i;", "t = D[i] * 2; C[i] = t + i;"),
+    ("s = B[i]; A[i] = s; s = A[i] + i; B[i] = s;", "t = D[i]; C[i] = t; t = C[i] + i; D[i] = t;"),
+    ("A[i] = s; s = B[i];", "C[i] = t; t = D[i];"),
+    ("s = s + B[i]; A[i] = s;", "t = t + D[i]; C[i] = t;"),
+    ("A[i] = (B[i] > 50 && A[i] < 3) + !B[i];", "C[i] = (D[i] > 50 && C[i] < 3) + !D[i];"),
+    ("A[i] = (B[i] << 3) / 7 % 11 ^ ~(B[i] >> 2);", "C[i] = (D[i] << 3) / 7 % 11 ^ ~(D[i] >> 2);"),
+    ("A[i] = B[i] | 1; B[i] = A[i] - 2 + 4 * i;", "C[i] = D[i] | 1; D[i] = C[i] - 2 + 4 * i;"),
+];
+
+const HEAD: &str = "\
+uint64_t A[1200];
+uint64_t B[1200];
+uint64_t C[1200];
+uint64_t D[1200];
+uint64_t s;
+uint64_t t;
+uint64_t n;
+int main(void) {
+for (uint64_t j = 0; j < 1200; j += 1) { A[j] = j % 5; B[j] = 3 * j + 7; C[j] = j % 5; D[j] = 3 * j + 7; }
+s = 5;
+t = 5;
+#pragma omp taskwait
+";
+
+const TAIL: &str = "\
+#pragma omp taskwait
+for (uint64_t j = 0; j < 1200; j += 1) {
+if (A[j] != C[j]) { n = n + 1; }
+if (B[j] != D[j]) { n = n + 1; }
+}
+print(n);
+print(s - t);
+}
+";
+
+// A loop from 1 on.
+fn add_loop(text: &mut String, turns: u64, body: &str) -> Result<(), AllocError> {
+    text.push_str("for (uint64_t i = 1; i < ")?;
+    write!(text, "{}", turns.saturating_add(1))?;
+    text.push_str("; i += 1) { ")?;
+    text.push_str(body)?;
+    text.push_str(" }\n")?;
+    Ok(())
+}
+
+// Both loops, the second one behind another statement, so that it is not done in blocks.
+fn source(alloc: Global, turns: u64, body: &str, again: &str) -> Result<String, AllocError> {
+    let mut text = String::new(alloc);
+    text.push_str(HEAD)?;
+    add_loop(&mut text, turns, body)?;
+    text.push_str("#pragma omp taskwait\nn = 0;\n")?;
+    add_loop(&mut text, turns, again)?;
+    text.push_str(TAIL)?;
+    Ok(text)
+}
+
+struct Prints<'a>(&'a [u8]);
+
+impl Look for Prints<'_> {
+    fn look(&self, alloc: Global, image: &Image<'_>) -> Result<bool, Fail> {
+        let answer = run_choices(alloc, image, &[], &[], 4000).map_err(Fail::new)?;
+        Ok(answer.out.as_slice() == self.0)
+    }
+}
+
+#[test]
+fn blocks_do_what_their_turns_do(rt: HostRuntime) -> Result<(), Fail> {
+    for (body, again) in BODIES {
+        for turns in TURNS {
+            let text = source(rt.alloc(), turns, body, again)?;
+            assert!(rt; look_at(rt.alloc(), &text, &Prints(b"0\n0\n"))?);
+        }
+    }
+    Ok(())
+}
+
+// A target in each turn of a loop around it.
+const INSIDE: &str = "\
+uint64_t A[600];
+int main(void) {
+for (uint64_t k = 0; k < 3; k += 1) {
+#pragma omp target map(tofrom: A)
+for (uint64_t i = 0; i < 600; i += 1) { A[i] = A[i] * 2 + k + i; }
+}
+print(A[0]);
+print(A[1]);
+print(A[599]);
+}
+";
+
+#[test]
+fn a_block_knows_the_loops_around_it(rt: HostRuntime) -> Result<(), Fail> {
+    assert!(rt; look_at(rt.alloc(), INSIDE, &Prints(b"4\n11\n4197\n"))?);
+    Ok(())
+}
