@@ -35,4 +35,5 @@ pub mod StraightTouches
 pub mod Swaps
 pub mod Touches
 pub mod TurnCounts
+pub mod TurnMarks
 pub mod Walked

@@ -133,7 +133,7 @@ left_out lengths before behind t s known h =
 
 -- ---- turns
 
-some_turn : (n v : ℕ) (b : Bounds) → suc n ≡ turns_left v b → v < b.end
+pub some_turn : (n v : ℕ) (b : Bounds) → suc n ≡ turns_left v b → v < b.end
 some_turn n v b e = ⊎_elim (λ (lt : v < b.end). lt)
     (λ (le : b.end ≤ v). let z = no_turn_left v b le in absurd (none (e ∙ z)))
     (cases_lt v b.end)
@@ -141,7 +141,7 @@ some_turn n v b e = ⊎_elim (λ (lt : v < b.end). lt)
     none : suc n ≡ 0 → ⊥
     none h = omega (arith, h)
 
-next_turns : (n v : ℕ) (b : Bounds) → suc n ≡ turns_left v b → n ≡ turns_left (v + b.step) b
+pub next_turns : (n v : ℕ) (b : Bounds) → suc n ≡ turns_left v b → n ≡ turns_left (v + b.step) b
 next_turns n v b e = let o : suc n ≡ suc (turns_left (v + b.step) b) = e ∙ one_turn_less v b (some_turn n v b e) in omega (arith, o)
 
 pub turns_settled : (lengths : List ℕ) (s : Seen) (b : Bounds) (f : ℕ → List Touch) (first n v : ℕ) →

@@ -1,26 +1,17 @@
--- The cells of an access that moves on by one in each turn are one run.
-use Rattle.std.proofs.Common.{◌≡◌, ℕ, zero, suc, ◌+◌, ◌<◌, ◌≤◌, Bool, true, false, List, refl, sym, ap, ap₂, ◌∙◌, arith}
-use Rattle.std.specs.Prelude.{◌&&◌, ◌||◌, ◌==◌, not, cond, if◌then◌else◌, Some}
+-- All cells of an access that moves on by as much in each turn are added at once.
+use Rattle.std.proofs.Common.{◌≡◌, ℕ, zero, suc, ◌+◌, ◌<◌, Bool, true, false, List, refl, sym, ap, ap₂, ◌∙◌, arith}
+use Rattle.std.specs.Prelude.{◌&&◌, ◌||◌, ◌==◌, not, cond}
 use Rattle.std.proofs.lemmas.Bool.Decides.{nat_tests}
 use Rattle.base.specs.declared.item.Cell.{Cell}
-use Rattle.base.specs.declared.fault.Interval.{Interval}
-use Rattle.base.specs.Interval.{exactly, from_to}
+use Rattle.base.specs.Interval.{exactly}
 use Rattle.ranges.specs.declared.slide.Slide.{Slide}
 use Rattle.ranges.specs.Cells.{is_among}
-use Rattle.ranges.specs.Faults.{lesser}
 use Rattle.ranges.specs.Rows.{is_within}
-use Rattle.ranges.specs.Seen.{Seen, after, after_read, after_touch, leaves}
-use Rattle.ranges.specs.Slides.{Fits, slide_touch, with_read_of, with_run, with_written}
+use Rattle.ranges.specs.Seen.{Seen, after, after_touch}
+use Rattle.ranges.specs.Slides.{AreBelow, Fits, is_every, slide_touch, with_read_of, with_run, with_written}
 use Rattle.ranges.proofs.AllSeen.{with_read, with_write}
 use Rattle.ranges.proofs.Pulls.{run, stays}
 use Rattle.ranges.proofs.Swaps.{staying}
-
-within_more : (y z i : ℕ) → y ≤ z → (is_within (exactly y) i || is_within (from_to (y + 1) (z + 1)) i) ≡ is_within (from_to y (z + 1)) i
-within_more y z i le = grind (arith, nat_tests, le)
-
-among_more : (b p q r : Bool) → (p || q) ≡ r → ((b && p) || (b && q)) ≡ (b && r)
-among_more true p q r h = h
-among_more false p q r h = refl
 
 or_more : (e p q r : Bool) → (p || q) ≡ r → ((e || p) || q) ≡ (e || r)
 or_more true p q r h = refl
@@ -46,87 +37,94 @@ and_true : (b c : Bool) → c ≡ true → (b && c) ≡ b
 and_true true c h = h
 and_true false c h = refl
 
-module _ (lengths : List ℕ) (certain : Bool) (count : ℕ) where
+same_cell : (y i : ℕ) → is_within (exactly y) i ≡ (y == i)
+same_cell y i = grind (arith, nat_tests)
+
+and_either : (b p q r : Bool) → (p || q) ≡ r → ((b && p) || (b && q)) ≡ (b && r)
+and_either true p q r h = h
+and_either false p q r h = refl
+
+-- the cells that it has in n turns
+abbrev pub cells_in : Slide → ℕ → ℕ → ℕ → Cell → Bool
+cells_in s step n k c = (s.array.0 == c.array.0) && is_every step n (s.start + k) c.index
+
+-- cells that are added after others
+both_runs : (s : Slide) (p q r : Cell → Bool) (x : Seen) → ((c : Cell) → (p c || q c) ≡ r c) →
+    with_run s q (with_run s p x) ≡ with_run s r x
+both_runs s p q r x both = go s.writes
+  where
+    go : (w : Bool) → cond w (with_written s.certain q (cond w (with_written s.certain p x) (with_read_of p x)))
+        (with_read_of q (cond w (with_written s.certain p x) (with_read_of p x)))
+        ≡ cond w (with_written s.certain r x) (with_read_of r x)
+    go true = λ i. record x {
+      write = λ c. or_more (x.write c) (p c) (q c) (r c) (both c) i;
+      sure = λ c. or_more (x.sure c) (s.certain && p c) (s.certain && q c) (s.certain && r c)
+          (and_either s.certain (p c) (q c) (r c) (both c)) i;
+    }
+    go false = λ i. record x {
+      exposed = λ c. or_more (x.exposed c) (p c && not (x.sure c)) (q c && not (x.sure c)) (r c && not (x.sure c))
+          (less_more (x.sure c) (p c) (q c) (r c) (both c)) i;
+      read = λ c. or_more (x.read c) (p c) (q c) (r c) (both c) i;
+    }
+
+-- no cell is added
+no_run : (s : Slide) (p : Cell → Bool) (x : Seen) → ((c : Cell) → p c ≡ false) → x ≡ with_run s p x
+no_run s p x none = go s.writes
+  where
+    or_none : (e b : Bool) → b ≡ false → e ≡ (e || b)
+    or_none true b h = refl
+    or_none false b h = sym h
+
+    and_none : (a b : Bool) → b ≡ false → (a && b) ≡ false
+    and_none true b h = h
+    and_none false b h = refl
+
+    none_and : (a b : Bool) → a ≡ false → (a && b) ≡ false
+    none_and true b h = absurd cc
+    none_and false b h = refl
+
+    go : (w : Bool) → x ≡ cond w (with_written s.certain p x) (with_read_of p x)
+    go true = λ i. record x {
+      write = λ c. or_none (x.write c) (p c) (none c) i;
+      sure = λ c. or_none (x.sure c) (s.certain && p c) (and_none s.certain (p c) (none c)) i;
+    }
+    go false = λ i. record x {
+      exposed = λ c. or_none (x.exposed c) (p c && not (x.sure c)) (none_and (p c) (not (x.sure c)) (none c)) i;
+      read = λ c. or_none (x.read c) (p c) (none c) i;
+    }
+
+module _ (lengths : List ℕ) (step count : ℕ) where
   one_is : (s : Slide) (k : ℕ) (x : Seen) → k < count → Fits lengths count s →
-      after_touch lengths (slide_touch certain k s) x ≡ with_run certain s (exactly (s.start + k)) x
+      after_touch lengths (slide_touch k s) x ≡ with_run s (is_among s.array (exactly (s.start + k))) x
   one_is s k x lt fits =
-      staying lengths (slide_touch certain k s) x (stays lengths certain count s k lt fits) ∙ go s.writes
+      staying lengths (slide_touch k s) x (stays lengths step count s k lt fits) ∙ go s.writes
     where
       y : ℕ
       y = s.start + k
 
-      go : (w : Bool) → cond w (with_write (slide_touch certain k s) x) (with_read (slide_touch certain k s) x)
-          ≡ cond w (record x {
-            write = λ c. x.write c || is_among s.array (exactly y) c;
-            sure = λ c. x.sure c || (certain && is_among s.array (exactly y) c);
-          }) (with_read (slide_touch certain k s) x)
+      among : Cell → Bool
+      among = is_among s.array (exactly y)
+
+      go : (w : Bool) → cond w (with_write (slide_touch k s) x) (with_read (slide_touch k s) x)
+          ≡ cond w (with_written s.certain among x) (with_read_of among x)
       go true = λ i. record x {
-        write = λ c. x.write c || is_among s.array (exactly y) c;
-        sure = λ c. x.sure c || (and_true certain (y == y) (single y) i && is_among s.array (exactly y) c);
+        write = λ c. x.write c || among c;
+        sure = λ c. x.sure c || (and_true s.certain (y == y) (single y) i && among c);
       }
       go false = refl
 
-  -- a run and one cell before it
-  join : (s : Slide) (y z : ℕ) (x : Seen) → y ≤ z →
-      with_run certain s (from_to (y + 1) (z + 1)) (with_run certain s (exactly y) x) ≡ with_run certain s (from_to y (z + 1)) x
-  join s y z x le = go s.writes
-    where
-      both : (c : Cell) → (is_among s.array (exactly y) c || is_among s.array (from_to (y + 1) (z + 1)) c)
-          ≡ is_among s.array (from_to y (z + 1)) c
-      both c = among_more (s.array.0 == c.array.0) (is_within (exactly y) c.index) (is_within (from_to (y + 1) (z + 1)) c.index)
-          (is_within (from_to y (z + 1)) c.index) (within_more y z c.index le)
-
-      writing : Interval → Seen → Seen
-      writing cells x = record x {
-        write = λ c. x.write c || is_among s.array cells c;
-        sure = λ c. x.sure c || (certain && is_among s.array cells c);
-      }
-
-      reading : Interval → Seen → Seen
-      reading cells x = record x {
-        exposed = λ c. x.exposed c || (is_among s.array cells c && not (x.sure c));
-        read = λ c. x.read c || is_among s.array cells c;
-      }
-
-      go : (w : Bool) → cond w (writing (from_to (y + 1) (z + 1)) (cond w (writing (exactly y) x) (reading (exactly y) x)))
-          (reading (from_to (y + 1) (z + 1)) (cond w (writing (exactly y) x) (reading (exactly y) x)))
-          ≡ cond w (writing (from_to y (z + 1)) x) (reading (from_to y (z + 1)) x)
-      go true = λ i. record x {
-        write = λ c. or_more (x.write c) (is_among s.array (exactly y) c) (is_among s.array (from_to (y + 1) (z + 1)) c)
-            (is_among s.array (from_to y (z + 1)) c) (both c) i;
-        sure = λ c. or_more (x.sure c) (certain && is_among s.array (exactly y) c)
-            (certain && is_among s.array (from_to (y + 1) (z + 1)) c) (certain && is_among s.array (from_to y (z + 1)) c)
-            (among_more certain (is_among s.array (exactly y) c) (is_among s.array (from_to (y + 1) (z + 1)) c)
-            (is_among s.array (from_to y (z + 1)) c) (both c)) i;
-      }
-      go false = λ i. record x {
-        exposed = λ c. or_more (x.exposed c) (is_among s.array (exactly y) c && not (x.sure c))
-            (is_among s.array (from_to (y + 1) (z + 1)) c && not (x.sure c))
-            (is_among s.array (from_to y (z + 1)) c && not (x.sure c))
-            (less_more (x.sure c) (is_among s.array (exactly y) c) (is_among s.array (from_to (y + 1) (z + 1)) c)
-            (is_among s.array (from_to y (z + 1)) c) (both c)) i;
-        read = λ c. or_more (x.read c) (is_among s.array (exactly y) c) (is_among s.array (from_to (y + 1) (z + 1)) c)
-            (is_among s.array (from_to y (z + 1)) c) (both c) i;
-      }
-
   -- all turns of one of them
-  pub run_is : (n k : ℕ) (s : Slide) (x : Seen) → k + suc n ≤ count → Fits lengths count s →
-      after lengths (run lengths certain count (suc n) k s) x
-      ≡ with_run certain s (from_to (s.start + k) (s.start + k + n)) x
-  run_is zero k s x most fits =
-      one_is s k x (omega (arith, most)) fits
-      ∙ ap (λ hi. with_run certain s (from_to (s.start + k) hi) x) (omega arith)
-  run_is (suc n) k s x most fits =
-      run_is n (k + 1) s (after_touch lengths (slide_touch certain k s) x) (omega (arith, most)) fits
-      ∙ ap (with_run certain s (from_to (s.start + (k + 1)) (s.start + (k + 1) + n))) (one_is s k x (omega (arith, most)) fits)
-      ∙ ap₂ (λ lo hi. with_run certain s (from_to lo hi) (with_run certain s (exactly (s.start + k)) x))
-      (omega arith) (omega arith)
-      ∙ join s (s.start + k) (s.start + k + n) x (omega arith)
-      ∙ ap (λ hi. with_run certain s (from_to (s.start + k) hi) x) (omega arith)
-
--- a read that stays in its array
-pub read_run : (lengths : List ℕ) (certain : Bool) (s : Slide) (cells : Interval) (x : Seen) → s.writes ≡ false →
-    leaves lengths s.array cells ≡ false → after_read lengths s.array s.place cells x ≡ with_run certain s cells x
-read_run lengths certain s cells x reads stays_in =
-    ap (λ b. if b then (record x { least = Some (lesser s.place x.least) }) else (with_read_of s.array cells x)) stays_in
-    ∙ sym (ap (λ w. cond w (with_written certain s.array cells x) (with_read_of s.array cells x)) reads)
+  pub run_is : (n k : ℕ) (s : Slide) (x : Seen) → AreBelow step count n k → Fits lengths count s →
+      after lengths (run lengths step count n k s) x ≡ with_run s (cells_in s step n k) x
+  run_is zero k s x below fits = no_run s (cells_in s step 0 k) x (λ c. nowhere (s.array.0 == c.array.0))
+    where
+      nowhere : (b : Bool) → (b && false) ≡ false
+      nowhere true = refl
+      nowhere false = refl
+  run_is (suc n) k s x below fits =
+      run_is n (k + step) s (after_touch lengths (slide_touch k s) x) below.1 fits
+      ∙ ap (with_run s (cells_in s step n (k + step))) (one_is s k x below.0 fits)
+      ∙ both_runs s (is_among s.array (exactly (s.start + k))) (cells_in s step n (k + step)) (cells_in s step (suc n) k) x
+      (λ c. and_either (s.array.0 == c.array.0) (is_within (exactly (s.start + k)) c.index) (is_every step n (s.start + (k + step)) c.index)
+      (is_every step (suc n) (s.start + k) c.index)
+      (ap₂ (λ p m. p || is_every step n m c.index) (same_cell (s.start + k) c.index) (omega arith)))

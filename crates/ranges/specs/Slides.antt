@@ -1,5 +1,5 @@
--- Accesses whose cell moves on by one in each turn of a loop.
-use Rattle.std.specs.Prelude.{ℕ, zero, suc, ◌≡◌, ◌+◌, ◌-◌, ◌*◌, ◌<◌, ◌≤◌, min, Bool, List, [], ◌∷◌, ◌++◌, map, length, slice_index, ◌&&◌, ◌||◌, not, cond, ◌⊎◌}
+-- Accesses whose cell moves on in each turn of a loop by as much as the loop's name.
+use Rattle.std.specs.Prelude.{ℕ, zero, suc, ◌≡◌, ◌+◌, ◌-◌, ◌*◌, ◌^◌, ◌<◌, ◌≤◌, ◌==◌, min, Bool, false, List, [], ◌∷◌, ◌++◌, map, length, slice_index, ◌&&◌, ◌||◌, not, cond, ◌⊎◌}
 use Rattle.base.specs.declared.tree.Bounds.{Bounds}
 use Rattle.base.specs.Footprint.{Touch}
 use Rattle.base.specs.Interval.{exactly, interval}
@@ -8,26 +8,33 @@ use Rattle.base.specs.declared.tree.ArrayId.{ArrayId}
 use Rattle.base.specs.declared.tree.Expr.{Expr}
 use Rattle.ranges.specs.declared.access.Access.{Access}
 use Rattle.ranges.specs.declared.slide.Slide.{Slide}
-use Rattle.ranges.specs.Cells.{is_among}
+use Rattle.base.specs.declared.item.Cell.{Cell}
+use Rattle.base.specs.Meaning.{turns_left}
+use Rattle.ranges.specs.Rows.{is_within}
 use Rattle.ranges.specs.Seen.{Seen}
 use Rattle.ranges.specs.Straight.{touch_at}
 
--- what it touches in a turn, which are counted from 0
-abbrev pub slide_touch : Bool → ℕ → Slide → Touch
-slide_touch certain k s = record {
+-- what it touches once it has moved on by so many cells
+abbrev pub slide_touch : ℕ → Slide → Touch
+slide_touch x s = record {
   array = s.array;
-  cells = exactly (s.start + k);
+  cells = exactly (s.start + x);
   is_write = s.writes;
-  certain = certain;
+  certain = s.certain;
   place = s.place;
 }
 
--- n turns from this one on
-abbrev pub slide_turns : Bool → ℕ → ℕ → List Slide → List Touch
-slide_turns certain zero k slides = []
-slide_turns certain (suc n) k slides = map (slide_touch certain k) slides ++ slide_turns certain n (k + 1) slides
+-- n turns, in each of which it moves on by this step, from where it has moved on by x
+abbrev pub slide_turns : ℕ → ℕ → ℕ → List Slide → List Touch
+slide_turns step zero x slides = []
+slide_turns step (suc n) x slides = map (slide_touch x) slides ++ slide_turns step n (x + step) slides
 
--- in so many turns it stays in its array
+-- n turns from x on stay below the end
+abbrev pub AreBelow : ℕ → ℕ → ℕ → ℕ → Type 0
+AreBelow step end zero x = Unit {0}
+AreBelow step end (suc n) x = (x < end) × AreBelow step end n (x + step)
+
+-- it stays in its array while it has moved on by less than this
 abbrev pub Fits : List ℕ → ℕ → Slide → Type 0
 Fits lengths count s = s.start + count ≤ slice_index lengths s.array.0
 
@@ -36,16 +43,16 @@ AllFit lengths count [] = Unit {0}
 AllFit lengths count (s ∷ slides) = Fits lengths count s × AllFit lengths count slides
 
 -- in the turns of these bounds the access touches what the slide does
-abbrev pub IsSlideOf : List ℕ → Bounds → Access → Slide → Type 0
-IsSlideOf loops b a s =
-    (v : ℕ) (certain : Bool) → b.first ≤ v → v < b.end →
-    touch_at (loops ++ v ∷ []) certain a ≡ slide_touch certain (v - b.first) s
+abbrev pub IsSlideOf : List ℕ → Bounds → Bool → Access → Slide → Type 0
+IsSlideOf loops b certain a s =
+    (v : ℕ) → b.first ≤ v → v < b.end → touch_at (loops ++ v ∷ []) certain a ≡ slide_touch (v - b.first) s
 
-abbrev pub AreSlidesOf : List ℕ → Bounds → List Access → List Slide → Type 0
-AreSlidesOf loops b [] [] = Unit {0}
-AreSlidesOf loops b [] (s ∷ slides) = ⊥
-AreSlidesOf loops b (a ∷ accesses) [] = ⊥
-AreSlidesOf loops b (a ∷ accesses) (s ∷ slides) = IsSlideOf loops b a s × AreSlidesOf loops b accesses slides
+abbrev pub AreSlidesOf : List ℕ → Bounds → Bool → List Access → List Slide → Type 0
+AreSlidesOf loops b certain [] [] = Unit {0}
+AreSlidesOf loops b certain [] (s ∷ slides) = ⊥
+AreSlidesOf loops b certain (a ∷ accesses) [] = ⊥
+AreSlidesOf loops b certain (a ∷ accesses) (s ∷ slides) =
+    IsSlideOf loops b certain a s × AreSlidesOf loops b certain accesses slides
 
 -- each begins below this cell
 abbrev pub AllStart : ℕ → List Slide → Type 0
@@ -77,20 +84,38 @@ IsLater firsts l i m =
     ((m ≡ i) × (slice_index firsts l < slice_index firsts i)) ⊎ ((m ≡ l) × (slice_index firsts i ≤ slice_index firsts l))
 
 -- what cells add that are written, or read
-abbrev pub with_written : Bool → ArrayId → Interval → Seen → Seen
-with_written certain a cells x = record x {
-  write = λ c. x.write c || is_among a cells c;
-  sure = λ c. x.sure c || (certain && is_among a cells c);
+abbrev pub with_written : Bool → (Cell → Bool) → Seen → Seen
+with_written certain p x = record x {
+  write = λ c. x.write c || p c;
+  sure = λ c. x.sure c || (certain && p c);
 }
 
-abbrev pub with_read_of : ArrayId → Interval → Seen → Seen
-with_read_of a cells x = record x {
-  exposed = λ c. x.exposed c || (is_among a cells c && not (x.sure c));
-  read = λ c. x.read c || is_among a cells c;
+abbrev pub with_read_of : (Cell → Bool) → Seen → Seen
+with_read_of p x = record x {
+  exposed = λ c. x.exposed c || (p c && not (x.sure c));
+  read = λ c. x.read c || p c;
 }
 
-abbrev pub with_run : Bool → Slide → Interval → Seen → Seen
-with_run certain s cells x = cond s.writes (with_written certain s.array cells x) (with_read_of s.array cells x)
+abbrev pub with_run : Slide → (Cell → Bool) → Seen → Seen
+with_run s p x = cond s.writes (with_written s.certain p x) (with_read_of p x)
+
+-- whether a number is one of n, of which the first is this, and each other one by the step more than the one before it
+abbrev pub is_every : ℕ → ℕ → ℕ → ℕ → Bool
+is_every step zero x i = false
+is_every step (suc n) x i = (x == i) || is_every step n (x + step) i
+
+-- whether it is the value of a loop's name in a turn
+abbrev pub is_turn : Bounds → ℕ → Bool
+is_turn b i = is_every b.step (turns_left b.first b) b.first i
+
+-- the same numbers as an interval
+pub record IsWhole (b : Bounds) (cells : Interval) : Type 0 where
+  pub few : cells.hi < 2 ^ 32
+  pub same : (i : ℕ) → is_within cells i ≡ is_turn b i
+
+-- whether a cell is one of the array in such a place
+abbrev pub is_in_turn : ArrayId → Bounds → Cell → Bool
+is_in_turn a b c = (a.0 == c.array.0) && is_turn b c.index
 
 -- the expression has this value in each turn of a loop
 abbrev pub IsFixed : List ℕ → Expr → ℕ → Type 0

@@ -70,7 +70,7 @@ impl CellSet {
     }
 
     // Makes a row for an array.
-    fn reach(&mut self, array: ArrayId) -> Result<(), AllocError>
+    pub(crate) fn reach(&mut self, array: ArrayId) -> Result<(), AllocError>
         ensures same { has self.new ≡ has self.old }
         ensures long { OnOk result (array.0 < length self.new.rows.items) }
     {

@@ -35,6 +35,7 @@ mod least;
 mod offsets;
 mod reached;
 mod row;
+mod row_turns;
 mod run_list;
 mod section;
 mod settled;
@@ -44,6 +45,7 @@ mod sliding;
 mod span;
 mod state;
 mod straight;
+mod turn_cells;
 mod turns;
 mod walk;
 
@@ -88,7 +90,7 @@ pub fn sections(program: &Program, item: &Item) -> Result<(), RangeFault>
 /// The cells that a region may touch, found instance by instance: each turn of each loop, and of an `if` whose condition
 /// is known the one branch that it takes. The loops around the region have these values, the outermost first. Of a loop
 /// that no subscript and no condition names the first turn is walked alone, since the others touch the same. No turn is
-/// walked of a loop of step 1 that has neither loops nor conditions in it, and in whose subscripts its name alone stands,
+/// walked of a loop that has neither loops nor conditions in it, and in whose subscripts its name alone stands,
 /// or with fixed values that are added or subtracted: numbers, names of loops around it, and sums, differences and
 /// products of these. The turns of a loop that are left are not walked once the cells that they can touch were all seen:
 /// `A[i % 16]` after 16 turns.

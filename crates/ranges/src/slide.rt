@@ -1,12 +1,14 @@
-// Accesses whose cell moves on by one in each turn of a loop.
+// Accesses whose cell moves on in each turn of a loop by as much as the loop's name.
 
 use base::tree::{ArrayId, Place};
 
-/// Such an access: its cell in the first turn, and the place of the array's name.
+/// Such an access: its cell in the first turn, the place of the array's name, and whether every condition around it is
+/// known to let it run.
 #[derive(Clone, Copy, Drop)]
 pub struct Slide {
     pub array: ArrayId,
     pub place: Place,
     pub start: u64,
     pub writes: bool,
+    pub certain: bool,
 }

@@ -1,13 +1,13 @@
-// Loops in each turn of which all cells move on by one, done access by access.
+// Loops in each turn of which all cells move on by as much, done access by access.
 
-ghost use Rattle.std.specs.Prelude.{◌≡◌, ◌+◌, ◌-◌, ◌≤◌, ◌<◌, ◌^◌, ℕ, Bool, [], false, IfNone, IfOk, IfSome, OnOk, length, slice_index};
+ghost use Rattle.std.specs.Prelude.{◌≡◌, ◌+◌, ◌-◌, ◌≤◌, ◌<◌, ◌^◌, [], IfNone, IfSome, OnOk, length, slice_index};
 ghost use Rattle.ranges.specs.Seen.{after, seen_in};
-ghost use Rattle.ranges.specs.Slides.{AllFit, IsLater, IsLatest, IsTaken, slide_turns, starts, with_run, with_written};
+ghost use Rattle.base.specs.Meaning.{turns_of};
+ghost use Rattle.ranges.specs.Slides.{AllFit, IsLater, IsLatest, IsTaken, is_in_turn, slide_turns, starts, with_run};
 
 use crate::slide::Slide;
 use crate::state::Walk;
-use base::fault::Interval;
-use base::tree::ArrayId;
+use base::tree::Bounds;
 use std::alloc::AllocError;
 
 fn start(slides: &[Slide], i: usize) -> u64
@@ -54,58 +54,38 @@ fn take_latest(slides: &mut Vec<Slide>) -> Option<Slide>
 }
 
 impl Walk {
-    // Cells of an array that are written, and surely so where that is certain.
-    fn note_written(
-        &mut self,
-        array: ArrayId,
-        cells: Interval,
-        certain: bool,
-    ) -> Result<(), AllocError>
-        requires { cells.hi < 2 ^ 32 }
-        ensures { OnOk result (seen_in self.new ≡ with_written certain array cells (seen_in self.old)) }
-    {
-        let found = &mut self.found;
-        found.sure.add_if(certain, array, cells)?;
-        found.write.add(array, cells)
-    }
-
     // All cells of an access, which lie in the array.
-    fn note_run(
-        &mut self,
-        lengths: &[u32],
-        slide: Slide,
-        cells: Interval,
-        certain: bool,
-    ) -> Result<(), AllocError>
-        requires { Rattle.ranges.specs.Seen.leaves lengths.now slide.array cells ≡ false }
-        ensures { OnOk result (seen_in self.new ≡ with_run certain slide cells (seen_in self.old)) }
+    fn note_run(&mut self, slide: Slide, cells: Bounds) -> Result<(), AllocError>
+        requires { cells.end ≤ 2 ^ 32 }
+        ensures { OnOk result (seen_in self.new ≡ with_run slide (is_in_turn slide.array cells) (seen_in self.old)) }
     {
         if slide.writes {
-            self.note_written(slide.array, cells, certain)
+            self.write_turns(slide.array, cells, slide.certain)
         } else {
-            self.note_read(lengths, slide.array, slide.place, cells)
+            self.read_turns(slide.array, cells)
         }
     }
 
-    /// The accesses in so many turns. Of two accesses to a cell the one whose cells are ahead comes first, so each access
-    /// is done with all its turns, from the one that is furthest ahead on.
+    /// The accesses in the turns of a loop. Of two accesses to a cell the one whose cells are ahead comes first, so each
+    /// access is done with all its turns, from the one that is furthest ahead on.
     pub fn note_slides(
         &mut self,
         lengths: &[u32],
         slides: &mut Vec<Slide>,
-        turns: u64,
-        certain: bool,
+        turns: Bounds,
     ) -> Result<(), AllocError>
-        requires some { 1 ≤ turns }
-        requires fit { AllFit lengths.now turns slides.old.items }
-        ensures { OnOk result (seen_in self.new ≡ after lengths.now (slide_turns certain turns 0 slides.old.items) (seen_in self.old)) }
+        requires some { turns.first ≤ turns.end }
+        requires small { turns.step ≤ 2 ^ 63 }
+        requires fit { AllFit lengths.now (turns.end - turns.first) slides.old.items }
+        ensures { OnOk result (seen_in self.new ≡ after lengths.now (slide_turns turns.step (turns_of turns) 0 slides.old.items) (seen_in self.old)) }
     {
         while let Some(slide) = take_latest(slides) {
-            let cells = Interval {
-                lo: slide.start,
-                hi: slide.start + (turns - 1),
+            let cells = Bounds {
+                first: slide.start,
+                end: slide.start + (turns.end - turns.first),
+                step: turns.step,
             };
-            self.note_run(lengths, slide, cells, certain)?;
+            self.note_run(slide, cells)?;
         }
         Ok(())
     }

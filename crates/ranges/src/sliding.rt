@@ -1,6 +1,7 @@
-// Loops over a straight body, in each turn of which all cells move on by one, or not.
+// Loops over a straight body, in each turn of which all cells move on by as much as the loop's name, or not.
 
-ghost use Rattle.std.specs.Prelude.{◌≡◌, ◌-◌, ◌<◌, ◌≤◌, IfOk, IfSome, OnOk};
+ghost use Rattle.std.specs.Prelude.{◌≡◌, ◌-◌, ◌<◌, ◌≤◌, cond, IfOk, IfSome, OnOk};
+ghost use Rattle.base.specs.Meaning.{turns_of};
 ghost use Rattle.ranges.specs.Seen.{after, seen_in};
 ghost use Rattle.ranges.specs.Slides.{AllFit, AreSlidesOf, AreSplit, Fits, IsSlideOf};
 ghost use Rattle.ranges.specs.Straight.{turns_at};
@@ -12,10 +13,19 @@ use crate::state::Walk;
 use base::tree::Bounds;
 use std::alloc::{AllocError, Global};
 
-// An access whose cell moves on by one in each turn, and stays in its array.
-fn slide_of(lengths: &[u32], access: &Access<'_>, loops: &[u64], bounds: Bounds) -> Option<Slide>
+// The greatest step of a loop whose accesses are done so: no array has as many cells.
+const MOST_STEP: u64 = 1 << 32;
+
+// An access whose cell moves on in each turn by as much as the loop's name, and stays in its array.
+fn slide_of(
+    lengths: &[u32],
+    access: &Access<'_>,
+    loops: &[u64],
+    bounds: Bounds,
+    certain: bool,
+) -> Option<Slide>
     requires { bounds.first < bounds.end }
-    ensures is { IfSome result (IsSlideOf loops.now bounds access.now) }
+    ensures is { IfSome result (IsSlideOf loops.now bounds certain access.now) }
     ensures fits { IfSome result (Fits lengths.now (bounds.end - bounds.first)) }
 {
     let start = first_value(access.subscript, loops, bounds)?;
@@ -29,6 +39,7 @@ fn slide_of(lengths: &[u32], access: &Access<'_>, loops: &[u64], bounds: Bounds)
         place: access.place,
         start,
         writes: access.writes,
+        certain,
     })
 }
 
@@ -39,19 +50,36 @@ fn slides_of(
     accesses: &[Access<'_>],
     loops: &[u64],
     bounds: Bounds,
+    certain: bool,
 ) -> Result<Option<Vec<Slide>>, AllocError>
     requires { bounds.first < bounds.end }
-    ensures are { IfOk result (λ some. IfSome some (λ slides. AreSlidesOf loops.now bounds accesses.now slides.items)) }
+    ensures are { IfOk result (λ some. IfSome some (λ slides. AreSlidesOf loops.now bounds certain accesses.now slides.items)) }
     ensures fit { IfOk result (λ some. IfSome some (λ slides. AllFit lengths.now (bounds.end - bounds.first) slides.items)) }
 {
     let mut slides = Vec::new(alloc);
     for access in accesses {
-        let Some(slide) = slide_of(lengths, access, loops, bounds) else {
+        let Some(slide) = slide_of(lengths, access, loops, bounds, certain) else {
             return Ok(None);
         };
         slides.push(slide)?;
     }
     Ok(Some(slides))
+}
+
+// The same turns of a loop, with its end right behind the last one.
+fn tight(bounds: Bounds) -> Bounds
+    requires { bounds.first < bounds.end }
+    ensures first { result.first ≡ bounds.first }
+    ensures ahead { result.first < result.end }
+    ensures step { result.step ≡ bounds.step }
+    ensures turns { turns_of result ≡ turns_of bounds }
+{
+    let Bounds { first, end, step } = bounds;
+    Bounds {
+        first,
+        end: first + (end - 1 - first) / step * step + 1,
+        step,
+    }
 }
 
 // So many turns of a loop, and those that come after them.
@@ -78,8 +106,32 @@ fn split(bounds: Bounds, turns: u64) -> (Bounds, Bounds)
 }
 
 impl Walk {
+    // The accesses in all turns of a loop, where all cells move on by as much as its name. It answers whether they do.
+    fn note_at_once(
+        &mut self,
+        alloc: Global,
+        lengths: &[u32],
+        bounds: Bounds,
+        accesses: &[Access<'_>],
+        loops: &[u64],
+        certain: bool,
+    ) -> Result<bool, AllocError>
+        requires { bounds.first < bounds.end }
+        ensures { IfOk result (λ done. seen_in self.new ≡ cond done (after lengths.now (turns_at bounds.first bounds accesses.now loops.now certain) (seen_in self.old)) (seen_in self.old)) }
+    {
+        if bounds.step > MOST_STEP {
+            return Ok(false);
+        }
+        let all = tight(bounds);
+        let Some(mut slides) = slides_of(alloc, lengths, accesses, loops, all, certain)? else {
+            return Ok(false);
+        };
+        self.note_slides(lengths, &mut slides, all)?;
+        Ok(true)
+    }
+
     /// The accesses in each turn of a loop. Those of which nothing new can be seen are left out of the turns that follow, and
-    /// where all cells move on by one, a few steps for each access are all.
+    /// where all cells move on by as much as the loop's name, each access is done with all its turns at once.
     pub fn note_loop(
         &mut self,
         alloc: Global,
@@ -95,10 +147,8 @@ impl Walk {
         let mut rest = bounds;
         let mut turns = 1;
         while rest.first < rest.end {
-            if rest.step == 1 {
-                if let Some(mut slides) = slides_of(alloc, lengths, accesses, loops, rest)? {
-                    return self.note_slides(lengths, &mut slides, rest.end - rest.first, certain);
-                }
+            if self.note_at_once(alloc, lengths, rest, accesses, loops, certain)? {
+                return Ok(());
             }
             let (now, later) = split(rest, turns);
             self.note_turns(lengths, now, accesses, loops, certain)?;

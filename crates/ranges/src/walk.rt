@@ -1,11 +1,13 @@
 // The walk over a region, instance by instance.
 
-ghost use Rattle.std.specs.Prelude.{◌≡◌, ◌&&◌, OnOk, IfOk};
+ghost use Rattle.std.specs.Prelude.{◌≡◌, ◌<◌, ◌^◌, ◌&&◌, OnOk, IfOk};
 ghost use Rattle.base.specs.Meaning.{lengths_of};
 ghost use Rattle.base.specs.Interval.{is_known_zero, is_known_nonzero};
 ghost use Rattle.base.specs.Footprint.{expr_touches, source_touches, stmt_touches, touches_of, unless};
 ghost use Rattle.ranges.specs.Found.{nothing_seen};
 ghost use Rattle.ranges.specs.Faults.{with_place};
+ghost use Rattle.ranges.specs.Cells.{is_among};
+ghost use Rattle.ranges.specs.Slides.{with_written};
 ghost use Rattle.ranges.specs.Seen.{after, after_read, after_write, list_touches, seen_in, turns_from};
 
 use crate::cells::Footprint;
@@ -68,10 +70,21 @@ impl Walk {
             note_place(true, place, &mut self.least);
             return Ok(());
         }
+        self.note_written(array, cells, both(certain, cells.lo == cells.hi))
+    }
+
+    // Cells of an array that are written, and surely so where that is certain.
+    fn note_written(
+        &mut self,
+        array: ArrayId,
+        cells: Interval,
+        certain: bool,
+    ) -> Result<(), AllocError>
+        requires { cells.hi < 2 ^ 32 }
+        ensures { OnOk result (seen_in self.new ≡ with_written certain (is_among array cells) (seen_in self.old)) }
+    {
         let found = &mut self.found;
-        found
-            .sure
-            .add_if(both(certain, cells.lo == cells.hi), array, cells)?;
+        found.sure.add_if(certain, array, cells)?;
         found.write.add(array, cells)
     }
 }

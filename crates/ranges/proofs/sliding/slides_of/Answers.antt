@@ -15,12 +15,12 @@ loop-access-preserved c =
     let s = c.in-Some.slide in
     record {
       are =
-          subst (λ (xs : List Access). AreSlidesOf c.args.loops.now c.args.bounds xs c.push.new.self.items)
+          subst (λ (xs : List Access). AreSlidesOf c.args.loops.now c.args.bounds c.args.certain xs c.push.new.self.items)
           (sym (take_more accesses i a c.loop-access-test.true
           ∙ ap (λ (x : Access). take i accesses ++ x ∷ []) (sym c.access-item.is)))
-          (subst (λ (ss : List Slide). AreSlidesOf c.args.loops.now c.args.bounds (take i accesses ++ a ∷ []) ss)
+          (subst (λ (ss : List Slide). AreSlidesOf c.args.loops.now c.args.bounds c.args.certain (take i accesses ++ a ∷ []) ss)
           (sym c.in_ok-push.ensures.items)
-          (one_slide c.args.loops.now c.args.bounds (take i accesses) slides a s c.loop-access.invariant.are c.in-Some.ensures.is));
+          (one_slide c.args.loops.now c.args.bounds c.args.certain (take i accesses) slides a s c.loop-access.invariant.are c.in-Some.ensures.is));
       fit =
           subst (λ (ss : List Slide). AllFit c.args.lengths.now (c.args.bounds.end - c.args.bounds.first) ss)
           (sym c.in_ok-push.ensures.items)

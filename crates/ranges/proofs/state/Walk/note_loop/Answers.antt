@@ -1,48 +1,48 @@
-use Rattle.std.proofs.Common.{◌≡◌, ℕ, List, Option, Vec, Global, sym, subst, ap, ◌∙◌, arith}
-use Rattle.std.specs.Prelude.{IfSome}
+use Rattle.std.proofs.Common.{◌≡◌, ℕ, List, Vec, Global, sym, subst, ap, ◌∙◌, arith}
+use Rattle.std.specs.Prelude.{cond}
 use Rattle.ranges.specs.declared.access.Access.{Access}
-use Rattle.ranges.specs.declared.slide.Slide.{Slide}
 use Rattle.ranges.specs.Seen.{after, seen_in}
-use Rattle.ranges.specs.Slides.{AreSlidesOf}
 use Rattle.ranges.specs.Straight.{turns_at}
-use Rattle.ranges.proofs.Outcomes.{ok_end}
-use Rattle.ranges.proofs.SlidingTurns.{all_turns}
 use Rattle.ranges.proofs.SplitTurns.{split_noted}
 use Rattle.ranges.proofs.StraightTouches.{no_turn_noted}
 use Rattle.ranges.proofs.state.Walk.note_loop.Goals as goal
 use Rattle.ranges.proofs.state.Walk.note_loop.Goals.{then-rest+in_ok-leave_settled, else-rest}
 
-pub returns-in-Some-clause-seen : goal.returns-in-Some-clause-seen
-returns-in-Some-clause-seen c =
+pub returns-then-branch-clause-seen : goal.returns-then-branch-clause-seen
+returns-then-branch-clause-seen c =
     let lengths = c.args.lengths.now in
     let b = c.loop-rest.rest in
-    let accesses = c.loop-rest.accesses.items in
-    let loops = c.args.loops.now.items in
-    let slides = c.in-Some.slides.items in
-    let are = subst (λ (o : Option (Vec Slide Global)). IfSome o (λ slides. AreSlidesOf c.deref-then-rest-eq1.result.now b c.deref.result.now slides.items))
-    c.in-Some.is c.in_ok-slides.ensures.are in
-    let here = subst (λ (xs : List Access). AreSlidesOf c.deref-then-rest-eq1.result.now b xs slides) c.deref.ensures.value are in
-    ok_end c.note_slides.result (seen_in c.note_slides.new.self) _ _
-    (ap (λ ts. after lengths ts (seen_in c.loop-rest.self))
-    (sym (all_turns loops b accesses slides c.args.certain
-    (subst (λ (ls : List ℕ). AreSlidesOf ls b accesses slides) (c.deref-then-rest-eq1.ensures.value ∙ c.loop-rest.invariant.loops) here)
-    c.if-rest-eq1.true c.loop-rest-test.true))
-    ∙ c.loop-rest.invariant.rest)
-    c.note_slides.ensures
+    let seen = seen_in c.loop-rest.self in
+    c.in_ok-note_at_once.ensures
+    ∙ ap (λ d. cond d (after lengths (turns_at b.first b c.deref.result.now c.deref-in-loop-rest.result.now c.args.certain) seen) seen)
+    c.if-branch.true
+    ∙ ap (λ (xs : List Access). after lengths (turns_at b.first b xs c.deref-in-loop-rest.result.now c.args.certain) seen)
+    c.deref.ensures.value
+    ∙ ap (λ (ls : List ℕ). after lengths (turns_at b.first b c.loop-rest.accesses.items ls c.args.certain) seen)
+    (c.deref-in-loop-rest.ensures.value ∙ c.loop-rest.invariant.loops)
+    ∙ c.loop-rest.invariant.rest
 
 pub loop-rest-preserved : goal.loop-rest-preserved
 loop-rest-preserved c =
     let lengths = c.args.lengths.now in
     let loops = c.args.loops.now.items in
+    let b = c.loop-rest.rest in
     let later = c.split.result.1 in
+    let before = seen_in c.loop-rest.self in
+    let tried = seen_in c.note_at_once.new.self in
     let seen = seen_in c.note_turns.new.self in
     let same = c.in_ok-note_turns.ensures.loops ∙ c.loop-rest.invariant.loops in
+    let still : tried ≡ before =
+    c.in_ok-note_at_once.ensures
+    ∙ ap (λ d. cond d (after lengths (turns_at b.first b c.deref.result.now c.deref-in-loop-rest.result.now c.args.certain) before) before)
+    c.if-branch.false in
     let noted =
-    split_noted lengths c.loop-rest.rest c.split.result.0 later c.loop-rest.turns c.loop-rest.accesses.items loops
-    c.loop-rest.loops.items c.args.certain (seen_in c.loop-rest.self) seen c.split.ensures c.loop-rest.invariant.loops
+    split_noted lengths b c.split.result.0 later c.loop-rest.turns c.loop-rest.accesses.items loops
+    c.loop-rest.loops.items c.args.certain tried seen c.split.ensures c.loop-rest.invariant.loops
     (c.in_ok-note_turns.ensures.seen
-    ∙ ap (λ (xs : List Access). after lengths (turns_at c.split.result.0.first c.split.result.0 xs c.loop-rest.loops.items c.args.certain) (seen_in c.loop-rest.self))
-    c.deref-in-loop-rest.ensures.value) in
+    ∙ ap (λ (xs : List Access). after lengths (turns_at c.split.result.0.first c.split.result.0 xs c.loop-rest.loops.items c.args.certain) tried)
+    c.deref-in-loop-rest-2.ensures.value)
+    ∙ ap (after lengths (turns_at b.first b c.loop-rest.accesses.items loops c.args.certain)) still in
     record {
       loops = same;
       turns = omega (arith, c.saturating_mul-turns.ensures, c.loop-rest.invariant.turns);

@@ -1,35 +1,16 @@
-use Rattle.std.proofs.Common.{◌≡◌, sym, ◌∙◌}
+use Rattle.std.proofs.Common.{refl, sym, ◌∙◌}
 use Rattle.std.specs.Prelude.{◌&&◌, ◌||◌}
-use Rattle.ranges.specs.Cells.{has, is_among}
+use Rattle.ranges.specs.Cells.{is_among}
 use Rattle.ranges.specs.Seen.{seen_in}
-use Rattle.ranges.proofs.Known.{known_sure, sure_same}
 use Rattle.ranges.proofs.Noted.{write_noted}
-use Rattle.ranges.proofs.Outcomes.{mapped_ok}
+use Rattle.ranges.proofs.Outcomes.{ok_end}
 use Rattle.ranges.proofs.state.Walk.note_write.Goals as goal
 
 pub returns : goal.returns
 returns c =
-    let w = c.args.self.now in
-    mapped_ok c.add.result c.add.ensures.ok
-    (λ (e : has c.add.new.self ≡ (λ d. has w.found.write d || is_among c.args.array c.args.cells d)).
-    write_noted c.args.lengths.now c.args.array c.args.place c.args.cells c.args.certain c.both.result (seen_in w)
-    (has c.add.new.self) (has c.add_if.new.self) (sym c.leaves.ensures ∙ c.if-leaves.false) c.both.ensures
-    c.in_ok-add_if.ensures.ok e)
-
-pub invariant_of-self-in-Break-1 : goal.invariant_of-self-in-Break-1
-invariant_of-self-in-Break-1 c =
-    let w = c.args.self.now in
-    let f = w.found in
-    record {
-      known = sure_same (has f.exposed) (has f.read) (has f.sure) (has c.add_if.new.self) w.known
-          c.in_err-add_if.ensures.err;
-    }
-
-pub invariant_of-self-2 : goal.invariant_of-self-2
-invariant_of-self-2 c =
-    let w = c.args.self.now in
-    let f = w.found in
-    record {
-      known = known_sure (has f.exposed) (has f.read) (has f.sure) (has c.add_if.new.self)
-          (λ d. c.both.result && is_among c.args.array c.args.cells d) w.known c.in_ok-add_if.ensures.ok;
-    }
+    let s = seen_in c.args.self.now in
+    ok_end c.note_written.result _ _ _
+    (write_noted c.args.lengths.now c.args.array c.args.place c.args.cells c.args.certain c.both.result s
+    (λ d. s.write d || is_among c.args.array c.args.cells d) (λ d. s.sure d || (c.both.result && is_among c.args.array c.args.cells d))
+    (sym c.leaves.ensures ∙ c.if-leaves.false) c.both.ensures refl refl)
+    c.note_written.ensures
