@@ -26,7 +26,13 @@ fn read_text<W: Write>(fault: ReadFault, out: &mut W) -> io::Result<()>
 {
     match fault {
         ReadFault::Text(f) => {
-            writeln!(out, "{} line {} column {}", f.code.as_str(), f.line, f.column)
+            writeln!(
+                out,
+                "{} line {} column {}",
+                f.code.as_str(),
+                f.line,
+                f.column
+            )
         }
         ReadFault::OutOfMemory => writeln!(out, "F1"),
     }
