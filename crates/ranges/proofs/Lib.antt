@@ -1,4 +1,5 @@
 pub mod AllSeen
+pub mod CaseSlides
 pub mod FirstTurns
 pub mod ItemParts
 pub mod Known
@@ -31,9 +32,11 @@ pub mod SlideTurns
 pub mod SlidingTurns
 pub mod Spans
 pub mod SplitTurns
+pub mod SteadyRests
 pub mod StraightTouches
 pub mod Swaps
 pub mod Touches
+pub mod TurnBlocks
 pub mod TurnCounts
 pub mod TurnMarks
 pub mod Walked

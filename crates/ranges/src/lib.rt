@@ -26,13 +26,16 @@ use std::alloc::Global;
 use thiserror::Error;
 
 mod access;
+mod blocks;
 mod bound;
+mod cases;
 mod cells;
 mod clones;
 mod contents;
 mod deciding;
 mod least;
 mod offsets;
+mod period;
 mod reached;
 mod row;
 mod row_turns;
@@ -44,6 +47,7 @@ mod slides;
 mod sliding;
 mod span;
 mod state;
+mod steady;
 mod straight;
 mod turn_cells;
 mod turns;
@@ -90,10 +94,11 @@ pub fn sections(program: &Program, item: &Item) -> Result<(), RangeFault>
 /// The cells that a region may touch, found instance by instance: each turn of each loop, and of an `if` whose condition
 /// is known the one branch that it takes. The loops around the region have these values, the outermost first. Of a loop
 /// that no subscript and no condition names the first turn is walked alone, since the others touch the same. No turn is
-/// walked of a loop that has neither loops nor conditions in it, and in whose subscripts its name alone stands,
-/// or with fixed values that are added or subtracted: numbers, names of loops around it, and sums, differences and
-/// products of these. The turns of a loop that are left are not walked once the cells that they can touch were all seen:
-/// `A[i % 16]` after 16 turns.
+/// walked of a loop that has no loop in it, and in whose subscripts its name alone stands, or with fixed values that are
+/// added or subtracted: numbers, names of loops around it, and sums, differences and products of these. Where it has
+/// conditions in it, these are alike in all of its turns, or in every so many turns, at most 64, as `i % 3 == 0` in every
+/// third; at its end fewer turns are walked than that. The turns of a loop that are left are not walked once the cells that
+/// they can touch were all seen: `A[i % 16]` after 16 turns.
 ///
 /// The error is E303 at the region's first token where its loops have more than 1,048,576 turns, and then nothing is
 /// walked; else E301 at the least place, by line and then by column, of the array name of a subscript that can leave

@@ -17,7 +17,7 @@ use std::alloc::{AllocError, Global};
 const MOST_STEP: u64 = 1 << 32;
 
 // An access whose cell moves on in each turn by as much as the loop's name, and stays in its array.
-fn slide_of(
+pub(crate) fn slide_of(
     lengths: &[u32],
     access: &Access<'_>,
     loops: &[u64],

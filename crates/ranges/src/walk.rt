@@ -222,7 +222,8 @@ fn walk_all(
     Ok(())
 }
 
-// A loop. Where it has many turns, and its body neither loops nor conditions, the accesses of the body are listed once.
+// A loop. Where it has many turns, and its body neither loops nor conditions, the accesses of the body are listed once. Where
+// it has conditions, it is tried whether they are alike in every so many turns.
 #[cycle(walk)]
 fn walk_loop(
     bounds: Bounds,
@@ -240,6 +241,8 @@ fn walk_loop(
         if let Some(mut accesses) = accesses_of(alloc, body)? {
             return walk.note_loop(alloc, lengths, bounds, &mut accesses, loops, certain);
         }
+        let rest = walk.note_blocks(alloc, lengths, bounds, body, loops, certain)?;
+        return walk_turns(rest, body, certain, lengths, loops, walk);
     }
     walk_turns(bounds, body, certain, lengths, loops, walk)
 }
