@@ -103,16 +103,71 @@ fn touched(alloc: Global, text: &[u8]) -> Result<Vec<bool>, Fail> {
     all_cells(alloc, &outlined)
 }
 
-fn are_alike(alloc: Global, body: &str) -> Result<bool, Fail> {
-    let long = touched(alloc, &source(alloc, body, &LONG)?)?;
-    let short = touched(alloc, &source(alloc, body, &SHORT)?)?;
+// Whether the turns of one loop, in which this is the body, touch what they do in short loops.
+fn are_alike(alloc: Global, body: &str, one: &[&str], several: &[&str]) -> Result<bool, Fail> {
+    let long = touched(alloc, &source(alloc, body, one)?)?;
+    let short = touched(alloc, &source(alloc, body, several)?)?;
     Ok(long.len() == 1024 && long == short)
 }
 
 #[test]
 fn turns_need_not_be_walked(rt: HostRuntime) -> Result<(), Fail> {
     for body in BODIES {
-        assert!(rt; are_alike(rt.alloc(), body)?);
+        assert!(rt; are_alike(rt.alloc(), body, &LONG, &SHORT)?);
+    }
+    Ok(())
+}
+
+// Bodies with conditions that are alike in all turns, in every second or third one, or not known, and some without.
+const CASES: [&str; 14] = [
+    "A[i] = A[i + 1] + B[i];",
+    "A[i + 1] = A[i]; B[i + 2] = A[i + 3];",
+    "A[i + 3] = A[i]; A[i] = A[i + 3];",
+    "A[i + 2] = B[i]; B[i + 1] = A[i]; A[i] = A[i + 2];",
+    "if (i % 3 == 0) { A[i + k] = B[i]; } else { B[i + 1] = A[i + k] + 1; }",
+    "if (i % 2) { A[i] = 1; } B[i] = A[i + 1];",
+    "if (i % 2 == k) { A[i] = A[i + 2]; } else { A[i + 1] = B[i]; }",
+    "if (A[i] < 3) { A[i] = A[i] + 1; } else { B[i] = A[i + 1]; }",
+    "if (i % 3 != 1) { if (i % 2 == 0) { A[i] = 1; } B[i] = A[i]; }",
+    "if (B[i] && i % 3 == 2) { A[i] = B[i]; } B[i + 1] = A[i];",
+    "if (k) { A[i + 1] = 2; } B[i] = A[i + 1];",
+    "B[i] = 1; if (i % 3) { A[i] = B[i]; B[i + 1] = A[i + 2]; }",
+    "if ((i + k) % 3 == 1) { A[i] = 1; } if (i % 3 == 2) { A[i + 1] = A[i]; A[i] = 2; }",
+    "if (i % 3 == 0) { A[i + 2] = 1; } else { if (i % 3 == 1) { B[i] = A[i + 1]; } else { A[i] = A[i + 3]; } }",
+];
+
+const EACH: [&str; 1] = ["for (uint64_t i = 0; i < 60; i += 1) {"];
+
+const EACH_IN_PARTS: [&str; 5] = [
+    "for (uint64_t i = 0; i < 12; i += 1) {",
+    "for (uint64_t i = 12; i < 24; i += 1) {",
+    "for (uint64_t i = 24; i < 36; i += 1) {",
+    "for (uint64_t i = 36; i < 48; i += 1) {",
+    "for (uint64_t i = 48; i < 60; i += 1) {",
+];
+
+const THIRDS: [&str; 1] = ["for (uint64_t i = 1; i < 61; i += 3) {"];
+
+const THIRDS_IN_PARTS: [&str; 5] = [
+    "for (uint64_t i = 1; i < 13; i += 3) {",
+    "for (uint64_t i = 13; i < 25; i += 3) {",
+    "for (uint64_t i = 25; i < 37; i += 3) {",
+    "for (uint64_t i = 37; i < 49; i += 3) {",
+    "for (uint64_t i = 49; i < 61; i += 3) {",
+];
+
+#[test]
+fn conditions_are_alike_after_some_turns(rt: HostRuntime) -> Result<(), Fail> {
+    for body in CASES {
+        assert!(rt; are_alike(rt.alloc(), body, &EACH, &EACH_IN_PARTS)?);
+    }
+    Ok(())
+}
+
+#[test]
+fn steps_need_not_be_of_one(rt: HostRuntime) -> Result<(), Fail> {
+    for body in CASES {
+        assert!(rt; are_alike(rt.alloc(), body, &THIRDS, &THIRDS_IN_PARTS)?);
     }
     Ok(())
 }
