@@ -21,5 +21,7 @@ pub mod Runs
 pub mod BlockLanes
 pub mod Looseness
 pub mod BlockTurns
-pub mod LoneLoops
 pub mod LoadedRuns
+pub mod Codings
+pub mod Walking
+pub mod WalkedLoops

@@ -4,6 +4,6 @@ pub mod Codes
 pub mod Kept
 pub mod States
 pub mod Lanes
+pub mod Walks
 pub mod Loops
 pub mod Runnable
-pub mod Lone

@@ -10,6 +10,47 @@ use base::tree::{ArrayId, Expr, ScalarId, Source, Stmt};
 /// The most statements of a body that is looked at.
 const MOST: usize = 32;
 
+/// The most that operators of its expressions stand in one another: the stack of a worker has room for so many calls.
+const DEEPEST: usize = 256;
+
+fn is_shallow(e: &Expr, deepest: usize) -> bool {
+    if deepest == 0 {
+        return false;
+    }
+    match e {
+        Expr::Number(_) | Expr::Scalar(_) | Expr::LoopName(_) => true,
+        Expr::Cell(_, _, a) | Expr::Unary(_, a) | Expr::Shift(_, a, _) | Expr::Divide(_, a, _) =>
+            is_shallow(a, deepest - 1),
+        Expr::Binary(_, a, b) | Expr::And(a, b) | Expr::Or(a, b) => {
+            is_shallow(a, deepest - 1) && is_shallow(b, deepest - 1)
+        }
+    }
+}
+
+fn source_shallow(v: &Source) -> bool {
+    match v {
+        Source::Value(e) => is_shallow(e, DEEPEST),
+        Source::Read => true,
+    }
+}
+
+fn stmt_shallow(s: &Stmt) -> bool {
+    match s {
+        Stmt::Declare(_, v) | Stmt::Assign(_, v) | Stmt::Store(_, _, _, v) => source_shallow(v),
+        _ => false,
+    }
+}
+
+// Whether all are assignments without deep expressions.
+fn are_shallow(all: &[Stmt]) -> bool {
+    for s in all {
+        if !stmt_shallow(s) {
+            return false;
+        }
+    }
+    true
+}
+
 fn is_assigned_by(s: &Stmt, x: ScalarId) -> bool
     ensures { result ≡ assigned_by s.now x.0 }
 {
@@ -149,9 +190,10 @@ fn body_plain(all: &[Stmt]) -> bool
     }
 }
 
-/// Whether the turns of a loop at this level with this body are apart. A long body is not looked at.
+/// Whether the turns of a loop at this level with this body are apart. A long body, or a deep
+/// expression, is not looked at.
 pub fn are_apart(body: &[Stmt], level: usize) -> bool
     ensures { result ≡ true → AreApart level body.now }
 {
-    body.len() <= MOST && body_plain(body) && body_apart(body, level, 0)
+    body.len() <= MOST && are_shallow(body) && body_plain(body) && body_apart(body, level, 0)
 }

@@ -83,13 +83,14 @@ fn add_loop(text: &mut String, turns: u64, body: &str) -> Result<(), AllocError>
     Ok(())
 }
 
-// Both loops, the second one behind another statement, so that it is not done in blocks.
+// Both loops, the second one in a branch, where no loop is done in blocks.
 fn source(alloc: Global, turns: u64, body: &str, again: &str) -> Result<String, AllocError> {
     let mut text = String::new(alloc);
     text.push_str(HEAD)?;
     add_loop(&mut text, turns, body)?;
-    text.push_str("#pragma omp taskwait\nn = 0;\n")?;
+    text.push_str("#pragma omp taskwait\nif (1) {\n")?;
     add_loop(&mut text, turns, again)?;
+    text.push_str("}\n")?;
     text.push_str(TAIL)?;
     Ok(text)
 }
@@ -131,5 +132,33 @@ print(A[599]);
 #[test]
 fn a_block_knows_the_loops_around_it(rt: HostRuntime) -> Result<(), Fail> {
     assert!(rt; look_at(rt.alloc(), INSIDE, &Prints(b"4\n11\n4197\n"))?);
+    Ok(())
+}
+
+// Loops in a loop, among other statements. A program in another language wrote the same numbers.
+const AROUND: &str = "\
+uint64_t A[600];
+uint64_t B[600];
+int main(void) {
+#pragma omp target map(tofrom: A) map(tofrom: B)
+{
+uint64_t s = 2;
+for (uint64_t k = 0; k < 3; k += 1) {
+for (uint64_t i = 0; i < 600; i += 1) { B[i] = A[i] * s + i; }
+for (uint64_t i = 1; i < 599; i += 1) { A[i] = B[i - 1] + B[i + 1]; }
+s = s + 1;
+}
+A[0] = A[0] + s;
+}
+print(A[0]);
+print(A[1]);
+print(A[300]);
+print(A[598]);
+}
+";
+
+#[test]
+fn blocks_stand_among_other_statements(rt: HostRuntime) -> Result<(), Fail> {
+    assert!(rt; look_at(rt.alloc(), AROUND, &Prints(b"5\n114\n34200\n34628\n"))?);
     Ok(())
 }

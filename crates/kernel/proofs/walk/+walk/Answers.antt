@@ -1,0 +1,77 @@
+use Rattle.std.proofs.Common.{◌+◌, rules}
+use Rattle.base.specs.declared.tree.Stmt.TheViews.{the_lemmas}
+use Rattle.kernel.specs.Walks.{list_meaning, loop_meaning, stmt_meaning, turn_meaning}
+use Rattle.kernel.proofs.Walking.{next_can, next_done, all_done, from_on, this_first, none_left, turns_from, turn_first, no_turn}
+use Rattle.kernel.proofs.WalkedLoops.{loop_can, loop_done, alone_done}
+use Rattle.kernel.proofs.walk.+walk.Goals as goal
+
+pub in_turns-in_turn-requires : goal.in_turns-in_turn-requires
+in_turns-in_turn-requires t c =
+    let b = c.args.bounds in
+    let body = c.args.body.now in
+    let v = c.turns.v in (
+      search (rules, the_lemmas),
+      next_can (loop_meaning b body) (turns_from b body v) (turn_meaning v body) (turns_from b body (v + b.step)) c.args.m.now
+          c.turns.m (turn_first b body v c.turns-test.true) c.turns.invariant c.requires,
+    )
+
+pub in_turns-turns-preserved : goal.in_turns-turns-preserved
+in_turns-turns-preserved t c =
+    let b = c.args.bounds in
+    let body = c.args.body.now in
+    let v = c.turns.v in
+    next_done (loop_meaning b body) (turns_from b body v) (turn_meaning v body) (turns_from b body (v + b.step)) c.args.m.now
+    c.turns.m (turn_first b body v c.turns-test.true) c.turns.invariant c.in_turn.new.m c.in_ok-in_turn.ensures
+
+pub in_turns-returns : goal.in_turns-returns
+in_turns-returns t c =
+    let b = c.args.bounds in
+    let body = c.args.body.now in
+    all_done (loop_meaning b body) (turns_from b body c.turns.v) c.args.m.now c.turns.m
+    (no_turn b body c.turns.v c.turns-test.false) c.turns.invariant
+
+pub walk-walk_one-requires : goal.walk-walk_one-requires
+walk-walk_one-requires t c =
+    let all = c.args.all.now in
+    let k = c.loop-s.s-index in (
+      search (rules, the_lemmas),
+      next_can (list_meaning all) (from_on all k) (stmt_meaning c.s-item.result) (from_on all (k + 1)) c.args.m.now c.loop-s.m
+          (this_first all k c.s-item.result c.loop-s-test.true c.s-item.is) c.loop-s.invariant c.requires,
+    )
+
+pub walk-loop-s-preserved : goal.walk-loop-s-preserved
+walk-loop-s-preserved t c =
+    let all = c.args.all.now in
+    let k = c.loop-s.s-index in
+    next_done (list_meaning all) (from_on all k) (stmt_meaning c.s-item.result) (from_on all (k + 1)) c.args.m.now c.loop-s.m
+    (this_first all k c.s-item.result c.loop-s-test.true c.s-item.is) c.loop-s.invariant c.walk_one.new.m c.in_ok-walk_one.ensures
+
+pub walk-returns : goal.walk-returns
+walk-returns t c =
+    let all = c.args.all.now in
+    all_done (list_meaning all) (from_on all c.loop-s.s-index) c.args.m.now c.loop-s.m
+    (none_left all c.loop-s.s-index c.loop-s-test.false) c.loop-s.invariant
+
+pub walk_one-in_blocks-requires-clause-can : goal.walk_one-in_blocks-requires-clause-can
+walk_one-in_blocks-requires-clause-can t c =
+    loop_can c.args.s.now c.in-Loop.bounds c.in-Loop.body _ c.args.m.now c.in-Loop.is c.deref-then-are_apart.ensures.value c.requires
+
+pub walk_one-returns-then-are_apart : goal.walk_one-returns-then-are_apart
+walk_one-returns-then-are_apart t c =
+    loop_done c.args.s.now c.in-Loop.bounds c.in-Loop.body _ c.args.m.now c.in-Loop.is c.deref-then-are_apart.ensures.value
+    c.in_blocks.new.m c.in_ok-in_blocks.ensures
+
+pub walk_one-in_turns-requires : goal.walk_one-in_turns-requires
+walk_one-in_turns-requires t c = (
+  search (rules, the_lemmas),
+  loop_can c.args.s.now c.in-Loop.bounds c.in-Loop.body _ c.args.m.now c.in-Loop.is c.deref-then-has_blocks.ensures.value c.requires,
+)
+
+pub walk_one-returns-then-has_blocks : goal.walk_one-returns-then-has_blocks
+walk_one-returns-then-has_blocks t c =
+    loop_done c.args.s.now c.in-Loop.bounds c.in-Loop.body _ c.args.m.now c.in-Loop.is c.deref-then-has_blocks.ensures.value
+    c.in_turns.new.m c.in_ok-in_turns.ensures
+
+pub walk_one-returns : goal.walk_one-returns
+walk_one-returns t c =
+    alone_done c.args.s.now c.from_ref.result.now c.args.m.now c.by_code.new.m c.from_ref.ensures.value c.in_ok-by_code.ensures

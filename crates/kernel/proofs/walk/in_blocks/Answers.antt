@@ -1,0 +1,17 @@
+use Rattle.std.proofs.Common.{length, ap, arith, refl}
+use Rattle.std.proofs.lemmas.List.{with_items_is}
+use Rattle.kernel.proofs.WalkedLoops.{blocks_can, blocks_done}
+use Rattle.kernel.proofs.walk.in_blocks.Goals as goal
+
+pub blocks-requires-clause-turns : goal.blocks-requires-clause-turns
+blocks-requires-clause-turns c =
+    blocks_can c.args.bounds c.args.body.now c.args.m.now _ _ _ c.deref.ensures.value c.deref_mut.ensures.value
+    c.deref_mut-2.ensures.value c.requires.step c.requires.can
+
+pub returns : goal.returns
+returns c =
+    blocks_done c.args.bounds c.args.body.now c.args.m.now _ _ _ c.deref.ensures.value c.deref_mut.ensures.value
+    c.deref_mut-2.ensures.value c.requires.step _ c.blocks-2.new.rows c.in_ok-blocks.ensures
+    (with_items_is c.args.m.now.rows c.blocks-2.new.rows
+    (omega (arith, c.blocks-2.auto.rows, c.args.m.now.rows.ok.0, ap length c.deref_mut-2.ensures.value)))
+    refl refl refl

@@ -1,0 +1,41 @@
+-- What a machine does that goes over the statements of a region.
+use Rattle.std.specs.Prelude.{ℕ, ◌≡◌, List, [], ◌∷◌, ◌++◌, Option, Some, IsSome}
+use Rattle.base.specs.declared.tree.Bounds.{Bounds}
+use Rattle.base.specs.declared.tree.Stmt.{Stmt}
+use Rattle.base.specs.Memory.{View}
+use Rattle.base.specs.Meaning.{Run, all_turns, run_list, run_stmt}
+use Rattle.kernel.specs.Loops.{Stands, does}
+use Rattle.kernel.specs.declared.state.Machine.{Machine}
+
+-- what is done on a view in some loops
+abbrev pub Meaning : Type 0
+Meaning = View → List ℕ → Run → Option Run
+
+-- of a statement, of statements, of a loop and of a turn of it
+abbrev pub stmt_meaning : Stmt → Meaning
+stmt_meaning s view loops = run_stmt s view loops
+
+abbrev pub list_meaning : List Stmt → Meaning
+list_meaning all view loops = run_list all view loops
+
+abbrev pub loop_meaning : Bounds → List Stmt → Meaning
+loop_meaning b body view loops = all_turns b (does view loops body)
+
+abbrev pub turn_meaning : ℕ → List Stmt → Meaning
+turn_meaning v body view loops = run_list body view (loops ++ v ∷ [])
+
+-- the machine stands where a run does
+pub record At (view : View) (s : Run) (m : Machine) : Type 0 where
+  pub stands : Stands view s m.scalars.value m.rows.items
+  pub input : m.input.now ≡ s.input
+  pub printed : m.printed.items ≡ s.printed
+
+-- it has a meaning from where the machine stands
+abbrev pub CanDo : Meaning → Machine → Type 0
+CanDo f m = (view : View) × (s : Run) × At view s m × IsSome (f view m.loops.items s)
+
+-- the machine has done it, and stands in the same loops
+abbrev pub HasDone : Meaning → Machine → Machine → Type 0
+HasDone f m m' =
+    (m'.loops.items ≡ m.loops.items)
+    × ((view : View) (s t : Run) → At view s m → f view m.loops.items s ≡ Some t → At view t m')

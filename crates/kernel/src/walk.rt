@@ -1,0 +1,134 @@
+// Statements whose loops are done in blocks of turns where that can be.
+
+ghost use Rattle.std.specs.Prelude.{◌≡◌, true, OnOk, length};
+ghost use Rattle.kernel.specs.Loops.{AreApart};
+ghost use Rattle.kernel.specs.Walks.{CanDo, HasDone, list_meaning, loop_meaning, stmt_meaning, turn_meaning};
+
+use crate::apart::are_apart;
+use crate::block::blocks;
+use crate::emit::ops_of;
+use crate::follow::follow;
+use crate::state::{Machine, pop};
+use base::tree::{Bounds, Stmt};
+use std::alloc::{AllocError, Global};
+use std::slice;
+
+/// The fewest turns that are done in blocks.
+const FEWEST: u64 = 8;
+
+// A loop of step 1 with some turns at least.
+fn is_long(bounds: Bounds) -> bool
+    ensures { result ≡ true → bounds.step ≡ 1 }
+{
+    bounds.step == 1 && bounds.end >= FEWEST && bounds.first <= bounds.end - FEWEST
+}
+
+#[cycle(has)]
+fn is_blocked(s: &Stmt, level: usize) -> bool {
+    match s {
+        Stmt::Loop(bounds, body) => {
+            (is_long(*bounds) && are_apart(body, level))
+                || has_blocks(body, level.saturating_add(1))
+        }
+        _ => false,
+    }
+}
+
+/// Whether there is a loop that is done in blocks, in a loop or alone.
+#[cycle(has)]
+pub fn has_blocks(all: &[Stmt], level: usize) -> bool {
+    for s in all {
+        if is_blocked(s, level) {
+            return true;
+        }
+    }
+    false
+}
+
+// Statements, one operation after another.
+fn by_code(alloc: Global, all: &[Stmt], m: &mut Machine<'_>) -> Result<(), AllocError>
+    requires { CanDo (list_meaning all.now) m.old }
+    ensures { OnOk result (HasDone (list_meaning all.now) m.old m.new) }
+{
+    let ops = ops_of(alloc, all)?;
+    follow(&ops, all, m)?;
+    Ok(())
+}
+
+// A loop in blocks of turns.
+fn in_blocks(
+    alloc: Global,
+    bounds: Bounds,
+    body: &[Stmt],
+    m: &mut Machine<'_>,
+) -> Result<(), AllocError>
+    requires step { bounds.step ≡ 1 }
+    requires apart { AreApart (length m.old.loops.items) body.now }
+    requires can { CanDo (loop_meaning bounds body.now) m.old }
+    ensures { OnOk result (HasDone (loop_meaning bounds body.now) m.old m.new) }
+{
+    blocks(alloc, body, &m.loops, bounds, &mut m.scalars, &mut m.rows)?;
+    Ok(())
+}
+
+#[cycle(walk)]
+fn in_turn(alloc: Global, v: u64, body: &[Stmt], m: &mut Machine<'_>) -> Result<(), AllocError>
+    requires { CanDo (turn_meaning v body.now) m.old }
+    ensures { OnOk result (HasDone (turn_meaning v body.now) m.old m.new) }
+{
+    m.loops.push(v)?;
+    walk(alloc, body, m)?;
+    let _ = pop(&mut m.loops);
+    Ok(())
+}
+
+// A loop turn by turn.
+#[cycle(walk)]
+fn in_turns(
+    alloc: Global,
+    bounds: Bounds,
+    body: &[Stmt],
+    m: &mut Machine<'_>,
+) -> Result<(), AllocError>
+    requires { CanDo (loop_meaning bounds body.now) m.old }
+    ensures { OnOk result (HasDone (loop_meaning bounds body.now) m.old m.new) }
+{
+    let mut v = bounds.first;
+    'turns: while v < bounds.end {
+        in_turn(alloc, v, body, m)?;
+        v += bounds.step;
+    }
+    Ok(())
+}
+
+#[cycle(walk)]
+fn walk_one(alloc: Global, s: &Stmt, m: &mut Machine<'_>) -> Result<(), AllocError>
+    requires { CanDo (stmt_meaning s.now) m.old }
+    ensures { OnOk result (HasDone (stmt_meaning s.now) m.old m.new) }
+{
+    if let Stmt::Loop(bounds, body) = s {
+        let level = m.loops.len();
+        if is_long(*bounds) && are_apart(body, level) {
+            in_blocks(alloc, *bounds, body, m)?;
+            return Ok(());
+        }
+        if has_blocks(body, level.saturating_add(1)) {
+            in_turns(alloc, *bounds, body, m)?;
+            return Ok(());
+        }
+    }
+    by_code(alloc, slice::from_ref(s), m)?;
+    Ok(())
+}
+
+/// Does statements in order. The error comes for want of memory.
+#[cycle(walk)]
+pub fn walk(alloc: Global, all: &[Stmt], m: &mut Machine<'_>) -> Result<(), AllocError>
+    requires { CanDo (list_meaning all.now) m.old }
+    ensures { OnOk result (HasDone (list_meaning all.now) m.old m.new) }
+{
+    for s in all {
+        walk_one(alloc, s, m)?;
+    }
+    Ok(())
+}
