@@ -13,8 +13,9 @@ use base::tree::{Bounds, Stmt};
 use std::alloc::{AllocError, Global};
 use std::slice;
 
-/// The fewest turns that are done in blocks.
-const FEWEST: u64 = 8;
+/// The fewest turns that are done in blocks: the test, and the operations that are made anew for the statements beside
+/// such a loop, take as long as some turns.
+const FEWEST: u64 = 64;
 
 // A loop of step 1 with some turns at least.
 fn is_long(bounds: Bounds) -> bool

@@ -7,7 +7,7 @@ use std::alloc::{AllocError, Global};
 use std::test::Fail;
 
 // How many turns: none, few, about a block, and more than two.
-const TURNS: [u64; 9] = [0, 1, 2, 8, 9, 511, 512, 513, 1100];
+const TURNS: [u64; 9] = [0, 1, 2, 63, 64, 511, 512, 513, 1100];
 
 // What a turn does on the arrays A and B and the scalar s, and the same on C, D and t.
 const BODIES: [(&str, &str); 13] = [
