@@ -105,7 +105,7 @@ stored_block at lanes rows rows' a e xs ys same size given cells stored =
         (λ v i. sym (number_is at e (block_of at lanes rows) ys given v i))
 
 -- before the first statement
-none_assigned : (at : Turns) (rows : List KeptRow) → block_of at [] rows ≡ begun_block at.scalars.now rows
+pub none_assigned : (at : Turns) (rows : List KeptRow) → block_of at [] rows ≡ begun_block at.scalars.now rows
 none_assigned at rows =
     ap (λ (f : ℕ → Scalars). record (begun_block at.scalars.now rows) { scalars = f })
     (fun_ext (λ (v : ℕ). go (in_block at.first at.count v)))

@@ -3,16 +3,24 @@ use Rattle.std.proofs.Common.{◌≡◌, ℕ, zero, suc, ◌+◌, ◌-◌, ◌<�
 use mathlib.Core.Path.{fun_ext}
 use Rattle.base.specs.declared.item.Cell.{Cell}
 use Rattle.base.specs.declared.tree.Stmt.{Stmt}
-use Rattle.base.specs.Memory.{View}
+use Rattle.std.specs.Prelude.{slice_index}
+use Rattle.base.specs.Memory.{View, Scalars}
+use Rattle.base.specs.Value.{binary}
 use Rattle.base.specs.Meaning.{Run, turn}
 use Rattle.lanes.specs.Apart.{in_block, Block, block_body, block_start}
 use Rattle.lanes.specs.There.{BodyThere}
 use Rattle.lanes.specs.Turned.{IsRun}
 use Rattle.lanes.proofs.Blocks.{block_is_turns}
+use Rattle.lanes.specs.Sums.{ended}
+use Rattle.lanes.proofs.Sums.{sum_is_turns}
+use Rattle.kernel.specs.Forms.{IsForm, IsFormOf, carried, form_block, statements, with_sum}
 use Rattle.kernel.specs.Lanes.{begun_block, IsBlock}
-use Rattle.kernel.specs.Loops.{assigned_in, stored_in, AreApart, does, Stands, Begins, Ends}
+use Rattle.kernel.specs.Loops.{assigned_in, stored_in, does, Stands, Begins, Ends}
 use Rattle.kernel.specs.declared.frames.KeptRow.{KeptRow}
+use Rattle.kernel.specs.declared.turns.Form.{Form}
+use Rattle.kernel.specs.declared.turns.Sum.{Sum}
 use Rattle.kernel.proofs.Looseness.{none_loose}
+use Rattle.kernel.proofs.Sums.{once_loose}
 use Rattle.kernel.proofs.Stepping.{there}
 
 -- some turns, and those that are left
@@ -43,21 +51,39 @@ turn_split (suc a) b (suc n) v f s t e h =
           back = ap (λ w. turn b w 1 f p.mid) (sym at) ∙ p.back;
         }
 
+-- what turns do in a form is what they do one after another
+form_is_turns : (body front : List Stmt) (sum : Option Sum) (outer : List ℕ) (view : View) (s t : Run) (v more : ℕ) →
+    IsFormOf (length outer) body front sum → turn (suc more) v 1 (does view outer body) s ≡ Some t →
+    BodyThere (in_block v (suc more)) outer (with_sum front sum) (block_start view s)
+    × IsRun view
+    (carried sum s.scalars v (suc more) (block_body (in_block v (suc more)) outer (with_sum front sum) (block_start view s)))
+    (v + more) s t
+form_is_turns body front None outer view s t v more h e =
+    subst (λ (xs : List Stmt). BodyThere (in_block v (suc more)) outer xs (block_start view s)
+    × IsRun view (block_body (in_block v (suc more)) outer xs (block_start view s)) (v + more) s t) (sym h.0)
+    (block_is_turns body view outer (stored_in body) (assigned_in body) v more s t h.1.0 (none_loose body) e)
+form_is_turns body front (Some q) outer view s t v more h e =
+    let all = ended front q.scalar q.added.now in
+    sum_is_turns (binary q.op) front q.scalar q.added.now h.has.last view outer (stored_in all) (assigned_in all) v more s t
+    h.has.carries h.apart.0 (none_loose all) (once_loose front q.scalar q.added.now h.once)
+    (sym (ap (λ (xs : List Stmt). turn (suc more) v 1 (does view outer xs) s) h.has.whole) ∙ e)
+
 -- the same turns, one more at least, from where the rows stand
-pub begun_there : (body : List Stmt) (outer : List ℕ) (view : View) (s t : Run) (v count : ℕ) (scalars : List ℕ) (rows : List KeptRow) →
-    0 < count → AreApart (length outer) body → Stands view s scalars rows →
+pub begun_there : (f : Form) (body : List Stmt) (outer : List ℕ) (view : View) (s t : Run) (v count : ℕ) (scalars : List ℕ) (rows : List KeptRow) →
+    0 < count → IsForm (length outer) body f → Stands view s scalars rows →
     turn count v 1 (does view outer body) s ≡ Some t →
-    BodyThere (in_block v count) outer body (begun_block scalars rows)
-    × IsRun view (block_body (in_block v count) outer body (begun_block scalars rows)) (v + (count - 1)) s t
-begun_there body outer view s t v zero scalars rows some apart h e = absurd (omega arith)
-begun_there body outer view s t v (suc more) scalars rows some apart h e =
-    let r = block_is_turns body view outer (stored_in body) (assigned_in body) v more s t apart.0 (none_loose body) e in
+    BodyThere (in_block v count) outer (statements f) (begun_block scalars rows)
+    × IsRun view (form_block f outer v count (slice_index scalars) (begun_block scalars rows)) (v + (count - 1)) s t
+begun_there f body outer view s t v zero scalars rows some form h e = absurd (omega arith)
+begun_there f body outer view s t v (suc more) scalars rows some form h e =
+    let r = form_is_turns body f.front.now f.sum outer view s t v more form e in
     let last : v + more ≡ v + (suc more - 1) = omega arith in
     let same : block_start view s ≡ begun_block scalars rows =
     λ i. record { scalars = λ w. sym h.scalars i; cells = sym h.cells i; stored = sym h.stored i } in (
-      subst (λ (b : Block). BodyThere (in_block v (suc more)) outer body b) same r.0,
-      subst (λ (b : Block). IsRun view (block_body (in_block v (suc more)) outer body b) (v + (suc more - 1)) s t) same
-          (subst (λ (w : ℕ). IsRun view (block_body (in_block v (suc more)) outer body (block_start view s)) w s t) last r.1),
+      subst (λ (b : Block). BodyThere (in_block v (suc more)) outer (statements f) b) same r.0,
+      subst (λ (g : Scalars). IsRun view (form_block f outer v (suc more) g (begun_block scalars rows)) (v + (suc more - 1)) s t) (sym h.scalars)
+          (subst (λ (b : Block). IsRun view (form_block f outer v (suc more) s.scalars b) (v + (suc more - 1)) s t) same
+          (subst (λ (w : ℕ). IsRun view (form_block f outer v (suc more) s.scalars (block_start view s)) w s t) last r.1)),
     )
 
 -- where a block is left, its run stands
@@ -90,8 +116,8 @@ pub carried_all : (body : List Stmt) (outer : List ℕ) (first end : ℕ) (scala
 carried_all body outer first end scalars rows view s t h e =
     record { now = s; rest = e; stands = h; input = refl; printed = refl }
 
-module _ (body : List Stmt) (outer : List ℕ) (first end v count : ℕ) (some : 0 < count) (within : count ≤ end - v)
-    (apart : AreApart (length outer) body) where
+module _ (f : Form) (body : List Stmt) (outer : List ℕ) (first end v count : ℕ) (some : 0 < count) (within : count ≤ end - v)
+    (form : IsForm (length outer) body f) where
   first_block : (view : View) (s t : Run) → turn (end - v) v 1 (does view outer body) s ≡ Some t →
       Split count (end - (v + count)) v (does view outer body) s t
   first_block view s t e =
@@ -100,23 +126,23 @@ module _ (body : List Stmt) (outer : List ℕ) (first end v count : ℕ) (some :
   -- the next block has what it needs
   pub next_there : (scalars : List ℕ) (rows : List KeptRow) (scalars' : List ℕ) (rows' : List KeptRow) →
       Begins body outer first end scalars rows → Carries body outer first end v scalars rows scalars' rows' →
-      BodyThere (in_block v count) outer body (begun_block scalars' rows')
+      BodyThere (in_block v count) outer (statements f) (begun_block scalars' rows')
   next_there scalars rows scalars' rows' h carried =
       let t = there (turn (end - first) first 1 (does h.0 outer body) h.1) h.3 in
       let l = carried h.0 h.1 t.0 h.2 t.1 in
       let p = first_block h.0 l.now t.0 l.rest in
-      (begun_there body outer h.0 l.now p.mid v count scalars' rows' some apart l.stands p.front).0
+      (begun_there f body outer h.0 l.now p.mid v count scalars' rows' some form l.stands p.front).0
 
   -- and fewer turns are left after it
   pub carried_on : (scalars : List ℕ) (rows : List KeptRow) (scalars' : List ℕ) (rows' : List KeptRow)
       (scalars'' : List ℕ) (rows'' : List KeptRow) →
       Carries body outer first end v scalars rows scalars' rows' →
-      IsBlock (block_body (in_block v count) outer body (begun_block scalars' rows')) (v + (count - 1)) scalars'' rows'' →
+      IsBlock (form_block f outer v count (slice_index scalars') (begun_block scalars' rows')) (v + (count - 1)) scalars'' rows'' →
       Carries body outer first end (v + count) scalars rows scalars'' rows''
   carried_on scalars rows scalars' rows' scalars'' rows'' carried done view s t h e =
       let l = carried view s t h e in
       let p = first_block view l.now t l.rest in
-      let b = (begun_there body outer view l.now p.mid v count scalars' rows' some apart l.stands p.front).1 in
+      let b = (begun_there f body outer view l.now p.mid v count scalars' rows' some form l.stands p.front).1 in
       record {
         now = p.mid;
         rest = p.back;

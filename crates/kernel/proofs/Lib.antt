@@ -20,6 +20,8 @@ pub mod Overs
 pub mod Runs
 pub mod BlockLanes
 pub mod Looseness
+pub mod Sums
+pub mod SumLanes
 pub mod BlockTurns
 pub mod LoadedRuns
 pub mod Codings

@@ -19,7 +19,7 @@ after_is loose (Loop' b shape all) x = refl
 after_is loose (If' c shape all shape' all') x = refl
 
 -- so it is for a body
-loose_is : (body : List Stmt) (loose : Set) (x : ℕ) → loose_body loose body x ≡ (not (assigned_in body x) && loose x)
+pub loose_is : (body : List Stmt) (loose : Set) (x : ℕ) → loose_body loose body x ≡ (not (assigned_in body x) && loose x)
 loose_is [] loose x = refl
 loose_is (s ∷ rest) loose x =
     loose_is rest (loose_after loose s) x
@@ -40,7 +40,7 @@ none_loose body x = loose_is body (assigned_in body) x ∙ never (assigned_in bo
     never true = refl
     never false = refl
 
-in_more : (before : List Stmt) (s : Stmt) (x : ℕ) → assigned_in (before ++ s ∷ []) x ≡ (assigned_in before x || assigned_by s x)
+pub in_more : (before : List Stmt) (s : Stmt) (x : ℕ) → assigned_in (before ++ s ∷ []) x ≡ (assigned_in before x || assigned_by s x)
 in_more [] s x = go (assigned_by s x)
   where
     go : (b : Bool) → (b || false) ≡ b
@@ -76,17 +76,17 @@ all_loose body = fun_ext (λ (x : ℕ). go (assigned_in body x))
     go false = refl
 
 -- the statements from a place on, and the one there with those behind it
-pub one_apart : (body : List Stmt) (level k : ℕ) (d : Stmt) → k < length body →
-    (stmt_apart (stored_in body) (assigned_in body) (loose_in body (take k body)) level (get_or body k d)
-    && body_apart (stored_in body) (assigned_in body) (loose_in body (take (k + 1) body)) level (drop (k + 1) body))
-    ≡ body_apart (stored_in body) (assigned_in body) (loose_in body (take k body)) level (drop k body)
-one_apart body level k d h =
-    ap (λ loose. stmt_apart (stored_in body) (assigned_in body) (loose_in body (take k body)) level (get_or body k d)
-    && body_apart (stored_in body) (assigned_in body) loose level (drop (k + 1) body))
-    (ap (loose_in body) (take_more body k d h) ∙ sym (loose_more body (take k body) (get_or body k d)))
-    ∙ sym (ap (body_apart (stored_in body) (assigned_in body) (loose_in body (take k body)) level) (drop_more body k d h))
+pub one_apart : (body some : List Stmt) (level k : ℕ) (d : Stmt) → k < length some →
+    (stmt_apart (stored_in body) (assigned_in body) (loose_in body (take k some)) level (get_or some k d)
+    && body_apart (stored_in body) (assigned_in body) (loose_in body (take (k + 1) some)) level (drop (k + 1) some))
+    ≡ body_apart (stored_in body) (assigned_in body) (loose_in body (take k some)) level (drop k some)
+one_apart body some level k d h =
+    ap (λ loose. stmt_apart (stored_in body) (assigned_in body) (loose_in body (take k some)) level (get_or some k d)
+    && body_apart (stored_in body) (assigned_in body) loose level (drop (k + 1) some))
+    (ap (loose_in body) (take_more some k d h) ∙ sym (loose_more body (take k some) (get_or some k d)))
+    ∙ sym (ap (body_apart (stored_in body) (assigned_in body) (loose_in body (take k some)) level) (drop_more some k d h))
 
-pub none_apart : (body : List Stmt) (level k : ℕ) (loose : Set) → length body ≤ k →
-    true ≡ body_apart (stored_in body) (assigned_in body) loose level (drop k body)
-none_apart body level k loose h =
-    sym (ap (body_apart (stored_in body) (assigned_in body) loose level) (drop_all k body h))
+pub none_apart : (body some : List Stmt) (level k : ℕ) (loose : Set) → length some ≤ k →
+    true ≡ body_apart (stored_in body) (assigned_in body) loose level (drop k some)
+none_apart body some level k loose h =
+    sym (ap (body_apart (stored_in body) (assigned_in body) loose level) (drop_all k some h))

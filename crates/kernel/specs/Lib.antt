@@ -6,4 +6,5 @@ pub mod States
 pub mod Lanes
 pub mod Walks
 pub mod Loops
+pub mod Forms
 pub mod Runnable

@@ -1,10 +1,12 @@
 // Whether the turns of a loop are apart, so that they can be done in blocks.
 
-ghost use Rattle.std.specs.Prelude.{◌≡◌, ◌≤◌, ◌∷◌, [], true, drop, length, take};
+ghost use Rattle.std.specs.Prelude.{◌≡◌, ◌≤◌, ◌∷◌, [], true, drop, length, take, IfSome};
+ghost use Rattle.kernel.specs.Forms.{HasSum, IsCarriedBy, IsForm, IsSum};
 ghost use Rattle.kernel.specs.Loops.{AreApart, assigned_by, assigned_in, loose_in, stored_by, stored_in};
 ghost use Rattle.lanes.specs.Apart as lanes;
 ghost use Rattle.lanes.specs.There as there;
 
+use crate::turns::{Form, Sum};
 use base::tree::{ArrayId, Expr, ScalarId, Source, Stmt};
 
 /// The most statements of a body that is looked at.
@@ -146,16 +148,16 @@ fn stmt_apart(body: &[Stmt], before: &[Stmt], level: usize, s: &Stmt) -> bool
     }
 }
 
-// The statements from a place on.
+// Of some statements of a body those from a place on.
 #[tactic(auto, using(crate::proofs::Looseness::one_apart, crate::proofs::Looseness::none_apart))]
-fn body_apart(body: &[Stmt], level: usize, k: usize) -> bool
-    requires { k ≤ length body.now }
-    ensures { result ≡ lanes.body_apart (stored_in body.now) (assigned_in body.now) (loose_in body.now (take k body.now)) level (drop k body.now) }
+fn body_apart(body: &[Stmt], some: &[Stmt], level: usize, k: usize) -> bool
+    requires { k ≤ length some.now }
+    ensures { result ≡ lanes.body_apart (stored_in body.now) (assigned_in body.now) (loose_in body.now (take k some.now)) level (drop k some.now) }
 {
-    if k == body.len() {
+    if k == some.len() {
         return true;
     }
-    stmt_apart(body, &body[..k], level, &body[k]) && body_apart(body, level, k + 1)
+    stmt_apart(body, &some[..k], level, &some[k]) && body_apart(body, some, level, k + 1)
 }
 
 fn expr_plain(e: &Expr) -> bool
@@ -190,10 +192,83 @@ fn body_plain(all: &[Stmt]) -> bool
     }
 }
 
-/// Whether the turns of a loop at this level with this body are apart. A long body, or a deep
-/// expression, is not looked at.
-pub fn are_apart(body: &[Stmt], level: usize) -> bool
+// Whether the turns of a loop at this level with this body are apart.
+fn are_apart(body: &[Stmt], level: usize) -> bool
     ensures { result ≡ true → AreApart level body.now }
 {
-    body.len() <= MOST && are_shallow(body) && body_plain(body) && body_apart(body, level, 0)
+    body_plain(body) && body_apart(body, body, level, 0)
+}
+
+// The scalar that a statement makes of itself.
+fn carried_by(s: &Stmt) -> Option<Sum<'_>>
+    ensures { IfSome result (λ sum. IsCarriedBy s.now sum) }
+{
+    let Stmt::Assign(x, Source::Value(Expr::Binary(op, left, added))) = s else {
+        return None;
+    };
+    match &**left {
+        Expr::Scalar(y) if y.0 == x.0 => Some(Sum {
+            scalar: *x,
+            op: *op,
+            added,
+        }),
+        _ => None,
+    }
+}
+
+// Whether a body whose last statement carries a scalar on has turns that are apart but for it.
+#[tactic(auto, using(crate::proofs::Sums::is_sum))]
+fn are_apart_but(body: &[Stmt], front: &[Stmt], level: usize, sum: Sum<'_>) -> bool
+    requires { HasSum body.now front.now sum }
+    ensures { result ≡ true → IsSum level body.now front.now sum.entry }
+{
+    if is_assigned(front, sum.scalar) {
+        return false;
+    }
+    if !body_plain(front) {
+        return false;
+    }
+    if !expr_plain(sum.added) {
+        return false;
+    }
+    if !body_apart(body, front, level, 0) {
+        return false;
+    }
+    expr_apart(body, front, level, sum.added)
+}
+
+// A body that ends with a sum.
+#[tactic(auto, using(crate::proofs::Sums::has_sum))]
+fn sum_of(body: &[Stmt], level: usize) -> Option<Form<'_>>
+    ensures { IfSome result (IsForm level body.now) }
+{
+    let [front @ .., last] = body else {
+        return None;
+    };
+    let sum = carried_by(last)?;
+    if are_apart_but(body, front, level, sum) {
+        Some(Form {
+            front,
+            sum: Some(sum),
+        })
+    } else {
+        None
+    }
+}
+
+/// How the turns of a loop at this level with this body are done in blocks, if they can be. A long body, or a deep
+/// expression, is not looked at.
+pub fn form_of(body: &[Stmt], level: usize) -> Option<Form<'_>>
+    ensures { IfSome result (IsForm level body.now) }
+{
+    if body.len() > MOST || !are_shallow(body) {
+        return None;
+    }
+    if are_apart(body, level) {
+        return Some(Form {
+            front: body,
+            sum: None,
+        });
+    }
+    sum_of(body, level)
 }

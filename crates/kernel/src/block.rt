@@ -1,18 +1,21 @@
 // Blocks of turns of a loop, statement by statement.
 
 ghost use Rattle.std.specs.Prelude.{ℕ, ◌≡◌, ◌+◌, ◌-◌, ◌<◌, ◌≤◌, ◌^◌, true, Some, IsSome, IfOk, OnOk, length, slice_index};
+ghost use Rattle.base.specs.Meaning.{set_scalar};
 ghost use Rattle.base.specs.Value.{value};
+ghost use Rattle.kernel.specs.Forms.{IsCarriedOn, IsForm, form_block, statements};
 ghost use Rattle.kernel.specs.Lanes.{HaveSize, IsBlock, assigned_lanes, begun_block, block_of, inside_of, lane_scalars, stored_lanes};
-ghost use Rattle.kernel.specs.Loops.{AreApart, Begins, Ends};
+ghost use Rattle.kernel.specs.Loops.{Begins, Ends};
 ghost use Rattle.kernel.specs.Rows.{cells_kept};
 ghost use Rattle.lanes.specs.Apart.{block_body, block_stmt, in_block, names_at};
 ghost use Rattle.lanes.specs.There.{BodyThere, HasValues, StmtThere, body_plain, is_plain, stmt_plain};
 
 use crate::frames::KeptRow;
 use crate::stores::store_run;
-use crate::turns::{Lane, Reads, Turns};
+use crate::turns::{Form, Lane, Reads, Sum, Turns};
 use crate::values::eval;
 use base::tree::{ArrayId, Bounds, Expr, ScalarId, Source, Stmt};
+use lanes::numbers::fold;
 use std::alloc::{AllocError, Global};
 
 // The numbers of an expression in the turns of a block.
@@ -123,6 +126,12 @@ fn do_body(
     Ok(())
 }
 
+fn set(scalars: &mut [u64; 256], x: ScalarId, n: u64)
+    ensures { slice_index scalars.new ≡ set_scalar x.0 n (slice_index scalars.old) }
+{
+    scalars[x.0 as usize] = n;
+}
+
 // The scalars take the numbers of the last of so many turns.
 fn keep_last(lanes: &[Lane], count: usize, scalars: &mut [u64; 256])
     requires some { 0 < count }
@@ -131,14 +140,31 @@ fn keep_last(lanes: &[Lane], count: usize, scalars: &mut [u64; 256])
 {
     if let [first, rest @ ..] = lanes {
         keep_last(rest, count, scalars);
-        scalars[first.scalar.0 as usize] = first.numbers[count - 1];
+        set(scalars, first.scalar, first.numbers[count - 1]);
     }
+}
+
+// The number of a scalar that all turns of a block carry on.
+fn carry_on(
+    alloc: Global,
+    sum: Sum<'_>,
+    at: &Turns<'_>,
+    lanes: &[Lane],
+    rows: &[KeptRow],
+) -> Result<u64, AllocError>
+    requires plain { is_plain sum.added.now ≡ true }
+    requires lanes { HaveSize at.now.count lanes.now }
+    requires there { HasValues (inside_of at.now) at.now.outer.now sum.added.now (block_of at.now lanes.now rows.now) }
+    ensures { IfOk result (IsCarriedOn at.now.first at.now.count at.now.outer.now at.now.scalars.now (block_of at.now lanes.now rows.now) sum.entry) }
+{
+    let numbers = values(alloc, sum.added, at, lanes, rows)?;
+    Ok(fold(sum.op, at.scalars[sum.scalar.0 as usize], &numbers))
 }
 
 // Some turns of a body, statement by statement.
 fn block(
     alloc: Global,
-    body: &[Stmt],
+    form: Form<'_>,
     outer: &[u64],
     first: u64,
     count: usize,
@@ -147,9 +173,9 @@ fn block(
 ) -> Result<(), AllocError>
     requires some { 0 < count }
     requires no_wrap { first + count ≤ 2 ^ 64 }
-    requires plain { body_plain body.now ≡ true }
-    requires there { BodyThere (in_block first count) outer.now body.now (begun_block scalars.old rows.old) }
-    ensures { OnOk result (IsBlock (block_body (in_block first count) outer.now body.now (begun_block scalars.old rows.old)) (first + (count - 1)) scalars.new rows.new) }
+    requires plain { body_plain (statements form) ≡ true }
+    requires there { BodyThere (in_block first count) outer.now (statements form) (begun_block scalars.old rows.old) }
+    ensures { OnOk result (IsBlock (form_block form.entry outer.now first count (slice_index scalars.old) (begun_block scalars.old rows.old)) (first + (count - 1)) scalars.new rows.new) }
 {
     let mut lanes = Vec::new(alloc);
     let at = Turns {
@@ -158,28 +184,38 @@ fn block(
         outer,
         scalars: &*scalars,
     };
-    do_body(alloc, body, &at, &mut lanes, rows)?;
-    keep_last(&lanes, count, scalars);
+    do_body(alloc, form.front, &at, &mut lanes, rows)?;
+    match form.sum {
+        None => keep_last(&lanes, count, scalars),
+        Some(sum) => {
+            let number = carry_on(alloc, sum, &at, &lanes, rows)?;
+            keep_last(&lanes, count, scalars);
+            set(scalars, sum.scalar, number);
+        }
+    }
     Ok(())
 }
 
-/// The turns of a loop of step 1 that are apart, from the first value on to the end. The error comes for want of memory.
+/// The turns of a loop of step 1 that can be done in this form, from the first value on to the end. The error comes for want
+/// of memory.
 pub fn blocks(
     alloc: Global,
+    form: Form<'_>,
     body: &[Stmt],
     outer: &[u64],
     bounds: Bounds,
     scalars: &mut [u64; 256],
     rows: &mut [KeptRow],
 ) -> Result<(), AllocError>
-    requires apart { AreApart (length outer.now) body.now }
+    requires form { IsForm (length outer.now) body.now form }
     requires turns { Begins body.now outer.now bounds.first bounds.end scalars.old rows.old }
     ensures { OnOk result (Ends body.now outer.now bounds.first bounds.end scalars.old rows.old scalars.new rows.new) }
 {
+    let _body = body;
     let mut v = bounds.first;
     'turns: while v < bounds.end {
         let count = size_of(bounds.end - v);
-        block(alloc, body, outer, v, count, scalars, rows)?;
+        block(alloc, form, outer, v, count, scalars, rows)?;
         v += count as u64;
     }
     Ok(())

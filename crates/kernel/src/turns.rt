@@ -3,7 +3,7 @@
 ghost use Rattle.std.specs.Prelude.{◌≤◌, ◌<◌, ◌+◌, ◌^◌};
 
 use crate::frames::KeptRow;
-use base::tree::ScalarId;
+use base::tree::{BinaryOp, Expr, ScalarId, Stmt};
 
 /// A scalar that the turns of a block have assigned, with its number in each of them.
 #[derive(Drop)]
@@ -30,4 +30,21 @@ pub struct Reads<'a> {
     pub at: &'a Turns<'a>,
     pub lanes: &'a [Lane],
     pub rows: &'a [KeptRow],
+}
+
+/// A scalar that the last statement of a turn makes of itself and of the value of an expression, by an operator with the
+/// scalar on its left.
+#[derive(Clone, Copy)]
+pub struct Sum<'b> {
+    pub scalar: ScalarId,
+    pub op: BinaryOp,
+    pub added: &'b Expr,
+}
+
+/// How the turns of a loop are done in blocks: the statements that are done for all turns, and the scalar that is carried
+/// on behind them.
+#[derive(Clone, Copy)]
+pub struct Form<'b> {
+    pub front: &'b [Stmt],
+    pub sum: Option<Sum<'b>>,
 }

@@ -1,14 +1,15 @@
 // Statements whose loops are done in blocks of turns where that can be.
 
 ghost use Rattle.std.specs.Prelude.{◌≡◌, true, OnOk, length};
-ghost use Rattle.kernel.specs.Loops.{AreApart};
+ghost use Rattle.kernel.specs.Forms.{IsForm};
 ghost use Rattle.kernel.specs.Walks.{CanDo, HasDone, list_meaning, loop_meaning, stmt_meaning, turn_meaning};
 
-use crate::apart::are_apart;
+use crate::apart::form_of;
 use crate::block::blocks;
 use crate::emit::ops_of;
 use crate::follow::follow;
 use crate::state::{Machine, pop};
+use crate::turns::Form;
 use base::tree::{Bounds, Stmt};
 use std::alloc::{AllocError, Global};
 use std::slice;
@@ -28,7 +29,7 @@ fn is_long(bounds: Bounds) -> bool
 fn is_blocked(s: &Stmt, level: usize) -> bool {
     match s {
         Stmt::Loop(bounds, body) => {
-            (is_long(*bounds) && are_apart(body, level))
+            (is_long(*bounds) && form_of(body, level).is_some())
                 || has_blocks(body, level.saturating_add(1))
         }
         _ => false,
@@ -60,15 +61,24 @@ fn by_code(alloc: Global, all: &[Stmt], m: &mut Machine<'_>) -> Result<(), Alloc
 fn in_blocks(
     alloc: Global,
     bounds: Bounds,
+    form: Form<'_>,
     body: &[Stmt],
     m: &mut Machine<'_>,
 ) -> Result<(), AllocError>
     requires step { bounds.step ≡ 1 }
-    requires apart { AreApart (length m.old.loops.items) body.now }
+    requires form { IsForm (length m.old.loops.items) body.now form }
     requires can { CanDo (loop_meaning bounds body.now) m.old }
     ensures { OnOk result (HasDone (loop_meaning bounds body.now) m.old m.new) }
 {
-    blocks(alloc, body, &m.loops, bounds, &mut m.scalars, &mut m.rows)?;
+    blocks(
+        alloc,
+        form,
+        body,
+        &m.loops,
+        bounds,
+        &mut m.scalars,
+        &mut m.rows,
+    )?;
     Ok(())
 }
 
@@ -109,9 +119,11 @@ fn walk_one(alloc: Global, s: &Stmt, m: &mut Machine<'_>) -> Result<(), AllocErr
 {
     if let Stmt::Loop(bounds, body) = s {
         let level = m.loops.len();
-        if is_long(*bounds) && are_apart(body, level) {
-            in_blocks(alloc, *bounds, body, m)?;
-            return Ok(());
+        if is_long(*bounds) {
+            if let Some(form) = form_of(body, level) {
+                in_blocks(alloc, *bounds, form, body, m)?;
+                return Ok(());
+            }
         }
         if has_blocks(body, level.saturating_add(1)) {
             in_turns(alloc, *bounds, body, m)?;

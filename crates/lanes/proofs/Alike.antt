@@ -97,7 +97,7 @@ module _ (taken : Set) (view : View) where
     value_alike loose a b h al bl (Divide' op p e n) k =
         ap (on_one (λ x. divided op x n.value)) (value_alike loose a b h al bl e k)
 
-    value_same : (loose : Set) (s t : Run) → Alike loose at_turn s t → (e : Expr) →
+    pub value_same : (loose : Set) (s t : Run) → Alike loose at_turn s t → (e : Expr) →
         is_apart taken loose (length loops) e ≡ true →
         value e (names_in view (loops ++ v ∷ []) s) ≡ value e (names_in view (loops ++ v ∷ []) t)
     value_same loose s t h e k =

@@ -58,7 +58,7 @@ last_in w n = grind (arith, nat_tests)
 
 module _ (taken own : Set) (view : View) (adds : ℕ → Option Delta) (within : (v : ℕ) → AllWithin taken own view v (adds v)) where
   -- what a turn adds
-  abbrev added : ℕ → Delta
+  abbrev pub added : ℕ → Delta
   added v = unwrap_or (adds v) idle
 
   -- the deltas of turns, all of which there are
@@ -183,10 +183,10 @@ module _ (body : List Stmt) (view : View) (loops : List ℕ) (taken own : Set) (
   abbrev adds_at : ℕ → Option Delta
   adds_at v = body_delta body view (loops ++ v ∷ []) s
 
-  in_turn : (v : ℕ) → AllWithin taken own view v (adds_at v)
+  pub in_turn : (v : ℕ) → AllWithin taken own view v (adds_at v)
   in_turn v = body_within taken own view loops v own s body ok
 
-  settle : (v : ℕ) → AllSettle own (λ x. false) (adds_at v)
+  pub settle : (v : ℕ) → AllSettle own (λ x. false) (adds_at v)
   settle v = go (adds_at v) (body_settles view (loops ++ v ∷ []) own s body)
     where
       go : (o : Option Delta) → AllSettle own (loose_body own body) o → AllSettle own (λ x. false) o
@@ -200,10 +200,10 @@ module _ (body : List Stmt) (view : View) (loops : List ℕ) (taken own : Set) (
     joined : Joined taken own view adds_at in_turn (suc more) first d
     joined = subst (λ o. AllJoined taken own view adds_at in_turn (suc more) first o) is (all_joined taken own view adds_at in_turn (suc more) first)
 
-    abbrev end : ℕ → Run
+    abbrev pub end : ℕ → Run
     end v = if in_block first (suc more) v then apply s (added taken own view adds_at in_turn v) else s
 
-    alone : RunAlone (in_block first (suc more)) (λ v. run_list body view (loops ++ v ∷ [])) (λ v. s) end
+    pub alone : RunAlone (in_block first (suc more)) (λ v. run_list body view (loops ++ v ∷ [])) (λ v. s) end
     alone =
         record {
           there =

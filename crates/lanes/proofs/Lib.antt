@@ -6,3 +6,6 @@ pub mod Assignments
 pub mod Settled
 pub mod There
 pub mod Blocks
+pub mod Carried
+pub mod Sums
+pub mod Folds

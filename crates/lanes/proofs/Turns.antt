@@ -12,7 +12,7 @@ use Rattle.lanes.proofs.Alike.{Alike, body_same}
 
 module _ (taken own : Set) (view : View) where
   -- the state at a turn, beside the one that the first turn begins with: the cells of the turns to come are alike
-  abbrev Ahead : ℕ → Run → Run → Type 0
+  abbrev pub Ahead : ℕ → Run → Run → Type 0
   Ahead w u s = Alike taken view own (λ i. w ≤ i) u s
 
   seen_over : (xs ys : Stores) (c : Cell) → last_stored ys c ≡ None → seen view (xs ++ ys) c ≡ seen view xs c
@@ -25,7 +25,7 @@ module _ (taken own : Set) (view : View) where
   not_now w c true h = grind (arith, nat_tests)
   not_now w c false h = refl
 
-  goes_ahead : (w step : ℕ) (u s : Run) (d : Delta) → 1 ≤ step → Ahead w u s → Within taken own view w d →
+  pub goes_ahead : (w step : ℕ) (u s : Run) (d : Delta) → 1 ≤ step → Ahead w u s → Within taken own view w d →
       Ahead (w + step) (apply u d) s
   goes_ahead w step u s d one h k =
       record {
@@ -42,7 +42,7 @@ module _ (taken own : Set) (view : View) where
     abbrev adds : ℕ → Option Delta
     adds v = body_delta body view (loops ++ v ∷ []) s
 
-    at_turn : (w : ℕ) (u : Run) → Ahead w u s → does w u ≡ option_map (apply u) (adds w)
+    pub at_turn : (w : ℕ) (u : Run) → Ahead w u s → does w u ≡ option_map (apply u) (adds w)
     at_turn w u h =
         body_is taken own view own (length loops) (loops ++ w ∷ []) u body is
         ∙ ap (option_map (apply u))

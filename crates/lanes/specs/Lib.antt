@@ -2,3 +2,4 @@ pub mod Apart
 pub mod Numbers
 pub mod There
 pub mod Turned
+pub mod Sums

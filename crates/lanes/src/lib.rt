@@ -2,6 +2,7 @@
 #![tactic(auto)]
 
 ghost use Rattle.lanes.specs.Apart.{ByAssignments, TurnsApart};
+ghost use Rattle.lanes.specs.Sums.{SumIsTurns};
 ghost use Rattle.lanes.specs.Turned.{BlockIsTurns};
 
 pub mod numbers;
@@ -21,4 +22,10 @@ pub fn by_assignments()
 /// has what it needs where the turns have.
 pub fn block_is_turns()
     ensures { BlockIsTurns }
+{}
+
+/// Turns that also carry a scalar on, as a sum does, are the block of the turns that assign it what is added, with the
+/// number that is carried on over their scalars.
+pub fn sum_is_turns()
+    ensures { SumIsTurns }
 {}

@@ -28,6 +28,16 @@ const FAILED: u8 = 3;
 /// The words of the command line cannot be read.
 const MISUSED: u8 = 2;
 
+/// How many numbers the largest block has that the C library (glibc) manages itself: 32 MiB less a page or two.
+const LARGEST: usize = (1 << 22) - 1024;
+
+/// Has the C library keep freed memory for the next frames. Once so large a block was freed, it asks the system for no
+/// block of that size or less by itself, and gives none back: else each kernel would have all pages of its frame made anew,
+/// which takes several times what filling them takes. The block is never written, so it has no pages.
+fn keep_freed_memory(alloc: Global) {
+    let _ = Vec::<u64>::with_capacity(alloc, LARGEST);
+}
+
 /// The words behind the program's name.
 fn words_of(rt: &HostRuntime) -> io::Result<Vec<String>> {
     let words = std::env::args(rt)?.skip(1).collect(rt.alloc())?;
@@ -62,6 +72,7 @@ fn flushed<W: Write>(status: u8, out: &mut W) -> u8 {
 }
 
 fn main(rt: HostRuntime) -> ExitCode {
+    keep_freed_memory(rt.alloc());
     let words = match words_of(&rt) {
         Ok(words) => words,
         Err(error) => return ExitCode::from(no_words(&error, &mut rt.stderr())),

@@ -8,10 +8,11 @@ use Rattle.kernel.proofs.apart.+body_apart.Goals as goal
 pub returns-then-stmt_apart : goal.returns-then-stmt_apart
 returns-then-stmt_apart t c =
     let body = c.args.body.now in
+    let some = c.args.some.now in
     let level = c.args.level in
-    let here = lanes.stmt_apart (stored_in body) (assigned_in body) (loose_in body (take c.args.k body)) level in
-    let rest = lanes.body_apart (stored_in body) (assigned_in body) (loose_in body (take (c.args.k + 1) body)) level (drop (c.args.k + 1) body) in
-    let inside : c.args.k < length body = omega (arith, c.if-k-body.false, c.requires) in
+    let here = lanes.stmt_apart (stored_in body) (assigned_in body) (loose_in body (take c.args.k some)) level in
+    let rest = lanes.body_apart (stored_in body) (assigned_in body) (loose_in body (take (c.args.k + 1) some)) level (drop (c.args.k + 1) some) in
+    let inside : c.args.k < length some = omega (arith, c.if-k-some.false, c.requires) in
     c.body_apart.ensures
-    ∙ ap (λ b. b && rest) (sym (ap here (sym c.index-body-k.is) ∙ sym c.if-stmt_apart.ensures))
-    ∙ one_apart body level c.args.k c.index-body-k.result inside
+    ∙ ap (λ b. b && rest) (sym (ap here (sym c.index-some-k.is) ∙ sym c.if-stmt_apart.ensures))
+    ∙ one_apart body some level c.args.k c.index-some-k.result inside

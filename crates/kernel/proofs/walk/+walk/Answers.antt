@@ -52,15 +52,6 @@ walk-returns t c =
     all_done (list_meaning all) (from_on all c.loop-s.s-index) c.args.m.now c.loop-s.m
     (none_left all c.loop-s.s-index c.loop-s-test.false) c.loop-s.invariant
 
-pub walk_one-in_blocks-requires-clause-can : goal.walk_one-in_blocks-requires-clause-can
-walk_one-in_blocks-requires-clause-can t c =
-    loop_can c.args.s.now c.in-Loop.bounds c.in-Loop.body _ c.args.m.now c.in-Loop.is c.deref-then-are_apart.ensures.value c.requires
-
-pub walk_one-returns-then-are_apart : goal.walk_one-returns-then-are_apart
-walk_one-returns-then-are_apart t c =
-    loop_done c.args.s.now c.in-Loop.bounds c.in-Loop.body _ c.args.m.now c.in-Loop.is c.deref-then-are_apart.ensures.value
-    c.in_blocks.new.m c.in_ok-in_blocks.ensures
-
 pub walk_one-in_turns-requires : goal.walk_one-in_turns-requires
 walk_one-in_turns-requires t c = (
   search (rules, the_lemmas),
@@ -75,3 +66,12 @@ walk_one-returns-then-has_blocks t c =
 pub walk_one-returns : goal.walk_one-returns
 walk_one-returns t c =
     alone_done c.args.s.now c.from_ref.result.now c.args.m.now c.by_code.new.m c.from_ref.ensures.value c.in_ok-by_code.ensures
+
+pub walk_one-in_blocks-requires-clause-can : goal.walk_one-in_blocks-requires-clause-can
+walk_one-in_blocks-requires-clause-can t c =
+    loop_can c.args.s.now c.in-Loop.bounds c.in-Loop.body _ c.args.m.now c.in-Loop.is c.deref-in-Some.ensures.value c.requires
+
+pub walk_one-returns-in-Some : goal.walk_one-returns-in-Some
+walk_one-returns-in-Some t c =
+    loop_done c.args.s.now c.in-Loop.bounds c.in-Loop.body _ c.args.m.now c.in-Loop.is c.deref-in-Some.ensures.value
+    c.in_blocks.new.m c.in_ok-in_blocks.ensures

@@ -1,0 +1,225 @@
+-- A turn that carries a scalar on, beside the turn that assigns it what is added.
+use Rattle.std.proofs.Common.{◌≡◌, ℕ, ◌==◌, Bool, true, false, List, [], ◌∷◌, ◌++◌, length, Option, Some, None, refl, sym, ap, ap₂, ◌∙◌, if◌then◌else◌, eqb-true, arith}
+use Rattle.std.specs.Prelude.{not, ◌&&◌, option_and_then, option_map}
+use Rattle.std.proofs.lemmas.Bool.{and_parts, false≢true}
+use Rattle.std.proofs.lemmas.Bool.Decides.{nat_tests}
+use mathlib.Core.Path.{fun_ext}
+use Rattle.base.specs.declared.tree.ArrayId.{ArrayId}
+use Rattle.base.specs.declared.tree.ScalarId.{ScalarId}
+use Rattle.base.specs.declared.tree.Expr.{Expr}
+use Rattle.base.specs.declared.tree.Source.TheVariants.{Value, Read}
+use Rattle.base.specs.declared.tree.Stmt.{Stmt}
+use Rattle.base.specs.declared.tree.Stmt.TheVariants.{Declare, Assign, Store, Print, Block', Loop', If'}
+use Rattle.base.specs.Memory.{View, Scalars}
+use Rattle.base.specs.Value.{on_both, value}
+use Rattle.base.specs.Meaning.{Run, names_in, set_scalar, assigned, stored, run_stmt, run_list}
+use Rattle.lanes.specs.Apart.{Set, is_turn, is_apart, stmt_apart, loose_after, loose_body, body_apart}
+use Rattle.lanes.specs.Sums.{CarriesOn, ended}
+use Rattle.lanes.proofs.Alike.{Alike, value_same}
+use Rattle.lanes.proofs.Deltas.{turn_value}
+
+pub same_is : (x : ℕ) → (x == x) ≡ true
+same_is x = grind (arith, nat_tests)
+
+-- a run with another number in a scalar
+abbrev pub over : ℕ → ℕ → Run → Run
+over x a t = record t { scalars = set_scalar x a t.scalars }
+
+pub set_twice : (x a b : ℕ) (f : Scalars) → set_scalar x b (set_scalar x a f) ≡ set_scalar x b f
+set_twice x a b f = fun_ext (λ (y : ℕ). go y (x == y))
+  where
+    go : (y : ℕ) (q : Bool) → (if q then b else (if q then a else f y)) ≡ (if q then b else f y)
+    go y true = refl
+    go y false = refl
+
+pub set_own : (x a : ℕ) (f : Scalars) → set_scalar x a f x ≡ a
+set_own x a f = ap (λ q. if q then a else f x) (same_is x)
+
+-- a scalar takes the number that it has
+pub over_own : (x : ℕ) (t : Run) → over x (t.scalars x) t ≡ t
+over_own x t = ap (λ (f : Scalars). record t { scalars = f }) (fun_ext (λ (y : ℕ). go y (x == y) refl))
+  where
+    go : (y : ℕ) (q : Bool) → (x == y) ≡ q → (if q then t.scalars x else t.scalars y) ≡ t.scalars y
+    go y true e = ap t.scalars (eqb-true x y e)
+    go y false e = refl
+
+set_apart : (x y a n : ℕ) (f : Scalars) → (y == x) ≡ false →
+    set_scalar y n (set_scalar x a f) ≡ set_scalar x a (set_scalar y n f)
+set_apart x y a n f h = fun_ext (λ (z : ℕ). go z (y == z) (x == z) refl refl)
+  where
+    go : (z : ℕ) (p q : Bool) → (y == z) ≡ p → (x == z) ≡ q →
+        (if p then n else (if q then a else f z)) ≡ (if q then a else (if p then n else f z))
+    go z true true i j =
+        absurd (false≢true (sym h ∙ ap (λ w. w == x) (eqb-true y z i) ∙ ap (λ w. z == w) (eqb-true x z j) ∙ same_is z))
+    go z true false i j = refl
+    go z false true i j = refl
+    go z false false i j = refl
+
+-- what is loose after statements was loose before, and is not assigned by them
+was_loose : (loose : Set) (s : Stmt) (x : ℕ) → loose_after loose s x ≡ true → loose x ≡ true
+was_loose loose (Declare y v) x h = (and_parts (not (y.0 == x)) (loose x) h).1
+was_loose loose (Assign y v) x h = (and_parts (not (y.0 == x)) (loose x) h).1
+was_loose loose (Store a place e v) x h = h
+was_loose loose (Print e) x h = h
+was_loose loose (Block' shape all) x h = h
+was_loose loose (Loop' b shape all) x h = h
+was_loose loose (If' c shape all shape' all') x h = h
+
+still_loose : (loose : Set) (body : List Stmt) (x : ℕ) → loose_body loose body x ≡ true → loose x ≡ true
+still_loose loose [] x h = h
+still_loose loose (s ∷ rest) x h = was_loose loose s x (still_loose (loose_after loose s) rest x h)
+
+not_it : (p q : Bool) → (not p && q) ≡ true → p ≡ false
+not_it true q h = absurd (false≢true h)
+not_it false q h = refl
+
+module _ (taken own : Set) (view : View) (loops : List ℕ) (v x : ℕ) where
+  alike_over : (loose : Set) (a : ℕ) (t : Run) → loose x ≡ true → Alike taken view loose (λ i. i ≡ v) (over x a t) t
+  alike_over loose a t l =
+      record { scalars = λ y k. go y (x == y) refl k; others = λ c k. refl; mine = λ c k. refl }
+    where
+      go : (y : ℕ) (q : Bool) → (x == y) ≡ q → loose y ≡ false → (if q then a else t.scalars y) ≡ t.scalars y
+      go y true e k = absurd (false≢true (sym k ∙ ap loose (sym (eqb-true x y e)) ∙ l))
+      go y false e k = refl
+
+  -- an expression that does not name the scalar
+  pub value_over : (loose : Set) (a : ℕ) (t : Run) (e : Expr) → loose x ≡ true → is_apart taken loose (length loops) e ≡ true →
+      value e (names_in view (loops ++ v ∷ []) (over x a t)) ≡ value e (names_in view (loops ++ v ∷ []) t)
+  value_over loose a t e l k = value_same taken view loops v loose (over x a t) t (alike_over loose a t l) e k
+
+  set_over : (a : ℕ) (t : Run) (y : ℕ) (o : Option ℕ) → (y == x) ≡ false →
+      assigned y (option_map (λ n. (n, over x a t)) o) ≡ option_map (over x a) (assigned y (option_map (λ n. (n, t)) o))
+  set_over a t y None h = refl
+  set_over a t y (Some n) h = ap (λ (f : Scalars). Some (record t { scalars = f })) (set_apart x y a n t.scalars h)
+
+  store_over : (a : ℕ) (t : Run) (r : ArrayId) (oi ov : Option ℕ) →
+      option_and_then (λ i. stored view (record { array = r; index = i }) (option_map (λ n. (n, over x a t)) ov)) oi
+      ≡ option_map (over x a) (option_and_then (λ i. stored view (record { array = r; index = i }) (option_map (λ n. (n, t)) ov)) oi)
+  store_over a t r None ov = refl
+  store_over a t r (Some i) None = refl
+  store_over a t r (Some i) (Some n) = go (view (record { array = r; index = i }))
+    where
+      go : (there : Option ℕ) →
+          option_map (λ old. record (over x a t) { stores = t.stores ++ (record { array = r; index = i }, n) ∷ [] }) there
+          ≡ option_map (over x a) (option_map (λ old. record t { stores = t.stores ++ (record { array = r; index = i }, n) ∷ [] }) there)
+      go None = refl
+      go (Some old) = refl
+
+  assigned_over : (loose : Set) (a : ℕ) (t : Run) (y : ScalarId) (e : Expr) → (own y.0 && is_apart taken loose (length loops) e) ≡ true →
+      (not (y.0 == x) && loose x) ≡ true →
+      assigned y.0 (option_map (λ n. (n, over x a t)) (value e (names_in view (loops ++ v ∷ []) (over x a t))))
+      ≡ option_map (over x a) (assigned y.0 (option_map (λ n. (n, t)) (value e (names_in view (loops ++ v ∷ []) t))))
+  assigned_over loose a t y e ok m =
+      ap (λ o. assigned y.0 (option_map (λ n. (n, over x a t)) o))
+      (value_over loose a t e (and_parts (not (y.0 == x)) (loose x) m).1 (and_parts (own y.0) (is_apart taken loose (length loops) e) ok).1)
+      ∙ set_over a t y.0 (value e (names_in view (loops ++ v ∷ []) t)) (not_it (y.0 == x) (loose x) m)
+
+  -- a statement that leaves the scalar loose does the same, whatever its number is
+  stmt_over : (loose : Set) (a : ℕ) (t : Run) (first : Stmt) → stmt_apart taken own loose (length loops) first ≡ true →
+      loose_after loose first x ≡ true →
+      run_stmt first view (loops ++ v ∷ []) (over x a t) ≡ option_map (over x a) (run_stmt first view (loops ++ v ∷ []) t)
+  stmt_over loose a t (Declare y (Value e)) ok m = assigned_over loose a t y e ok m
+  stmt_over loose a t (Declare y Read) ok m = absurd (false≢true (and_parts (own y.0) false ok).1)
+  stmt_over loose a t (Assign y (Value e)) ok m = assigned_over loose a t y e ok m
+  stmt_over loose a t (Assign y Read) ok m = absurd (false≢true (and_parts (own y.0) false ok).1)
+  stmt_over loose a t (Store r place e (Value g)) ok m =
+      let k = and_parts (taken r.0) (is_turn (length loops) e && is_apart taken loose (length loops) g) ok in
+      let l = and_parts (is_turn (length loops) e) (is_apart taken loose (length loops) g) k.1 in
+      ap₂ (λ oi ov. option_and_then (λ i. stored view (record { array = r; index = i }) (option_map (λ n. (n, over x a t)) ov)) oi)
+      (turn_value loops v e (names_in view (loops ++ v ∷ []) (over x a t)) refl l.0
+      ∙ sym (turn_value loops v e (names_in view (loops ++ v ∷ []) t) refl l.0))
+      (value_over loose a t g m l.1)
+      ∙ store_over a t r (value e (names_in view (loops ++ v ∷ []) t)) (value g (names_in view (loops ++ v ∷ []) t))
+  stmt_over loose a t (Store r place e Read) ok m =
+      absurd (false≢true (and_parts (is_turn (length loops) e) false (and_parts (taken r.0) (is_turn (length loops) e && false) ok).1).1)
+  stmt_over loose a t (Print e) ok m = absurd (false≢true ok)
+  stmt_over loose a t (Block' shape all) ok m = absurd (false≢true ok)
+  stmt_over loose a t (Loop' b shape all) ok m = absurd (false≢true ok)
+  stmt_over loose a t (If' c shape all shape' all') ok m = absurd (false≢true ok)
+
+  front_over : (loose : Set) (a : ℕ) (t : Run) (front : List Stmt) → body_apart taken own loose (length loops) front ≡ true →
+      loose_body loose front x ≡ true →
+      run_list front view (loops ++ v ∷ []) (over x a t) ≡ option_map (over x a) (run_list front view (loops ++ v ∷ []) t)
+  front_over loose a t [] ok m = refl
+  front_over loose a t (first ∷ rest) ok m =
+      let k = and_parts (stmt_apart taken own loose (length loops) first)
+      (body_apart taken own (loose_after loose first) (length loops) rest) ok in
+      ap (option_and_then (run_list rest view (loops ++ v ∷ [])))
+      (stmt_over loose a t first k.0 (still_loose (loose_after loose first) rest x m))
+      ∙ go (λ u. front_over (loose_after loose first) a u rest k.1 m) (run_stmt first view (loops ++ v ∷ []) t)
+    where
+      go : ((u : Run) → run_list rest view (loops ++ v ∷ []) (over x a u) ≡ option_map (over x a) (run_list rest view (loops ++ v ∷ []) u)) →
+          (o : Option Run) → option_and_then (run_list rest view (loops ++ v ∷ [])) (option_map (over x a) o)
+          ≡ option_map (over x a) (option_and_then (run_list rest view (loops ++ v ∷ [])) o)
+      go next None = refl
+      go next (Some u) = next u
+
+and_done : (o : Option Run) → option_and_then (λ s. Some s) o ≡ o
+and_done None = refl
+and_done (Some s) = refl
+
+-- statements with one behind them
+pub run_ended : (front : List Stmt) (last : Stmt) (view : View) (loops : List ℕ) (s : Run) →
+    run_list (front ++ last ∷ []) view loops s ≡ option_and_then (run_stmt last view loops) (run_list front view loops s)
+run_ended [] last view loops s = and_done (run_stmt last view loops s)
+run_ended (first ∷ rest) last view loops s =
+    go (λ t. run_ended rest last view loops t) (run_stmt first view loops s)
+  where
+    go : ((t : Run) → run_list (rest ++ last ∷ []) view loops t
+        ≡ option_and_then (run_stmt last view loops) (run_list rest view loops t)) →
+        (o : Option Run) → option_and_then (run_list (rest ++ last ∷ []) view loops) o
+        ≡ option_and_then (run_stmt last view loops) (option_and_then (run_list rest view loops) o)
+    go next None = refl
+    go next (Some t) = next t
+
+pub apart_ended : (taken own loose : Set) (level : ℕ) (front : List Stmt) (last : Stmt) →
+    body_apart taken own loose level (front ++ last ∷ []) ≡ true →
+    (body_apart taken own loose level front ≡ true) × (stmt_apart taken own (loose_body loose front) level last ≡ true)
+apart_ended taken own loose level [] last h = (refl, (and_parts (stmt_apart taken own loose level last) true h).0)
+apart_ended taken own loose level (first ∷ rest) last h =
+    let k = and_parts (stmt_apart taken own loose level first) (body_apart taken own (loose_after loose first) level (rest ++ last ∷ [])) h in
+    let r = apart_ended taken own (loose_after loose first) level rest last k.1 in
+    (ap₂ (λ p q. p && q) k.0 r.0, r.1)
+
+-- a turn that carries the scalar on
+pub turn_over : (taken own : Set) (view : View) (loops : List ℕ) (v : ℕ) (f : ℕ → ℕ → ℕ) (front : List Stmt) (x : ScalarId) (e c : Expr) →
+    CarriesOn f x e c → body_apart taken own own (length loops) (ended front x e) ≡ true → loose_body own front x.0 ≡ true →
+    (a : ℕ) (t : Run) →
+    run_list (ended front x c) view (loops ++ v ∷ []) (over x.0 a t)
+    ≡ option_map (λ u. over x.0 (f a (u.scalars x.0)) u) (run_list (ended front x e) view (loops ++ v ∷ []) t)
+turn_over taken own view loops v f front x e c carries ok loose a t =
+    run_ended front (Assign x (Value c)) view (loops ++ v ∷ []) (over x.0 a t)
+    ∙ ap (option_and_then (run_stmt (Assign x (Value c)) view (loops ++ v ∷ [])))
+    (front_over taken own view loops v x.0 own a t front parts.0 loose)
+    ∙ go (run_list front view (loops ++ v ∷ []) t)
+    ∙ sym (ap (option_map (λ u. over x.0 (f a (u.scalars x.0)) u)) (run_ended front (Assign x (Value e)) view (loops ++ v ∷ []) t))
+  where
+    parts : (body_apart taken own own (length loops) front ≡ true)
+        × (stmt_apart taken own (loose_body own front) (length loops) (Assign x (Value e)) ≡ true)
+    parts = apart_ended taken own own (length loops) front (Assign x (Value e)) ok
+
+    carried : (u : Run) (o : Option ℕ) →
+        assigned x.0 (option_map (λ n. (n, over x.0 a u)) (on_both f (Some a) o))
+        ≡ option_map (λ (w : Run). over x.0 (f a (w.scalars x.0)) w) (assigned x.0 (option_map (λ n. (n, u)) o))
+    carried u None = refl
+    carried u (Some n) =
+        ap (λ (g : Scalars). Some (record u { scalars = g }))
+        (set_twice x.0 a (f a n) u.scalars
+        ∙ sym (set_twice x.0 n (f a n) u.scalars)
+        ∙ ap (λ m. set_scalar x.0 (f a m) (set_scalar x.0 n u.scalars)) (sym (set_own x.0 n u.scalars)))
+
+    here : (u : Run) → value c (names_in view (loops ++ v ∷ []) (over x.0 a u))
+        ≡ on_both f (Some a) (value e (names_in view (loops ++ v ∷ []) u))
+    here u =
+        carries (names_in view (loops ++ v ∷ []) (over x.0 a u))
+        ∙ ap₂ (λ m o. on_both f (Some m) o) (set_own x.0 a u.scalars)
+        (value_over taken own view loops v x.0 (loose_body own front) a u e loose
+        (and_parts (own x.0) (is_apart taken (loose_body own front) (length loops) e) parts.1).1)
+
+    go : (o : Option Run) →
+        option_and_then (run_stmt (Assign x (Value c)) view (loops ++ v ∷ [])) (option_map (over x.0 a) o)
+        ≡ option_map (λ (w : Run). over x.0 (f a (w.scalars x.0)) w) (option_and_then (run_stmt (Assign x (Value e)) view (loops ++ v ∷ [])) o)
+    go None = refl
+    go (Some u) =
+        ap (λ o. assigned x.0 (option_map (λ n. (n, over x.0 a u)) o)) (here u)
+        ∙ carried u (value e (names_in view (loops ++ v ∷ []) u))
