@@ -1,0 +1,78 @@
+// The items that read or write the cells of one array at one location.
+
+ghost use Rattle.std.specs.Prelude.{◌≡◌, ◌<◌, ◌&&◌, ℕ, true, false, Some, IfOk};
+ghost use Rattle.base.specs.Items.{plan};
+ghost use Rattle.mapcheck.specs.Rows.{AreSeen, IsClearAt, width};
+ghost use Rattle.mapcheck.specs.Segments.{has, is_from};
+
+use crate::segments::Tree;
+use order::Order;
+use std::alloc::{AllocError, Global};
+
+// The number of places.
+const WIDTH: u64 = 65536;
+
+/// Of each place the items that read it, and those that write it, as far as a later item can conflict with them.
+#[derive(Drop)]
+pub struct Row {
+    reads: Tree,
+    writes: Tree,
+}
+
+impl Row {
+    /// Nothing.
+    pub fn new() -> Row
+        ensures reads { (p m : ℕ) → has result.reads width p m ≡ false }
+        ensures writes { (p m : ℕ) → has result.writes width p m ≡ false }
+    {
+        Row {
+            reads: Tree::Empty,
+            writes: Tree::Empty,
+        }
+    }
+
+    // Whether an item that reads, or writes, the places from the first up to the end comes after all others that it
+    // conflicts with there.
+    fn is_clear(&self, order: &Order<'_>, item: u32, writes: bool, first: u64, end: u64) -> bool
+        ensures { result ≡ true → (p : ℕ) → is_from first end p ≡ true → IsClearAt (plan order.now) (Some self.now) item writes p }
+    {
+        self.writes.are_before(order, WIDTH, first, end, item)
+            && (!writes || self.reads.are_before(order, WIDTH, first, end, item))
+    }
+
+    // Removes what is noted at these places, where that holds: it does not matter behind an item that writes them and
+    // comes after all others there.
+    fn forget_if(&mut self, holds: bool, first: u64, end: u64)
+        ensures reads { (p m : ℕ) → p < width → (holds && is_from first end p) ≡ false → has self.old.reads width p m ≡ true → has self.new.reads width p m ≡ true }
+        ensures writes { (p m : ℕ) → p < width → (holds && is_from first end p) ≡ false → has self.old.writes width p m ≡ true → has self.new.writes width p m ≡ true }
+    {
+        if holds {
+            self.reads.clear(WIDTH, first, end);
+            self.writes.clear(WIDTH, first, end);
+        }
+    }
+
+    /// Notes an item that reads, or writes, the places from the first up to the end. The answer is true only if it comes
+    /// after all others that were noted there, or were before noted ones, and that it conflicts with. In each of the
+    /// trees it takes a step for each halving from the row to these places.
+    pub fn note(
+        &mut self,
+        alloc: Global,
+        order: &Order<'_>,
+        item: u32,
+        writes: bool,
+        first: u64,
+        end: u64,
+    ) -> Result<bool, AllocError>
+        ensures { IfOk result (AreSeen (plan order.now) (Some self.old) (Some self.new) item writes (is_from first end)) }
+    {
+        let clear = self.is_clear(order, item, writes, first, end);
+        if !writes {
+            self.reads.add(alloc, WIDTH, first, end, item)?;
+            return Ok(clear);
+        }
+        self.forget_if(clear, first, end);
+        self.writes.add(alloc, WIDTH, first, end, item)?;
+        Ok(clear)
+    }
+}
