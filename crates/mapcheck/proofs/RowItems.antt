@@ -63,14 +63,12 @@ both_true true false e = absurd cc
 both_true false b e = absurd cc
 
 -- a write, and what it replaces where it comes after all that show at its places
-pub written : (plan : Plan) (old between new : Row) (j : ℕ) (places : ℕ → Bool) (clear : Bool) →
+pub written : (plan : Plan) (old new : Row) (j : ℕ) (places : ℕ → Bool) (clear : Bool) →
     (clear ≡ true → (p : ℕ) → places p ≡ true → IsClearAt plan (Some old) j true p) →
-    ((p m : ℕ) → p < width → (clear && places p) ≡ false → has old.reads width p m ≡ true → has between.reads width p m ≡ true) →
-    ((p m : ℕ) → p < width → (clear && places p) ≡ false → has old.writes width p m ≡ true → has between.writes width p m ≡ true) →
-    ((p m : ℕ) → has between.reads width p m ≡ true → has new.reads width p m ≡ true) →
-    ((p m : ℕ) → has between.writes width p m ≡ true → has new.writes width p m ≡ true) →
+    ((p m : ℕ) → p < width → (clear && places p) ≡ false → has old.reads width p m ≡ true → has new.reads width p m ≡ true) →
+    ((p m : ℕ) → p < width → (clear && places p) ≡ false → has old.writes width p m ≡ true → has new.writes width p m ≡ true) →
     ((p : ℕ) → p < width → places p ≡ true → has new.writes width p j ≡ true) → AreSeen plan (Some old) (Some new) j true places clear
-written plan old between new j places is_clear clear reads writes more_reads more_writes there = record {
+written plan old new j places is_clear clear reads writes there = record {
   kept = λ p k w lt covers. go p k w lt covers (is_clear && places p) refl;
   shown = λ p lt here. inr (j, there p lt here, inl refl);
   clear = λ e p lt here. clear e p here;
@@ -80,8 +78,7 @@ written plan old between new j places is_clear clear reads writes more_reads mor
     go p k w lt covers true e =
         let both = both_true is_clear (places p) e in
         replaced plan old new j p k w (clear both.0 p both.1) (there p lt both.1) covers
-    go p k w lt covers false e = kept_at plan old new p k w (λ m h. more_reads p m (reads p m lt e h))
-        (λ m h. more_writes p m (writes p m lt e h)) covers
+    go p k w lt covers false e = kept_at plan old new p k w (λ m h. reads p m lt e h) (λ m h. writes p m lt e h) covers
 
 -- a read
 pub just_read : (plan : Plan) (old new : Row) (j : ℕ) (places : ℕ → Bool) (clear : Bool) →

@@ -1,6 +1,6 @@
 // The items that read or write the cells of one array at one location.
 
-ghost use Rattle.std.specs.Prelude.{◌≡◌, ◌<◌, ◌&&◌, ℕ, true, false, Some, IfOk};
+ghost use Rattle.std.specs.Prelude.{◌≡◌, ◌<◌, ◌&&◌, ℕ, true, false, Some, IfOk, OnOk};
 ghost use Rattle.base.specs.Items.{plan};
 ghost use Rattle.mapcheck.specs.Rows.{AreSeen, IsClearAt, width};
 ghost use Rattle.mapcheck.specs.Segments.{has, is_from};
@@ -40,15 +40,25 @@ impl Row {
             && (!writes || self.reads.are_before(order, WIDTH, first, end, item))
     }
 
-    // Removes what is noted at these places, where that holds: it does not matter behind an item that writes them and
-    // comes after all others there.
-    fn forget_if(&mut self, holds: bool, first: u64, end: u64)
-        ensures reads { (p m : ℕ) → p < width → (holds && is_from first end p) ≡ false → has self.old.reads width p m ≡ true → has self.new.reads width p m ≡ true }
-        ensures writes { (p m : ℕ) → p < width → (holds && is_from first end p) ≡ false → has self.old.writes width p m ≡ true → has self.new.writes width p m ≡ true }
+    // Notes an item that writes these places. Where it comes after all others there, it takes their place: behind it they
+    // do not matter.
+    fn write(
+        &mut self,
+        alloc: Global,
+        clear: bool,
+        item: u32,
+        first: u64,
+        end: u64,
+    ) -> Result<(), AllocError>
+        ensures reads { OnOk result ((p m : ℕ) → p < width → (clear && is_from first end p) ≡ false → has self.old.reads width p m ≡ true → has self.new.reads width p m ≡ true) }
+        ensures writes { OnOk result ((p m : ℕ) → p < width → (clear && is_from first end p) ≡ false → has self.old.writes width p m ≡ true → has self.new.writes width p m ≡ true) }
+        ensures added { OnOk result ((p : ℕ) → p < width → is_from first end p ≡ true → has self.new.writes width p item ≡ true) }
     {
-        if holds {
+        if clear {
             self.reads.clear(WIDTH, first, end);
-            self.writes.clear(WIDTH, first, end);
+            self.writes.replace(alloc, WIDTH, first, end, item)
+        } else {
+            self.writes.add(alloc, WIDTH, first, end, item)
         }
     }
 
@@ -71,8 +81,7 @@ impl Row {
             self.reads.add(alloc, WIDTH, first, end, item)?;
             return Ok(clear);
         }
-        self.forget_if(clear, first, end);
-        self.writes.add(alloc, WIDTH, first, end, item)?;
+        self.write(alloc, clear, item, first, end)?;
         Ok(clear)
     }
 }

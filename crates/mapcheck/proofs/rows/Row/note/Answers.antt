@@ -24,13 +24,12 @@ pub returns : goal.returns
 returns c =
     let p = plan c.args.order.now in
     let old = c.args.self.now in
-    let between = c.forget_if.new.self in
-    let new : Row = record { reads = between.reads; writes = c.add-2.new.self } in
+    let new = c.write.new.self in
     let here = is_from c.args.first c.args.end in
     let clear = c.is_clear-clear.result in
-    let added = c.in_ok-add-2.ensures in
+    let done = c.in_ok-write.ensures in
     subst (λ (w : Bool). AreSeen p (Some old) (Some new) c.args.item w here clear) (sym c.if-not-writes.false)
-    (written p old between new c.args.item here clear
+    (written p old new c.args.item here clear
     (λ e place is. subst (λ (w : Bool). IsClearAt p (Some old) c.args.item w place) c.if-not-writes.false
     (c.is_clear-clear.ensures e place is))
-    c.forget_if.ensures.reads c.forget_if.ensures.writes (λ place m h. h) added.kept added.added)
+    done.reads done.writes done.added)
