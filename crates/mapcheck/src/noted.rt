@@ -20,9 +20,9 @@ use ranges::CellSet;
 use std::alloc::{AllocError, Global};
 use std::collections::HashMap;
 
-/// For each array and each location a row, once an item has read or written a cell of the array there: of each cell the
-/// items that read it, and those that write it, as far as a later item can conflict with them. What nothing touches takes
-/// no memory.
+/// For each array and each location a row, once an item has read or written a cell of the array there: of each cell
+/// the items that read it, and those that write it, as far as a later item can conflict with them. What nothing
+/// touches takes no memory.
 #[derive(Drop)]
 pub struct Noted {
     alloc: Global,

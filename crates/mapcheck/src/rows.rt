@@ -40,8 +40,8 @@ impl Row {
             && (!writes || self.reads.are_before(order, WIDTH, first, end, item))
     }
 
-    // Notes an item that writes these places. Where it comes after all others there, it takes their place: behind it they
-    // do not matter.
+    // Notes an item that writes these places. Where it comes after all others there, it takes their place: behind it
+    // they do not matter.
     fn write(
         &mut self,
         alloc: Global,
@@ -62,10 +62,10 @@ impl Row {
         }
     }
 
-    /// Notes an item that reads, or writes, the places from the first up to the end. The answer is true only if it comes
-    /// after all others that were noted there, or were before noted ones, and that it conflicts with. It goes down each
-    /// of the two trees at most twice, a step for each halving from the row down to these places: 12 for 16 places that
-    /// begin at a multiple of 16, and at most 16 at either end.
+    /// Notes an item that reads, or writes, the places from the first up to the end. The answer is true only if it
+    /// comes after all others that were noted there, or were before noted ones, and that it conflicts with. It goes
+    /// down each of the two trees at most twice, a step for each halving from the row down to these places: 12 for 16
+    /// places that begin at a multiple of 16, and at most 16 at either end.
     pub fn note(
         &mut self,
         alloc: Global,
