@@ -12,7 +12,7 @@ use Rattle.mapcheck.specs.declared.accesses.Access.{Access}
 use Rattle.mapcheck.specs.declared.accesses.Accesses.{Accesses}
 use Rattle.mapcheck.specs.declared.noted.Noted.{Noted}
 use Rattle.mapcheck.specs.Accesses.{AreAccesses, some_reads, some_writes}
-use Rattle.mapcheck.specs.Noted.{AreBeforeAll, AreNoted, IsAccessed, IsSeen, IsShown, place_of}
+use Rattle.mapcheck.specs.Noted.{AreBeforeAll, AreNoted, IsAccessed, IsSeen, IsShown, place_of, row_of}
 use Rattle.mapcheck.specs.Unordered.{AreAccessesOf, AreOfItems, IsConflictOf, IsUnordered}
 use Rattle.mapcheck.proofs.Collisions.{some_place}
 use Rattle.mapcheck.proofs.Firsts.{all_looked}
@@ -103,7 +103,7 @@ one_noted plan list old new j a clear noted there seen k b lt e = ⊎_elim
     (λ (other : k ≡ j → ⊥). ⊎_elim
     (λ (all : IsBeforeAll plan k j). inl (before_more plan k j (j + 1) (omega arith) all))
     (λ (shown : IsShown plan old k b.list.items).
-    inr (λ w loc c x. seen.kept (place_of loc c) k w (place_inside loc c) (shown w loc c x)))
+    inr (λ w loc c x. seen.kept (row_of loc c.array) (place_of c) k w (place_inside c) (shown w loc c x)))
     (noted k b (omega (arith, lt, other)) e))
     (cases_eq k j)
 

@@ -4,6 +4,7 @@ pub mod Decided
 pub mod Accepting
 pub mod Pairs
 pub mod Firsts
+pub mod RowItems
 pub mod Noting
 pub mod NotedCells
 pub mod NotedItems

@@ -11,24 +11,26 @@ use Rattle.base.specs.Memory.{is_in}
 use Rattle.bits.specs.declared.set.BitSet.{BitSet}
 use Rattle.bits.specs.Sets.{has as has_number}
 use Rattle.ranges.specs.declared.cells.CellSet.{CellSet}
-use Rattle.ranges.specs.Cells.{row_of, has as has_member}
+use Rattle.ranges.specs.Cells.{row_of as row_in, has as has_member}
 use Rattle.mapcheck.specs.declared.noted.Noted.{Noted}
 use Rattle.mapcheck.specs.declared.noted.Touch.{Touch}
-use Rattle.mapcheck.specs.Noted.{AreSeen, Covers, IsClearAt, IsSeen, IsTouched, is_run, place_of}
+use Rattle.mapcheck.specs.Noted.{AreSeen, Covers, IsClearAt, IsSeen, IsTouched, is_run, place_of, row_of}
 use Rattle.mapcheck.specs.Segments.{is_from}
 use Rattle.mapcheck.proofs.Noting.{place_inside, seen_both, seen_less, seen_none}
 
-pub seen_at : (plan : Plan) (old new : Noted) (t : Touch) (cells : Cell → Bool) (places : ℕ → Bool) (clear : Bool) →
-    AreSeen plan old new t.item t.writes places clear → ((c : Cell) → cells c ≡ true → places (place_of t.loc c) ≡ true) →
-    IsSeen plan old new t.item (IsTouched t cells) clear
-seen_at plan old new t cells places clear h inside = record {
+pub seen_at : (plan : Plan) (old new : Noted) (t : Touch) (cells : Cell → Bool) (r : ℕ) (places : ℕ → Bool) (clear : Bool) →
+    AreSeen plan old new t.item t.writes r places clear → ((c : Cell) → cells c ≡ true → row_of t.loc c.array ≡ r) →
+    ((c : Cell) → cells c ≡ true → places (place_of c) ≡ true) → IsSeen plan old new t.item (IsTouched t cells) clear
+seen_at plan old new t cells r places clear h row inside = record {
   kept = h.kept;
-  shown = λ w loc c is. subst (λ (v : Bool). Covers plan new (place_of loc c) t.item v) (sym is.0)
-      (subst (λ (l : Loc). Covers plan new (place_of l c) t.item t.writes) (sym is.1)
-      (h.shown (place_of t.loc c) (place_inside t.loc c) (inside c is.2)));
-  clear = λ e w loc c is. subst (λ (v : Bool). IsClearAt plan old t.item v (place_of loc c)) (sym is.0)
-      (subst (λ (l : Loc). IsClearAt plan old t.item t.writes (place_of l c)) (sym is.1)
-      (h.clear e (place_of t.loc c) (place_inside t.loc c) (inside c is.2)));
+  shown = λ w loc c is. subst (λ (v : Bool). Covers plan new (row_of loc c.array) (place_of c) t.item v) (sym is.0)
+      (subst (λ (l : Loc). Covers plan new (row_of l c.array) (place_of c) t.item t.writes) (sym is.1)
+      (subst (λ q. Covers plan new q (place_of c) t.item t.writes) (sym (row c is.2))
+      (h.shown (place_of c) (place_inside c) (inside c is.2))));
+  clear = λ e w loc c is. subst (λ (v : Bool). IsClearAt plan old t.item v (row_of loc c.array) (place_of c)) (sym is.0)
+      (subst (λ (l : Loc). IsClearAt plan old t.item t.writes (row_of l c.array) (place_of c)) (sym is.1)
+      (subst (λ q. IsClearAt plan old t.item t.writes q (place_of c)) (sym (row c is.2))
+      (h.clear e (place_of c) (place_inside c) (inside c is.2))));
 }
 
 -- fewer cells
@@ -78,7 +80,7 @@ abbrev pub is_below : CellSet → ℕ → Cell → Bool
 is_below set a c = nat_lt c.array.0 a && has_member set c
 
 pub array_more : (plan : Plan) (old between new : Noted) (t : Touch) (set : CellSet) (row : BitSet) (array : ArrayId) (a : ℕ) (x y : Bool) →
-    array.0 ≡ a → row ≡ row_of set array.0 → IsSeen plan old between t.item (IsTouched t (is_below set a)) x →
+    array.0 ≡ a → row ≡ row_in set array.0 → IsSeen plan old between t.item (IsTouched t (is_below set a)) x →
     IsSeen plan between new t.item (IsTouched t (λ c. (c.array.0 == array.0) && has_number row c.index)) y →
     IsSeen plan old new t.item (IsTouched t (is_below set (a + 1))) (x && y)
 array_more plan old between new t set row array a x y is row_is f s =
@@ -93,7 +95,7 @@ array_more plan old between new t set row array a x y is row_is f s =
       there.1,
       and_from (c.array.0 == array.0) (has_number row c.index) (eq-eqb c.array.0 array.0 e)
           (subst (λ r. has_number r c.index ≡ true) (sym row_is)
-          (subst (λ n. has_number (row_of set n) c.index ≡ true) e both.1)),
+          (subst (λ n. has_number (row_in set n) c.index ≡ true) e both.1)),
     ))
     (λ (other : c.array.0 ≡ array.0 → ⊥). inl (
       there.0,

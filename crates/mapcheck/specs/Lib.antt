@@ -7,4 +7,5 @@ pub mod Building
 pub mod Third
 pub mod Reaches
 pub mod Segments
+pub mod Rows
 pub mod Noted

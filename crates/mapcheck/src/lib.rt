@@ -26,6 +26,7 @@ mod items;
 mod noted;
 pub mod passes;
 mod reaches;
+mod rows;
 mod segments;
 mod third;
 pub mod unordered;

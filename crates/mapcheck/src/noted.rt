@@ -1,32 +1,32 @@
 // The items that were looked at, by the places that they read or write.
 
-ghost use Rattle.std.specs.Prelude.{◌≡◌, ◌<◌, ◌&&◌, ◌==◌, ℕ, true, false, IfOk};
+ghost use Rattle.std.specs.Prelude.{◌≡◌, ◌&&◌, ◌==◌, ℕ, true, None, IfOk, nat_eq};
+ghost use Rattle.std.specs.HashMap.{get};
 ghost use Rattle.base.specs.Items.{plan};
 ghost use Rattle.base.specs.Memory.{is_in};
 ghost use Rattle.bits.specs.Sets.{has as has_number};
 ghost use Rattle.mapcheck.specs.Accesses.{has_cell};
-ghost use Rattle.mapcheck.specs.Noted.{AreKept, AreSeen, IsAccessed, IsClearAt, IsSeen, IsTouched, is_accessed, is_run, place_of, space};
-ghost use Rattle.mapcheck.specs.Segments.{has, is_from};
+ghost use Rattle.mapcheck.specs.Noted.{AreSeen, IsAccessed, IsSeen, IsTouched, is_accessed, is_run, place_of, row_of};
+ghost use Rattle.mapcheck.specs.Segments.{is_from};
 ghost use Rattle.ranges.specs.Cells.{has as has_member};
 
 use crate::accesses::{Access, Accesses, Cells};
-use crate::segments::Tree;
+use crate::rows::Row;
 use base::item::{Cell, Loc, Section};
 use base::tree::ArrayId;
 use bits::BitSet;
 use order::Order;
 use ranges::CellSet;
 use std::alloc::{AllocError, Global};
+use std::collections::HashMap;
 
-// The number of places.
-const SPACE: u64 = 1 << 36;
-
-/// Of each place the items that read it, and those that write it, as far as a later item can conflict with them.
+/// For each array and each location a row, once an item has read or written a cell of the array there: of each cell
+/// the items that read it, and those that write it, as far as a later item can conflict with them. What nothing
+/// touches takes no memory.
 #[derive(Drop)]
 pub struct Noted {
     alloc: Global,
-    reads: Tree,
-    writes: Tree,
+    rows: HashMap<u32, Row>,
 }
 
 /// That an item reads, or writes, at a location.
@@ -37,69 +37,45 @@ pub struct Touch {
     pub writes: bool,
 }
 
-// Places from the first up to the end.
+// Places of a row from the first up to the end.
 #[derive(Clone, Copy)]
 struct Places {
+    row: u32,
     first: u64,
     end: u64,
 }
 
 // A number for each location.
-fn number_of(loc: Loc) -> u64
+fn number_of(loc: Loc) -> u32
     ensures { result ≡ Rattle.mapcheck.specs.Noted.number_of loc }
 {
     match loc {
         Loc::Host => 0,
-        Loc::Dev(device) => 2 * u64::from(device.min(6)) + 1,
-        Loc::Tab(device) => 2 * u64::from(device.min(6)) + 2,
+        Loc::Dev(device) => 2 * u32::from(device.min(6)) + 1,
+        Loc::Tab(device) => 2 * u32::from(device.min(6)) + 2,
     }
 }
 
 // Where the cells of an array from the first up to the end have their places at a location.
 fn places_of(loc: Loc, array: ArrayId, first: u64, end: u128) -> Places
-    ensures { (c : Cell) → is_run array first end c ≡ true → is_from result.first result.end (place_of loc c) ≡ true }
+    ensures row { (c : Cell) → is_run array first end c ≡ true → row_of loc c.array ≡ result.row }
+    ensures places { (c : Cell) → is_run array first end c ≡ true → is_from result.first result.end (place_of c) ≡ true }
 {
-    let start = (number_of(loc) * 65536 + u64::from(array.0.min(65535))) * 65536;
     Places {
-        first: start + first.min(65535),
-        end: start + end.min(65536) as u64,
+        row: number_of(loc) * 65536 + array.0.min(65535),
+        first: first.min(65535),
+        end: end.min(65536) as u64,
     }
 }
 
 impl Noted {
     /// Nothing.
     pub fn new(alloc: Global) -> Noted
-        ensures reads { (p m : ℕ) → has result.reads space p m ≡ false }
-        ensures writes { (p m : ℕ) → has result.writes space p m ≡ false }
+        ensures { (r : ℕ) → get nat_eq result.rows r ≡ None }
     {
         Noted {
             alloc,
-            reads: Tree::Empty,
-            writes: Tree::Empty,
-        }
-    }
-
-    // Whether an item that reads, or writes, these places comes after all others that it conflicts with there.
-    fn is_clear(&self, order: &Order<'_>, item: u32, writes: bool, places: Places) -> bool
-        ensures { result ≡ true → (p : ℕ) → is_from places.first places.end p ≡ true → IsClearAt (plan order.now) self.now item writes p }
-    {
-        self.writes
-            .are_before(order, SPACE, places.first, places.end, item)
-            && (!writes
-                || self
-                    .reads
-                    .are_before(order, SPACE, places.first, places.end, item))
-    }
-
-    // Removes what is noted at these places, where that holds: it does not matter behind an item that writes them and
-    // comes after all others there.
-    fn forget_if(&mut self, holds: bool, places: Places)
-        ensures reads { (p m : ℕ) → p < space → (holds && is_from places.first places.end p) ≡ false → has self.old.reads space p m ≡ true → has self.new.reads space p m ≡ true }
-        ensures writes { (p m : ℕ) → p < space → (holds && is_from places.first places.end p) ≡ false → has self.old.writes space p m ≡ true → has self.new.writes space p m ≡ true }
-    {
-        if holds {
-            self.reads.clear(SPACE, places.first, places.end);
-            self.writes.clear(SPACE, places.first, places.end);
+            rows: HashMap::new(alloc),
         }
     }
 
@@ -111,18 +87,18 @@ impl Noted {
         writes: bool,
         places: Places,
     ) -> Result<bool, AllocError>
-        ensures { IfOk result (AreSeen (plan order.now) self.old self.new item writes (is_from places.first places.end)) }
+        ensures { IfOk result (AreSeen (plan order.now) self.old self.new item writes places.row (is_from places.first places.end)) }
     {
-        let clear = self.is_clear(order, item, writes, places);
-        if !writes {
-            self.reads
-                .add(self.alloc, SPACE, places.first, places.end, item)?;
-            return Ok(clear);
+        let alloc = self.alloc;
+        match self.rows.get_mut(&places.row) {
+            Some(row) => row.note(alloc, order, item, writes, places.first, places.end),
+            None => {
+                let mut row = Row::new();
+                let clear = row.note(alloc, order, item, writes, places.first, places.end)?;
+                self.rows.insert(places.row, row)?;
+                Ok(clear)
+            }
         }
-        self.forget_if(clear, places);
-        self.writes
-            .add(self.alloc, SPACE, places.first, places.end, item)?;
-        Ok(clear)
     }
 
     // The same with cells of an array from the first up to the end.

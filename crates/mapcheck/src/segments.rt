@@ -114,6 +114,44 @@ impl Tree {
         Ok(())
     }
 
+    /// Adds an item at the places from the first up to the end. As far as these are all places of a node it stands in
+    /// place of the others there.
+    pub fn replace(
+        &mut self,
+        alloc: Global,
+        size: u64,
+        first: u64,
+        end: u64,
+        item: u32,
+    ) -> Result<(), AllocError>
+        ensures kept { OnOk result ((p m : ℕ) → p < size → is_from first end p ≡ false → has self.old size p m ≡ true → has self.new size p m ≡ true) }
+        ensures added { OnOk result ((p : ℕ) → p < size → is_from first end p ≡ true → has self.new size p item ≡ true) }
+    {
+        if end <= first || size <= first {
+            return Ok(());
+        }
+        self.make_node(alloc)?;
+        if let Tree::Fork(node) = self {
+            if first == 0 && size <= end {
+                node.left = Tree::Empty;
+                node.right = Tree::Empty;
+                node.items.clear();
+                node.items.push(item)?;
+                return Ok(());
+            }
+            let half = size / 2;
+            node.left.replace(alloc, half, first, end.min(half), item)?;
+            node.right.replace(
+                alloc,
+                size - half,
+                first.saturating_sub(half),
+                end.saturating_sub(half),
+                item,
+            )?;
+        }
+        Ok(())
+    }
+
     /// Removes the items at the places from the first up to the end, as far as these are all places of a node.
     pub fn clear(&mut self, size: u64, first: u64, end: u64)
         ensures { (p m : ℕ) → p < size → is_from first end p ≡ false → has self.old size p m ≡ true → has self.new size p m ≡ true }

@@ -138,9 +138,10 @@ fn next_conflict(
 /// The conflict (E508) of the first item that has one with an earlier item that is not before it: the least cell of a
 /// conflict, and of those on this cell the first other item. These are the accesses of the first items.
 ///
-/// It takes memory for each access of the items that are not before all later ones, and for such an access time for each
-/// item that is kept at its cells: one that reads or writes them, and where no later one that writes them and comes after
-/// all there has taken its place. An item that is not after all of these is compared with each earlier one.
+/// It takes memory for each access of the items that are not before all later ones. Such an access takes time for
+/// each halving from the 65,536 cells of a row down to its own, at most 16 at either end, and for each item that is
+/// kept at its cells: one that reads or writes them, and where no later one that writes them and comes after all
+/// there has taken its place. An item that is not after all of these is compared with each earlier one.
 pub fn first_conflict(
     alloc: Global,
     order: &Order<'_>,

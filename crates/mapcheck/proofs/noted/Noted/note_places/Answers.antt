@@ -1,36 +1,36 @@
-use Rattle.std.proofs.Common.{Bool, sym, subst}
+use Rattle.std.proofs.Common.{rules, ◌≡◌, ◌∙◌, Some, None, sym, ap}
+use Rattle.std.specs.Prelude.{nat_eq}
+use Rattle.std.specs.HashMap.{get}
+use Rattle.std.proofs.lemmas.Result.{IfOk-weaker}
 use Rattle.base.specs.Items.{plan}
 use Rattle.mapcheck.specs.declared.noted.Noted.{Noted}
-use Rattle.mapcheck.specs.Noted.{AreSeen, IsClearAt}
 use Rattle.mapcheck.specs.Segments.{is_from}
-use Rattle.mapcheck.proofs.Noting.{just_read, written}
+use Rattle.mapcheck.proofs.Noting.{seen_in_row}
+use Rattle.mapcheck.proofs.RowItems.{seen_first}
 use Rattle.mapcheck.proofs.noted.Noted.note_places.Goals as goal
 
-pub returns-then-not-writes : goal.returns-then-not-writes
-returns-then-not-writes c =
-    let p = plan c.args.order.now in
+pub returns-in-Some : goal.returns-in-Some
+returns-in-Some c =
     let old = c.args.self.now in
-    let new : Noted = record { alloc = old.alloc; reads = c.add.new.self; writes = old.writes } in
-    let here = is_from c.args.places.first c.args.places.end in
-    let clear = c.is_clear-clear.result in
-    let added = c.in_ok-add.ensures in
-    subst (λ (w : Bool). AreSeen p old new c.args.item w here clear) (sym c.if-not-writes.true)
-    (just_read p old new c.args.item here clear
-    (λ e place is. subst (λ (w : Bool). IsClearAt p old c.args.item w place) c.if-not-writes.true
-    (c.is_clear-clear.ensures e place is))
-    added.kept (λ place m h. h) added.added)
+    let r = c.args.places.row in
+    let w = c.note.new.self in
+    let new : Noted = record { alloc = old.alloc; rows = c.get_mut.follows.lender w } in
+    let there : get nat_eq old.rows r ≡ Some c.in-Some.row.now = sym c.in-Some.ensures.value in
+    let updated = (c.get_mut.follows.holds w).3 (search rules) in
+    IfOk-weaker c.note.result _ _
+    (λ clear h. seen_in_row (plan c.args.order.now) old new (Some c.in-Some.row.now) (Some w) r c.args.item c.args.writes
+    (is_from c.args.places.first c.args.places.end) clear there updated.1 updated.2 h)
+    c.note.ensures
 
-pub returns : goal.returns
-returns c =
-    let p = plan c.args.order.now in
+pub returns-in_ok-insert-in-None : goal.returns-in_ok-insert-in-None
+returns-in_ok-insert-in-None c =
     let old = c.args.self.now in
-    let between = c.forget_if.new.self in
-    let new : Noted = record { alloc = between.alloc; reads = between.reads; writes = c.add-2.new.self } in
+    let r = c.args.places.row in
+    let new : Noted = record { alloc = old.alloc; rows = c.insert.new.self } in
+    let updated = c.in_ok-insert-in-None.ensures.updates in
     let here = is_from c.args.places.first c.args.places.end in
-    let clear = c.is_clear-clear.result in
-    let added = c.in_ok-add-2.ensures in
-    subst (λ (w : Bool). AreSeen p old new c.args.item w here clear) (sym c.if-not-writes.false)
-    (written p old between new c.args.item here clear
-    (λ e place is. subst (λ (w : Bool). IsClearAt p old c.args.item w place) c.if-not-writes.false
-    (c.is_clear-clear.ensures e place is))
-    c.forget_if.ensures.reads c.forget_if.ensures.writes (λ place m h. h) added.kept added.added)
+    seen_in_row (plan c.args.order.now) old new None (Some c.note-in-None.new.self) r c.args.item c.args.writes here
+    c.in_ok-clear-in-None.clear (sym c.in-None.ensures.value) updated.1
+    (λ q e. updated.2 q e ∙ ap (λ m. get nat_eq m q) c.get_mut.follows.holds-at-none)
+    (seen_first (plan c.args.order.now) c.new-row.result (Some c.note-in-None.new.self) c.args.item c.args.writes here
+    c.in_ok-clear-in-None.clear c.in_ok-clear-in-None.ensures)
