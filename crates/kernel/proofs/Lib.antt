@@ -16,6 +16,7 @@ pub mod Advancing
 pub mod Runnables
 pub mod TrimmedScalars
 pub mod Gathers
+pub mod RunLoads
 pub mod Overs
 pub mod Runs
 pub mod BlockLanes

@@ -74,3 +74,8 @@ stored_lanes inside loops a e b = store_lanes inside a (numbers e b loops) b
 pub record Over (A : Type 0) (f : ℕ → A) (at n : ℕ) (xs ys : List A) : Type 0 where
   pub size : length ys ≡ length xs
   pub each : (k : ℕ) → slice_get ys k ≡ (if nat_le at k && nat_lt k (at + n) then Some (f (k - at)) else slice_get xs k)
+
+-- numbers, one at least, that follow one another
+pub record IsRunFrom (xs : List ℕ) (first : ℕ) : Type 0 where
+  pub some : 0 < length xs
+  pub each : (k : ℕ) → k < length xs → slice_index xs k ≡ first + k

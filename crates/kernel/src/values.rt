@@ -1,8 +1,8 @@
 // The value of an expression in each turn of a block.
 
-ghost use Rattle.std.specs.Prelude.{ℕ, ◌≡◌, ◌+◌, ◌<◌, true, Some, IsSome, OnOk, length, slice_index};
+ghost use Rattle.std.specs.Prelude.{ℕ, ◌≡◌, ◌+◌, ◌<◌, true, Some, IfSome, IsSome, OnOk, length, slice_index};
 ghost use Rattle.base.specs.Value.{binary, on_both, value};
-ghost use Rattle.kernel.specs.Lanes.{AreValues, HaveSize, cell_of, lane_scalars, names_of};
+ghost use Rattle.kernel.specs.Lanes.{AreValues, HaveSize, IsRunFrom, cell_of, lane_scalars, names_of};
 ghost use Rattle.kernel.specs.Rows.{cells_kept};
 ghost use Rattle.lanes.specs.There.{is_plain};
 
@@ -72,7 +72,7 @@ fn cells(
         return Ok(());
     }
     eval(alloc, index, b, out)?;
-    gather(b.rows, array, out);
+    load_each(b.rows, array, out);
     Ok(())
 }
 
@@ -132,6 +132,34 @@ fn name(b: &Reads<'_>, level: u32, out: &mut [u64])
     } else {
         let n = b.at.outer.get(level as usize).copied().unwrap_or(0);
         numbers::fill(out, n);
+    }
+}
+
+// The first of some numbers that follow one another.
+#[inline(never)]
+#[tactic(auto, using(crate::proofs::RunLoads::one_follows))]
+fn first_of_run(row: &[u64]) -> Option<u64>
+    ensures { IfSome result (IsRunFrom row.now) }
+{
+    let first = *row.first()?;
+    first.checked_add(row.len() as u64)?;
+    let mut follows = true;
+    'lanes: for j in 0..row.len() {
+        follows &= row[j] == first + j as u64;
+    }
+    if follows { Some(first) } else { None }
+}
+
+// What stands at the cells with these indices, all of which are there: at once, where they follow one another.
+#[tactic(auto, using(crate::proofs::RunLoads::run_there))]
+fn load_each(rows: &[KeptRow], array: ArrayId, out: &mut [u64])
+    requires { (k : ℕ) → k < length out.old → IsSome (cells_kept rows.now (record { array = array; index = slice_index out.old k })) }
+    ensures size { length out.new ≡ length out.old }
+    ensures values { (k : ℕ) → k < length out.old → cells_kept rows.now (record { array = array; index = slice_index out.old k }) ≡ Some (slice_index out.new k) }
+{
+    match first_of_run(out) {
+        Some(first) => load_run(rows, array, first, out),
+        None => gather(rows, array, out),
     }
 }
 
