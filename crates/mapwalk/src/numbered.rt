@@ -1,6 +1,6 @@
 // What footprints of items tell.
 
-ghost use Rattle.std.specs.Prelude.{◌≡◌, ◌++◌, ◌∷◌, ◌<◌, ℕ, [], None, OnOk, get_or, length};
+ghost use Rattle.std.specs.Prelude.{◌≡◌, ◌++◌, ◌∷◌, ◌<◌, ℕ, [], None, OnOk, get_or, length, slice_get, true};
 ghost use Rattle.mapwalk.specs.Found.{all_found, told};
 
 use crate::found::{Footprints, Next};
@@ -31,6 +31,16 @@ impl Footprints {
         ensures { result.now ≡ get_or (all_found self.now) item result.now }
     {
         &self.distinct[self.numbers[item]]
+    }
+
+    /// Whether two items are known to have one footprint.
+    pub fn is_shared(&self, earlier: usize, item: usize) -> bool
+        ensures { result ≡ true → slice_get (all_found self.now) earlier ≡ slice_get (all_found self.now) item }
+    {
+        match (self.numbers.get(earlier), self.numbers.get(item)) {
+            (Some(left), Some(right)) => left == right,
+            _ => false,
+        }
     }
 
     // Of one more item: the footprint with this number.
