@@ -1,32 +1,16 @@
 -- Regions that touch the same cells.
-use Rattle.std.proofs.Common.{◌≡◌, ℕ, Bool, List, [], Option, Some, None, refl, sym, ap, ◌∙◌}
-use Rattle.std.specs.Prelude.{not, ◌&&◌, ◌||◌}
-use Rattle.std.specs.List.{list_any}
-use mathlib.Core.Path.{fun_ext}
+use Rattle.std.proofs.Common.{◌≡◌, [], Option, Some, None, refl, sym, ap, ◌∙◌}
 use Rattle.base.specs.declared.item.Cell.{Cell}
 use Rattle.base.specs.declared.item.ItemKind.{ItemKind}
 use Rattle.base.specs.declared.item.ItemKind.TheVariants as kind
-use Rattle.base.specs.declared.fault.RefusalCode.{RefusalCode}
-use Rattle.base.specs.declared.fault.RefusalCode.TheVariants.{OverlapsInPart, ExitOfAbsent, UpdateOfAbsent, NotPresent, Unmapped, HostNotCurrent, DeviceNotCurrent, Conflict}
 use Rattle.base.specs.declared.tree.Region.{Region}
-use Rattle.base.specs.Memory.{changed, is_in}
 use Rattle.base.specs.Items.{Work}
-use Rattle.base.specs.Map.{Block}
 use Rattle.base.specs.Footprint.{exposes, reads, surely_writes, touches_of, writes}
-use Rattle.base.specs.Actions.{HostRegion, Kernel, acts_of, touches_in}
-use Rattle.base.specs.Current.{AllCurrent, Current, after_actions, after_stage, current_at, other_side, own_side}
-use Rattle.base.specs.Accepted.{cause, is_host, is_target}
+use Rattle.base.specs.Actions.{HostRegion, Kernel, touches_in}
+use Rattle.base.specs.Current.{Current, after_actions, other_side, own_side}
 use Rattle.ranges.specs.declared.cells.Footprint.{Footprint}
-use Rattle.mapwalk.specs.Acts.{acts_row}
-use Rattle.mapwalk.specs.Causes.{met_causes, region_causes}
-use Rattle.mapwalk.specs.Heads.{AbstractState}
-use Rattle.mapwalk.specs.Kinds.{after_maps, after_region, before_region, joined_by, met_by}
 use Rattle.mapwalk.specs.Regions.{IsFootprintOf, region_actions}
-use Rattle.mapwalk.specs.Sides.{after_acts}
-use Rattle.mapwalk.specs.Steps.{everywhere, stage_of}
-use Rattle.mapwalk.proofs.Agreeing.{cause_here}
 use Rattle.mapwalk.proofs.RegionEffects.{host_with, kernel_with, region_is_host, region_is_kernel, same_actions}
-use Rattle.mapwalk.proofs.WorkParts.{at_region, cause_split, parts}
 
 -- the regions of two items touch the same cells
 pub record SameTouches (v w : Work) : Type 0 where

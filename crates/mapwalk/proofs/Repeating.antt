@@ -1,13 +1,11 @@
 -- A turn is done again from the state from which the turn before it was done.
 use Rattle.std.proofs.Common.{◌≡◌, ℕ, zero, suc, ◌+◌, ◌<◌, ◌≤◌, List, [], ◌∷◌, ◌++◌, length, take, drop, Some, refl, sym, ap, ◌∙◌, subst, arith, append_assoc, append-nil, add-one}
-use Rattle.std.specs.Prelude.{slice_get, get_or}
-use Rattle.std.proofs.lemmas.Option.{slice_get-get_or}
+use Rattle.std.specs.Prelude.{slice_get}
 use Rattle.base.specs.Items.{Plan, Work}
 use Rattle.base.specs.Current.{AllCurrent, at_start}
 use Rattle.base.proofs.Places.{get_drop}
 use Rattle.mapwalk.specs.declared.rows.Acts.{Acts}
 use Rattle.mapwalk.specs.Acts.{acts_row}
-use Rattle.mapwalk.specs.Heads.{AbstractState}
 use Rattle.mapwalk.specs.Walk.{HasNoRangeFault}
 use Rattle.mapwalk.proofs.Agreeing.{AgreeAll}
 use Rattle.mapwalk.proofs.LikeItems.{WorkAlike, after_same, after_work}

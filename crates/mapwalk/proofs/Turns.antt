@@ -1,22 +1,21 @@
 -- A turn of a loop that repeats the turn before it.
-use Rattle.std.proofs.Common.{◌≡◌, ℕ, zero, suc, ◌+◌, ◌<◌, ◌≤◌, Bool, false, List, [], ◌∷◌, ◌++◌, length, take, drop, Option, Some, None, refl, sym, ap, ◌∙◌, subst, arith, append_assoc, add-one}
+use Rattle.std.proofs.Common.{◌≡◌, ℕ, zero, suc, ◌+◌, ◌<◌, false, List, [], ◌∷◌, take, Some, sym, ap, ◌∙◌, add-one}
 use Rattle.std.specs.Prelude.{slice_get}
 use Rattle.base.specs.declared.item.Cell.{Cell}
 use Rattle.base.specs.declared.fault.RefusalCode.{RefusalCode}
 use Rattle.base.specs.Items.{Plan, Work}
-use Rattle.base.specs.Map.{Block}
-use Rattle.base.specs.Actions.{Stage, stages, stages_from}
+use Rattle.base.specs.Actions.{stages_from}
 use Rattle.base.specs.Current.{AllCurrent, after_stage, after_stages, at_start}
 use Rattle.base.specs.Accepted.{cause, current_before}
-use Rattle.base.proofs.Places.{get_drop, get_take}
+use Rattle.base.proofs.Places.{get_take}
 use Rattle.mapwalk.specs.declared.rows.Acts.{Acts}
 use Rattle.mapwalk.specs.Acts.{acts_row, acts_rows}
 use Rattle.mapwalk.specs.Heads.{AbstractState}
 use Rattle.mapwalk.specs.Steps.{HasDone, stage_of}
 use Rattle.mapwalk.specs.Walk.{HasNoRangeFault}
 use Rattle.mapwalk.proofs.Agreeing.{AgreeAll, all_cause_agree, stage_agree}
-use Rattle.mapwalk.proofs.LikeItems.{WorkAlike, after_same, after_work, cause_same, row_same}
-use Rattle.mapwalk.proofs.Walking.{IsClean, Reached, next, no_fault_at, on_stage_is, rows_before}
+use Rattle.mapwalk.proofs.LikeItems.{WorkAlike, after_work, cause_same, row_same}
+use Rattle.mapwalk.proofs.Walking.{Reached, no_fault_at, on_stage_is, rows_before}
 
 -- the walk after the first items
 abbrev pub after_first : List Work → ℕ → AbstractState → AbstractState

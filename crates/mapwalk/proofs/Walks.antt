@@ -1,17 +1,15 @@
 -- The walk, where turns of loops are left out.
-use Rattle.std.proofs.Common.{◌≡◌, ℕ, zero, suc, ◌+◌, ◌-◌, ◌<◌, ◌≤◌, List, [], ◌∷◌, ◌++◌, length, take, drop, Option, Some, None, refl, sym, ap, ◌∙◌, subst, arith, length-append}
+use Rattle.std.proofs.Common.{◌≡◌, ℕ, zero, suc, ◌+◌, ◌-◌, ◌<◌, ◌≤◌, List, [], ◌∷◌, ◌++◌, length, Option, Some, refl, sym, ap, ◌∙◌, subst, arith, length-append}
 use Rattle.std.specs.Prelude.{slice_get}
 use Rattle.std.proofs.lemmas.Option.{slice_get_within}
-use mathlib.Core.Path.{fun_ext}
 use Rattle.base.specs.declared.item.Item.{Item}
 use Rattle.base.specs.Items.{Plan, Work}
-use Rattle.base.specs.Map.{Block}
 use Rattle.base.specs.Current.{AllCurrent, at_start}
 use Rattle.outline.specs.Regions.{Entry}
 use Rattle.outline.specs.Shown.{all_shown, as_shown, shown}
 use Rattle.ranges.specs.declared.cells.Footprint.{Footprint}
 use Rattle.mapwalk.specs.declared.heads.Head.{Head}
-use Rattle.mapwalk.specs.declared.heads.Head.TheVariants.{Repeated, Unknown}
+use Rattle.mapwalk.specs.declared.heads.Head.TheVariants.{Repeated}
 use Rattle.mapwalk.specs.declared.rows.Acts.{Acts}
 use Rattle.mapwalk.specs.Footprints.{AreFootprints}
 use Rattle.mapwalk.specs.Heads.{AbstractState, AreAlikeAt, IsHeld, IsNextTurn, with_last}
@@ -20,7 +18,7 @@ use Rattle.mapwalk.specs.Walk.{HasNoRangeFault}
 use Rattle.mapwalk.proofs.Agreeing.{AgreeAll}
 use Rattle.mapwalk.proofs.LikeItems.{WorkAlike, after_work}
 use Rattle.mapwalk.proofs.LikeRegions.{same_touches}
-use Rattle.mapwalk.proofs.Repeating.{HasItem, item_at, turned}
+use Rattle.mapwalk.proofs.Repeating.{item_at, turned}
 use Rattle.mapwalk.proofs.ShownItems.{shown_of}
 use Rattle.mapwalk.proofs.Turns.{IsAt, before_item, first_more, start}
 use Rattle.mapwalk.proofs.Walking.{Reached, next}
@@ -71,6 +69,13 @@ pub record Stands (plan : Plan) (k : AllCurrent) (number : ℕ) (s : AbstractSta
   pub ahead : number ≤ length rows
   pub inside : length rows ≤ length plan.items
 
+-- with the tables and cells of the code's state
+pub reached_now : (plan : Plan) (k : AllCurrent) (number i : ℕ) (s : AbstractState) (head : Head) (rows : List (List Acts)) →
+    length rows ≡ i → Stands plan k number s head rows → Reached plan i s.tables s.current rows
+reached_now plan k number i s head rows n h =
+    subst (λ j. Reached plan j s.tables s.current rows) n
+    (subst (λ (x : AbstractState). Reached plan (length rows) x.tables x.current rows) (sym h.now) h.at)
+
 -- with what is known of another head
 pub with_head : (plan : Plan) (k : AllCurrent) (number : ℕ) (s : AbstractState) (head other : Head) (rows : List (List Acts)) →
     IsHeld (before_item plan k) (length rows) other → Stands plan k number s head rows → Stands plan k number s other rows
@@ -100,7 +105,7 @@ stepped plan k number s after head other rows row w none there le held done h =
     ∙ ap (after_work w) h.now ∙ sym (first_more plan.items (length rows) w (start k) here) in
     let reached : Reached plan (length rows + 1) after.tables after.current (rows ++ row ∷ []) =
     next plan (length rows) s.tables after.tables s.current after.current rows row w none here
-    (subst (λ (x : AbstractState). Reached plan (length rows) x.tables x.current rows) (sym h.now) h.at) done in
+    (reached_now plan k number (length rows) s head rows refl h) done in
     let low : number < length plan.items = slice_get_within plan.items number w there in
     record {
       start = h.start;
@@ -119,5 +124,25 @@ pub repeated : (plan : Plan) (k : AllCurrent) (number m : ℕ) (s : AbstractStat
     Stands plan k number s (Repeated m) rows → Stands plan k (number + 1) s (Repeated m) (with_last m rows)
 repeated plan k number m s rows entries items found none e prints many le turn h =
     let ahead = h.ahead in
+    let few : m ≤ length rows = h.held.0 in
     let n : length rows ≡ number = omega (arith, le, ahead) in
-    ?
+    let first = length rows - m in
+    let whole : length rows ≡ first + m = omega (arith, few) in
+    let end = turn.inside in
+    let low : length rows + m ≤ length plan.items = omega (arith, end, many, n) in
+    let t = turned plan k first m (length rows) rows none h.start h.at whole h.held.1 low
+    (λ j v w lt at_v at_w. alike_works entries items plan found (first + j) (length rows + j) v w e prints
+    (subst (λ x. AreAlikeAt items found (x - m + j) (x + j)) (sym n) (turn.alike j lt)) at_v at_w) in
+    let count : length (with_last m rows) ≡ length rows + m = t.at.count in
+    let same : before_item plan k (length rows) ≡ before_item plan k (length (with_last m rows)) =
+    ap (before_item plan k) whole ∙ t.same ∙ ap (before_item plan k) (sym count) in
+    let back : length (with_last m rows) - m ≡ length rows = omega (arith, count) in
+    let some = turn.some in
+    record {
+      start = h.start;
+      at = subst (λ i. IsAt plan k i (with_last m rows)) (sym count) t.at;
+      now = h.now ∙ same;
+      held = (omega (arith, count), ap (before_item plan k) back ∙ same);
+      ahead = omega (arith, count, n, some);
+      inside = omega (arith, count, low);
+    }

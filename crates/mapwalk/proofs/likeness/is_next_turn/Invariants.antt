@@ -1,4 +1,4 @@
-use Rattle.std.proofs.Common.{◌≡◌, ◌+◌, ◌<◌, ℕ}
+use Rattle.std.proofs.Common.{◌+◌, ◌<◌, ℕ}
 use Rattle.mapwalk.specs.Found.{all_found}
 use Rattle.mapwalk.specs.Heads.{AreAlikeAt}
 use Rattle.mapwalk.proofs.likeness.is_next_turn.Given as goal

@@ -1,4 +1,4 @@
-use Rattle.std.proofs.Common.{◌≡◌, sym, ◌∙◌}
+use Rattle.std.proofs.Common.{sym, ◌∙◌}
 use Rattle.mapwalk.proofs.Snapshots.{same_state}
 use Rattle.mapwalk.proofs.heads.Heads.look.Goals as goal
 
