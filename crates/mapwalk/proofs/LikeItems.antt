@@ -82,7 +82,7 @@ module _ (v w : Work) (h : WorkAlike v w) where
   region_causes_same k NotPresent c = refl
   region_causes_same k Unmapped c =
       λ i. is_target (h.kind i)
-          && ((h.touches.read c i || h.touches.write c i) && not (list_any (λ m. is_in c m.section) (h.maps i)))
+      && ((h.touches.read c i || h.touches.write c i) && not (list_any (λ m. is_in c m.section) (h.maps i)))
   region_causes_same k HostNotCurrent c = λ i. is_host (h.kind i) && (h.touches.exposed c i && not (k.host c))
   region_causes_same k DeviceNotCurrent c = λ i. is_target (h.kind i) && (h.touches.exposed c i && not (k.device c))
   region_causes_same k Conflict c = refl

@@ -43,7 +43,7 @@ module _ (plan : Plan) (k : AllCurrent) (h m n : ℕ) (rows : List (List Acts)) 
     (agree : AgreeAll plan.lengths k at_start) (at : IsAt plan k n rows) (turn : n ≡ h + m)
     (same : before_item plan k h ≡ before_item plan k n) (inside : n + m ≤ length plan.items)
     (alike : (j : ℕ) (v w : Work) → j < m → slice_get plan.items (h + j) ≡ Some v → slice_get plan.items (n + j) ≡ Some w →
-        WorkAlike v w) where
+    WorkAlike v w) where
   one_more : (j : ℕ) → j < m → Turned plan k h n j rows → Turned plan k h n (j + 1) rows
   one_more j lt t =
       let v = item_at plan.items (h + j) (omega (arith, lt, inside, turn)) in

@@ -26,24 +26,43 @@ pub enum Head {
         snapshot: Snapshot,
     },
     /// The state before the next item is that before the item so many items earlier.
-    Repeated { period: usize },
+    Repeated {
+        period: usize,
+    },
 }
 
-/// Where turns of a loop may begin. Nothing rests on the choice: turns are left out only where the state is the same, and
-/// each item is like the one a turn before.
+// So many statements are told apart at most.
+const STATEMENTS: usize = 4096;
+
+// By what an item is likely to be like another: its place in the source, the number of its footprint where it has a region,
+// and the first cell of its first map item.
+fn statement(item: &Item, found: &Footprints, number: usize) -> (usize, usize, usize, u64) {
+    let footprint = match item.region {
+        Some(_) => found.number_of(number).unwrap_or(0),
+        None => 0,
+    };
+    let first = match item.maps.first() {
+        Some(map) => map.section.first,
+        None => 0,
+    };
+    (item.place.line, item.place.column, footprint, first)
+}
+
+/// Where turns of a loop may begin. Nothing rests on the choice: a turn is left out only where the state before it is that
+/// before the last turn, and each of its items is like the one a turn before.
 ///
-/// The head is an item that is like the last one from the same place in the source; a turn has the items from that one
-/// on. One head is kept at a time, so a loop inside a turn that is being watched is not found, nor is one that begins
-/// with a directive which names the loop.
+/// A turn is watched from an item that is like the last one of the same statement; it has the items from that one on. The
+/// state before it is kept until the turn ends, or an item is unlike the one a turn before. One turn is watched at a time: a
+/// loop inside it is not looked for, and a loop is not found whose turns have no statement of the first 4096.
 #[derive(Drop)]
 pub struct Heads {
     alloc: Global,
-    // The last item from each place.
-    last: BTreeMap<(usize, usize), usize>,
+    // The last item of each statement.
+    last: BTreeMap<(usize, usize, usize, u64), usize>,
     pub head: Head,
-    // How many heads in a row did not repeat.
+    // How many turns in a row were watched in vain.
     failures: usize,
-    // No head is taken before this item.
+    // No turn is watched from an item before this one.
     next: usize,
 }
 
@@ -60,24 +79,33 @@ impl Heads {
         }
     }
 
-    /// Notes an item. The answer is the last one from the same place.
-    pub fn note(&mut self, item: &Item, number: usize) -> Result<Option<usize>, AllocError>
+    /// Notes an item. The answer is the last one of the same statement.
+    pub fn note(
+        &mut self,
+        item: &Item,
+        found: &Footprints,
+        number: usize,
+    ) -> Result<Option<usize>, AllocError>
         ensures { self.new.head ≡ self.old.head }
     {
-        let place = (item.place.line, item.place.column);
-        Ok(self.last.insert(place, number)?)
+        let statement = statement(item, found, number);
+        if self.last.len() >= STATEMENTS && !self.last.contains_key(&statement) {
+            return Ok(None);
+        }
+        Ok(self.last.insert(statement, number)?)
     }
 
-    // The head did not repeat. After n of these in a row none is taken for n * n items.
+    // The turn was watched in vain. After n times in a row none is watched for the next n * n items, so that copies of the
+    // state take little time where it never repeats.
     fn fail(&mut self, number: usize)
         ensures { self.new.head ≡ Head.Unknown }
     {
         self.head = Head::Unknown;
-        self.failures = self.failures.saturating_add(1);
         self.next = number.saturating_add(self.failures.saturating_mul(self.failures));
+        self.failures = self.failures.saturating_add(1);
     }
 
-    // Whether the head that is watched ends here, or goes on.
+    // Looks at the turn that is watched: it goes on, ends where the state is the same, or was watched in vain.
     fn watch(&mut self, items: &[Item], found: &Footprints, number: usize, state: &State)
         ensures { (history : ℕ → AbstractState) → history number ≡ state_of state.now → IsHeld history number self.old.head → IsHeld history number self.new.head }
     {
@@ -89,11 +117,13 @@ impl Heads {
         else {
             return;
         };
-        if number < *item || number < *period || !are_alike(items, found, number - *period, number) {
+        if number < *item
+            || number < *period
+            || !are_alike(items, found, number - *period, number)
+        {
             self.fail(number);
         } else if number - *item == *period {
             if snapshot.is_of(state) {
-                self.failures = 0;
                 self.head = Head::Repeated { period: *period };
             } else {
                 self.fail(number);
@@ -101,7 +131,7 @@ impl Heads {
         }
     }
 
-    /// Looks at the state before an item, where `earlier` is the last one from the same place.
+    /// Looks at the state before an item, where `earlier` is the last one of the same statement.
     pub fn look(
         &mut self,
         items: &[Item],
@@ -143,9 +173,10 @@ impl Heads {
             return None;
         };
         if is_next_turn(items, found, number, period) {
+            self.failures = 0;
             return Some(period);
         }
-        self.head = Head::Unknown;
+        self.fail(number);
         None
     }
 }

@@ -54,7 +54,8 @@ pub struct Walked {
 }
 
 /// Does the items of a program one after the other on an abstract present table, with the footprint of each item's region.
-/// The error comes where an allocation fails.
+/// Where blocks, counts and current cells before a turn of a loop of directives are those before the turn just before, and
+/// its directives and regions do not name the loop, the rest of its turns are not walked: they repeat that one. The error comes where an allocation fails.
 pub fn walk(
     alloc: Global,
     outlined: &Outlined<'_>,
@@ -72,8 +73,9 @@ pub fn walk(
     let mut heads = Heads::new(alloc);
     let mut acts = Vec::new(alloc);
     'items: for number in 0..items.len() {
-        let earlier = heads.note(&items[number], number)?;
+        let earlier = heads.note(&items[number], found, number)?;
         if number < acts.len() {
+            // It repeats an item whose row was copied.
             continue;
         }
         heads.look(items, found, number, earlier, &state)?;

@@ -33,14 +33,21 @@ impl Footprints {
         &self.distinct[self.numbers[item]]
     }
 
-    /// Whether two items are known to have one footprint.
+    /// Whether two items are known to have the same footprint: they have one number, or neither has a region.
     pub fn is_shared(&self, earlier: usize, item: usize) -> bool
         ensures { result ≡ true → slice_get (all_found self.now) earlier ≡ slice_get (all_found self.now) item }
     {
         match (self.numbers.get(earlier), self.numbers.get(item)) {
-            (Some(left), Some(right)) => left == right,
+            (Some(left), Some(right)) => {
+                left == right || self.distinct[*left].is_none() && self.distinct[*right].is_none()
+            }
             _ => false,
         }
+    }
+
+    /// The number of an item's footprint.
+    pub fn number_of(&self, item: usize) -> Option<usize> {
+        self.numbers.get(item).copied()
     }
 
     // Of one more item: the footprint with this number.
