@@ -18,6 +18,12 @@ pub mod WorkParts
 pub mod Verdicts
 pub mod Agreeing
 pub mod Walking
+pub mod LikeRegions
+pub mod LikeItems
+pub mod Snapshots
+pub mod Turns
+pub mod Repeating
+pub mod Walks
 pub mod Sharing
 pub mod Refusals
 pub mod Endings

@@ -30,12 +30,12 @@ same_actions act w blocks = go w.region refl
     go None e = rw e refl
     go (Some r) e = rw e refl
 
-host_with : (w : Work) (k : Current) (o : Option Region) → after_actions (actions_with HostRegion w o) k
+pub host_with : (w : Work) (k : Current) (o : Option Region) → after_actions (actions_with HostRegion w o) k
     ≡ record { host = own_side (touches_with w o) k.host; device = other_side (touches_with w o) k.device }
 host_with w k None = refl
 host_with w k (Some r) = refl
 
-kernel_with : (w : Work) (k : Current) (o : Option Region) → after_actions (actions_with Kernel w o) k
+pub kernel_with : (w : Work) (k : Current) (o : Option Region) → after_actions (actions_with Kernel w o) k
     ≡ record { host = other_side (touches_with w o) k.host; device = own_side (touches_with w o) k.device }
 kernel_with w k None = refl
 kernel_with w k (Some r) = refl
@@ -48,11 +48,11 @@ cut_is : (w : Work) (f : Footprint) (side : Cell → Bool) → AreTouches w f �
     ≡ other_side (touches_in w) side
 cut_is w f side h = fun_ext (λ (c : Cell). ap (λ b. not b && side c) (h.write c))
 
-region_is_host : (w : Work) (k : Current) → w.kind ≡ kind.Host →
+pub region_is_host : (w : Work) (k : Current) → w.kind ≡ kind.Host →
     after_actions (region_actions w) k ≡ after_actions (region_acts HostRegion w []).actions k
 region_is_host w k e = rw e refl
 
-region_is_kernel : (w : Work) (k : Current) → w.kind ≡ kind.Target →
+pub region_is_kernel : (w : Work) (k : Current) → w.kind ≡ kind.Target →
     after_actions (region_actions w) k ≡ after_actions (region_acts Kernel w []).actions k
 region_is_kernel w k e = rw e refl
 

@@ -15,4 +15,5 @@ pub mod Footprints
 pub mod Found
 pub mod Numbered
 pub mod Repeats
+pub mod Heads
 pub mod Laws

@@ -14,6 +14,7 @@ pub use crate::alike::repeats;
 use crate::causes::Cause;
 pub use crate::footprints::{footprint_of, next_footprint};
 pub use crate::found::{Footprints, Next};
+use crate::heads::{Heads, copy_rows};
 pub use crate::rows::Acts;
 use crate::state::State;
 use crate::steps::Step;
@@ -28,12 +29,15 @@ mod causes;
 mod current;
 mod footprints;
 mod found;
+mod heads;
+mod likeness;
 mod marking;
 mod marks;
 mod numbered;
 mod region;
 mod rows;
 mod seen;
+mod snapshot;
 mod state;
 mod steps;
 mod table;
@@ -50,7 +54,8 @@ pub struct Walked {
 }
 
 /// Does the items of a program one after the other on an abstract present table, with the footprint of each item's region.
-/// The error comes where an allocation fails.
+/// Where blocks, counts and current cells before a turn of a loop of directives are those before the turn just before, and
+/// its directives and regions do not name the loop, the rest of its turns are not walked: they repeat that one. The error comes where an allocation fails.
 pub fn walk(
     alloc: Global,
     outlined: &Outlined<'_>,
@@ -63,13 +68,25 @@ pub fn walk(
     ensures sound { IfOk result (λ w. IsSound (plan outlined.now) w.fault) }
     ensures current { IfOk result (λ w. AreCurrent (plan outlined.now) w) }
 {
+    let items = outlined.items();
     let mut state = State::new(alloc, outlined)?;
+    let mut heads = Heads::new(alloc);
     let mut acts = Vec::new(alloc);
-    'items: for item in outlined.items() {
-        match state.step(item, found.get(acts.len()))? {
+    'items: for number in 0..items.len() {
+        let earlier = heads.note(&items[number], found, number)?;
+        if number < acts.len() {
+            // It repeats an item whose row was copied.
+            continue;
+        }
+        heads.look(items, found, number, earlier, &state)?;
+        if let Some(period) = heads.turn(items, found, number) {
+            copy_rows(alloc, &mut acts, period)?;
+            continue;
+        }
+        match state.step(&items[number], found.get(number))? {
             Step::Done(row) => acts.push(row)?,
             Step::Refused(cause) => {
-                let fault = refusal(cause, acts.len() as u32);
+                let fault = refusal(cause, number as u32);
                 return Ok(Walked {
                     acts,
                     current: Vec::new(alloc),

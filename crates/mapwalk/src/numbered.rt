@@ -1,6 +1,6 @@
 // What footprints of items tell.
 
-ghost use Rattle.std.specs.Prelude.{◌≡◌, ◌++◌, ◌∷◌, ◌<◌, ℕ, [], None, OnOk, get_or, length};
+ghost use Rattle.std.specs.Prelude.{◌≡◌, ◌++◌, ◌∷◌, ◌<◌, ℕ, [], None, OnOk, get_or, length, slice_get, true};
 ghost use Rattle.mapwalk.specs.Found.{all_found, told};
 
 use crate::found::{Footprints, Next};
@@ -31,6 +31,23 @@ impl Footprints {
         ensures { result.now ≡ get_or (all_found self.now) item result.now }
     {
         &self.distinct[self.numbers[item]]
+    }
+
+    /// Whether two items are known to have the same footprint: they have one number, or neither has a region.
+    pub fn is_shared(&self, earlier: usize, item: usize) -> bool
+        ensures { result ≡ true → slice_get (all_found self.now) earlier ≡ slice_get (all_found self.now) item }
+    {
+        match (self.numbers.get(earlier), self.numbers.get(item)) {
+            (Some(left), Some(right)) => {
+                left == right || self.distinct[*left].is_none() && self.distinct[*right].is_none()
+            }
+            _ => false,
+        }
+    }
+
+    /// The number of an item's footprint.
+    pub fn number_of(&self, item: usize) -> Option<usize> {
+        self.numbers.get(item).copied()
     }
 
     // Of one more item: the footprint with this number.
