@@ -6,7 +6,7 @@ use Rattle.std.proofs.lemmas.Option.{slice_get-map, slice_get_past}
 use Rattle.std.proofs.Math.Bool.{and-false, and-true, or-false}
 use Rattle.base.specs.declared.item.Event.TheVariants.{Open, Close, Wait}
 use Rattle.base.specs.Items.{Work}
-use Rattle.base.specs.Machine.{is_open, is_wait, is_waiting, is_ready, on_item}
+use Rattle.base.specs.Machine.{is_closed, is_open, is_wait, is_waiting, is_ready, on_item}
 use Rattle.taskgraph.specs.declared.Stage.TheVariants as stage
 use Rattle.taskgraph.specs.Board.{Facts, Board, work_of, plan_in, state_in, condition_of, allows}
 use Rattle.taskgraph.proofs.Ready.{answered}
@@ -74,6 +74,9 @@ asked_at b i g f e =
 
 pub open_past : (b : Board) (i : ℕ) → length b.stages ≤ i → false ≡ is_open ((state_in b).condition i)
 open_past b i h = sym (ap (λ st. is_open (condition_of st)) (get_or_past b.stages i stage.Untouched h))
+
+pub closed_past : (b : Board) (i : ℕ) → length b.stages ≤ i → false ≡ is_closed ((state_in b).condition i)
+closed_past b i h = sym (ap (λ st. is_closed (condition_of st)) (get_or_past b.stages i stage.Untouched h))
 
 pub close_past : (b : Board) (i : ℕ) → length b.tasks ≤ i → false ≡ allows b (Close i)
 close_past b i h = asked_past b i (λ w. is_open ((state_in b).condition i)) h

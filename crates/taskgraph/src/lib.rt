@@ -334,7 +334,7 @@ fn may_begin(task: &Task, stage: Stage, here: bool) -> bool
 impl Graph {
     ghost use Rattle.std.specs.Prelude.{◌≡◌, ◌<◌, ◌≤◌, ℕ, ◌||◌, IfOk, IfNone, IfSome, length, slice_get, true, false};
     ghost use Rattle.base.specs.declared.item.Event.TheVariants.{Gen, Open, Close, Wait, End};
-    ghost use Rattle.base.specs.Machine.{is_open, is_wait, on_item};
+    ghost use Rattle.base.specs.Machine.{is_closed, is_open, is_wait, on_item};
     ghost use Rattle.taskgraph.specs.Board.{HasNoTask, IsNew, IsNextTask, IsSettled, Follows, all_closings, all_openings, allows, plan_in, state_in};
 
     /// The graph of these items, none of which has begun.
@@ -378,6 +378,17 @@ impl Graph {
             return false;
         }
         matches!(self.stages[item], Stage::Open)
+    }
+
+    /// Whether the item is closed; a number past the last gives `false`.
+    #[tactic(auto, using(crate::proofs::Parts::closed_past))]
+    pub fn is_closed(&self, item: usize) -> bool
+        ensures { result ≡ is_closed ((state_in self.now).condition item) }
+    {
+        if item >= self.tasks.len() {
+            return false;
+        }
+        matches!(self.stages[item], Stage::Closed)
     }
 
     /// Whether the item may be opened next, or passed by the host where it is a wait: it was not before, all its

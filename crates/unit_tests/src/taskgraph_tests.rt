@@ -117,8 +117,11 @@ fn is_written(graph: &mut Graph) -> bool {
         && !graph.ready(0)
         && !graph.ready(1)
         && !graph.ready(2)
+        && !graph.is_closed(0)
         && closes(graph, 0)
         && !graph.is_open(0)
+        && graph.is_closed(0)
+        && !graph.is_closed(1)
         && graph.ready(1)
         && graph.ready(2)
         && !graph.ready(3)
@@ -136,6 +139,8 @@ fn is_read(graph: &mut Graph) -> bool {
         && passes(graph, 3)
         && graph.place() == 4
         && !graph.is_open(3)
+        && !graph.is_closed(3)
+        && !graph.is_closed(4)
         && !graph.ready(4)
 }
 
