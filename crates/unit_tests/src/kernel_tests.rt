@@ -10,7 +10,7 @@ use std::test::Fail;
 const TURNS: [u64; 9] = [0, 1, 2, 63, 64, 511, 512, 513, 1100];
 
 // What a turn does on the arrays A and B and the scalar s, and the same on C, D and t.
-const BODIES: [(&str, &str); 13] = [
+const BODIES: [(&str, &str); 25] = [
     ("A[i] = B[i] * 3 + (i ^ 5);", "C[i] = D[i] * 3 + (i ^ 5);"),
     ("A[i] = A[i - 1] + B[i];", "C[i] = C[i - 1] + D[i];"),
     ("A[i] = A[i + 1] + B[i];", "C[i] = C[i + 1] + D[i];"),
@@ -45,6 +45,24 @@ const BODIES: [(&str, &str); 13] = [
         "A[i] = B[i] | 1; B[i] = A[i] - 2 + 4 * i;",
         "C[i] = D[i] | 1; D[i] = C[i] - 2 + 4 * i;",
     ),
+    ("s = s + B[i];", "t = t + D[i];"),
+    ("s = s - B[i] * i;", "t = t - D[i] * i;"),
+    ("s = s < A[i];", "t = t < C[i];"),
+    ("s = s ^ (B[i + 1] << 3);", "t = t ^ (D[i + 1] << 3);"),
+    (
+        "uint64_t u = B[i] * A[i]; A[i] = u; s = s * 3 + u;",
+        "uint64_t u = D[i] * C[i]; C[i] = u; t = t * 3 + u;",
+    ),
+    (
+        "uint64_t u = B[i] * A[i]; A[i] = u; s = s + u % 97;",
+        "uint64_t u = D[i] * C[i]; C[i] = u; t = t + u % 97;",
+    ),
+    ("A[i] = B[i] + s; s = s + 1;", "C[i] = D[i] + t; t = t + 1;"),
+    ("s = B[i]; s = s + A[i];", "t = D[i]; t = t + C[i];"),
+    ("s = B[i] - s;", "t = D[i] - t;"),
+    ("s = s + s;", "t = t + t;"),
+    ("s = s + B[s % 1200];", "t = t + D[t % 1200];"),
+    ("s = s | A[(i * 7) % 1200];", "t = t | C[(i * 7) % 1200];"),
 ];
 
 const HEAD: &str = "\
