@@ -104,7 +104,13 @@ from_start choices r none =
     here : state_of r ≡ start r.input
     here = leads_to r (start r.input) ran
 
--- the answer of a run that has ended shows what the erased program does
+-- a run that has ended shows what the erased program does
+pub shows_erased : (r : Run) → IsReached r → HasEnded (plan r.program) (state_of r) → ShowsErased r.program r.input (state_of r)
+shows_erased r reached ended =
+    (headline r.program reached.accepted).shows r.input (fill_in r) r.history (state_of r) reached.numbers
+    (λ i c. reached.fresh) reached.ran ended
+
+-- so does its answer
 pub is_run_answer : (arrays : List ArrayId) (r : Run) (a : Answer) → IsReached r → HasEnded (plan r.program) (state_of r) →
     AreMarked (plan r.program) arrays → IsAnswerOf r arrays a → IsRunAnswer r a
 is_run_answer arrays r a reached ended marked of = record {
@@ -118,9 +124,7 @@ is_run_answer arrays r a reached ended marked of = record {
 }
   where
     shows : ShowsErased r.program r.input (state_of r)
-    shows =
-        (headline r.program reached.accepted).shows r.input (fill_in r) r.history (state_of r) reached.numbers
-        (λ i c. reached.fresh) reached.ran ended
+    shows = shows_erased r reached ended
 
 -- the answer of a run that was played to its end is right
 pub is_answer : (p : Program) (input choices : List ℕ) (capacity : ℕ) (old new : Run) (a : Answer) →

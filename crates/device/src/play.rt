@@ -1,6 +1,7 @@
 // A run by choices to its end.
 
 ghost use Rattle.std.specs.Prelude.{◌≡◌, drop, length, slice_get, IfErr, OnOk};
+ghost use Rattle.base.specs.Headline.{ShowsErased};
 ghost use Rattle.base.specs.Items.{plan};
 ghost use Rattle.base.specs.Machine.{all_enabled, first_or_zero};
 ghost use Rattle.device.specs.Choosing.{IsPlayed, IsStopped, most_events, next_by};
@@ -64,11 +65,13 @@ impl<'a> RunState<'a> {
     }
 
     /// The run goes on to its end: of the events that may happen next, in the order of `enabled`, each choice in turn
-    /// takes the one at its place, counted around, and after the last choice it is the first one. The error is
+    /// takes the one at its place, counted around, and after the last choice it is the first one. Whatever the choices, what was
+    /// printed at the end and the arrays that are marked current are those of the erased program. The error is
     /// `DeviceFull` where an opening would create more cells than its device has room for, or `OutOfMemory`; the run
     /// then stands before the event that was not done.
     pub fn play_choices(&mut self, choices: &[u32]) -> Result<(), RunFault>
         ensures played { OnOk result (IsPlayed choices.now self.old self.new) }
+        ensures shows { OnOk result (ShowsErased self.new.program self.new.input (state_of self.new)) }
         ensures stopped { IfErr result (IsStopped choices.now self.old self.new) }
     {
         let most = self.most_events();
