@@ -34,7 +34,7 @@ impl Footprints {
     }
 
     /// Whether two items are known to have the same footprint: they have one number, or neither has a region.
-    pub fn is_shared(&self, earlier: usize, item: usize) -> bool
+    pub(crate) fn is_shared(&self, earlier: usize, item: usize) -> bool
         ensures { result ≡ true → slice_get (all_found self.now) earlier ≡ slice_get (all_found self.now) item }
     {
         match (self.numbers.get(earlier), self.numbers.get(item)) {
@@ -46,7 +46,7 @@ impl Footprints {
     }
 
     /// The number of an item's footprint.
-    pub fn number_of(&self, item: usize) -> Option<usize> {
+    pub(crate) fn number_of(&self, item: usize) -> Option<usize> {
         self.numbers.get(item).copied()
     }
 
