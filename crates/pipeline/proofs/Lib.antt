@@ -1,3 +1,4 @@
 pub mod FineRuns
 pub mod Listings
 pub mod Runs
+pub mod Texts

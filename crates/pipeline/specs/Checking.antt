@@ -66,6 +66,21 @@ IsRefused bytes (Outline f) = IsOutlineFault bytes f
 IsRefused bytes (Check f) = IsRefusedProgram bytes f
 IsRefused bytes (Run f) = ⊥
 
+-- why the bytes are read as no program
+abbrev pub IsUnread : List ℕ → SourceFault → Type 0
+IsUnread bytes (Read f) = OnText (IsTextFault bytes) f
+IsUnread bytes (Outline f) = ⊥
+IsUnread bytes (Check f) = ⊥
+IsUnread bytes (Run f) = ⊥
+
+-- why a program's items are not listed
+abbrev pub IsUnlisted : Program → SourceFault → Type 0
+IsUnlisted p (Outline outline.TooManyItems) = most_items < length (plan p).items
+IsUnlisted p (Outline outline.OutOfMemory) = length (plan p).items ≤ most_items
+IsUnlisted p (Read f) = ⊥
+IsUnlisted p (Check f) = ⊥
+IsUnlisted p (Run f) = ⊥
+
 -- nothing is written, unless the check refuses a program, which is told in a line
 abbrev pub IsSilent : {X : Type 0} → Result X SourceFault → Option (List ℕ) → Option (List ℕ) → Type 0
 IsSilent (Ok x) old new = new ≡ old

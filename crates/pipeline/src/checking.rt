@@ -3,11 +3,11 @@
 ghost use Rattle.std.specs.Prelude.{◌≡◌, ◌⊎◌, IfOk, IfErr, OnErr, OnOk};
 ghost use Rattle.pipeline.specs.Checking.{IsChecked, IsRefused, IsSilent, IsTold, IsUnaccepted};
 
+use crate::text::{items, read};
 use base::fault::{CheckFault, SourceFault};
 use base::tree::Program;
-use c_read::read_program;
 use mapcheck::{Accepted, check};
-use outline::{Outlined, outline};
+use outline::Outlined;
 use report::{accepted_text, refusal_text};
 use std::alloc::Global;
 use std::io;
@@ -67,7 +67,7 @@ fn check_outlined<W: Write, E: Write>(
 /// Reads a source, checks its program, and writes `accepted` and a line for each array marked current. A fault is that
 /// of the first pass that fails, and then nothing is written to `out`; why a program is not accepted is written to
 /// `err`, in one line. A write to `out` that fails ends the text.
-#[tactic(auto, using(crate::proofs::Listings::on_checked))]
+#[tactic(auto, using(crate::proofs::Listings::on_checked, crate::proofs::Texts::unlisted_refused))]
 pub fn check_source<W: Write, E: Write>(
     alloc: Global,
     bytes: &[u8],
@@ -79,13 +79,7 @@ pub fn check_source<W: Write, E: Write>(
     ensures quiet { OnErr result (W.contents out.new ≡ W.contents out.old) }
     ensures silent { IsSilent result (E.contents err.old) (E.contents err.new) }
 {
-    let program = match read_program(alloc, bytes) {
-        Ok(program) => program,
-        Err(fault) => return Err(SourceFault::Read(fault)),
-    };
-    let outlined = match outline(alloc, &program) {
-        Ok(outlined) => outlined,
-        Err(fault) => return Err(SourceFault::Outline(fault)),
-    };
+    let program = read(alloc, bytes)?;
+    let outlined = items(alloc, &program)?;
     check_outlined(alloc, &outlined, out, err)
 }

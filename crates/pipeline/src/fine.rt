@@ -5,11 +5,11 @@ ghost use Rattle.base.specs.Limits.{AreShort};
 ghost use Rattle.stepper.specs.Answering.{IsFineAnswer, IsFineFault};
 ghost use Rattle.pipeline.specs.Fine.{IsFineSourceAnswer, IsFineSourceFault};
 
+use crate::text::{items, read};
 use base::fault::{RunFault, SourceFault};
 use base::item::Answer;
-use c_read::read_program;
 use erased_meaning::erased_text_runs;
-use outline::{Outlined, outline};
+use outline::Outlined;
 use std::alloc::Global;
 use stepper::run_fine;
 
@@ -33,7 +33,7 @@ fn run_by_actions(
 /// for `capacity` cells. At each step the next choice picks among the events that may happen, as `stepper::run_fine` says.
 /// The fault is that of the first pass that fails: the text, the number of items, the run; want of memory may come in
 /// place of any.
-#[tactic(auto, using(crate::proofs::Runs::short_too, crate::proofs::Listings::outline_fault))]
+#[tactic(auto, using(crate::proofs::Runs::short_too, crate::proofs::Texts::unlisted_fine))]
 pub fn run_source_fine(
     alloc: Global,
     bytes: &[u8],
@@ -44,14 +44,8 @@ pub fn run_source_fine(
     ensures answer { IfOk result (IsFineSourceAnswer bytes.now input.now choices.now capacity) }
     ensures fault { IfErr result (IsFineSourceFault bytes.now input.now choices.now capacity) }
 {
-    let program = match read_program(alloc, bytes) {
-        Ok(program) => program,
-        Err(fault) => return Err(SourceFault::Read(fault)),
-    };
-    let outlined = match outline(alloc, &program) {
-        Ok(outlined) => outlined,
-        Err(fault) => return Err(SourceFault::Outline(fault)),
-    };
+    let program = read(alloc, bytes)?;
+    let outlined = items(alloc, &program)?;
     erased_text_runs();
     match run_by_actions(alloc, &outlined, input, choices, capacity) {
         Ok(answer) => Ok(answer),

@@ -5,10 +5,12 @@ mod checking;
 mod fine;
 mod listing;
 mod source;
+mod text;
 mod threads;
 
 pub use checking::{check_source, tell};
 pub use fine::run_source_fine;
 pub use listing::list_source;
 pub use source::{run_accepted, run_source};
+pub use text::{items, read};
 pub use threads::{run_accepted_on_threads, run_source_on_threads};

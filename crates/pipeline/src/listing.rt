@@ -5,10 +5,10 @@ ghost use Rattle.pipeline.specs.Checking.{IsRefused, IsSilent, IsUnaccepted};
 ghost use Rattle.pipeline.specs.Listing.{AreWritten, IsListed};
 
 use crate::checking::tell;
+use crate::text::{items, read};
 use base::fault::SourceFault;
-use c_read::read_program;
 use mapcheck::{Accepted, check};
-use outline::{Outlined, outline};
+use outline::Outlined;
 use report::list_text;
 use std::alloc::Global;
 use std::io;
@@ -43,7 +43,7 @@ fn list_outlined<W: Write, E: Write>(
 /// Reads a source, checks its program, and writes its items, a line each. A fault is that of the first pass that fails,
 /// and then nothing is written to `out`; why a program is not accepted is written to `err`, in one line. A write to
 /// `out` that fails ends the list.
-#[tactic(auto, using(crate::proofs::Listings::on_listed))]
+#[tactic(auto, using(crate::proofs::Listings::on_listed, crate::proofs::Texts::unlisted_refused))]
 pub fn list_source<W: Write, E: Write>(
     alloc: Global,
     bytes: &[u8],
@@ -55,13 +55,7 @@ pub fn list_source<W: Write, E: Write>(
     ensures quiet { OnErr result (W.contents out.new ≡ W.contents out.old) }
     ensures silent { IsSilent result (E.contents err.old) (E.contents err.new) }
 {
-    let program = match read_program(alloc, bytes) {
-        Ok(program) => program,
-        Err(fault) => return Err(SourceFault::Read(fault)),
-    };
-    let outlined = match outline(alloc, &program) {
-        Ok(outlined) => outlined,
-        Err(fault) => return Err(SourceFault::Outline(fault)),
-    };
+    let program = read(alloc, bytes)?;
+    let outlined = items(alloc, &program)?;
     list_outlined(alloc, &outlined, out, err)
 }

@@ -4,14 +4,14 @@ ghost use Rattle.std.specs.Prelude.{◌≡◌, IfOk, IfErr};
 ghost use Rattle.base.specs.Limits.{AreShort};
 ghost use Rattle.pipeline.specs.Source.{IsAcceptedAnswer, IsProgramFault, IsSourceAnswer, IsSourceFault, by_choices, stopped_by_choices};
 
+use crate::text::{items, read};
 use base::fault::{RunFault, SourceFault};
 use base::item::Answer;
-use c_read::read_program;
 use device::run_choices;
 use erased_meaning::erased_text_runs;
 use lower::lower;
 use mapcheck::{Accepted, check};
-use outline::{Outlined, outline};
+use outline::Outlined;
 use std::alloc::Global;
 
 /// Runs an accepted program.
@@ -62,7 +62,7 @@ fn run_outlined(
 /// at its place modulo their number, and the first when the choices are used up. The answer has the output's bytes, the
 /// values of the arrays that are current at the end, and the events in their order. The fault is that of the first pass
 /// that fails: the text, the number of items, the check, the run; want of memory may come in place of any.
-#[tactic(auto, using(crate::proofs::Runs::short_too, crate::proofs::Listings::outline_fault))]
+#[tactic(auto, using(crate::proofs::Runs::short_too, crate::proofs::Texts::unlisted_source))]
 pub fn run_source(
     alloc: Global,
     bytes: &[u8],
@@ -73,14 +73,8 @@ pub fn run_source(
     ensures answer { IfOk result (IsSourceAnswer (by_choices input.now choices.now capacity) bytes.now input.now) }
     ensures fault { IfErr result (IsSourceFault (stopped_by_choices input.now choices.now capacity) bytes.now) }
 {
-    let program = match read_program(alloc, bytes) {
-        Ok(program) => program,
-        Err(fault) => return Err(SourceFault::Read(fault)),
-    };
-    let outlined = match outline(alloc, &program) {
-        Ok(outlined) => outlined,
-        Err(fault) => return Err(SourceFault::Outline(fault)),
-    };
+    let program = read(alloc, bytes)?;
+    let outlined = items(alloc, &program)?;
     erased_text_runs();
     run_outlined(alloc, &outlined, input, choices, capacity)
 }

@@ -4,14 +4,14 @@ ghost use Rattle.std.specs.Prelude.{◌≡◌, ◌≤◌, IfOk, IfErr};
 ghost use Rattle.base.specs.Limits.{AreShort};
 ghost use Rattle.pipeline.specs.Source.{IsAcceptedAnswer, IsProgramFault, IsSourceAnswer, IsSourceFault, on_threads, stopped_on_threads};
 
+use crate::text::{items, read};
 use base::fault::{RunFault, SourceFault};
 use base::item::Answer;
-use c_read::read_program;
 use erased_meaning::erased_text_runs;
 use host::{OpenGate, run_threads};
 use lower::lower;
 use mapcheck::{Accepted, check};
-use outline::{Outlined, outline};
+use outline::Outlined;
 use std::alloc::Global;
 use std::sync::Wait;
 use std::thread::Threads;
@@ -66,7 +66,7 @@ fn run_outlined_on_threads<T: Threads + Wait + Sync>(
 
 /// Runs a source by worker threads, on a host memory and devices, each of which has room for `capacity` cells. Which
 /// events happen when is left to the threads. The answer and the faults are otherwise those of `run_source`.
-#[tactic(auto, using(crate::proofs::Runs::short_too, crate::proofs::Listings::outline_fault))]
+#[tactic(auto, using(crate::proofs::Runs::short_too, crate::proofs::Texts::unlisted_source))]
 pub fn run_source_on_threads<T: Threads + Wait + Sync>(
     rt: &T,
     alloc: Global,
@@ -80,14 +80,8 @@ pub fn run_source_on_threads<T: Threads + Wait + Sync>(
     ensures answer { IfOk result (IsSourceAnswer (on_threads input.now capacity) bytes.now input.now) }
     ensures fault { IfErr result (IsSourceFault (stopped_on_threads input.now capacity) bytes.now) }
 {
-    let program = match read_program(alloc, bytes) {
-        Ok(program) => program,
-        Err(fault) => return Err(SourceFault::Read(fault)),
-    };
-    let outlined = match outline(alloc, &program) {
-        Ok(outlined) => outlined,
-        Err(fault) => return Err(SourceFault::Outline(fault)),
-    };
+    let program = read(alloc, bytes)?;
+    let outlined = items(alloc, &program)?;
     erased_text_runs();
     run_outlined_on_threads(rt, alloc, &outlined, input, workers, capacity)
 }
