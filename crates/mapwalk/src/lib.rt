@@ -55,7 +55,8 @@ pub struct Walked {
 
 /// Does the items of a program one after the other on an abstract present table, with the footprint of each item's region.
 /// Where blocks, counts and current cells before a turn of a loop of directives are those before the turn just before, and
-/// its directives and regions do not name the loop, the rest of its turns are not walked: they repeat that one. The error comes where an allocation fails.
+/// the loop's name decides nothing in it, the rest of the turns are not walked: they repeat that one. The error comes where
+/// an allocation fails.
 pub fn walk(
     alloc: Global,
     outlined: &Outlined<'_>,
