@@ -1,29 +1,21 @@
 -- What is found of a source.
-use Rattle.std.proofs.Common.{◌≡◌, ℕ, ◌<◌, ◌≤◌, List, [], length, refl, subst}
-use Rattle.std.specs.Prelude.{◌↔◌}
+use Rattle.std.proofs.Common.{◌≡◌, ℕ, ◌≤◌, List, [], length, subst}
 use Rattle.base.specs.declared.item.Answer.{Answer}
 use Rattle.base.specs.declared.tree.Program.{Program}
 use Rattle.base.specs.declared.fault.CheckFault.{CheckFault}
 use Rattle.base.specs.declared.fault.CheckFault.TheVariants as check
 use Rattle.base.specs.declared.fault.RangeFault.{RangeFault}
-use Rattle.base.specs.declared.fault.OutlineFault.{OutlineFault}
-use Rattle.base.specs.declared.fault.OutlineFault.TheVariants as outline
 use Rattle.base.specs.Accepted.{IsAccepted}
 use Rattle.base.specs.Items.{plan}
 use Rattle.base.specs.Limits.{most_items}
 use Rattle.c_read.specs.Spells.{Spells}
 use Rattle.erasure.specs.Erased.{erased_text}
 use Rattle.mapcheck.specs.Passes.{IsCheckFault}
-use Rattle.pipeline.specs.Checking.{IsOutlineFault, IsRefusedProgram}
+use Rattle.pipeline.specs.Checking.{IsRefusedProgram}
 use Rattle.pipeline.specs.Fine.{IsFineSourceAnswer}
 use Rattle.witness.specs.declared.trial.Trials.{Trials}
 use Rattle.witness.specs.declared.trial.Witness.{Witness}
 use Rattle.witness.specs.Witnesses.{IsAcceptedSource, IsOther, IsTrial, IsWitness}
-
-pub outline_fault : (bytes : List ℕ) (p : Program) (f : OutlineFault) → Spells bytes p →
-    ((f ≡ outline.TooManyItems) ↔ (most_items < length (plan p).items)) → IsOutlineFault bytes f
-outline_fault bytes p outline.TooManyItems s h = record { program = p; spelled = s; many = h.0 refl }
-outline_fault bytes p outline.OutOfMemory s h = tt
 
 pub accepted_source : (bytes : List ℕ) (p q : Program) → q ≡ p → Spells bytes p → IsAccepted (plan q) → IsAcceptedSource bytes
 accepted_source bytes p q e s a =

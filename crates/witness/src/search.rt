@@ -12,11 +12,10 @@ use crate::shorten::{MOST_CUTS, shorten};
 use crate::trial::{Budget, Trials, Witness, try_list};
 use base::fault::{CheckFault, ReadFault, SourceFault};
 use base::item::Answer;
-use c_read::read_program;
 use erasure::erase;
 use mapcheck::check;
-use outline::{Outlined, outline};
-use pipeline::run_source_fine;
+use outline::Outlined;
+use pipeline::{items, read, run_source_fine};
 use std::alloc::{AllocError, Global};
 
 /// The most lists of choices that are tried.
@@ -123,6 +122,7 @@ fn checked(alloc: Global, outlined: &Outlined<'_>) -> Result<(), CheckFault>
 /// generator with fixed seeds. The list that is found is made shorter, by at most [`MOST_CUTS`] runs. Runs in which a device
 /// is full say nothing. The fault is that of the text or of the number of items; want of memory may come in place of any
 /// answer.
+#[tactic(auto, using(pipeline::proofs::Texts::unlisted_refused))]
 pub fn witness(
     alloc: Global,
     bytes: &[u8],
@@ -132,14 +132,8 @@ pub fn witness(
     ensures found { IfOk result (IsFinding bytes.now input.now capacity) }
     ensures fault { IfErr result (IsRefused bytes.now) }
 {
-    let program = match read_program(alloc, bytes) {
-        Ok(program) => program,
-        Err(fault) => return Err(SourceFault::Read(fault)),
-    };
-    let outlined = match outline(alloc, &program) {
-        Ok(outlined) => outlined,
-        Err(fault) => return Err(SourceFault::Outline(fault)),
-    };
+    let program = read(alloc, bytes)?;
+    let outlined = items(alloc, &program)?;
     match checked(alloc, &outlined) {
         Ok(()) => Ok(Finding::Accepted),
         Err(CheckFault::OutOfMemory) => Err(SourceFault::Read(ReadFault::OutOfMemory)),
