@@ -31,11 +31,11 @@ pub enum Head {
     },
 }
 
-// So many statements are told apart at most.
+// So many statements are kept at most. Where there are more, they are forgotten.
 const STATEMENTS: usize = 4096;
 
-// By what an item is likely to be like another: its place in the source, the number of its footprint where it has a region,
-// and the first cell of its first map item.
+// By what an item is likely to be like another: its place in the source, the number of its footprint where it has a
+// region, and the first cell of its first map item.
 fn statement(item: &Item, found: &Footprints, number: usize) -> (usize, usize, usize, u64) {
     let footprint = match item.region {
         Some(_) => found.number_of(number).unwrap_or(0),
@@ -48,16 +48,16 @@ fn statement(item: &Item, found: &Footprints, number: usize) -> (usize, usize, u
     (item.place.line, item.place.column, footprint, first)
 }
 
-/// Where turns of a loop may begin. Nothing rests on the choice: a turn is left out only where the state before it is that
-/// before the last turn, and each of its items is like the one a turn before.
+/// Where turns of a loop may begin. Nothing rests on the choice: a turn is left out only where the state before it is
+/// that before the last turn, and each of its items is like the one a turn before.
 ///
-/// A turn is watched from an item that is like the last one of the same statement; it has the items from that one on. The
-/// state before it is kept until the turn ends, or an item is unlike the one a turn before. One turn is watched at a time: a
-/// loop inside it is not looked for, and a loop is not found whose turns have no statement of the first 4096.
+/// A turn is watched from an item in a loop that is like the last one of the same statement; it has the items from that
+/// one on. The state before it is kept until the turn ends, or an item is unlike the one a turn before. One turn is
+/// watched at a time: a loop inside it is not looked for. Nor is a loop found whose turns have more than 4096 statements.
 #[derive(Drop)]
 pub struct Heads {
     alloc: Global,
-    // The last item of each statement.
+    // The last item of each statement that stands in a loop.
     last: BTreeMap<(usize, usize, usize, u64), usize>,
     pub head: Head,
     // How many turns in a row were watched in vain.
@@ -79,7 +79,7 @@ impl Heads {
         }
     }
 
-    /// Notes an item. The answer is the last one of the same statement.
+    /// Notes an item. The answer is the last one of the same statement, none where no loop is around it.
     pub fn note(
         &mut self,
         item: &Item,
@@ -88,15 +88,17 @@ impl Heads {
     ) -> Result<Option<usize>, AllocError>
         ensures { self.new.head ≡ self.old.head }
     {
-        let statement = statement(item, found, number);
-        if self.last.len() >= STATEMENTS && !self.last.contains_key(&statement) {
+        if item.loops.values.as_slice().is_empty() {
             return Ok(None);
         }
-        Ok(self.last.insert(statement, number)?)
+        if self.last.len() >= STATEMENTS {
+            self.last = BTreeMap::new(self.alloc);
+        }
+        Ok(self.last.insert(statement(item, found, number), number)?)
     }
 
-    // The turn was watched in vain. After n times in a row none is watched for the next n * n items, so that copies of the
-    // state take little time where it never repeats.
+    // The turn was watched in vain. After n times in a row none is watched for the next n * n items, so that copies of
+    // the state take little time where it never repeats.
     fn fail(&mut self, number: usize)
         ensures { self.new.head ≡ Head.Unknown }
     {
@@ -160,8 +162,8 @@ impl Heads {
         Ok(())
     }
 
-    /// How many items the next turn has, where it repeats the one before it. Else the head is no longer one at which the
-    /// state repeats.
+    /// How many items the next turn has, where it repeats the one before it. Else the head is no longer one at which
+    /// the state repeats.
     pub fn turn(&mut self, items: &[Item], found: &Footprints, number: usize) -> Option<usize>
         requires { number ≤ length items.now }
         ensures turn { IfSome result (IsNextTurn items.now (all_found found.now) number) }
