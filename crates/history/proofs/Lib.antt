@@ -6,3 +6,4 @@ pub mod Alike
 pub mod Acting
 pub mod Stages
 pub mod Histories
+pub mod Lasts

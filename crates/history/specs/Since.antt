@@ -6,6 +6,8 @@ use Rattle.history.specs.declared.Event.{Event}
 use Rattle.history.specs.declared.How.{How}
 use Rattle.history.specs.declared.How.TheVariants.{Never, Written, Created, Removed, Copied}
 use Rattle.history.specs.declared.History.{History}
+use Rattle.history.specs.declared.Side.{Side}
+use Rattle.history.specs.declared.Side.TheVariants.{Host, Device}
 use Rattle.history.specs.declared.State.{State}
 use Rattle.history.specs.declared.State.TheVariants.{Current, Stale}
 use Rattle.history.specs.Places.{Places, before, shown}
@@ -31,6 +33,16 @@ pub record HasEvent (past : ℕ → Bool) (n : ℕ) (events : List Event) (numbe
 abbrev pub IsSince : (ℕ → Bool) → ℕ → List Event → State → Type 0
 IsSince past n events Current = Unit {0}
 IsSince past n events (Stale number) = HasEvent past n events number
+
+-- an event since which, up to item n, the cell was current before no item
+pub record IsLast (past : ℕ → Bool) (n : ℕ) (e : Event) : Type 0 where
+  pub by : begins e ≤ n + 1
+  pub since : (k : ℕ) → begins e ≤ k → k ≤ n → past k ≡ false
+
+-- the state that is kept of a side
+abbrev pub IsKept : Side → State → History → Type 0
+IsKept Host s h = h.host ≡ s
+IsKept (Device d) s h = slice_get h.devices.items d ≡ Some s
 
 -- that is so on each side
 pub record AreSince (past : ℕ → Places) (n : ℕ) (h : History) : Type 0 where

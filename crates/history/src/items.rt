@@ -40,8 +40,8 @@ fn has_cell(section: &Section, cell: Cell) -> bool
 }
 
 impl History {
-    // What one map item does before the region.
-    fn enter(
+    /// What one map item, of that place in its list, does before the region.
+    pub fn enter(
         &mut self,
         number: u32,
         device: Side,

@@ -1,10 +1,10 @@
 // What single moves do to the history of a cell.
 
-ghost use Rattle.std.specs.Prelude.{◌≡◌, ◌<◌, ◌+◌, ℕ, IfOk, OnOk, false, true};
+ghost use Rattle.std.specs.Prelude.{◌≡◌, ◌<◌, ◌+◌, ℕ, IfOk, IfSome, OnOk, None, false, true};
 ghost use Rattle.base.specs.Current.{at_start};
 ghost use Rattle.ranges.specs.Cells.{has};
 ghost use Rattle.history.specs.Places.{IsSide, Places, at_cell, is_current, place_of, shown, with_place};
-ghost use Rattle.history.specs.Since.{AreSince};
+ghost use Rattle.history.specs.Since.{AreSince, IsKept, IsLast};
 ghost use Rattle.history.specs.Moves.{IsDeed, IsSet, place_if, ran, spoiled_below, spoiled_if};
 
 use crate::{DEVICES, Event, History, How, Side, State};
@@ -39,7 +39,8 @@ impl History {
 
     /// Whether the cell is current on a side.
     pub fn state(&self, side: Side) -> State
-        ensures { IsSide side → is_current result ≡ place_of side (shown self.now) }
+        ensures shown { IsSide side → is_current result ≡ place_of side (shown self.now) }
+        ensures kept { IsSide side → IsKept side result self.now }
     {
         match side {
             Side::Host => self.host,
@@ -52,8 +53,11 @@ impl History {
         }
     }
 
-    /// The event that made the cell stale on a side, where it is.
-    pub fn event(&self, side: Side) -> Option<Event> {
+    /// The event that made the cell stale last on a side, where it is.
+    pub fn event(&self, side: Side) -> Option<Event>
+        ensures last { IsSide side → (past : ℕ → Places) (n : ℕ) → AreSince past n self.now → IfSome result (IsLast (λ k. place_of side (past k)) n) }
+        ensures none { IsSide side → (past : ℕ → Places) (n : ℕ) → AreSince past n self.now → result ≡ None → place_of side (shown self.now) ≡ true }
+    {
         match self.state(side) {
             State::Current => None,
             State::Stale(number) => self.events.get(number).copied(),
