@@ -53,6 +53,7 @@ impl Scene<'_> {
             item: Some(refusal.item),
             cell: Some(self.named(refusal.cell)?),
             since: None,
+            conflict: None,
             loops: self.turns(place, values)?,
             notes,
         })

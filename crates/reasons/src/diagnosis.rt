@@ -1,6 +1,6 @@
 // What is told of a program that is refused.
 
-use base::item::Cell;
+use base::item::{Cell, Loc};
 use base::tree::Place;
 use history::{Event, Side};
 
@@ -52,6 +52,21 @@ pub struct Since {
     pub event: Event,
 }
 
+/// That an item reads or writes a cell at a location.
+#[derive(Clone, Copy)]
+pub struct Touch {
+    pub item: u32,
+    pub loc: Loc,
+    pub writes: bool,
+}
+
+/// What two items do to a cell, of which neither is before the other.
+#[derive(Clone, Copy)]
+pub struct Conflict {
+    pub first: Touch,
+    pub second: Touch,
+}
+
 /// Why a program is refused.
 #[derive(Drop)]
 pub struct Diagnosis {
@@ -64,6 +79,8 @@ pub struct Diagnosis {
     pub cell: Option<NamedCell>,
     /// Of a cell that is read and not current.
     pub since: Option<Since>,
+    /// Of two items with no order between them.
+    pub conflict: Option<Conflict>,
     /// The loops around the place, the outermost first.
     pub loops: Vec<Turn>,
     pub notes: Vec<Note>,

@@ -39,6 +39,7 @@ fn bare(
         item: Some(item),
         cell: None,
         since: None,
+        conflict: None,
         loops: Vec::new(scene.alloc),
         notes: Vec::new(scene.alloc),
     })
@@ -58,7 +59,10 @@ impl Scene<'_> {
                     Some(past) => self.stale(past, refusal)?,
                 }
             }
-            RefusalCode::Conflict => self.conflict(refusal)?,
+            RefusalCode::Conflict => match &self.past {
+                None => None,
+                Some(past) => self.conflict(past, refusal)?,
+            },
         };
         match told {
             Some(diagnosis) => Ok(diagnosis),

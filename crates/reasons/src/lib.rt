@@ -15,10 +15,11 @@ mod search;
 mod source;
 mod stale;
 mod texts;
+mod touching;
 mod unordered;
 mod words;
 
-pub use diagnosis::{Diagnosis, NamedCell, Note, Since, Turn, Weight};
+pub use diagnosis::{Conflict, Diagnosis, NamedCell, Note, Since, Touch, Turn, Weight};
 pub use faults::{Faults, faults_of};
 pub use limits::{too_many, turns_in_all};
 pub use source::line_of;

@@ -123,6 +123,7 @@ pub fn too_many(alloc: Global, bytes: &[u8], program: &Program) -> Result<Diagno
         item: None,
         cell: None,
         since: None,
+        conflict: None,
         loops: Vec::new(alloc),
         notes,
     })
@@ -190,6 +191,7 @@ impl Scene<'_> {
             item: Some(number),
             cell: None,
             since: None,
+            conflict: None,
             loops: self.turns(place, values)?,
             notes,
         })

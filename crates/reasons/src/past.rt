@@ -1,7 +1,9 @@
 // What the items before one that is refused did.
 
-ghost use Rattle.std.specs.Prelude.{◌≡◌, ℕ, IfOk, IfSome, OnOk};
+ghost use Rattle.std.specs.Prelude.{◌≡◌, ℕ, IfOk, IfSome, OnOk, slice_get};
+ghost use Rattle.base.specs.Actions.{stages};
 ghost use Rattle.base.specs.Items.{plan};
+ghost use Rattle.mapcheck.specs.Unordered.{AreAccessesOf};
 ghost use Rattle.history.specs.Places.{Places, before};
 ghost use Rattle.history.specs.Since.{AreSince, IsHistory};
 ghost use Rattle.mapwalk.specs.Footprints.{AreFootprints};
@@ -181,6 +183,23 @@ impl<'a> Past<'a> {
             }
         }
         Ok(blocks)
+    }
+
+    /// What an item that was reached reads and writes.
+    pub fn accesses_of(
+        &self,
+        alloc: Global,
+        number: u32,
+    ) -> Result<Option<Accesses<'a>>, AllocError>
+        ensures { IfOk result (λ o. IfSome o (AreAccessesOf (slice_get (stages (plan self.now)) number))) }
+    {
+        let number = number as usize;
+        if number >= self.acts.len() {
+            return Ok(None);
+        }
+        let item = &self.outlined.items()[number];
+        let accesses = Accesses::of_item(alloc, item, &self.acts[number], self.found.get(number))?;
+        Ok(Some(accesses))
     }
 
     /// What the items read and write.

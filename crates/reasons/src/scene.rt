@@ -1,5 +1,8 @@
 // What is known of a program that is refused.
 
+ghost use Rattle.std.specs.Prelude.{◌≡◌};
+ghost use Rattle.base.specs.Memory.{is_in};
+
 use crate::diagnosis::{NamedCell, Turn};
 use crate::past::{Entered, Past};
 use crate::search::{Access, Wanted, first_access};
@@ -22,8 +25,10 @@ pub struct Scene<'a> {
 }
 
 /// Whether a section has a cell.
-pub fn has_cell(section: &Section, cell: Cell) -> bool {
-    cell.array == section.array
+pub fn has_cell(section: &Section, cell: Cell) -> bool
+    ensures { result ≡ is_in cell section.now }
+{
+    cell.array.0 == section.array.0
         && section.first <= cell.index
         && cell.index - section.first < section.length
 }

@@ -297,6 +297,7 @@ impl Scene<'_> {
             item: Some(refusal.item),
             cell: Some(self.named(refusal.cell)?),
             since: Some(since),
+            conflict: None,
             loops,
             notes,
         })

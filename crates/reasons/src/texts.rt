@@ -61,6 +61,7 @@ pub fn text_diagnosis(
         item: None,
         cell: None,
         since: None,
+        conflict: None,
         loops: Vec::new(alloc),
         notes,
     })

@@ -1,9 +1,15 @@
 // Two items that touch a cell with no order between them (E508), and depend items that overlap in part (E505).
 
-use crate::diagnosis::{Diagnosis, Note, Weight};
+ghost use Rattle.std.specs.Prelude.{◌≡◌, IfOk, IfSome, Some};
+ghost use Rattle.base.specs.Items.{plan};
+ghost use Rattle.reasons.specs.Conflicting.{Meet, TellsConflict};
+
+use crate::diagnosis::{Conflict, Diagnosis, Note, Touch, Weight};
+use crate::past::Past;
 use crate::rules::{ORDER_CODE, ORDER_RULE, refusal_rule};
 use crate::scene::{Scene, has_cell, is_same, overlap, place_of};
 use crate::search::Wanted;
+use crate::touching::is_same_loc;
 use crate::words::add;
 use base::fault::{OrderFault, Refusal};
 use base::item::{Cell, Depend, Item, ItemKind, Loc, MapItem};
@@ -34,14 +40,6 @@ struct Part {
     writes: bool,
 }
 
-fn same_loc(left: Loc, right: Loc) -> bool {
-    match (left, right) {
-        (Loc::Host, Loc::Host) => true,
-        (Loc::Dev(one), Loc::Dev(other)) | (Loc::Tab(one), Loc::Tab(other)) => one == other,
-        _ => false,
-    }
-}
-
 fn push(
     parts: &mut Vec<Part>,
     holds: bool,
@@ -53,6 +51,24 @@ fn push(
         parts.push(Part { deed, loc, writes })?;
     }
     Ok(())
+}
+
+// What two items do to a cell, and by which of their parts.
+#[derive(Clone, Copy)]
+struct Clash {
+    earlier: Deed,
+    later: Deed,
+    conflict: Conflict,
+}
+
+fn touch_of(item: u32, part: &Part) -> Touch
+    ensures { result.item ≡ item }
+{
+    Touch {
+        item,
+        loc: part.loc,
+        writes: part.writes,
+    }
 }
 
 // What a map item copies of a cell.
@@ -114,7 +130,7 @@ struct Told {
 fn first_pair(left: &[Part], right: &[Part]) -> Option<(Part, Part)> {
     'left: for one in left {
         'right: for other in right {
-            if same_loc(one.loc, other.loc) && (one.writes || other.writes) {
+            if is_same_loc(one.loc, other.loc) && (one.writes || other.writes) {
                 return Some((*one, *other));
             }
         }
@@ -338,17 +354,36 @@ impl Scene<'_> {
         add(notes, Weight::Help, place, help)
     }
 
-    // The first parts of two items that conflict on a cell.
+    // What two items do to a cell, of which neither is before the other, in their first parts that conflict.
     fn clashing_parts(
         &self,
+        past: &Past<'_>,
         refusal: &Refusal,
         other: u32,
         earlier: &Item,
         later: &Item,
-    ) -> Result<Option<(Part, Part)>, AllocError> {
+    ) -> Result<Option<Clash>, AllocError>
+        ensures meet { IfOk result (λ o. IfSome o (λ x. Meet (plan past.now) refusal.now.cell x.conflict)) }
+        ensures earlier { IfOk result (λ o. IfSome o (λ x. x.conflict.first.item ≡ other)) }
+        ensures later { IfOk result (λ o. IfSome o (λ x. x.conflict.second.item ≡ refusal.now.item)) }
+    {
         let left = self.parts(other, earlier, refusal.cell)?;
         let right = self.parts(refusal.item, later, refusal.cell)?;
-        Ok(first_pair(&left, &right))
+        let Some((one, two)) = first_pair(&left, &right) else {
+            return Ok(None);
+        };
+        let conflict = Conflict {
+            first: touch_of(other, &one),
+            second: touch_of(refusal.item, &two),
+        };
+        if !past.meet(self.alloc, &conflict, refusal.cell)? {
+            return Ok(None);
+        }
+        Ok(Some(Clash {
+            earlier: one.deed,
+            later: two.deed,
+            conflict,
+        }))
     }
 
     fn conflict_text(
@@ -381,11 +416,13 @@ impl Scene<'_> {
         other: u32,
         earlier: &Item,
         later: &Item,
-        parts: (Part, Part),
-    ) -> Result<Diagnosis, AllocError> {
-        let (one, two) = parts;
-        let first = self.told(earlier, one.deed, refusal.cell)?;
-        let second = self.told(later, two.deed, refusal.cell)?;
+        clash: &Clash,
+    ) -> Result<Diagnosis, AllocError>
+        ensures item { IfOk result (λ d. d.item ≡ Some refusal.now.item) }
+        ensures conflict { IfOk result (λ d. d.conflict ≡ Some clash.now.conflict) }
+    {
+        let first = self.told(earlier, clash.earlier, refusal.cell)?;
+        let second = self.told(later, clash.later, refusal.cell)?;
         let what = self.doer_text(refusal.item, later)?;
         let which = self.doer_text(other, earlier)?;
         let message = self.conflict_text(&what, &which, &first, &second)?;
@@ -401,22 +438,29 @@ impl Scene<'_> {
             item: Some(refusal.item),
             cell: Some(self.named(refusal.cell)?),
             since: None,
+            conflict: Some(clash.conflict),
             loops: self.turns(later.place, &later.loops.values)?,
             notes,
         })
     }
 
     /// Of two items that conflict on a cell.
-    pub fn conflict(&self, refusal: &Refusal) -> Result<Option<Diagnosis>, AllocError> {
+    pub fn conflict(
+        &self,
+        past: &Past<'_>,
+        refusal: &Refusal,
+    ) -> Result<Option<Diagnosis>, AllocError>
+        ensures { IfOk result (λ o. IfSome o (TellsConflict (plan past.now) refusal.now)) }
+    {
         let Some(other) = refusal.other else {
             return Ok(None);
         };
         let (Some(earlier), Some(later)) = (self.item(other), self.item(refusal.item)) else {
             return Ok(None);
         };
-        match self.clashing_parts(refusal, other, earlier, later)? {
+        match self.clashing_parts(past, refusal, other, earlier, later)? {
             None => Ok(None),
-            Some(parts) => Ok(Some(self.conflict_of(refusal, other, earlier, later, parts)?)),
+            Some(clash) => Ok(Some(self.conflict_of(refusal, other, earlier, later, &clash)?)),
         }
     }
 
@@ -473,6 +517,7 @@ impl Scene<'_> {
             item: Some(fault.item),
             cell: Some(self.named(fault.cell)?),
             since: None,
+            conflict: None,
             loops: self.turns(place, &later.loops.values)?,
             notes,
         })
