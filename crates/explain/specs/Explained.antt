@@ -5,8 +5,8 @@ use Rattle.base.specs.Accepted.{IsAccepted}
 use Rattle.base.specs.Items.{plan}
 use Rattle.c_read.specs.Spells.{Spells}
 use Rattle.mend.specs.Mends.{IsMend}
-use Rattle.explain.specs.declared.remedy.Remedy.{Remedy}
-use Rattle.explain.specs.declared.remedy.Remedy.TheVariants as remedy
+use Rattle.rendering.specs.declared.told.Remedy.{Remedy}
+use Rattle.rendering.specs.declared.told.Remedy.TheVariants as remedy
 
 -- the bytes spell a program that is accepted
 pub record SpellsAccepted (bytes : List ℕ) : Type 0 where

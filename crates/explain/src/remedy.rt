@@ -5,24 +5,10 @@ ghost use Rattle.explain.specs.Explained.{IsRemedy};
 
 use crate::weights::checks_for;
 use base::fault::{CheckFault, RangeCode, RangeFault};
-use mend::{MOST_CHECKS, Mended, mend_within};
+use mend::{MOST_CHECKS, mend_within};
 use outline::Outlined;
+use rendering::Remedy;
 use std::alloc::{AllocError, Global};
-
-/// What is said of a change.
-pub const ACCEPTED: &str = "this change is accepted";
-
-/// What comes of the search for a change.
-#[derive(Drop)]
-pub enum Remedy {
-    /// A text that differs from the source in its directives alone, and whose program is accepted, with the lines that
-    /// differ.
-    Found(Mended),
-    /// None of the changes that are tried helps.
-    Missing,
-    /// None was looked for, or not as far as `fix` looks.
-    Unsought,
-}
 
 // Whether another directive can help.
 fn may_be_mended(fault: &CheckFault) -> bool {

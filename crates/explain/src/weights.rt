@@ -1,11 +1,11 @@
 // How dear the check of a program is, about.
 
-use crate::limits::turns_in_all;
 use base::item::Item;
 use base::tree::{Part, Program, Stmt};
 use mapwalk::repeats;
 use mend::MOST_CHECKS;
 use outline::Outlined;
+use reasons::turns_in_all;
 use std::alloc::{AllocError, Global};
 
 // The most statements and directives of a source for which a change is looked for.

@@ -1,0 +1,54 @@
+// What is told of a program that is refused.
+
+ghost use Rattle.std.specs.Prelude.{IfOk};
+ghost use Rattle.explain.specs.Explained.{IsRemedy};
+
+use crate::remedy::seek;
+use base::fault::CheckFault;
+use outline::Outlined;
+use reasons::{Diagnosis, Faults, Note, Weight, faults_of};
+use rendering::{Remedy, Told};
+use std::alloc::{AllocError, Global};
+
+// Says what to run where no change was looked for.
+fn note_unsought(
+    alloc: Global,
+    remedy: &Remedy,
+    diagnoses: &mut Vec<Diagnosis>,
+) -> Result<(), AllocError> {
+    if let Remedy::Unsought = remedy {
+        if let Some(first) = diagnoses.first_mut() {
+            let place = first.place;
+            let help = String::from_str(alloc, "run `ompc fix` to look for a change")?;
+            first.notes.push(Note {
+                weight: Weight::Help,
+                place,
+                message: help,
+            })?;
+        }
+    }
+    Ok(())
+}
+
+/// Why the checker refuses a program, whose text these bytes are and whose first fault this is. The error comes where
+/// an allocation fails.
+pub fn all_told(
+    alloc: Global,
+    bytes: &[u8],
+    outlined: &Outlined<'_>,
+    fault: &CheckFault,
+) -> Result<Told, AllocError>
+    ensures { IfOk result (λ told. IsRemedy bytes.now told.remedy) }
+{
+    let Faults {
+        mut diagnoses,
+        more,
+    } = faults_of(alloc, bytes, outlined, fault)?;
+    let remedy = seek(alloc, bytes, outlined, fault)?;
+    note_unsought(alloc, &remedy, &mut diagnoses)?;
+    Ok(Told {
+        diagnoses,
+        more,
+        remedy,
+    })
+}

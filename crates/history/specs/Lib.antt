@@ -1,0 +1,4 @@
+pub mod Places
+pub mod Since
+pub mod Moves
+pub mod Items

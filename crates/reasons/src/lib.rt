@@ -1,0 +1,26 @@
+//! Why a program is refused: at which place, which earlier construct is the cause, and what is missing.
+#![tactic(auto)]
+
+mod absent;
+mod conflicts;
+mod diagnosis;
+mod events;
+mod faults;
+mod further;
+mod limits;
+mod past;
+mod rules;
+mod scene;
+mod search;
+mod source;
+mod stale;
+mod texts;
+mod touching;
+mod unordered;
+mod words;
+
+pub use diagnosis::{Conflict, Diagnosis, NamedCell, Note, Since, Touch, Turn, Weight};
+pub use faults::{Faults, faults_of};
+pub use limits::{too_many, turns_in_all};
+pub use source::line_of;
+pub use texts::text_diagnosis;

@@ -1,0 +1,159 @@
+// Words for what a diagnosis speaks of.
+
+use crate::diagnosis::{Note, Turn, Weight};
+use crate::scene::Scene;
+use base::item::{Cell, Depend, Item, ItemKind, MapItem, MapKind, Section};
+use base::tree::{DependKind, Place};
+use history::Side;
+use std::alloc::{AllocError, Global};
+
+/// One note more.
+pub fn add(
+    notes: &mut Vec<Note>,
+    weight: Weight,
+    place: Place,
+    message: String,
+) -> Result<(), AllocError> {
+    notes.push(Note {
+        weight,
+        place,
+        message,
+    })?;
+    Ok(())
+}
+
+pub fn side_text(alloc: Global, side: Side) -> Result<String, AllocError> {
+    match side {
+        Side::Host => String::from_str(alloc, "the host"),
+        Side::Device(device) => format!(in alloc; "device {device}"),
+    }
+}
+
+/// What an item is called in a sentence.
+pub fn construct(kind: ItemKind) -> &'static str {
+    match kind {
+        ItemKind::Host => "the host",
+        ItemKind::Target => "the target",
+        ItemKind::Begin => "the beginning of `target data`",
+        ItemKind::End => "the end of `target data`",
+        ItemKind::Enter => "`target enter data`",
+        ItemKind::Exit => "`target exit data`",
+        ItemKind::Update => "`target update`",
+        ItemKind::Wait => "`taskwait`",
+    }
+}
+
+pub fn map_word(kind: MapKind) -> &'static str {
+    match kind {
+        MapKind::To => "to",
+        MapKind::From => "from",
+        MapKind::ToFrom => "tofrom",
+        MapKind::Alloc => "alloc",
+        MapKind::Release => "release",
+        MapKind::Delete => "delete",
+    }
+}
+
+fn depend_word(kind: DependKind) -> &'static str {
+    match kind {
+        DependKind::In => "in",
+        DependKind::Out => "out",
+        DependKind::InOut => "inout",
+    }
+}
+
+fn modifiers(map: &MapItem) -> &'static str {
+    match (map.always, map.present) {
+        (false, false) => "",
+        (true, false) => "always, ",
+        (false, true) => "present, ",
+        (true, true) => "always, present, ",
+    }
+}
+
+// The clause that names a device.
+pub fn device_clause(alloc: Global, device: u8) -> Result<String, AllocError> {
+    if device == 0 {
+        return Ok(String::new(alloc));
+    }
+    format!(in alloc; " device({device})")
+}
+
+// The value of one loop, behind those of the loops around it.
+fn turn_value_text(alloc: Global, level: usize, turn: &Turn) -> Result<String, AllocError> {
+    let before = if level == 0 { " (in the turn" } else { "," };
+    format!(in alloc; "{before} {} = {}", turn.name, turn.value)
+}
+
+impl Scene<'_> {
+    pub fn cell_text(&self, cell: Cell) -> Result<String, AllocError> {
+        format!(in self.alloc; "{}[{}]", self.name_of(cell.array), cell.index)
+    }
+
+    pub fn section_text(&self, section: &Section) -> Result<String, AllocError> {
+        let name = self.name_of(section.array);
+        format!(in self.alloc; "{}[{}:{}]", name, section.first, section.length)
+    }
+
+    /// A map item as it is written, with the bounds of its section.
+    pub fn map_text(&self, item: &Item, map: &MapItem) -> Result<String, AllocError> {
+        let section = self.section_text(&map.section)?;
+        let word = map_word(map.kind);
+        match item.kind {
+            ItemKind::Update => {
+                let present = if map.present { "present: " } else { "" };
+                format!(in self.alloc; "`{word}({present}{section})`")
+            }
+            _ => {
+                let (implicit, modifiers) = if self.is_implicit(item, map) {
+                    ("the implicit ", "")
+                } else {
+                    ("", modifiers(map))
+                };
+                format!(in self.alloc; "{implicit}`map({modifiers}{word}: {section})`")
+            }
+        }
+    }
+
+    pub fn depend_text(&self, depend: &Depend) -> Result<String, AllocError> {
+        let section = self.section_text(&depend.section)?;
+        format!(in self.alloc; "`depend({}: {section})`", depend_word(depend.kind))
+    }
+
+    /// An update of one cell as it would be written.
+    pub fn update_text(&self, word: &str, cell: Cell, device: u8) -> Result<String, AllocError> {
+        let clause = device_clause(self.alloc, device)?;
+        let name = self.name_of(cell.array);
+        format!(in self.alloc;
+            "`#pragma omp target update {word}({name}[{}:1]){clause}`",
+            cell.index
+        )
+    }
+
+    /// The turn of the loops around, in parentheses behind a space, or nothing where there are none.
+    pub fn turn_text(&self, turns: &[Turn]) -> Result<String, AllocError> {
+        let mut text = String::new(self.alloc);
+        'turns: for (level, turn) in turns.iter().enumerate() {
+            let next = turn_value_text(self.alloc, level, turn)?;
+            text.push_str(&next)?;
+        }
+        if !turns.is_empty() {
+            text.push_str(")")?;
+        }
+        Ok(text)
+    }
+
+    /// The turn of the loops around a place.
+    pub fn turn_at(&self, place: Place, values: &[u64]) -> Result<String, AllocError> {
+        let turns = self.turns(place, values)?;
+        self.turn_text(&turns)
+    }
+
+    /// An item as the one that did something.
+    pub fn doer_text(&self, number: u32, item: &Item) -> Result<String, AllocError> {
+        match item.kind {
+            ItemKind::Host => format!(in self.alloc; "item {number}"),
+            _ => format!(in self.alloc; "{} (item {number})", construct(item.kind)),
+        }
+    }
+}

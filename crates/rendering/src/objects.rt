@@ -1,0 +1,126 @@
+// A diagnosis as an object of JSON.
+
+use crate::told::{ACCEPTED, Remedy, Told};
+use mend::{Edit, Mended};
+use reasons::{Diagnosis, NamedCell, Note, Turn};
+use serde_json::{Value, json, push};
+use std::alloc::{AllocError, Global};
+
+// The version of the form of these objects.
+const FORM: u64 = 1;
+
+fn turn_object(alloc: Global, turn: &Turn) -> Result<Value, AllocError> {
+    json!(in alloc; {"name": &turn.name, "value": turn.value})
+}
+
+fn turn_objects(alloc: Global, turns: &[Turn]) -> Result<Value, AllocError> {
+    let mut list = Vec::new(alloc);
+    'turns: for turn in turns {
+        push(&mut list, turn_object(alloc, turn)?)?;
+    }
+    Ok(Value::Array(list))
+}
+
+fn note_object(alloc: Global, note: &Note) -> Result<Value, AllocError> {
+    let (line, column) = (note.place.line, note.place.column);
+    json!(in alloc; {"kind": note.weight.as_str(), "line": line, "column": column, "message": &note.message})
+}
+
+fn note_objects(alloc: Global, notes: &[Note]) -> Result<Value, AllocError> {
+    let mut list = Vec::new(alloc);
+    'notes: for note in notes {
+        push(&mut list, note_object(alloc, note)?)?;
+    }
+    Ok(Value::Array(list))
+}
+
+fn array_value(alloc: Global, cell: &Option<NamedCell>) -> Result<Value, AllocError> {
+    match cell {
+        None => Ok(Value::Null),
+        Some(named) => Value::try_from_str(alloc, &named.array),
+    }
+}
+
+fn index_value(cell: &Option<NamedCell>) -> Value {
+    match cell {
+        None => Value::Null,
+        Some(named) => Value::from(named.cell.index),
+    }
+}
+
+fn diagnosis_object(alloc: Global, diagnosis: &Diagnosis) -> Result<Value, AllocError> {
+    let loops = turn_objects(alloc, &diagnosis.loops)?;
+    let notes = note_objects(alloc, &diagnosis.notes)?;
+    let array = array_value(alloc, &diagnosis.cell)?;
+    let cell = index_value(&diagnosis.cell);
+    let (line, column) = (diagnosis.place.line, diagnosis.place.column);
+    json!(in alloc; {
+        "code": diagnosis.code,
+        "rule": diagnosis.rule,
+        "message": &diagnosis.message,
+        "line": line,
+        "column": column,
+        "item": diagnosis.item,
+        "array": array,
+        "cell": cell,
+        "loops": loops,
+        "notes": notes
+    })
+}
+
+// The text of a line that is changed or inserted, which is UTF-8.
+fn line_text(line: &[u8]) -> &str {
+    str::from_utf8(line).unwrap_or("")
+}
+
+// The bytes that go, by the places where they begin and end, and the text that comes.
+fn edit_object(alloc: Global, edit: &Edit) -> Result<Value, AllocError> {
+    let (line, new) = (edit.line, line_text(&edit.new));
+    match &edit.old {
+        Some(old) => {
+            let end = old.len().saturating_add(1);
+            json!(in alloc; {"line": line, "column": 1, "end_line": line, "end_column": end, "text": new})
+        }
+        None => {
+            let text = format!(in alloc; "{new}\n")?;
+            json!(in alloc; {"line": line, "column": 1, "end_line": line, "end_column": 1, "text": &text})
+        }
+    }
+}
+
+fn fix_object(alloc: Global, mended: &Mended) -> Result<Value, AllocError> {
+    let mut list = Vec::new(alloc);
+    'edits: for edit in &mended.edits {
+        push(&mut list, edit_object(alloc, edit)?)?;
+    }
+    let edits = Value::Array(list);
+    json!(in alloc; {"message": ACCEPTED, "edits": edits})
+}
+
+fn fix_objects(alloc: Global, remedy: &Remedy) -> Result<Value, AllocError> {
+    let mut list = Vec::new(alloc);
+    if let Remedy::Found(mended) = remedy {
+        push(&mut list, fix_object(alloc, mended)?)?;
+    }
+    Ok(Value::Array(list))
+}
+
+/// What is told of a file, as one object.
+pub fn as_json(alloc: Global, file: &str, told: &Told) -> Result<String, AllocError> {
+    let mut list = Vec::new(alloc);
+    'diagnoses: for diagnosis in &told.diagnoses {
+        push(&mut list, diagnosis_object(alloc, diagnosis)?)?;
+    }
+    let accepted = told.diagnoses.is_empty();
+    let all = Value::Array(list);
+    let fixes = fix_objects(alloc, &told.remedy)?;
+    let report = json!(in alloc; {
+        "version": FORM,
+        "file": file,
+        "accepted": accepted,
+        "diagnostics": all,
+        "more": told.more,
+        "fixes": fixes
+    })?;
+    report.to_string_pretty(alloc)
+}

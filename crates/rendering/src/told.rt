@@ -1,0 +1,41 @@
+// What is told of a program that is refused.
+
+use mend::Mended;
+use reasons::Diagnosis;
+use std::alloc::Global;
+
+/// What is said of a change.
+pub const ACCEPTED: &str = "this change is accepted";
+
+/// What comes of the search for a change.
+#[derive(Drop)]
+pub enum Remedy {
+    /// A text that differs from the source in its directives alone, and whose program is accepted, with the lines that
+    /// differ.
+    Found(Mended),
+    /// None of the changes that are tried helps.
+    Missing,
+    /// None was looked for, or not as far as `fix` looks.
+    Unsought,
+}
+
+/// What is told of a program that is refused; nothing of one that is accepted.
+#[derive(Drop)]
+pub struct Told {
+    /// The first fault first.
+    pub diagnoses: Vec<Diagnosis>,
+    /// How many more faults were found.
+    pub more: u64,
+    pub remedy: Remedy,
+}
+
+impl Told {
+    /// Nothing.
+    pub fn new(alloc: Global) -> Told {
+        Told {
+            diagnoses: Vec::new(alloc),
+            more: 0,
+            remedy: Remedy::Missing,
+        }
+    }
+}
