@@ -1,5 +1,5 @@
-//! Compares what the commands print, what is read of sources and what the check says of them with the files in its folder, and
-//! what their regions touch with what a plain walk finds.
+//! Compares what the commands print, what is read of sources and what the check says of them with the files in its
+//! folder, and what their regions touch with what a plain walk finds.
 //! Behind that it prints a run in which each call that met want of memory is made again; by the word `retries`, that alone.
 #![tactic(auto)]
 

@@ -1,6 +1,6 @@
-//! Compares what the regions of the sources in `sources`, `layers` and `commands` touch with what a plain walk finds, of the
-//! same turns in short loops: those of each region under the first item that has it and under the last one, if other loops
-//! stand around that or have other values there. Of a source that is not read, or has too many items, there is nothing to
+//! Compares what the regions of the sources in `sources`, `layers` and `commands` touch with what a plain walk finds,
+//! of the same turns in short loops: that of each region with the loop values of the first item that has it, and with
+//! those of the last one, where they differ. Of a source that is not read, or has too many items, there is nothing to
 //! compare.
 
 mod cut;

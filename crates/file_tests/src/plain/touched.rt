@@ -24,8 +24,8 @@ const MOST_TURNS: u64 = 1_048_576;
 /// Up to how many turns each one stands in a loop of its own.
 const FEW_TURNS: u64 = 65_536;
 
-/// In a loop no two values of whose name are so many apart, each turn is walked, if the loop's name has a say in what it
-/// touches.
+/// In a loop no two values of whose name are so many apart, each turn is walked, unless its name stands in no subscript
+/// and no condition.
 const WALKED: u64 = 7;
 
 fn say_part(alloc: Global, found: &Footprint, part: Part, out: &mut Text) {
