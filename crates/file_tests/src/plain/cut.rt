@@ -101,8 +101,8 @@ fn all_cut(alloc: Global, span: u64, all: &[Stmt]) -> Result<Vec<Stmt>, AllocErr
     Ok(out)
 }
 
-/// A region with the same turns. No loop in it has two values of its name that are `span` or more apart. A span of 0 is
-/// none.
+/// A region with the same turns. No loop in it has two values of its name that are `span` or more apart, which is at
+/// least 1.
 pub(crate) fn cut(alloc: Global, span: u64, region: &Region) -> Result<Region, AllocError> {
     Ok(Region {
         place: region.place,
