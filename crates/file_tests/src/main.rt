@@ -1,8 +1,10 @@
-//! Compares what the commands print, what is read of sources and what the check says of them with the files in its folder.
+//! Compares what the commands print, what is read of sources and what the check says of them with the files in its
+//! folder, and what their regions touch with what a plain walk finds.
 //! Behind that it prints a run in which each call that met want of memory is made again; by the word `retries`, that alone.
 #![tactic(auto)]
 
 mod layers;
+mod plain;
 mod retries;
 mod tally;
 mod text;
@@ -38,8 +40,9 @@ fn main(rt: HostRuntime) -> ExitCode {
     let are_told = for_retries || is_well(transcripts::compare(&rt, &mut out), &mut rt.stderr());
     let are_read = for_retries || is_well(trees::compare(&rt, &mut out), &mut rt.stderr());
     let are_said = for_retries || is_well(layers::compare(&rt, &mut out), &mut rt.stderr());
+    let are_plain = for_retries || is_well(plain::compare(&rt, &mut out), &mut rt.stderr());
     let are_run = retries::tell(rt.alloc(), &mut out).is_ok();
-    if are_told && are_read && are_said && are_run {
+    if are_told && are_read && are_said && are_plain && are_run {
         ExitCode::SUCCESS
     } else {
         ExitCode::FAILURE

@@ -11,6 +11,7 @@ mod rows;
 
 use self::printed::add_program;
 use self::rows::compare_rows;
+pub(crate) use self::rows::rows_of;
 use crate::tally::Tally;
 use crate::text::Text;
 use base::fault::ReadFault;

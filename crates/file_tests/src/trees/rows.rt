@@ -62,12 +62,33 @@ fn summary_of(alloc: Global, source: &[u8]) -> Result<Vec<u8>, AllocError> {
     summary(alloc, &read_program(alloc, source))
 }
 
-/// Compares what the reader makes of each row. A row that differs is named by its source.
-pub(crate) fn compare_rows(alloc: Global, tally: &mut Tally, rows: &str) -> io::Result<()> {
-    for row in rows.trim_end_matches('\n').split("\n== ").skip(1) {
+/// A row: what is wanted of it, its text, and the source that this stands for.
+#[derive(Drop)]
+pub(crate) struct Row<'t> {
+    wanted: &'t str,
+    pub(crate) text: &'t str,
+    pub(crate) source: Vec<u8>,
+}
+
+/// The rows of a file.
+pub(crate) fn rows_of(alloc: Global, file: &str) -> Result<Vec<Row<'_>>, AllocError> {
+    let mut rows = Vec::new(alloc);
+    for row in file.trim_end_matches('\n').split("\n== ").skip(1) {
         let (wanted, text) = row.split_once('\n').unwrap_or((row, ""));
-        let found = summary_of(alloc, &expanded(alloc, text)?)?;
-        tally.compare(text, "", &found, wanted.as_bytes());
+        rows.push(Row {
+            wanted,
+            text,
+            source: expanded(alloc, text)?,
+        })?;
+    }
+    Ok(rows)
+}
+
+/// Compares what the reader makes of each row. A row that differs is named by its source.
+pub(crate) fn compare_rows(alloc: Global, tally: &mut Tally, file: &str) -> io::Result<()> {
+    for row in &rows_of(alloc, file)? {
+        let found = summary_of(alloc, &row.source)?;
+        tally.compare(row.text, "", &found, row.wanted.as_bytes());
     }
     Ok(())
 }

@@ -1,0 +1,135 @@
+//! Regions whose loops are cut into short ones: the same turns in the same order.
+
+ghost use Rattle.std.specs.Prelude.{◌≤◌};
+
+use base::tree::{Bounds, Expr, Region, Source, Stmt};
+use std::alloc::{AllocError, Global};
+
+fn copy_of(alloc: Global, e: &Expr) -> Result<Expr, AllocError> {
+    Ok(match e {
+        Expr::Number(number) => Expr::Number(*number),
+        Expr::Scalar(id) => Expr::Scalar(*id),
+        Expr::LoopName(level) => Expr::LoopName(*level),
+        Expr::Cell(array, place, index) => {
+            Expr::Cell(*array, *place, Box::new(alloc, copy_of(alloc, index)?)?)
+        }
+        Expr::Unary(op, a) => Expr::Unary(*op, Box::new(alloc, copy_of(alloc, a)?)?),
+        Expr::Binary(op, a, b) => {
+            let (a, b) = (copy_of(alloc, a)?, copy_of(alloc, b)?);
+            Expr::Binary(*op, Box::new(alloc, a)?, Box::new(alloc, b)?)
+        }
+        Expr::And(a, b) => {
+            let (a, b) = (copy_of(alloc, a)?, copy_of(alloc, b)?);
+            Expr::And(Box::new(alloc, a)?, Box::new(alloc, b)?)
+        }
+        Expr::Or(a, b) => {
+            let (a, b) = (copy_of(alloc, a)?, copy_of(alloc, b)?);
+            Expr::Or(Box::new(alloc, a)?, Box::new(alloc, b)?)
+        }
+        Expr::Shift(op, a, by) => Expr::Shift(*op, Box::new(alloc, copy_of(alloc, a)?)?, *by),
+        Expr::Divide(op, a, by) => Expr::Divide(*op, Box::new(alloc, copy_of(alloc, a)?)?, *by),
+    })
+}
+
+fn copy_of_source(alloc: Global, source: &Source) -> Result<Source, AllocError> {
+    match source {
+        Source::Value(e) => Ok(Source::Value(copy_of(alloc, e)?)),
+        Source::Read => Ok(Source::Read),
+    }
+}
+
+/// Adds a statement with its loops cut. A loop in it has no two values of its name that are `span` or more apart.
+#[cycle(cut)]
+fn add_cut(alloc: Global, span: u64, stmt: &Stmt, out: &mut Vec<Stmt>) -> Result<(), AllocError> {
+    let copy = match stmt {
+        Stmt::Declare(id, source) => Stmt::Declare(*id, copy_of_source(alloc, source)?),
+        Stmt::Assign(id, source) => Stmt::Assign(*id, copy_of_source(alloc, source)?),
+        Stmt::Store(array, place, index, source) => {
+            let index = copy_of(alloc, index)?;
+            Stmt::Store(*array, *place, index, copy_of_source(alloc, source)?)
+        }
+        Stmt::Print(e) => Stmt::Print(copy_of(alloc, e)?),
+        Stmt::Block(inner) => Stmt::Block(all_cut(alloc, span, inner)?),
+        Stmt::Loop(bounds, inner) => return add_loops(alloc, span, *bounds, inner, out),
+        Stmt::If(test, first, second) => {
+            let test = copy_of(alloc, test)?;
+            let first = all_cut(alloc, span, first)?;
+            Stmt::If(test, first, all_cut(alloc, span, second)?)
+        }
+    };
+    out.push(copy)?;
+    Ok(())
+}
+
+/// The least multiple of a loop's step that is `span` or more.
+fn ahead(span: u64, step: u64) -> u64
+    requires { 1 ≤ step }
+    ensures { 1 ≤ result }
+{
+    span.max(1).div_ceil(step).saturating_mul(step).max(1)
+}
+
+/// The turns of a loop, in loops one behind the other.
+#[cycle(cut)]
+fn add_loops(
+    alloc: Global,
+    span: u64,
+    bounds: Bounds,
+    inner: &[Stmt],
+    out: &mut Vec<Stmt>,
+) -> Result<(), AllocError> {
+    let ahead = ahead(span, bounds.step);
+    let mut first = bounds.first;
+    for _ in 0..bounds.end.saturating_sub(first).div_ceil(ahead) {
+        let short = Bounds {
+            first,
+            end: bounds.end.min(first.saturating_add(span)),
+            step: bounds.step,
+        };
+        out.push(Stmt::Loop(short, all_cut(alloc, span, inner)?))?;
+        first = first.saturating_add(ahead);
+    }
+    Ok(())
+}
+
+#[cycle(cut)]
+fn all_cut(alloc: Global, span: u64, all: &[Stmt]) -> Result<Vec<Stmt>, AllocError> {
+    let mut out = Vec::new(alloc);
+    for stmt in all {
+        add_cut(alloc, span, stmt, &mut out)?;
+    }
+    Ok(out)
+}
+
+/// A region with the same turns. No loop in it has two values of its name that are `span` or more apart, which is at
+/// least 1.
+pub(crate) fn cut(alloc: Global, span: u64, region: &Region) -> Result<Region, AllocError> {
+    Ok(Region {
+        place: region.place,
+        body: all_cut(alloc, span, &region.body)?,
+    })
+}
+
+#[cycle(turns)]
+fn turns_in(stmt: &Stmt) -> u64 {
+    match stmt {
+        Stmt::Declare(_, _) | Stmt::Assign(_, _) | Stmt::Store(_, _, _, _) | Stmt::Print(_) => 0,
+        Stmt::Block(inner) => turns_in_all(inner),
+        Stmt::Loop(bounds, inner) => {
+            let turns = turns_in_all(inner).saturating_add(1);
+            bounds.turns().saturating_mul(turns)
+        }
+        Stmt::If(_, first, second) => turns_in_all(first).saturating_add(turns_in_all(second)),
+    }
+}
+
+/// How many turns the loops of statements have, those of a loop in a loop once for each turn of that. What is above any
+/// number is the greatest one.
+#[cycle(turns)]
+pub(crate) fn turns_in_all(all: &[Stmt]) -> u64 {
+    let mut turns = 0_u64;
+    for stmt in all {
+        turns = turns.saturating_add(turns_in(stmt));
+    }
+    turns
+}
