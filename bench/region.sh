@@ -1,6 +1,6 @@
 #!/usr/bin/env bash
-# The processor time of a turn of some loops in a region, beside Lua where it is installed, and for the first loop beside
-# a stack machine in C with the same operations, compiled with `gcc -O2`. The argument is the built program.
+# The processor time of a turn of some loops in a region, beside the same source without its directives compiled with `gcc -O2`, beside Lua where
+# it is installed, and for the first loop beside a stack machine in C with the same operations. The argument is the built program.
 set -eu
 ompc=$(realpath "$1")
 here=$(dirname "$(realpath "$0")")
@@ -53,6 +53,10 @@ print(total);
     printf '  check: %d ms\n' "$check"
     whole=$(measure "$ompc" step "$folder/region.c")
     say 'region' $((whole - check))
+    if command -v gcc > /dev/null; then
+        gcc -O2 -include stdint.h -include stdio.h '-Dprint(n)=printf("%lu\n", (unsigned long) (n))' -w -o "$folder/native" "$folder/region.c"
+        say 'gcc -O2' "$(measure "$folder/native")"
+    fi
     if command -v lua5.4 > /dev/null; then
         printf 'local total, A, B = 0, {}, {}
 for i = 0, 65535 do A[i] = 0; B[i] = 0 end
@@ -81,3 +85,7 @@ compare 's = s + A[i];' 's = s + A[i]' 65536
 compare 'B[i] = A[i] + A[i + 1];' 'B[i] = A[i] + A[i + 1]' 65535
 compare 'A[(i * 7) % 65536] = A[i % 4096] + i;' 'A[(i * 7) % 65536] = A[i % 4096] + i' 65536
 compare 'if (A[i] < 3) { A[i] = A[i] + 1; } else { A[i] = 0; }' 'if A[i] < 3 then A[i] = A[i] + 1 else A[i] = 0 end' 65536
+compare 'uint64_t u = A[i] * 5 + 7; A[i] = u ^ (u >> 29);' 'local u = A[i] * 5 + 7; A[i] = u ~ (u >> 29)' 65536
+compare 's = s ^ (s << 13); s = s ^ (s >> 7); s = s ^ (s << 17); B[i] = B[i] + (s >> 32);' \
+    's = s ~ (s << 13); s = s ~ (s >> 7); s = s ~ (s << 17); B[i] = B[i] + (s >> 32)' 65536
+compare 's = s + A[i] * B[65535 - i];' 's = s + A[i] * B[65535 - i]' 65536
