@@ -34,7 +34,7 @@ use std::io::{Read, Write};
 use std::sync::Wait;
 use std::thread::Threads;
 use stepper::run_fine;
-use witness::{Finding, MOST_TRIES, witness, witness_text};
+use witness::{Finding, accepted_text, none_text, witness, witness_text};
 
 /// Why a source has no bytes.
 #[derive(Clone, Copy, Debug, PartialEq, Eq)]
@@ -531,11 +531,11 @@ fn do_witness<'a, S: Sources, R: Read, W: Write, E: Write>(
             Err(_) => Ok(FAILED),
         },
         Ok(Finding::Accepted) => {
-            let _ = writeln!(err, "accepted: no schedule differs");
+            let _ = accepted_text(err);
             Ok(FAILED)
         }
         Ok(Finding::None) => {
-            let _ = writeln!(err, "no schedule found in {MOST_TRIES} tries");
+            let _ = none_text(err);
             Ok(FAILED)
         }
         Ok(Finding::OutOfRange(_)) => refuse(alloc, &bytes, err),

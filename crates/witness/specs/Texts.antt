@@ -29,3 +29,10 @@ witness_bytes name w plain =
     codes "choices" ++ (comma_list (codes " ") w.choices.items ++ (codes "\n" ++ (end_bytes w.end
     ++ (prefixed (codes "erased output ") true plain.out.items
     ++ (codes "ompc step --fine " ++ (name ++ (choices_option w.choices.items ++ codes "\n")))))))
+
+-- that no run of an accepted program differs, and that none of the 512 tries does
+abbrev pub accepted_line : List ℕ
+accepted_line = codes "accepted: no schedule differs\n"
+
+abbrev pub none_line : List ℕ
+none_line = codes "no schedule found in " ++ (decimal 512 ++ codes " tries\n")

@@ -9,5 +9,5 @@ mod trial;
 
 pub use search::{Finding, MOST_EVENTS, MOST_TRIES, witness};
 pub use shorten::MOST_CUTS;
-pub use text::witness_text;
+pub use text::{accepted_text, none_text, witness_text};
 pub use trial::{Ended, Witness};

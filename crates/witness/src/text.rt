@@ -2,8 +2,9 @@
 
 ghost use Rattle.std.specs.Prelude.{◌++◌, ◌∷◌, [], OnOk, codes, if◌then◌else◌, true};
 ghost use Rattle.std.specs.Io.KnownBytes.{Appends};
-ghost use Rattle.witness.specs.Texts.{choices_option, comma_list, end_bytes, prefixed, witness_bytes};
+ghost use Rattle.witness.specs.Texts.{accepted_line, choices_option, comma_list, end_bytes, none_line, prefixed, witness_bytes};
 
+use crate::search::MOST_TRIES;
 use crate::trial::{Ended, Witness};
 use base::item::Answer;
 use std::io;
@@ -81,4 +82,18 @@ pub fn witness_text<W: Write>(
     write!(out, "ompc step --fine {name}")?;
     choices_option(&witness.choices, out)?;
     writeln!(out)
+}
+
+/// Writes, in one line, that a program is accepted, so that no run differs. An error of the writer is answered.
+pub fn accepted_text<W: Write>(out: &mut W) -> io::Result<()>
+    ensures { OnOk result (Appends (W.contents out.old) (W.contents out.new) accepted_line) }
+{
+    writeln!(out, "accepted: no schedule differs")
+}
+
+/// Writes, in one line, that no witness was found, and in how many tries. An error of the writer is answered.
+pub fn none_text<W: Write>(out: &mut W) -> io::Result<()>
+    ensures { OnOk result (Appends (W.contents out.old) (W.contents out.new) none_line) }
+{
+    writeln!(out, "no schedule found in {MOST_TRIES} tries")
 }
