@@ -7,17 +7,37 @@ use std::io::Write;
 use std::sync::Wait;
 use std::thread::Threads;
 
-const SOURCE: &str = "int main(void) { print(1); print(2); print(3); }";
+const PRINTS: &str = "int main(void) { print(1); print(2); print(3); }";
+
+// Its mend has four bytes more, and is 95 long.
+const FORGETS: &str = "\
+uint64_t A[4];
+int main(void) {
+#pragma omp target map(to: A)
+{ A[0] = 1; }
+print(A[0]);
+}
+";
+
+// Commands, the source, how many bytes they print, and their status.
+const COMMANDS: [(&str, &str, usize, u8); 5] = [
+    ("step", PRINTS, 25, 0),
+    ("run", PRINTS, 6, 0),
+    ("check", PRINTS, 9, 0),
+    ("list", PRINTS, 7, 0),
+    ("fix", FORGETS, 95, 0),
+];
 
 /// One source, whatever its name.
 #[derive(Drop)]
-struct One {
+struct One<'a> {
     alloc: Global,
+    text: &'a str,
 }
 
-impl Sources for One {
+impl Sources for One<'_> {
     fn source(&mut self, _name: &str) -> Result<Vec<u8>, SourceError> {
-        Vec::from_slice(self.alloc, SOURCE.as_bytes()).map_err(|_| SourceError::OutOfMemory)
+        Vec::from_slice(self.alloc, self.text.as_bytes()).map_err(|_| SourceError::OutOfMemory)
     }
 }
 
@@ -42,26 +62,34 @@ impl Write for Narrow {
     }
 }
 
-// The status of a command whose output has room for so many bytes.
-fn status_of<R: Threads + Wait + Sync>(rt: &R, alloc: Global, room: usize) -> u8 {
+// The status of a command on a source whose output has room for so many bytes.
+fn status_of<R: Threads + Wait + Sync>(
+    rt: &R,
+    alloc: Global,
+    command: &str,
+    text: &str,
+    room: usize,
+) -> u8 {
     let mut input: &[u8] = &[];
     let mut err = Vec::new(alloc);
     drive(
         rt,
         alloc,
-        &["step", "a.c"],
-        &mut One { alloc },
+        &[command, "a.c"],
+        &mut One { alloc, text },
         &mut input,
         &mut Narrow { room },
         &mut err,
     )
 }
 
-// What it prints takes 25 bytes.
 #[test]
 fn output_that_cannot_be_written_is_a_fault(rt: HostRuntime) {
-    for room in 0..26 {
-        let status = status_of(&rt, rt.alloc(), room);
-        assert_eq!(rt; status, if room < 25 { 3 } else { 0 }, "{room}");
+    for (command, text, length, done) in COMMANDS {
+        for room in 0..=length {
+            let status = status_of(&rt, rt.alloc(), command, text, room);
+            let wanted = if room < length { 3 } else { done };
+            assert_eq!(rt; status, wanted, "{command} {room}");
+        }
     }
 }
