@@ -1,0 +1,104 @@
+-- Texts whose tokens are the same but for directive lines spell programs that do the same without directives.
+use Rattle.std.proofs.Common.{◌≡◌, ◌≤◌, ℕ, ◌+◌, Bool, true, false, cond, List, [], ◌∷◌, ◌++◌, length, refl, sym, ap, subst, ◌∙◌, arith}
+use Rattle.std.specs.List.{list_any}
+use Rattle.base.specs.declared.tree.Program.{Program}
+use Rattle.c_tokens.specs.declared.kind.Token.{Token}
+use Rattle.c_tokens.specs.Text.{tokens_of}
+use Rattle.c_grammar.specs.Grammar.{Text, slots}
+use Rattle.c_grammar.specs.Rules.{source_grammar}
+use Rattle.c_grammar.specs.Source.{items_of, end_of, max_source, Spells as SpellsText}
+use Rattle.c_grammar.specs.Terminal.{Terminal, End}
+use Rattle.c_grammar.specs.Texts.{Item, terminals, kinds}
+use Rattle.c_grammar.proofs.SourceOne.{same_text}
+use Rattle.c_read.specs.Spells.{IsProgram, Spells}
+use Rattle.erasure.specs.Erased.{covers, uncovered, erased_text, items_in, unlined, is_line_terminal}
+use Rattle.erasure.specs.Plain.{plain_tree}
+use Rattle.erasure.proofs.Covered.{erased_items}
+use Rattle.erasure.proofs.Spelled.{spells_plain}
+use Rattle.erased_meaning.specs.Laws.{IsErased}
+use Rattle.same_text.proofs.ErasedRuns.{erased_is}
+use Rattle.erased_meaning.proofs.Globals.{main_safe}
+use Rattle.same_text.specs.Laws.{bare_tokens, RunAlike}
+
+abbrev tokens_in : List (Item Terminal) → List Terminal
+tokens_in is = terminals source_grammar is
+
+with_end : (is : List (Item Terminal)) (i : Item Terminal) → tokens_in (is ++ i ∷ []) ≡ tokens_in is ++ i.terminal ∷ []
+with_end [] i = refl
+with_end (j ∷ is) i = ap (λ (ts : List Terminal). j.terminal ∷ ts) (with_end is i)
+
+-- all tokens of the text without its lines
+erased_tokens : (bytes : List ℕ) → tokens_in (items_of (erased_text bytes)) ≡ bare_tokens bytes ++ End ∷ []
+erased_tokens bytes =
+    with_end (items_in (erased_text bytes)) (end_of (erased_text bytes))
+    ∙ ap (λ (is : List (Item Terminal)). tokens_in is ++ End ∷ []) (erased_items bytes)
+
+unlined_twice : (is : List (Item Terminal)) → unlined (unlined is) ≡ unlined is
+unlined_twice [] = refl
+unlined_twice (i ∷ is) = step (is_line_terminal i.terminal) refl (unlined_twice is)
+  where
+    step : (t : Bool) → is_line_terminal i.terminal ≡ t → unlined (unlined is) ≡ unlined is →
+        unlined (cond t (unlined is) (i ∷ unlined is)) ≡ cond t (unlined is) (i ∷ unlined is)
+    step true e h = h
+    step false e h =
+        ap (λ (t : Bool). cond t (unlined (unlined is)) (i ∷ unlined (unlined is))) e
+        ∙ ap (λ (js : List (Item Terminal)). i ∷ js) h
+
+-- without its lines a text has no lines
+twice_bare : (bytes : List ℕ) → bare_tokens (erased_text bytes) ≡ bare_tokens bytes
+twice_bare bytes = ap tokens_in (ap unlined (erased_items bytes) ∙ unlined_twice (items_in bytes))
+
+-- the tokens of the second text without lines are those of the tree of the first without its directives
+tree_tokens : (a b : List ℕ) (t : Text) → bare_tokens a ≡ bare_tokens b → SpellsText (erased_text a) (plain_tree t) →
+    tokens_in (items_of (erased_text b)) ≡ kinds source_grammar (slots (plain_tree t))
+tree_tokens a b t e plain =
+    erased_tokens b ∙ ap (λ (ts : List Terminal). ts ++ End ∷ []) (sym e) ∙ sym (erased_tokens a)
+    ∙ plain.spelled.tokens
+
+one_tree : (a b : List ℕ) (t u : Text) → bare_tokens a ≡ bare_tokens b → SpellsText a t →
+    SpellsText (erased_text b) u → u ≡ plain_tree t
+one_tree a b t u e s r =
+    let plain : SpellsText (erased_text a) (plain_tree t) = spells_plain a t s in
+    same_text u (plain_tree t) r.spelled.is_text plain.spelled.is_text (sym r.spelled.tokens ∙ tree_tokens a b t e plain)
+
+pub same_tokens_erase : (a b : List ℕ) (p q : Program) → bare_tokens a ≡ bare_tokens b → Spells a p →
+    Spells (erased_text b) q → IsErased p q
+same_tokens_erase a b p q e s u =
+    let one : u.text ≡ plain_tree s.text = one_tree a b s.text u.text e s.spelled u.spelled in
+    erased_is s.text (items_of a) (items_of (erased_text b)) p q (main_safe s.text s.spelled.spelled.keeps) s.means
+    (subst (λ (t : Text). IsProgram (items_of (erased_text b)) t q) one u.means)
+
+-- a text without its lines has the same tokens, and its program no directive
+pub same_tokens_run : (a b : List ℕ) (p q : Program) → bare_tokens a ≡ bare_tokens b → Spells (erased_text a) p →
+    Spells (erased_text b) q → RunAlike p q
+same_tokens_run a b p q e s u =
+    let all : IsErased p q = same_tokens_erase (erased_text a) b p q (twice_bare a ∙ e) s u in
+    record { lengths = sym all.lengths; runs = all.runs }
+
+-- ---- the second text without lines is one of the grammar
+
+shorter : (ts : List Token) (k : ℕ) (bs : List ℕ) → length (uncovered ts k bs) ≤ length bs
+shorter ts k [] = omega arith
+shorter ts k (b ∷ bs) = step (list_any (covers k) ts) (shorter ts (k + 1) bs)
+  where
+    step : (t : Bool) → length (uncovered ts (k + 1) bs) ≤ length bs →
+        length (cond t (uncovered ts (k + 1) bs) (b ∷ uncovered ts (k + 1) bs)) ≤ length (b ∷ bs)
+    step true h = omega (arith, h)
+    step false h = omega (arith, h)
+
+erased_shorter : (bytes : List ℕ) → length (erased_text bytes) ≤ length bytes
+unfolding erased_text
+erased_shorter bytes = shorter (tokens_of bytes) 0 bytes
+
+pub same_tokens_text : (a b : List ℕ) (t : Text) → bare_tokens a ≡ bare_tokens b → SpellsText a t →
+    length b ≤ max_source → SpellsText (erased_text b) (plain_tree t)
+same_tokens_text a b t e s short =
+    let plain : SpellsText (erased_text a) (plain_tree t) = spells_plain a t s in
+    record {
+      short = omega (arith, erased_shorter b, short);
+      spelled = record {
+        tokens = tree_tokens a b t e plain;
+        is_text = plain.spelled.is_text;
+        keeps = plain.spelled.keeps;
+      };
+    }

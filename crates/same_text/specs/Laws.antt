@@ -1,0 +1,45 @@
+-- Texts that differ in their directive lines alone.
+use Rattle.std.specs.Prelude.{◌≡◌, ◌≤◌, ℕ, List, length}
+use Rattle.base.specs.declared.tree.Program.{Program}
+use Rattle.base.specs.Meaning.{erased, lengths_of}
+use Rattle.c_grammar.specs.Grammar.{Text}
+use Rattle.c_grammar.specs.Rules.{source_grammar}
+use Rattle.c_grammar.specs.Source.{max_source, Spells as SpellsText}
+use Rattle.c_grammar.specs.Terminal.{Terminal}
+use Rattle.c_grammar.specs.Texts.{terminals}
+use Rattle.c_read.specs.Spells.{Spells}
+use Rattle.erasure.specs.Erased.{erased_text, items_in, unlined}
+use Rattle.erased_meaning.specs.Laws.{SameRun, IsErased}
+use Rattle.mend.specs.Bare.{without_directives}
+
+-- the tokens of a text that are no directive lines, without their places
+abbrev pub bare_tokens : List ℕ → List Terminal
+bare_tokens bytes = terminals source_grammar (unlined (items_in bytes))
+
+-- arrays of the same lengths, and the same numbers printed, memory and input left without directives
+pub record RunAlike (p q : Program) : Type 0 where
+  pub lengths : lengths_of p ≡ lengths_of q
+  pub runs : (input : List ℕ) → SameRun (erased p input) (erased q input)
+
+-- deleting whole directive lines leaves the other tokens
+abbrev pub BareTokensStay : Type 0
+BareTokensStay = (bytes : List ℕ) → bare_tokens (without_directives bytes) ≡ bare_tokens bytes
+
+-- of two texts that are the same without directives, as a mend and its source, a program of the second text without
+-- directives does what one of the first does without its directives
+abbrev pub MendErases : Type 0
+MendErases =
+    (a b : List ℕ) (p q : Program) → without_directives a ≡ without_directives b → Spells a p
+    → Spells (erased_text b) q → IsErased p q
+
+-- and the second without directives is a text that keeps all rules, unless it is too long
+abbrev pub SourceIsText : Type 0
+SourceIsText =
+    (a b : List ℕ) (p : Program) → without_directives a ≡ without_directives b → Spells a p → length b ≤ max_source
+    → (t : Text) × SpellsText (erased_text b) t
+
+-- programs of both without directives do the same
+abbrev pub SameTextRuns : Type 0
+SameTextRuns =
+    (a b : List ℕ) (p q : Program) → without_directives a ≡ without_directives b → Spells (erased_text a) p
+    → Spells (erased_text b) q → RunAlike p q
