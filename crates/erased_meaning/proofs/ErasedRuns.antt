@@ -113,7 +113,7 @@ is_one env is b (part.Target t r ∷ qs) h = absurd h
 is_one env is b (part.Data' g c row ∷ qs) h = absurd h
 is_one env is b (part.Alone at t ∷ qs) h = absurd h
 
-erased_is : (t : Text) (is js : Items) (p q : Program) → AreSafe (behind_globals t.globals no_front).env t.body → IsProgram is t p →
+pub erased_is : (t : Text) (is js : Items) (p q : Program) → AreSafe (behind_globals t.globals no_front).env t.body → IsProgram is t p →
     IsProgram js (plain_tree t) q → IsErased p q
 erased_is t is js p q safe m n =
     let env : Env = (behind_globals t.globals no_front).env in

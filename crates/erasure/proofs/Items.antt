@@ -15,7 +15,7 @@ use Rattle.erasure.proofs.Pieces.{Alike, alike_cons, alike_take}
 use Rattle.erasure.proofs.Sound.{IsSound, piece_sound}
 use Rattle.erasure.proofs.Cuts.{cut_piece, cut_from, line_after, column_after, item_at, made, items_from, line_item, line_is, not_fresh, feed_blank, feed_line, piece_blank, cut_alike}
 
-inside_not_fresh : (m : Mood) → m ≡ Inside → m ≡ Fresh → ⊥
+pub inside_not_fresh : (m : Mood) → m ≡ Inside → m ≡ Fresh → ⊥
 inside_not_fresh m e f = let bad : Inside ≡ Fresh = sym e ∙ f in absurd cc
 
 -- what one byte leaves for those behind it

@@ -23,14 +23,14 @@ shorter ts k (b ∷ bs) = step (list_any (covers k) ts) (shorter ts (k + 1) bs)
     step true h = omega (arith, h)
     step false h = omega (arith, h)
 
-erased_shorter : (bytes : List ℕ) → length (erased_text bytes) ≤ length bytes
+pub erased_shorter : (bytes : List ℕ) → length (erased_text bytes) ≤ length bytes
 unfolding erased_text
 erased_shorter bytes = shorter (tokens_of bytes) 0 bytes
 
-abbrev kinds_in : List (Item Terminal) → List Terminal
+abbrev pub kinds_in : List (Item Terminal) → List Terminal
 kinds_in is = terminals source_grammar is
 
-with_end : (is : List (Item Terminal)) (i : Item Terminal) → kinds_in (is ++ i ∷ []) ≡ kinds_in is ++ i.terminal ∷ []
+pub with_end : (is : List (Item Terminal)) (i : Item Terminal) → kinds_in (is ++ i ∷ []) ≡ kinds_in is ++ i.terminal ∷ []
 with_end [] i = refl
 with_end (j ∷ is) i = ap (λ (ts : List Terminal). j.terminal ∷ ts) (with_end is i)
 

@@ -12,7 +12,7 @@ use Rattle.base.specs.declared.tree.Stmt.{Stmt}
 use Rattle.base.specs.Memory.{View, Scalars}
 use Rattle.base.specs.Value.{value}
 use Rattle.base.specs.Meaning.{set_scalar}
-use Rattle.lanes.specs.Apart.{Block, block_body, in_block, names_at, numbers, set_lanes, with_lanes}
+use Rattle.lanes.specs.Apart.{own_value_places, Block, block_body, in_block, names_at, numbers, set_lanes, with_lanes}
 use Rattle.lanes.specs.There.{BodyThere}
 use Rattle.kernel.specs.Rows.{cells_kept, cells_stored}
 use Rattle.kernel.specs.Lanes.{lane_scalars, names_of, inside_of, block_of, stored_lanes, begun_block, IsBlock}
@@ -77,7 +77,7 @@ assigned_block at lanes rows e l given =
         sym (ap (λ q. if q then lane_scalars lanes (slice_index at.scalars.now) (v - at.first) else slice_index at.scalars.now) i)
 
 lanes_same : (inside : ℕ → Bool) (a : ℕ) (n m : ℕ → ℕ) (view : View) → ((v : ℕ) → inside v ≡ true → n v ≡ m v) →
-    with_lanes inside a n view ≡ with_lanes inside a m view
+    with_lanes own_value_places inside a n view ≡ with_lanes own_value_places inside a m view
 lanes_same inside a n m view h = fun_ext (λ (c : Cell). go c (a == c.array.0) (inside c.index) refl)
   where
     go : (c : Cell) (p q : Bool) → inside c.index ≡ q →
@@ -89,18 +89,18 @@ lanes_same inside a n m view h = fun_ext (λ (c : Cell). go c (a == c.array.0) (
 -- cells that all turns of the block store
 pub stored_block : (at : Turns) (lanes : List Lane) (rows rows' : List KeptRow) (a : ArrayId) (e : Expr) (xs ys : List ℕ) →
     xs ≡ ys → length ys ≡ at.count → Given at e (block_of at lanes rows) ys →
-    cells_kept rows' ≡ with_lanes (in_block at.first (length xs)) a.0 (λ v. slice_index xs (v - at.first)) (cells_kept rows) →
-    cells_stored rows' ≡ with_lanes (in_block at.first (length xs)) a.0 (λ v. slice_index xs (v - at.first)) (cells_stored rows) →
+    cells_kept rows' ≡ with_lanes own_value_places (in_block at.first (length xs)) a.0 (λ v. slice_index xs (v - at.first)) (cells_kept rows) →
+    cells_stored rows' ≡ with_lanes own_value_places (in_block at.first (length xs)) a.0 (λ v. slice_index xs (v - at.first)) (cells_stored rows) →
     block_of at lanes rows' ≡ stored_lanes (inside_of at) at.outer.now a.0 e (block_of at lanes rows)
 stored_block at lanes rows rows' a e xs ys same size given cells stored =
     ap₂ (λ (p q : View). record (block_of at lanes rows) { cells = p; stored = q }) (now (cells_kept rows) cells) (now (cells_stored rows) stored)
   where
     now : {new : View} (old : View) →
-        new ≡ with_lanes (in_block at.first (length xs)) a.0 (λ v. slice_index xs (v - at.first)) old →
-        new ≡ with_lanes (inside_of at) a.0 (numbers e (block_of at lanes rows) at.outer.now) old
+        new ≡ with_lanes own_value_places (in_block at.first (length xs)) a.0 (λ v. slice_index xs (v - at.first)) old →
+        new ≡ with_lanes own_value_places (inside_of at) a.0 (numbers e (block_of at lanes rows) at.outer.now) old
     now {new} old is =
-        is ∙ ap (λ zs. with_lanes (in_block at.first (length zs)) a.0 (λ v. slice_index zs (v - at.first)) old) same
-        ∙ ap (λ n. with_lanes (in_block at.first n) a.0 (λ v. slice_index ys (v - at.first)) old) size
+        is ∙ ap (λ zs. with_lanes own_value_places (in_block at.first (length zs)) a.0 (λ v. slice_index zs (v - at.first)) old) same
+        ∙ ap (λ n. with_lanes own_value_places (in_block at.first n) a.0 (λ v. slice_index ys (v - at.first)) old) size
         ∙ lanes_same (inside_of at) a.0 (λ v. slice_index ys (v - at.first)) (numbers e (block_of at lanes rows) at.outer.now) old
         (λ v i. sym (number_is at e (block_of at lanes rows) ys given v i))
 
@@ -115,23 +115,23 @@ none_assigned at rows =
     go false = refl
 
 pub begin_there : (at : Turns) (body : List Stmt) (lanes : List Lane) (rows : List KeptRow) → lanes ≡ [] →
-    BodyThere (inside_of at) at.outer.now body (begun_block at.scalars.now rows) →
-    BodyThere (inside_of at) at.outer.now body (block_of at lanes rows)
+    BodyThere own_value_places (inside_of at) at.outer.now body (begun_block at.scalars.now rows) →
+    BodyThere own_value_places (inside_of at) at.outer.now body (block_of at lanes rows)
 begin_there at body lanes rows none h =
-    subst (λ (b : Block). BodyThere (inside_of at) at.outer.now body b)
+    subst (λ (b : Block). BodyThere own_value_places (inside_of at) at.outer.now body b)
     (sym (ap (λ (ls : List Lane). block_of at ls rows) none ∙ none_assigned at rows)) h
 
 -- after the last one, with the scalars of the last turn
 pub all_done : (at : Turns) (body : List Stmt) (lanes lanes' slice : List Lane) (rows rows' : List KeptRow) (scalars : List ℕ) →
-    lanes ≡ [] → block_of at lanes' rows' ≡ block_body (inside_of at) at.outer.now body (block_of at lanes rows) → slice ≡ lanes' →
+    lanes ≡ [] → block_of at lanes' rows' ≡ block_body own_value_places (inside_of at) at.outer.now body (block_of at lanes rows) → slice ≡ lanes' →
     slice_index scalars ≡ lane_scalars slice (slice_index at.scalars.now) (at.count - 1) →
-    IsBlock (block_body (inside_of at) at.outer.now body (begun_block at.scalars.now rows)) (at.first + (at.count - 1)) scalars rows'
+    IsBlock (block_body own_value_places (inside_of at) at.outer.now body (begun_block at.scalars.now rows)) (at.first + (at.count - 1)) scalars rows'
 all_done at body lanes lanes' slice rows rows' scalars none is same last =
     let some = at.some in
     let below : at.count - 1 < at.count = omega arith in
     let less : at.first + (at.count - 1) - at.first ≡ at.count - 1 = omega arith in
     let i = place_in at.first at.count (at.count - 1) below in
-    let whole = is ∙ ap (block_body (inside_of at) at.outer.now body)
+    let whole = is ∙ ap (block_body own_value_places (inside_of at) at.outer.now body)
     (ap (λ (ls : List Lane). block_of at ls rows) none ∙ none_assigned at rows) in
     record {
       scalars =

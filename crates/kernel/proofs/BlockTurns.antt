@@ -7,9 +7,10 @@ use Rattle.std.specs.Prelude.{slice_index}
 use Rattle.base.specs.Memory.{View, Scalars}
 use Rattle.base.specs.Value.{binary}
 use Rattle.base.specs.Meaning.{Run, turn}
-use Rattle.lanes.specs.Apart.{in_block, Block, block_body, block_start}
+use Rattle.lanes.specs.Apart.{own_value_places, is_turn, in_block, Block, block_body, block_start}
 use Rattle.lanes.specs.There.{BodyThere}
 use Rattle.lanes.specs.Turned.{IsRun}
+use Rattle.lanes.proofs.Deltas.{turn_names, turn_places}
 use Rattle.lanes.proofs.Blocks.{block_is_turns}
 use Rattle.lanes.specs.Sums.{ended}
 use Rattle.lanes.proofs.Sums.{sum_is_turns}
@@ -54,25 +55,27 @@ turn_split (suc a) b (suc n) v f s t e h =
 -- what turns do in a form is what they do one after another
 form_is_turns : (body front : List Stmt) (sum : Option Sum) (outer : List ℕ) (view : View) (s t : Run) (v more : ℕ) →
     IsFormOf (length outer) body front sum → turn (suc more) v 1 (does view outer body) s ≡ Some t →
-    BodyThere (in_block v (suc more)) outer (with_sum front sum) (block_start view s)
+    BodyThere own_value_places (in_block v (suc more)) outer (with_sum front sum) (block_start view s)
     × IsRun view
-    (carried sum s.scalars v (suc more) (block_body (in_block v (suc more)) outer (with_sum front sum) (block_start view s)))
+    (carried sum s.scalars v (suc more) (block_body own_value_places (in_block v (suc more)) outer (with_sum front sum) (block_start view s)))
     (v + more) s t
 form_is_turns body front None outer view s t v more h e =
-    subst (λ (xs : List Stmt). BodyThere (in_block v (suc more)) outer xs (block_start view s)
-    × IsRun view (block_body (in_block v (suc more)) outer xs (block_start view s)) (v + more) s t) (sym h.0)
-    (block_is_turns body view outer (stored_in body) (assigned_in body) v more s t h.1.0 (none_loose body) e)
+    subst (λ (xs : List Stmt). BodyThere own_value_places (in_block v (suc more)) outer xs (block_start view s)
+    × IsRun view (block_body own_value_places (in_block v (suc more)) outer xs (block_start view s)) (v + more) s t) (sym h.0)
+    (block_is_turns body view (is_turn (length outer)) own_value_places outer (stored_in body) (assigned_in body) v more s t
+    (turn_names (assigned_in body) s.scalars outer) (turn_places (in_block v (suc more))) h.1.0 (none_loose body) e)
 form_is_turns body front (Some q) outer view s t v more h e =
     let all = ended front q.scalar q.added.now in
-    sum_is_turns (binary q.op) front q.scalar q.added.now h.has.last view outer (stored_in all) (assigned_in all) v more s t
-    h.has.carries h.apart.0 (none_loose all) (once_loose front q.scalar q.added.now h.once)
+    sum_is_turns (binary q.op) front q.scalar q.added.now h.has.last view (is_turn (length outer)) own_value_places outer
+    (stored_in all) (assigned_in all) v more s t (turn_names (assigned_in all) s.scalars outer)
+    (turn_places (in_block v (suc more))) h.has.carries h.apart.0 (none_loose all) (once_loose front q.scalar q.added.now h.once)
     (sym (ap (λ (xs : List Stmt). turn (suc more) v 1 (does view outer xs) s) h.has.whole) ∙ e)
 
 -- the same turns, one more at least, from where the rows stand
 pub begun_there : (f : Form) (body : List Stmt) (outer : List ℕ) (view : View) (s t : Run) (v count : ℕ) (scalars : List ℕ) (rows : List KeptRow) →
     0 < count → IsForm (length outer) body f → Stands view s scalars rows →
     turn count v 1 (does view outer body) s ≡ Some t →
-    BodyThere (in_block v count) outer (statements f) (begun_block scalars rows)
+    BodyThere own_value_places (in_block v count) outer (statements f) (begun_block scalars rows)
     × IsRun view (form_block f outer v count (slice_index scalars) (begun_block scalars rows)) (v + (count - 1)) s t
 begun_there f body outer view s t v zero scalars rows some form h e = absurd (omega arith)
 begun_there f body outer view s t v (suc more) scalars rows some form h e =
@@ -80,7 +83,7 @@ begun_there f body outer view s t v (suc more) scalars rows some form h e =
     let last : v + more ≡ v + (suc more - 1) = omega arith in
     let same : block_start view s ≡ begun_block scalars rows =
     λ i. record { scalars = λ w. sym h.scalars i; cells = sym h.cells i; stored = sym h.stored i } in (
-      subst (λ (b : Block). BodyThere (in_block v (suc more)) outer (statements f) b) same r.0,
+      subst (λ (b : Block). BodyThere own_value_places (in_block v (suc more)) outer (statements f) b) same r.0,
       subst (λ (g : Scalars). IsRun view (form_block f outer v (suc more) g (begun_block scalars rows)) (v + (suc more - 1)) s t) (sym h.scalars)
           (subst (λ (b : Block). IsRun view (form_block f outer v (suc more) s.scalars b) (v + (suc more - 1)) s t) same
           (subst (λ (w : ℕ). IsRun view (form_block f outer v (suc more) s.scalars (block_start view s)) w s t) last r.1)),
@@ -126,7 +129,7 @@ module _ (f : Form) (body : List Stmt) (outer : List ℕ) (first end v count : �
   -- the next block has what it needs
   pub next_there : (scalars : List ℕ) (rows : List KeptRow) (scalars' : List ℕ) (rows' : List KeptRow) →
       Begins body outer first end scalars rows → Carries body outer first end v scalars rows scalars' rows' →
-      BodyThere (in_block v count) outer (statements f) (begun_block scalars' rows')
+      BodyThere own_value_places (in_block v count) outer (statements f) (begun_block scalars' rows')
   next_there scalars rows scalars' rows' h carried =
       let t = there (turn (end - first) first 1 (does h.0 outer body) h.1) h.3 in
       let l = carried h.0 h.1 t.0 h.2 t.1 in

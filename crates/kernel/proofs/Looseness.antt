@@ -3,6 +3,7 @@ use Rattle.std.proofs.Common.{◌≡◌, ℕ, Bool, true, false, List, [], ◌�
 use Rattle.std.specs.Prelude.{not, ◌&&◌, ◌||◌}
 use Rattle.std.proofs.lemmas.List.{take_more, drop_more, drop_all}
 use mathlib.Core.Path.{fun_ext}
+use Rattle.base.specs.declared.tree.Expr.{Expr}
 use Rattle.base.specs.declared.tree.Stmt.{Stmt}
 use Rattle.base.specs.declared.tree.Stmt.TheVariants.{Declare, Assign, Store, Print, Block', Loop', If'}
 use Rattle.lanes.specs.Apart.{Set, loose_after, loose_body, body_apart, stmt_apart}
@@ -76,17 +77,17 @@ all_loose body = fun_ext (λ (x : ℕ). go (assigned_in body x))
     go false = refl
 
 -- the statements from a place on, and the one there with those behind it
-pub one_apart : (body some : List Stmt) (level k : ℕ) (d : Stmt) → k < length some →
-    (stmt_apart (stored_in body) (assigned_in body) (loose_in body (take k some)) level (get_or some k d)
-    && body_apart (stored_in body) (assigned_in body) (loose_in body (take (k + 1) some)) level (drop (k + 1) some))
-    ≡ body_apart (stored_in body) (assigned_in body) (loose_in body (take k some)) level (drop k some)
-one_apart body some level k d h =
-    ap (λ loose. stmt_apart (stored_in body) (assigned_in body) (loose_in body (take k some)) level (get_or some k d)
-    && body_apart (stored_in body) (assigned_in body) loose level (drop (k + 1) some))
+pub one_apart : (body some : List Stmt) (here : Expr → Bool) (k : ℕ) (d : Stmt) → k < length some →
+    (stmt_apart (stored_in body) (assigned_in body) (loose_in body (take k some)) here (get_or some k d)
+    && body_apart (stored_in body) (assigned_in body) (loose_in body (take (k + 1) some)) here (drop (k + 1) some))
+    ≡ body_apart (stored_in body) (assigned_in body) (loose_in body (take k some)) here (drop k some)
+one_apart body some here k d h =
+    ap (λ loose. stmt_apart (stored_in body) (assigned_in body) (loose_in body (take k some)) here (get_or some k d)
+    && body_apart (stored_in body) (assigned_in body) loose here (drop (k + 1) some))
     (ap (loose_in body) (take_more some k d h) ∙ sym (loose_more body (take k some) (get_or some k d)))
-    ∙ sym (ap (body_apart (stored_in body) (assigned_in body) (loose_in body (take k some)) level) (drop_more some k d h))
+    ∙ sym (ap (body_apart (stored_in body) (assigned_in body) (loose_in body (take k some)) here) (drop_more some k d h))
 
-pub none_apart : (body some : List Stmt) (level k : ℕ) (loose : Set) → length some ≤ k →
-    true ≡ body_apart (stored_in body) (assigned_in body) loose level (drop k some)
-none_apart body some level k loose h =
-    sym (ap (body_apart (stored_in body) (assigned_in body) loose level) (drop_all k some h))
+pub none_apart : (body some : List Stmt) (here : Expr → Bool) (k : ℕ) (loose : Set) → length some ≤ k →
+    true ≡ body_apart (stored_in body) (assigned_in body) loose here (drop k some)
+none_apart body some here k loose h =
+    sym (ap (body_apart (stored_in body) (assigned_in body) loose here) (drop_all k some h))

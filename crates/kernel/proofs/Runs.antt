@@ -8,7 +8,7 @@ use Rattle.base.specs.declared.item.Cell.{Cell}
 use Rattle.base.specs.declared.tree.ArrayId.{ArrayId}
 use Rattle.base.specs.Rows.{at_index, if_marked}
 use Rattle.base.proofs.Places.{get_set_same, get_set_other}
-use Rattle.lanes.specs.Apart.{in_block, with_lanes}
+use Rattle.lanes.specs.Apart.{own_value_places, in_block, with_lanes}
 use Rattle.kernel.specs.declared.frames.KeptRow.{KeptRow}
 use Rattle.kernel.specs.Rows.{cells_kept}
 use Rattle.kernel.specs.Rows.{cells_stored}
@@ -89,7 +89,7 @@ module _ (rows : List KeptRow) (a first n : ℕ) (f : ℕ → ℕ) (r w : KeptRo
       ap (slice_get (slice_set rows a w)) (sym (eqb-true a c.array.0 e)) ∙ get_set_same rows a w has.within
   row_of c false e = get_set_other rows a w c.array.0 (eqb-false a c.array.0 e)
 
-  pub cells_run : cells_kept (slice_set rows a w) ≡ with_lanes (in_block first n) a (λ v. f (v - first)) (cells_kept rows)
+  pub cells_run : cells_kept (slice_set rows a w) ≡ with_lanes own_value_places (in_block first n) a (λ v. f (v - first)) (cells_kept rows)
   cells_run = fun_ext (λ (c : Cell). go c (a == c.array.0) refl)
     where
       look : Cell → Option KeptRow → Option ℕ
@@ -115,7 +115,7 @@ module _ (rows : List KeptRow) (a first n : ℕ) (f : ℕ → ℕ) (r w : KeptRo
     both_marked true x y v = refl
     both_marked false x y v = refl
 
-    pub stored_run : cells_stored (slice_set rows a w) ≡ with_lanes (in_block first n) a (λ v. f (v - first)) (cells_stored rows)
+    pub stored_run : cells_stored (slice_set rows a w) ≡ with_lanes own_value_places (in_block first n) a (λ v. f (v - first)) (cells_stored rows)
     stored_run = fun_ext (λ (c : Cell). go c (a == c.array.0) refl)
       where
         look : Cell → Option KeptRow → Option ℕ

@@ -8,7 +8,7 @@ use Rattle.base.specs.declared.tree.Expr.{Expr}
 use Rattle.base.specs.declared.tree.Source.TheVariants.{Value}
 use Rattle.base.specs.declared.tree.Stmt.{Stmt}
 use Rattle.base.specs.declared.tree.Stmt.TheVariants.{Assign}
-use Rattle.lanes.specs.Apart.{Set, is_apart, loose_after, loose_body, body_apart, stmt_apart}
+use Rattle.lanes.specs.Apart.{Set, is_turn, is_apart, loose_after, loose_body, body_apart, stmt_apart}
 use Rattle.lanes.specs.There.{body_plain, is_plain, stmt_plain}
 use Rattle.lanes.specs.Sums.{ended}
 use Rattle.kernel.specs.Forms.{HasSum, IsCarriedBy, IsFormOf, IsSum, with_sum}
@@ -38,13 +38,13 @@ assigned_same : (front : List Stmt) (x : ScalarId) (e c : Expr) → assigned_in 
 assigned_same front x e c =
     fun_ext (λ (y : ℕ). in_more front (Assign x (Value c)) y ∙ sym (in_more front (Assign x (Value e)) y))
 
-pub more_apart : (taken own loose : Set) (level : ℕ) (front : List Stmt) (last : Stmt) →
-    body_apart taken own loose level front ≡ true → stmt_apart taken own (loose_body loose front) level last ≡ true →
-    body_apart taken own loose level (front ++ last ∷ []) ≡ true
-more_apart taken own loose level [] last h k = ap (λ b. b && true) k
-more_apart taken own loose level (first ∷ rest) last h k =
-    let p = and_parts (stmt_apart taken own loose level first) (body_apart taken own (loose_after loose first) level rest) h in
-    ap₂ (λ a b. a && b) p.0 (more_apart taken own (loose_after loose first) level rest last p.1 k)
+pub more_apart : (taken own loose : Set) (here : Expr → Bool) (front : List Stmt) (last : Stmt) →
+    body_apart taken own loose here front ≡ true → stmt_apart taken own (loose_body loose front) here last ≡ true →
+    body_apart taken own loose here (front ++ last ∷ []) ≡ true
+more_apart taken own loose here [] last h k = ap (λ b. b && true) k
+more_apart taken own loose here (first ∷ rest) last h k =
+    let p = and_parts (stmt_apart taken own loose here first) (body_apart taken own (loose_after loose first) here rest) h in
+    ap₂ (λ a b. a && b) p.0 (more_apart taken own (loose_after loose first) here rest last p.1 k)
 
 pub more_plain : (front : List Stmt) (last : Stmt) → body_plain front ≡ true → stmt_plain last ≡ true →
     body_plain (front ++ last ∷ []) ≡ true
@@ -81,8 +81,8 @@ once_loose front x e once =
 -- what is looked at of a body
 pub is_sum : (level : ℕ) (body front : List Stmt) (s : Sum) → HasSum body front s → assigned_in front s.scalar.0 ≡ false →
     body_plain front ≡ true → is_plain s.added.now ≡ true →
-    body_apart (stored_in body) (assigned_in body) (loose_in body []) level front ≡ true →
-    is_apart (stored_in body) (loose_in body front) level s.added.now ≡ true → IsSum level body front s
+    body_apart (stored_in body) (assigned_in body) (loose_in body []) (is_turn level) front ≡ true →
+    is_apart (stored_in body) (loose_in body front) (is_turn level) s.added.now ≡ true → IsSum level body front s
 is_sum level body front s has once plain added first last =
     record { has = has; apart = (apart, more_plain front (Assign s.scalar (Value s.added.now)) plain added); once = once }
   where
@@ -92,19 +92,19 @@ is_sum level body front s has once plain added first last =
     own : assigned_in body ≡ assigned_in (ended front s.scalar s.added.now)
     own = ap assigned_in has.whole ∙ assigned_same front s.scalar s.added.now has.last
 
-    front_apart : body_apart (stored_in body) (assigned_in body) (assigned_in body) level front ≡ true
-    front_apart = ap (λ loose. body_apart (stored_in body) (assigned_in body) loose level front) (sym (all_loose body)) ∙ first
+    front_apart : body_apart (stored_in body) (assigned_in body) (assigned_in body) (is_turn level) front ≡ true
+    front_apart = ap (λ loose. body_apart (stored_in body) (assigned_in body) loose (is_turn level) front) (sym (all_loose body)) ∙ first
 
-    last_apart : stmt_apart (stored_in body) (assigned_in body) (loose_body (assigned_in body) front) level (Assign s.scalar (Value s.added.now)) ≡ true
+    last_apart : stmt_apart (stored_in body) (assigned_in body) (loose_body (assigned_in body) front) (is_turn level) (Assign s.scalar (Value s.added.now)) ≡ true
     last_apart =
         ap₂ (λ p q. p && q) (ap (λ (o : Set). o s.scalar.0) own ∙ last_assigned front s.scalar s.added.now)
-        (ap (λ loose. is_apart (stored_in body) loose level s.added.now) (sym (front_loose body front)) ∙ last)
+        (ap (λ loose. is_apart (stored_in body) loose (is_turn level) s.added.now) (sym (front_loose body front)) ∙ last)
 
     apart : body_apart (stored_in (ended front s.scalar s.added.now)) (assigned_in (ended front s.scalar s.added.now))
-        (assigned_in (ended front s.scalar s.added.now)) level (ended front s.scalar s.added.now) ≡ true
+        (assigned_in (ended front s.scalar s.added.now)) (is_turn level) (ended front s.scalar s.added.now) ≡ true
     apart =
-        ap₂ (λ t o. body_apart t o o level (ended front s.scalar s.added.now)) (sym taken) (sym own)
-        ∙ more_apart (stored_in body) (assigned_in body) (assigned_in body) level front (Assign s.scalar (Value s.added.now)) front_apart last_apart
+        ap₂ (λ t o. body_apart t o o (is_turn level) (ended front s.scalar s.added.now)) (sym taken) (sym own)
+        ∙ more_apart (stored_in body) (assigned_in body) (assigned_in body) (is_turn level) front (Assign s.scalar (Value s.added.now)) front_apart last_apart
 
 -- each operand of a form has a value
 pub form_plain : (outer : List ℕ) (body front : List Stmt) (sum : Option Sum) → IsFormOf (length outer) body front sum →

@@ -6,7 +6,7 @@ use Rattle.base.specs.declared.tree.Stmt.{Stmt}
 use Rattle.base.specs.declared.tree.Stmt.TheVariants.{Assign}
 use Rattle.base.specs.Memory.{Scalars}
 use Rattle.base.specs.Value.{binary, value}
-use Rattle.lanes.specs.Apart.{Block, block_body, in_block, names_at}
+use Rattle.lanes.specs.Apart.{own_value_places, Block, block_body, in_block, names_at}
 use Rattle.lanes.specs.Sums.{CarriesOn, ended, folded, summed}
 use Rattle.kernel.specs.Loops.{AreApart, assigned_in}
 use Rattle.kernel.specs.declared.turns.Form.{Form}
@@ -54,7 +54,7 @@ carried (Some s) before first count b = summed (binary s.op) s.scalar.0 (before 
 -- what some turns from these scalars make of a block
 abbrev pub form_block : Form → List ℕ → ℕ → ℕ → Scalars → Block → Block
 form_block f outer first count before b =
-    carried f.sum before first count (block_body (in_block first count) outer (statements f) b)
+    carried f.sum before first count (block_body own_value_places (in_block first count) outer (statements f) b)
 
 -- what turns of a block carry on: from the scalar before them, over the numbers of what is added
 pub record IsCarriedOn (first count : ℕ) (outer before : List ℕ) (b : Block) (s : Sum) (n : ℕ) : Type 0 where

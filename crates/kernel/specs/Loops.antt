@@ -4,7 +4,7 @@ use Rattle.base.specs.declared.tree.Stmt.{Stmt}
 use Rattle.base.specs.declared.tree.Stmt.TheVariants.{Declare, Assign, Store, Print, Block', Loop', If'}
 use Rattle.base.specs.Memory.{View, last_stored}
 use Rattle.base.specs.Meaning.{Run, seen, turn, run_list}
-use Rattle.lanes.specs.Apart.{Set, body_apart}
+use Rattle.lanes.specs.Apart.{Set, is_turn, body_apart}
 use Rattle.lanes.specs.There.{body_plain}
 use Rattle.kernel.specs.Rows.{cells_kept, cells_stored}
 use Rattle.kernel.specs.declared.frames.KeptRow.{KeptRow}
@@ -43,7 +43,7 @@ loose_in body before x = assigned_in body x && not (assigned_in before x)
 -- the turns of a loop with this body at this level are apart, and each operand has a value
 abbrev pub AreApart : ℕ → List Stmt → Type 0
 AreApart level body =
-    (body_apart (stored_in body) (assigned_in body) (assigned_in body) level body ≡ true) × (body_plain body ≡ true)
+    (body_apart (stored_in body) (assigned_in body) (assigned_in body) (is_turn level) body ≡ true) × (body_plain body ≡ true)
 
 -- what a turn does
 abbrev pub does : View → List ℕ → List Stmt → ℕ → Run → Option Run

@@ -62,7 +62,8 @@ fn is_assigned_by(s: &Stmt, x: ScalarId) -> bool
     }
 }
 
-fn is_assigned(all: &[Stmt], x: ScalarId) -> bool
+/// Whether statements assign a scalar.
+pub fn is_assigned(all: &[Stmt], x: ScalarId) -> bool
     ensures { result ≡ assigned_in all.now x.0 }
 {
     match all {
@@ -107,7 +108,7 @@ pub fn is_turn(level: usize, e: &Expr) -> bool
 }
 
 fn expr_apart(body: &[Stmt], before: &[Stmt], level: usize, e: &Expr) -> bool
-    ensures { result ≡ lanes.is_apart (stored_in body.now) (loose_in body.now before.now) level e.now }
+    ensures { result ≡ lanes.is_apart (stored_in body.now) (loose_in body.now before.now) (lanes.is_turn level) e.now }
 {
     match e {
         Expr::Number(_) | Expr::LoopName(_) => true,
@@ -126,7 +127,7 @@ fn expr_apart(body: &[Stmt], before: &[Stmt], level: usize, e: &Expr) -> bool
 }
 
 fn source_apart(body: &[Stmt], before: &[Stmt], level: usize, v: &Source) -> bool
-    ensures { result ≡ lanes.source_apart (stored_in body.now) (loose_in body.now before.now) level v.now }
+    ensures { result ≡ lanes.source_apart (stored_in body.now) (loose_in body.now before.now) (lanes.is_turn level) v.now }
 {
     match v {
         Source::Value(e) => expr_apart(body, before, level, e),
@@ -135,7 +136,7 @@ fn source_apart(body: &[Stmt], before: &[Stmt], level: usize, v: &Source) -> boo
 }
 
 fn stmt_apart(body: &[Stmt], before: &[Stmt], level: usize, s: &Stmt) -> bool
-    ensures { result ≡ lanes.stmt_apart (stored_in body.now) (assigned_in body.now) (loose_in body.now before.now) level s.now }
+    ensures { result ≡ lanes.stmt_apart (stored_in body.now) (assigned_in body.now) (loose_in body.now before.now) (lanes.is_turn level) s.now }
 {
     match s {
         Stmt::Declare(x, v) | Stmt::Assign(x, v) => is_assigned(body, *x)
@@ -152,7 +153,7 @@ fn stmt_apart(body: &[Stmt], before: &[Stmt], level: usize, s: &Stmt) -> bool
 #[tactic(auto, using(crate::proofs::Looseness::one_apart, crate::proofs::Looseness::none_apart))]
 fn body_apart(body: &[Stmt], some: &[Stmt], level: usize, k: usize) -> bool
     requires { k ≤ length some.now }
-    ensures { result ≡ lanes.body_apart (stored_in body.now) (assigned_in body.now) (loose_in body.now (take k some.now)) level (drop k some.now) }
+    ensures { result ≡ lanes.body_apart (stored_in body.now) (assigned_in body.now) (loose_in body.now (take k some.now)) (lanes.is_turn level) (drop k some.now) }
 {
     if k == some.len() {
         return true;

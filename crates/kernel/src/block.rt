@@ -7,7 +7,7 @@ ghost use Rattle.kernel.specs.Forms.{IsCarriedOn, IsForm, form_block, statements
 ghost use Rattle.kernel.specs.Lanes.{HaveSize, IsBlock, assigned_lanes, begun_block, block_of, inside_of, lane_scalars, stored_lanes};
 ghost use Rattle.kernel.specs.Loops.{Begins, Ends};
 ghost use Rattle.kernel.specs.Rows.{cells_kept};
-ghost use Rattle.lanes.specs.Apart.{block_body, block_stmt, in_block, names_at};
+ghost use Rattle.lanes.specs.Apart.{own_value_places, block_body, block_stmt, in_block, names_at};
 ghost use Rattle.lanes.specs.There.{BodyThere, HasValues, StmtThere, body_plain, is_plain, stmt_plain};
 
 use crate::frames::KeptRow;
@@ -91,10 +91,10 @@ fn do_stmt(
 ) -> Result<(), AllocError>
     requires plain { stmt_plain s.now ≡ true }
     requires lanes { HaveSize at.now.count lanes.old.items }
-    requires there { StmtThere (inside_of at.now) at.now.outer.now s.now (block_of at.now lanes.old.items rows.old) }
+    requires there { StmtThere own_value_places (inside_of at.now) at.now.outer.now s.now (block_of at.now lanes.old.items rows.old) }
     ensures lanes { OnOk result (HaveSize at.now.count lanes.new.items) }
     ensures block { OnOk result (block_of at.now lanes.new.items rows.new
-        ≡ block_stmt (inside_of at.now) at.now.outer.now s.now (block_of at.now lanes.old.items rows.old)) }
+        ≡ block_stmt own_value_places (inside_of at.now) at.now.outer.now s.now (block_of at.now lanes.old.items rows.old)) }
 {
     match s {
         Stmt::Declare(x, Source::Value(e)) => assign(alloc, *x, e, at, lanes, rows),
@@ -114,10 +114,10 @@ fn do_body(
 ) -> Result<(), AllocError>
     requires plain { body_plain body.now ≡ true }
     requires lanes { HaveSize at.now.count lanes.old.items }
-    requires there { BodyThere (inside_of at.now) at.now.outer.now body.now (block_of at.now lanes.old.items rows.old) }
+    requires there { BodyThere own_value_places (inside_of at.now) at.now.outer.now body.now (block_of at.now lanes.old.items rows.old) }
     ensures lanes { OnOk result (HaveSize at.now.count lanes.new.items) }
     ensures block { OnOk result (block_of at.now lanes.new.items rows.new
-        ≡ block_body (inside_of at.now) at.now.outer.now body.now (block_of at.now lanes.old.items rows.old)) }
+        ≡ block_body own_value_places (inside_of at.now) at.now.outer.now body.now (block_of at.now lanes.old.items rows.old)) }
 {
     if let [first, rest @ ..] = body {
         do_stmt(alloc, first, at, lanes, rows)?;
@@ -174,7 +174,7 @@ fn block(
     requires some { 0 < count }
     requires no_wrap { first + count ≤ 2 ^ 64 }
     requires plain { body_plain (statements form) ≡ true }
-    requires there { BodyThere (in_block first count) outer.now (statements form) (begun_block scalars.old rows.old) }
+    requires there { BodyThere own_value_places (in_block first count) outer.now (statements form) (begun_block scalars.old rows.old) }
     ensures { OnOk result (IsBlock (form_block form.entry outer.now first count (slice_index scalars.old) (begun_block scalars.old rows.old)) (first + (count - 1)) scalars.new rows.new) }
 {
     let mut lanes = Vec::new(alloc);

@@ -3,7 +3,7 @@
 ghost use Rattle.std.specs.Prelude.{ℕ, ◌≡◌, ◌+◌, ◌-◌, ◌<◌, ◌≤◌, Bool, true, IsSome, length, slice_index};
 ghost use Rattle.kernel.specs.Lanes.{Over};
 ghost use Rattle.kernel.specs.Rows.{cells_kept, cells_stored};
-ghost use Rattle.lanes.specs.Apart.{in_block, with_lanes};
+ghost use Rattle.lanes.specs.Apart.{own_value_places, in_block, with_lanes};
 
 use crate::frames::KeptRow;
 use base::tree::ArrayId;
@@ -34,8 +34,8 @@ fn mark_run(marks: &mut [bool], at: usize, n: usize)
 pub fn store_run(rows: &mut [KeptRow], array: ArrayId, first: u64, numbers: &[u64])
     requires some { 0 < length numbers.now }
     requires there { (k : ℕ) → k < length numbers.now → IsSome (cells_kept rows.old (record { array = array; index = first + k })) }
-    ensures cells { cells_kept rows.new ≡ with_lanes (in_block first (length numbers.now)) array.0 (λ v. slice_index numbers.now (v - first)) (cells_kept rows.old) }
-    ensures stored { cells_stored rows.new ≡ with_lanes (in_block first (length numbers.now)) array.0 (λ v. slice_index numbers.now (v - first)) (cells_stored rows.old) }
+    ensures cells { cells_kept rows.new ≡ with_lanes own_value_places (in_block first (length numbers.now)) array.0 (λ v. slice_index numbers.now (v - first)) (cells_kept rows.old) }
+    ensures stored { cells_stored rows.new ≡ with_lanes own_value_places (in_block first (length numbers.now)) array.0 (λ v. slice_index numbers.now (v - first)) (cells_stored rows.old) }
 {
     let row = &mut rows[array.0 as usize];
     let at = (first - row.first) as usize;

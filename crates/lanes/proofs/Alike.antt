@@ -1,5 +1,5 @@
 -- Two states that look alike to a turn: it adds the same to both.
-use Rattle.std.proofs.Common.{◌≡◌, ℕ, ◌==◌, Bool, true, false, List, [], ◌∷◌, ◌++◌, length, Option, Some, None, refl, sym, ap, ap₂, ◌∙◌, if◌then◌else◌, append-nil}
+use Rattle.std.proofs.Common.{◌≡◌, ℕ, ◌==◌, Bool, true, false, List, [], ◌∷◌, ◌++◌, Option, Some, None, refl, sym, ap, ap₂, ◌∙◌, if◌then◌else◌, append-nil}
 use Rattle.std.specs.Prelude.{not, ◌&&◌, ◌||◌, option_and_then, option_map, unwrap_or, slice_index}
 use Rattle.std.proofs.lemmas.Bool.{and_parts}
 use Rattle.base.specs.declared.item.Cell.{Cell}
@@ -14,8 +14,8 @@ use Rattle.base.specs.Memory.{View, Scalars, Stores, same_cell, last_stored}
 use Rattle.base.specs.Value.{Names, value, on_one, on_both, and_of, or_of, unary, binary, shifted, divided}
 use Rattle.base.specs.Meaning.{Run, names_in, seen}
 use Rattle.regions.proofs.StatementsDone.{last_push}
-use Rattle.lanes.specs.Apart.{Set, is_turn, is_apart, source_apart, stmt_apart, loose_after, body_apart, Delta, apply, join, own_value, setting, storing, store_delta, stmt_delta, join_all, body_delta}
-use Rattle.lanes.proofs.Deltas.{turn_value}
+use Rattle.lanes.proofs.Deltas.{set_kept}
+use Rattle.lanes.specs.Apart.{Set, Kept, Places, NamesPlaces, is_apart, source_apart, stmt_apart, loose_after, body_apart, Delta, apply, join, own_value, setting, storing, store_delta, stmt_delta, join_all, body_delta}
 
 not_is : (b : Bool) → not b ≡ true → b ≡ false
 not_is true h = sym h
@@ -56,59 +56,60 @@ module _ (taken : Set) (view : View) where
       go true = refl
       go false = h
 
-  module _ (loops : List ℕ) (v : ℕ) where
+  module _ (here : Expr → Bool) (pl : Places) (loops : List ℕ) (own : Set) (before : Scalars)
+      (named : NamesPlaces here pl own before loops) (v : ℕ) where
     abbrev at_turn : ℕ → Type 0
-    at_turn i = i ≡ v
+    at_turn i = i ≡ pl.place v
 
     -- the same over any two sets of names that look alike
     pub value_alike : (loose : Set) (a b : Names) → Looks taken loose at_turn a.scalars b.scalars a.cells b.cells →
-        a.loops ≡ loops ++ v ∷ [] → b.loops ≡ loops ++ v ∷ [] → (e : Expr) →
-        is_apart taken loose (length loops) e ≡ true →
+        a.loops ≡ loops ++ v ∷ [] → b.loops ≡ loops ++ v ∷ [] → Kept own before b.scalars → (e : Expr) →
+        is_apart taken loose here e ≡ true →
         value e a ≡ value e b
-    value_alike loose a b h al bl (Number n) k = refl
-    value_alike loose a b h al bl (Scalar x) k = ap Some (h.scalars x.0 (not_is (loose x.0) k))
-    value_alike loose a b h al bl (LoopName l) k = ap (λ ls. Some (slice_index ls l)) (al ∙ sym bl)
-    value_alike loose a b h al bl (Cell' r place p e) k =
-        let l = and_parts (is_turn (length loops) e || not (taken r.0)) (is_apart taken loose (length loops) e) k in
-        ap (option_and_then (λ i. a.cells (record { array = r; index = i }))) (value_alike loose a b h al bl e l.1)
+    value_alike loose a b h al bl kept (Number n) k = refl
+    value_alike loose a b h al bl kept (Scalar x) k = ap Some (h.scalars x.0 (not_is (loose x.0) k))
+    value_alike loose a b h al bl kept (LoopName l) k = ap (λ ls. Some (slice_index ls l)) (al ∙ sym bl)
+    value_alike loose a b h al bl kept (Cell' r place p e) k =
+        let l = and_parts (here e || not (taken r.0)) (is_apart taken loose here e) k in
+        ap (option_and_then (λ i. a.cells (record { array = r; index = i }))) (value_alike loose a b h al bl kept e l.1)
         ∙ cell_same (value e b)
         (λ i. a.cells (record { array = r; index = i }))
         (λ i. b.cells (record { array = r; index = i }))
-        (λ i is. go (is_turn (length loops) e) refl l.0 i is)
+        (λ i is. go (here e) refl l.0 i is)
       where
-        go : (q : Bool) → is_turn (length loops) e ≡ q → (q || not (taken r.0)) ≡ true → (i : ℕ) →
+        go : (q : Bool) → here e ≡ q → (q || not (taken r.0)) ≡ true → (i : ℕ) →
             value e b ≡ Some i →
             a.cells (record { array = r; index = i }) ≡ b.cells (record { array = r; index = i })
         go true f l i is =
-            h.mine (record { array = r; index = i }) (some_is i v (sym is ∙ turn_value loops v e b bl f))
+            h.mine (record { array = r; index = i }) (some_is i (pl.place v) (sym is ∙ named v e b bl kept f))
         go false f l i is = h.others (record { array = r; index = i }) (not_is (taken r.0) l)
-    value_alike loose a b h al bl (Unary' op p e) k = ap (on_one (unary op)) (value_alike loose a b h al bl e k)
-    value_alike loose a b h al bl (Binary' op p e q f) k =
-        let l = and_parts (is_apart taken loose (length loops) e) (is_apart taken loose (length loops) f) k in
-        ap₂ (on_both (binary op)) (value_alike loose a b h al bl e l.0) (value_alike loose a b h al bl f l.1)
-    value_alike loose a b h al bl (And' p e q f) k =
-        let l = and_parts (is_apart taken loose (length loops) e) (is_apart taken loose (length loops) f) k in
-        ap₂ and_of (value_alike loose a b h al bl e l.0) (value_alike loose a b h al bl f l.1)
-    value_alike loose a b h al bl (Or' p e q f) k =
-        let l = and_parts (is_apart taken loose (length loops) e) (is_apart taken loose (length loops) f) k in
-        ap₂ or_of (value_alike loose a b h al bl e l.0) (value_alike loose a b h al bl f l.1)
-    value_alike loose a b h al bl (Shift' op p e n) k =
-        ap (on_one (λ x. shifted op x n.count)) (value_alike loose a b h al bl e k)
-    value_alike loose a b h al bl (Divide' op p e n) k =
-        ap (on_one (λ x. divided op x n.value)) (value_alike loose a b h al bl e k)
+    value_alike loose a b h al bl kept (Unary' op p e) k = ap (on_one (unary op)) (value_alike loose a b h al bl kept e k)
+    value_alike loose a b h al bl kept (Binary' op p e q f) k =
+        let l = and_parts (is_apart taken loose here e) (is_apart taken loose here f) k in
+        ap₂ (on_both (binary op)) (value_alike loose a b h al bl kept e l.0) (value_alike loose a b h al bl kept f l.1)
+    value_alike loose a b h al bl kept (And' p e q f) k =
+        let l = and_parts (is_apart taken loose here e) (is_apart taken loose here f) k in
+        ap₂ and_of (value_alike loose a b h al bl kept e l.0) (value_alike loose a b h al bl kept f l.1)
+    value_alike loose a b h al bl kept (Or' p e q f) k =
+        let l = and_parts (is_apart taken loose here e) (is_apart taken loose here f) k in
+        ap₂ or_of (value_alike loose a b h al bl kept e l.0) (value_alike loose a b h al bl kept f l.1)
+    value_alike loose a b h al bl kept (Shift' op p e n) k =
+        ap (on_one (λ x. shifted op x n.count)) (value_alike loose a b h al bl kept e k)
+    value_alike loose a b h al bl kept (Divide' op p e n) k =
+        ap (on_one (λ x. divided op x n.value)) (value_alike loose a b h al bl kept e k)
 
-    pub value_same : (loose : Set) (s t : Run) → Alike loose at_turn s t → (e : Expr) →
-        is_apart taken loose (length loops) e ≡ true →
+    pub value_same : (loose : Set) (s t : Run) → Alike loose at_turn s t → Kept own before t.scalars → (e : Expr) →
+        is_apart taken loose here e ≡ true →
         value e (names_in view (loops ++ v ∷ []) s) ≡ value e (names_in view (loops ++ v ∷ []) t)
-    value_same loose s t h e k =
+    value_same loose s t h kept e k =
         value_alike loose (names_in view (loops ++ v ∷ []) s) (names_in view (loops ++ v ∷ []) t)
-        (record { scalars = h.scalars; others = h.others; mine = h.mine }) refl refl e k
+        (record { scalars = h.scalars; others = h.others; mine = h.mine }) refl refl kept e k
 
-    source_same : (loose : Set) (s t : Run) → Alike loose at_turn s t → (w : Source) →
-        source_apart taken loose (length loops) w ≡ true →
+    source_same : (loose : Set) (s t : Run) → Alike loose at_turn s t → Kept own before t.scalars → (w : Source) →
+        source_apart taken loose here w ≡ true →
         own_value w view (loops ++ v ∷ []) s ≡ own_value w view (loops ++ v ∷ []) t
-    source_same loose s t h (Value e) k = value_same loose s t h e k
-    source_same loose s t h Read k = refl
+    source_same loose s t h kept (Value e) k = value_same loose s t h kept e k
+    source_same loose s t h kept Read k = refl
 
     -- a scalar that is set in both is loose no more
     set_alike : (loose : Set) (s t : Run) (x n : ℕ) → Alike loose at_turn s t →
@@ -162,51 +163,54 @@ module _ (taken : Set) (view : View) where
     after_store s t a f oi pi ov pv i_is v_is h =
         ap₂ (λ x y. join_all (stored_by a x y) (λ d. f (apply s d))) i_is v_is ∙ go pi pv
       where
-        here : (c : Cell) (n : ℕ) (there : Option ℕ) →
+        there_is : (c : Cell) (n : ℕ) (there : Option ℕ) →
             join_all (option_map (λ old. storing c n) there) (λ d. f (apply s d))
             ≡ join_all (option_map (λ old. storing c n) there) (λ d. f (apply t d))
-        here c n None = refl
-        here c n (Some old) = ap (option_map (join (storing c n))) (h c n)
+        there_is c n None = refl
+        there_is c n (Some old) = ap (option_map (join (storing c n))) (h c n)
 
         go : (pi pv : Option ℕ) →
             join_all (stored_by a pi pv) (λ d. f (apply s d)) ≡ join_all (stored_by a pi pv) (λ d. f (apply t d))
         go None pv = refl
         go (Some i) None = refl
         go (Some i) (Some n) =
-            here (record { array = a; index = i }) n (view (record { array = a; index = i }))
+            there_is (record { array = a; index = i }) n (view (record { array = a; index = i }))
 
-    module _ (own : Set) where
-      pub body_same : (loose : Set) (s t : Run) → Alike loose at_turn s t → (body : List Stmt) →
-          body_apart taken own loose (length loops) body ≡ true →
-          body_delta body view (loops ++ v ∷ []) s ≡ body_delta body view (loops ++ v ∷ []) t
-      body_same loose s t h [] k = refl
-      body_same loose s t h (first ∷ rest) k =
-          let l = and_parts (stmt_apart taken own loose (length loops) first)
-          (body_apart taken own (loose_after loose first) (length loops) rest) k in
-          go first l.0 (λ u w a. body_same (loose_after loose first) u w a rest l.1)
-        where
-          go : (first : Stmt) → stmt_apart taken own loose (length loops) first ≡ true →
-              ((u w : Run) → Alike (loose_after loose first) at_turn u w →
-              body_delta rest view (loops ++ v ∷ []) u ≡ body_delta rest view (loops ++ v ∷ []) w) →
-              join_all (stmt_delta first view (loops ++ v ∷ []) s) (λ d. body_delta rest view (loops ++ v ∷ []) (apply s d))
-              ≡ join_all (stmt_delta first view (loops ++ v ∷ []) t) (λ d. body_delta rest view (loops ++ v ∷ []) (apply t d))
-          go (Declare x w) k next =
-              let l = and_parts (own x.0) (source_apart taken loose (length loops) w) k in
-              after_set s t x.0 (body_delta rest view (loops ++ v ∷ [])) _ _ (source_same loose s t h w l.1)
-              (λ n. next (apply s (setting x.0 n)) (apply t (setting x.0 n)) (set_alike loose s t x.0 n h))
-          go (Assign x w) k next =
-              let l = and_parts (own x.0) (source_apart taken loose (length loops) w) k in
-              after_set s t x.0 (body_delta rest view (loops ++ v ∷ [])) _ _ (source_same loose s t h w l.1)
-              (λ n. next (apply s (setting x.0 n)) (apply t (setting x.0 n)) (set_alike loose s t x.0 n h))
-          go (Store a place e w) k next =
-              let l = and_parts (taken a.0) (is_turn (length loops) e && source_apart taken loose (length loops) w) k in
-              let q = and_parts (is_turn (length loops) e) (source_apart taken loose (length loops) w) l.1 in
-              after_store s t a (body_delta rest view (loops ++ v ∷ [])) _ _ _ _
-              (turn_value loops v e (names_in view (loops ++ v ∷ []) s) refl q.0
-              ∙ sym (turn_value loops v e (names_in view (loops ++ v ∷ []) t) refl q.0))
-              (source_same loose s t h w q.1)
-              (λ c n. next (apply s (storing c n)) (apply t (storing c n)) (store_alike loose s t c n h))
-          go (Print e) k next = refl
-          go (Block' shape all) k next = refl
-          go (Loop' b shape all) k next = refl
-          go (If' c shape all shape' all') k next = refl
+    pub body_same : (loose : Set) (s t : Run) → Alike loose at_turn s t →
+        Kept own before s.scalars → Kept own before t.scalars → (body : List Stmt) →
+        body_apart taken own loose here body ≡ true →
+        body_delta body view (loops ++ v ∷ []) s ≡ body_delta body view (loops ++ v ∷ []) t
+    body_same loose s t h ks kt [] k = refl
+    body_same loose s t h ks kt (first ∷ rest) k =
+        let l = and_parts (stmt_apart taken own loose here first)
+        (body_apart taken own (loose_after loose first) here rest) k in
+        go first l.0 (λ u w a ku kw. body_same (loose_after loose first) u w a ku kw rest l.1)
+      where
+        go : (first : Stmt) → stmt_apart taken own loose here first ≡ true →
+            ((u w : Run) → Alike (loose_after loose first) at_turn u w →
+            Kept own before u.scalars → Kept own before w.scalars →
+            body_delta rest view (loops ++ v ∷ []) u ≡ body_delta rest view (loops ++ v ∷ []) w) →
+            join_all (stmt_delta first view (loops ++ v ∷ []) s) (λ d. body_delta rest view (loops ++ v ∷ []) (apply s d))
+            ≡ join_all (stmt_delta first view (loops ++ v ∷ []) t) (λ d. body_delta rest view (loops ++ v ∷ []) (apply t d))
+        go (Declare x w) k next =
+            let l = and_parts (own x.0) (source_apart taken loose here w) k in
+            after_set s t x.0 (body_delta rest view (loops ++ v ∷ [])) _ _ (source_same loose s t h kt w l.1)
+            (λ n. next (apply s (setting x.0 n)) (apply t (setting x.0 n)) (set_alike loose s t x.0 n h)
+            (set_kept own before s.scalars x.0 n l.0 ks) (set_kept own before t.scalars x.0 n l.0 kt))
+        go (Assign x w) k next =
+            let l = and_parts (own x.0) (source_apart taken loose here w) k in
+            after_set s t x.0 (body_delta rest view (loops ++ v ∷ [])) _ _ (source_same loose s t h kt w l.1)
+            (λ n. next (apply s (setting x.0 n)) (apply t (setting x.0 n)) (set_alike loose s t x.0 n h)
+            (set_kept own before s.scalars x.0 n l.0 ks) (set_kept own before t.scalars x.0 n l.0 kt))
+        go (Store a place e w) k next =
+            let l = and_parts (taken a.0) (here e && source_apart taken loose here w) k in
+            let q = and_parts (here e) (source_apart taken loose here w) l.1 in
+            after_store s t a (body_delta rest view (loops ++ v ∷ [])) _ _ _ _
+            (named v e (names_in view (loops ++ v ∷ []) s) refl ks q.0
+            ∙ sym (named v e (names_in view (loops ++ v ∷ []) t) refl kt q.0))
+            (source_same loose s t h kt w q.1)
+            (λ c n. next (apply s (storing c n)) (apply t (storing c n)) (store_alike loose s t c n h) ks kt)
+        go (Print e) k next = refl
+        go (Block' shape all) k next = refl
+        go (Loop' b shape all) k next = refl
+        go (If' c shape all shape' all') k next = refl

@@ -1,5 +1,5 @@
 -- A block of turns, assignment by assignment.
-use Rattle.std.proofs.Common.{◌≡◌, ℕ, ◌==◌, Bool, true, false, List, [], ◌∷◌, ◌++◌, length, Option, Some, None, refl, sym, ap, ap₂, ◌∙◌, arith, if◌then◌else◌, eqb-true}
+use Rattle.std.proofs.Common.{◌≡◌, ℕ, ◌==◌, Bool, true, false, List, [], ◌∷◌, ◌++◌, Option, Some, None, refl, sym, ap, ap₂, ◌∙◌, arith, if◌then◌else◌, eqb-true}
 use Rattle.std.specs.Prelude.{◌&&◌, option_and_then, option_map, unwrap_or}
 use Rattle.std.proofs.lemmas.Bool.{and_parts, false≢true}
 use Rattle.std.proofs.lemmas.Bool.Decides.{nat_tests}
@@ -14,29 +14,30 @@ use Rattle.base.specs.Memory.{View, same_cell, last_stored}
 use Rattle.base.specs.Value.{value}
 use Rattle.base.specs.Meaning.{Run, names_in, seen, set_scalar, assigned, stored, run_stmt, run_list}
 use Rattle.regions.proofs.StatementsDone.{last_push}
-use Rattle.lanes.specs.Apart.{Set, is_turn, is_apart, stmt_apart, loose_after, body_apart, Block, names_at, numbers, set_lanes, store_lanes, block_stmt, block_body, block_start, StandsFor, RunAlone, ByAssignments}
-use Rattle.lanes.proofs.Deltas.{turn_value}
+use Rattle.lanes.specs.Apart.{Set, Kept, Places, NamesPlaces, HavePlaces, is_apart, stmt_apart, loose_after, body_apart, Block, names_at, numbers, set_lanes, store_lanes, block_stmt, block_body, block_start, StandsFor, RunAlone, ByAssignments}
+use Rattle.lanes.proofs.Deltas.{set_kept}
 use Rattle.lanes.proofs.Alike.{value_alike}
 
-module _ (taken own : Set) (view : View) (loops : List ℕ) (inside : ℕ → Bool) (s : Run) where
+module _ (taken own : Set) (view : View) (here : Expr → Bool) (pl : Places) (loops : List ℕ) (inside : ℕ → Bool) (s : Run)
+    (named : NamesPlaces here pl own s.scalars loops) (places : HavePlaces inside pl) where
   -- each turn sees the others' cells as at the beginning
   abbrev pub Keeps : (ℕ → Run) → Type 0
-  Keeps lane = (v : ℕ) (c : Cell) → (taken c.array.0 && (c.index == v)) ≡ false → seen view (lane v).stores c ≡ seen view s.stores c
+  Keeps lane = (v : ℕ) (c : Cell) → (taken c.array.0 && (c.index == pl.place v)) ≡ false → seen view (lane v).stores c ≡ seen view s.stores c
 
-  other : (v : ℕ) (c : Cell) → taken c.array.0 ≡ false → (taken c.array.0 && (c.index == v)) ≡ false
-  other v c h = ap (λ b. b && (c.index == v)) h
+  other : (v : ℕ) (c : Cell) → taken c.array.0 ≡ false → (taken c.array.0 && (c.index == pl.place v)) ≡ false
+  other v c h = ap (λ b. b && (c.index == pl.place v)) h
 
   -- a turn's expression has the turn's own value
-  pub lane_value : (loose : Set) (b : Block) (lane : ℕ → Run) → StandsFor view b lane → Keeps lane → (v : ℕ) (e : Expr) →
-      is_apart taken loose (length loops) e ≡ true →
+  pub lane_value : (loose : Set) (b : Block) (lane : ℕ → Run) → StandsFor pl view b lane → Keeps lane → (v : ℕ) → inside v ≡ true → Kept own s.scalars (lane v).scalars →
+      (e : Expr) → is_apart taken loose here e ≡ true →
       value e (names_at b loops v) ≡ value e (names_in view (loops ++ v ∷ []) (lane v))
-  lane_value loose b lane h k v e is =
-      value_alike taken view loops v loose (names_at b loops v) (names_in view (loops ++ v ∷ []) (lane v))
+  lane_value loose b lane h k v i kept e is =
+      value_alike taken view here pl loops own s.scalars named v loose (names_at b loops v) (names_in view (loops ++ v ∷ []) (lane v))
       (record {
         scalars = λ x o. h.scalars v x;
-        others = λ c o. h.cells c ∙ k c.index c (other c.index c o) ∙ sym (k v c (other v c o));
-        mine = λ c o. h.cells c ∙ ap (λ w. seen view (lane w).stores c) o;
-      }) refl refl e is
+        others = λ c o. h.cells c ∙ k (pl.turn_of c.index) c (other (pl.turn_of c.index) c o) ∙ sym (k v c (other v c o));
+        mine = λ c o. h.cells c ∙ ap (λ w. seen view (lane w).stores c) (ap pl.turn_of o ∙ places.back v i);
+      }) refl refl kept e is
 
   pub record Assigned (x : ℕ) (o : Option ℕ) (now next : Run) : Type 0 where
     pub n : ℕ
@@ -75,25 +76,33 @@ module _ (taken own : Set) (view : View) (loops : List ℕ) (inside : ℕ → Bo
 
   -- what a statement makes of the block's lanes
   pub record Stands (b : Block) (lane : ℕ → Run) : Type 0 where
-    pub is : StandsFor view b lane
+    pub is : StandsFor pl view b lane
     pub keeps : Keeps lane
+    pub kept : (v : ℕ) → Kept own s.scalars (lane v).scalars
 
-  module _ (loose : Set) (b : Block) (lane next : ℕ → Run) (h : StandsFor view b lane) (k : Keeps lane)
-      (out : (v : ℕ) → inside v ≡ false → next v ≡ lane v) where
-    set_stands : (x : ℕ) (e : Expr) → is_apart taken loose (length loops) e ≡ true →
+  module _ (loose : Set) (b : Block) (lane next : ℕ → Run) (h : StandsFor pl view b lane) (k : Keeps lane)
+      (kept : (v : ℕ) → Kept own s.scalars (lane v).scalars) (out : (v : ℕ) → inside v ≡ false → next v ≡ lane v) where
+    set_stands : (x : ℕ) (e : Expr) → own x ≡ true → is_apart taken loose here e ≡ true →
         ((v : ℕ) → inside v ≡ true → Assigned x (value e (names_in view (loops ++ v ∷ []) (lane v))) (lane v) (next v)) →
         Stands (set_lanes inside x (numbers e b loops) b) next
-    set_stands x e ok does =
+    set_stands x e its ok does =
         record {
           is =
               record {
                 scalars = λ v y. scalar v y (inside v) refl;
-                cells = λ c. h.cells c ∙ ap (λ st. seen view st c) (stores c.index (inside c.index) refl);
-                stored = λ c. h.stored c ∙ ap (λ st. last_stored st c) (stores c.index (inside c.index) refl);
+                cells = λ c. h.cells c ∙ ap (λ st. seen view st c) (stores (pl.turn_of c.index) (inside (pl.turn_of c.index)) refl);
+                stored = λ c. h.stored c ∙ ap (λ st. last_stored st c) (stores (pl.turn_of c.index) (inside (pl.turn_of c.index)) refl);
               };
           keeps = λ v c o. ap (λ st. seen view st c) (sym (stores v (inside v) refl)) ∙ k v c o;
+          kept = λ v y o. left v y o (inside v) refl;
         }
       where
+        left : (v y : ℕ) → own y ≡ false → (q : Bool) → inside v ≡ q → (next v).scalars y ≡ s.scalars y
+        left v y o true f =
+            ap (λ (r : Run). r.scalars y) (does v f).becomes
+            ∙ set_kept own s.scalars (lane v).scalars x (does v f).n its (kept v) y o
+        left v y o false f = ap (λ (r : Run). r.scalars y) (out v f) ∙ kept v y o
+
         stores : (v : ℕ) (q : Bool) → inside v ≡ q → (lane v).stores ≡ (next v).stores
         stores v true f = ap (λ (r : Run). r.stores) (sym (does v f).becomes)
         stores v false f = ap (λ (r : Run). r.stores) (sym (out v f))
@@ -103,24 +112,25 @@ module _ (taken own : Set) (view : View) (loops : List ℕ) (inside : ℕ → Bo
         scalar v y true f =
             let d = does v f in
             ap (λ n. set_scalar x n (b.scalars v) y)
-            (ap (λ o. unwrap_or o 0) (lane_value loose b lane h k v e ok ∙ d.is))
+            (ap (λ o. unwrap_or o 0) (lane_value loose b lane h k v f (kept v) e ok ∙ d.is))
             ∙ ap (λ old. if x == y then d.n else old) (h.scalars v y)
             ∙ sym (ap (λ (r : Run). r.scalars y) d.becomes)
         scalar v y false f = h.scalars v y ∙ sym (ap (λ (r : Run). r.scalars y) (out v f))
 
-    store_stands : (a : ArrayId) (f : Expr) → taken a.0 ≡ true → is_apart taken loose (length loops) f ≡ true →
+    store_stands : (a : ArrayId) (f : Expr) → taken a.0 ≡ true → is_apart taken loose here f ≡ true →
         ((v : ℕ) → inside v ≡ true →
-        Pushed (record { array = a; index = v }) (value f (names_in view (loops ++ v ∷ []) (lane v))) (lane v) (next v)) →
-        Stands (store_lanes inside a.0 (numbers f b loops) b) next
+        Pushed (record { array = a; index = pl.place v }) (value f (names_in view (loops ++ v ∷ []) (lane v))) (lane v) (next v)) →
+        Stands (store_lanes pl inside a.0 (numbers f b loops) b) next
     store_stands a f its ok does =
         record {
           is =
               record {
                 scalars = λ v y. h.scalars v y ∙ scalar v y (inside v) refl;
-                cells = λ c. cell c (a.0 == c.array.0) (inside c.index) refl refl;
-                stored = λ c. mark c (a.0 == c.array.0) (inside c.index) refl refl;
+                cells = λ c. cell c (a.0 == c.array.0) (inside (pl.turn_of c.index)) refl refl;
+                stored = λ c. mark c (a.0 == c.array.0) (inside (pl.turn_of c.index)) refl refl;
               };
           keeps = λ v c o. keep v c o (inside v) refl;
+          kept = λ v y o. sym (scalar v y (inside v) refl) ∙ kept v y o;
         }
       where
         scalar : (v y : ℕ) (q : Bool) → inside v ≡ q → (lane v).scalars y ≡ (next v).scalars y
@@ -128,87 +138,90 @@ module _ (taken own : Set) (view : View) (loops : List ℕ) (inside : ℕ → Bo
         scalar v y false i = ap (λ (r : Run). r.scalars y) (sym (out v i))
 
         -- what was stored last in a cell by the turn of its index
-        last : (c : Cell) (i : inside c.index ≡ true) → last_stored (next c.index).stores c
-            ≡ (if a.0 == c.array.0 then Some (does c.index i).n else last_stored (lane c.index).stores c)
+        last : (c : Cell) (i : inside (pl.turn_of c.index) ≡ true) → last_stored (next (pl.turn_of c.index)).stores c
+            ≡ (if a.0 == c.array.0 then Some (does (pl.turn_of c.index) i).n else last_stored (lane (pl.turn_of c.index)).stores c)
         last c i =
-            ap (λ (r : Run). last_stored r.stores c) (does c.index i).becomes
-            ∙ last_push (lane c.index).stores (record { array = a; index = c.index }) (does c.index i).n c
-            ∙ ap (λ q. if q then Some (does c.index i).n else last_stored (lane c.index).stores c) (here (a.0 == c.array.0))
+            ap (λ (r : Run). last_stored r.stores c) (does (pl.turn_of c.index) i).becomes
+            ∙ last_push (lane (pl.turn_of c.index)).stores (record { array = a; index = pl.place (pl.turn_of c.index) }) (does (pl.turn_of c.index) i).n c
+            ∙ ap (λ q. if q then Some (does (pl.turn_of c.index) i).n else last_stored (lane (pl.turn_of c.index)).stores c) (now (a.0 == c.array.0))
           where
-            here : (q : Bool) → (q && (c.index == c.index)) ≡ q
-            here q = grind (arith, nat_tests)
+            now : (q : Bool) → (q && (pl.place (pl.turn_of c.index) == c.index)) ≡ q
+            now q = let e = places.forth c.index i in grind (arith, nat_tests)
 
         number : (v : ℕ) (i : inside v ≡ true) → numbers f b loops v ≡ (does v i).n
-        number v i = ap (λ o. unwrap_or o 0) (lane_value loose b lane h k v f ok ∙ (does v i).is)
+        number v i = ap (λ o. unwrap_or o 0) (lane_value loose b lane h k v i (kept v) f ok ∙ (does v i).is)
 
-        mark : (c : Cell) (q r : Bool) → (a.0 == c.array.0) ≡ q → inside c.index ≡ r →
-            (if q && r then Some (numbers f b loops c.index) else b.stored c) ≡ last_stored (next c.index).stores c
+        mark : (c : Cell) (q r : Bool) → (a.0 == c.array.0) ≡ q → inside (pl.turn_of c.index) ≡ r →
+            (if q && r then Some (numbers f b loops (pl.turn_of c.index)) else b.stored c) ≡ last_stored (next (pl.turn_of c.index)).stores c
         mark c true true e i =
-            ap Some (number c.index i)
-            ∙ sym (last c i ∙ ap (λ q. if q then Some (does c.index i).n else last_stored (lane c.index).stores c) e)
+            ap Some (number (pl.turn_of c.index) i)
+            ∙ sym (last c i ∙ ap (λ q. if q then Some (does (pl.turn_of c.index) i).n else last_stored (lane (pl.turn_of c.index)).stores c) e)
         mark c false true e i =
-            h.stored c ∙ sym (last c i ∙ ap (λ q. if q then Some (does c.index i).n else last_stored (lane c.index).stores c) e)
-        mark c true false e i = h.stored c ∙ ap (λ (r : Run). last_stored r.stores c) (sym (out c.index i))
-        mark c false false e i = h.stored c ∙ ap (λ (r : Run). last_stored r.stores c) (sym (out c.index i))
+            h.stored c ∙ sym (last c i ∙ ap (λ q. if q then Some (does (pl.turn_of c.index) i).n else last_stored (lane (pl.turn_of c.index)).stores c) e)
+        mark c true false e i = h.stored c ∙ ap (λ (r : Run). last_stored r.stores c) (sym (out (pl.turn_of c.index) i))
+        mark c false false e i = h.stored c ∙ ap (λ (r : Run). last_stored r.stores c) (sym (out (pl.turn_of c.index) i))
 
         look : Cell → Option ℕ → Option ℕ
         look c l = option_map (λ old. unwrap_or l old) (view c)
 
-        same : (c : Cell) → (a.0 == c.array.0) ≡ true → ◌≡◌ {A = Cell} (record { array = a; index = c.index }) c
-        same c e = let p = eqb-true a.0 c.array.0 e in λ i. record { array = record { 0 = p i }; index = c.index }
+        same : (c : Cell) → (a.0 == c.array.0) ≡ true → inside (pl.turn_of c.index) ≡ true →
+            ◌≡◌ {A = Cell} (record { array = a; index = pl.place (pl.turn_of c.index) }) c
+        same c e h =
+            let p = eqb-true a.0 c.array.0 e in
+            let q = places.forth c.index h in λ i. record { array = record { 0 = p i }; index = q i }
 
-        cell : (c : Cell) (q r : Bool) → (a.0 == c.array.0) ≡ q → inside c.index ≡ r →
-            (if q && r then Some (numbers f b loops c.index) else b.cells c) ≡ seen view (next c.index).stores c
+        cell : (c : Cell) (q r : Bool) → (a.0 == c.array.0) ≡ q → inside (pl.turn_of c.index) ≡ r →
+            (if q && r then Some (numbers f b loops (pl.turn_of c.index)) else b.cells c) ≡ seen view (next (pl.turn_of c.index)).stores c
         cell c true true e i =
-            let d = does c.index i in
-            ap Some (number c.index i)
-            ∙ sym (ap (look c) (last c i ∙ ap (λ q. if q then Some d.n else last_stored (lane c.index).stores c) e)
-            ∙ ap (λ o. option_map (λ old. unwrap_or (Some d.n) old) o) (ap view (sym (same c e)) ∙ d.there))
+            let d = does (pl.turn_of c.index) i in
+            ap Some (number (pl.turn_of c.index) i)
+            ∙ sym (ap (look c) (last c i ∙ ap (λ q. if q then Some d.n else last_stored (lane (pl.turn_of c.index)).stores c) e)
+            ∙ ap (λ o. option_map (λ old. unwrap_or (Some d.n) old) o) (ap view (sym (same c e i)) ∙ d.there))
         cell c false true e i =
             h.cells c
-            ∙ sym (ap (look c) (last c i ∙ ap (λ q. if q then Some (does c.index i).n else last_stored (lane c.index).stores c) e))
-        cell c true false e i = h.cells c ∙ ap (λ (r : Run). seen view r.stores c) (sym (out c.index i))
-        cell c false false e i = h.cells c ∙ ap (λ (r : Run). seen view r.stores c) (sym (out c.index i))
+            ∙ sym (ap (look c) (last c i ∙ ap (λ q. if q then Some (does (pl.turn_of c.index) i).n else last_stored (lane (pl.turn_of c.index)).stores c) e))
+        cell c true false e i = h.cells c ∙ ap (λ (r : Run). seen view r.stores c) (sym (out (pl.turn_of c.index) i))
+        cell c false false e i = h.cells c ∙ ap (λ (r : Run). seen view r.stores c) (sym (out (pl.turn_of c.index) i))
 
-        keep : (v : ℕ) (c : Cell) → (taken c.array.0 && (c.index == v)) ≡ false → (q : Bool) → inside v ≡ q →
+        keep : (v : ℕ) (c : Cell) → (taken c.array.0 && (c.index == pl.place v)) ≡ false → (q : Bool) → inside v ≡ q →
             seen view (next v).stores c ≡ seen view s.stores c
         keep v c o false i = ap (λ (r : Run). seen view r.stores c) (out v i) ∙ k v c o
         keep v c o true i =
             let d = does v i in
             ap (λ (r : Run). seen view r.stores c) d.becomes
-            ∙ ap (look c) (last_push (lane v).stores (record { array = a; index = v }) d.n c
-            ∙ ap (λ q. if q then Some d.n else last_stored (lane v).stores c) (apart (same_cell (record { array = a; index = v }) c) refl))
+            ∙ ap (look c) (last_push (lane v).stores (record { array = a; index = pl.place v }) d.n c
+            ∙ ap (λ q. if q then Some d.n else last_stored (lane v).stores c) (apart (same_cell (record { array = a; index = pl.place v }) c) refl))
             ∙ k v c o
           where
-            apart : (q : Bool) → same_cell (record { array = a; index = v }) c ≡ q → q ≡ false
+            apart : (q : Bool) → same_cell (record { array = a; index = pl.place v }) c ≡ q → q ≡ false
             apart false e = refl
             apart true e =
-                let p = and_parts (a.0 == c.array.0) (v == c.index) e in
-                let j : (c.index == v) ≡ true = let w = eqb-true v c.index p.1 in grind (arith, nat_tests) in
+                let p = and_parts (a.0 == c.array.0) (pl.place v == c.index) e in
+                let j : (c.index == pl.place v) ≡ true = let w = eqb-true (pl.place v) c.index p.1 in grind (arith, nat_tests) in
                 let l : taken c.array.0 ≡ true = ap taken (sym (eqb-true a.0 c.array.0 p.0)) ∙ its in
                 absurd (false≢true (sym o ∙ ap₂ (λ x y. x && y) l j))
 
-    pub stmt_stands : (first : Stmt) → stmt_apart taken own loose (length loops) first ≡ true →
+    pub stmt_stands : (first : Stmt) → stmt_apart taken own loose here first ≡ true →
         ((v : ℕ) → inside v ≡ true → run_stmt first view (loops ++ v ∷ []) (lane v) ≡ Some (next v)) →
-        Stands (block_stmt inside loops first b) next
+        Stands (block_stmt pl inside loops first b) next
     stmt_stands (Declare x (Value e)) ok does =
-        set_stands x.0 e (and_parts (own x.0) (is_apart taken loose (length loops) e) ok).1
+        set_stands x.0 e (and_parts (own x.0) (is_apart taken loose here e) ok).0 (and_parts (own x.0) (is_apart taken loose here e) ok).1
         (λ v i. assigned_by x.0 (value e (names_in view (loops ++ v ∷ []) (lane v))) (lane v) (next v) (does v i))
     stmt_stands (Declare x Read) ok does = absurd (false≢true (and_parts (own x.0) false ok).1)
     stmt_stands (Assign x (Value e)) ok does =
-        set_stands x.0 e (and_parts (own x.0) (is_apart taken loose (length loops) e) ok).1
+        set_stands x.0 e (and_parts (own x.0) (is_apart taken loose here e) ok).0 (and_parts (own x.0) (is_apart taken loose here e) ok).1
         (λ v i. assigned_by x.0 (value e (names_in view (loops ++ v ∷ []) (lane v))) (lane v) (next v) (does v i))
     stmt_stands (Assign x Read) ok does = absurd (false≢true (and_parts (own x.0) false ok).1)
     stmt_stands (Store a place e (Value f)) ok does =
-        let l = and_parts (taken a.0) (is_turn (length loops) e && is_apart taken loose (length loops) f) ok in
-        let q = and_parts (is_turn (length loops) e) (is_apart taken loose (length loops) f) l.1 in
+        let l = and_parts (taken a.0) (here e && is_apart taken loose here f) ok in
+        let q = and_parts (here e) (is_apart taken loose here f) l.1 in
         store_stands a f l.0 q.1
-        (λ v i. pushed_by (record { array = a; index = v }) (value f (names_in view (loops ++ v ∷ []) (lane v))) (lane v) (next v)
+        (λ v i. pushed_by (record { array = a; index = pl.place v }) (value f (names_in view (loops ++ v ∷ []) (lane v))) (lane v) (next v)
         (sym (ap (option_and_then (λ j. stored view (record { array = a; index = j })
         (option_map (λ n. (n, lane v)) (value f (names_in view (loops ++ v ∷ []) (lane v))))))
-        (turn_value loops v e (names_in view (loops ++ v ∷ []) (lane v)) refl q.0)) ∙ does v i))
+        (named v e (names_in view (loops ++ v ∷ []) (lane v)) refl (kept v) q.0)) ∙ does v i))
     stmt_stands (Store a place e Read) ok does =
-        absurd (false≢true (and_parts (is_turn (length loops) e) false (and_parts (taken a.0) (is_turn (length loops) e && false) ok).1).1)
+        absurd (false≢true (and_parts (here e) false (and_parts (taken a.0) (here e && false) ok).1).1)
     stmt_stands (Print e) ok does = absurd (false≢true ok)
     stmt_stands (Block' shape all) ok does = absurd (false≢true ok)
     stmt_stands (Loop' c shape all) ok does = absurd (false≢true ok)
@@ -224,24 +237,24 @@ module _ (taken own : Set) (view : View) (loops : List ℕ) (inside : ℕ → Bo
   stepped q o d = if q then unwrap_or o d else d
 
   body_stands : (loose : Set) (body : List Stmt) (b : Block) (lane end : ℕ → Run) → Stands b lane →
-      body_apart taken own loose (length loops) body ≡ true →
+      body_apart taken own loose here body ≡ true →
       RunAlone inside (λ v. run_list body view (loops ++ v ∷ [])) lane end →
-      StandsFor view (block_body inside loops body b) end
+      StandsFor pl view (block_body pl inside loops body b) end
   body_stands loose [] b lane end h ok alone =
       record {
         scalars = λ v x. h.is.scalars v x ∙ ap (λ (r : Run). r.scalars x) (same v (inside v) refl);
-        cells = λ c. h.is.cells c ∙ ap (λ (r : Run). seen view r.stores c) (same c.index (inside c.index) refl);
-        stored = λ c. h.is.stored c ∙ ap (λ (r : Run). last_stored r.stores c) (same c.index (inside c.index) refl);
+        cells = λ c. h.is.cells c ∙ ap (λ (r : Run). seen view r.stores c) (same (pl.turn_of c.index) (inside (pl.turn_of c.index)) refl);
+        stored = λ c. h.is.stored c ∙ ap (λ (r : Run). last_stored r.stores c) (same (pl.turn_of c.index) (inside (pl.turn_of c.index)) refl);
       }
     where
       same : (v : ℕ) (q : Bool) → inside v ≡ q → lane v ≡ end v
       same v true i = same_Some (lane v) (end v) (alone.there v i)
       same v false i = sym (alone.elsewhere v i)
   body_stands loose (first ∷ rest) b lane end h ok alone =
-      let l = and_parts (stmt_apart taken own loose (length loops) first)
-      (body_apart taken own (loose_after loose first) (length loops) rest) ok in
-      body_stands (loose_after loose first) rest (block_stmt inside loops first b) next end
-      (stmt_stands loose b lane next h.is h.keeps (λ v i. ap (λ q. stepped q (does v) (lane v)) i) first l.0
+      let l = and_parts (stmt_apart taken own loose here first)
+      (body_apart taken own (loose_after loose first) here rest) ok in
+      body_stands (loose_after loose first) rest (block_stmt pl inside loops first b) next end
+      (stmt_stands loose b lane next h.is h.keeps h.kept (λ v i. ap (λ q. stepped q (does v) (lane v)) i) first l.0
       (λ v i. (parts v i).0 ∙ ap Some (sym (at v i)))) l.1
       (record {
         there = λ v i. ap (run_list rest view (loops ++ v ∷ [])) (at v i) ∙ (parts v i).1;
@@ -263,9 +276,10 @@ module _ (taken own : Set) (view : View) (loops : List ℕ) (inside : ℕ → Bo
       parts v i = then_parts (does v) (run_list rest view (loops ++ v ∷ [])) (lane v) (end v) (alone.there v i)
 
 pub by_assignments : ByAssignments
-by_assignments body view loops stored own inside s end ok alone =
-    body_stands stored own view loops inside s own body (block_start view s) (λ v. s) end
+by_assignments body view here at loops stored own inside s end named places ok alone =
+    body_stands stored own view here at loops inside s named places own body (block_start view s) (λ v. s) end
     (record {
       is = record { scalars = λ v x. refl; cells = λ c. refl; stored = λ c. refl };
       keeps = λ v c o. refl;
+      kept = λ v x o. refl;
     }) ok alone

@@ -1,5 +1,5 @@
 -- A turn that carries a scalar on, beside the turn that assigns it what is added.
-use Rattle.std.proofs.Common.{◌≡◌, ℕ, ◌==◌, Bool, true, false, List, [], ◌∷◌, ◌++◌, length, Option, Some, None, refl, sym, ap, ap₂, ◌∙◌, if◌then◌else◌, eqb-true, arith}
+use Rattle.std.proofs.Common.{◌≡◌, ℕ, ◌==◌, Bool, true, false, List, [], ◌∷◌, ◌++◌, Option, Some, None, refl, sym, ap, ap₂, ◌∙◌, if◌then◌else◌, eqb-true, arith}
 use Rattle.std.specs.Prelude.{not, ◌&&◌, option_and_then, option_map}
 use Rattle.std.proofs.lemmas.Bool.{and_parts, false≢true}
 use Rattle.std.proofs.lemmas.Bool.Decides.{nat_tests}
@@ -13,10 +13,10 @@ use Rattle.base.specs.declared.tree.Stmt.TheVariants.{Declare, Assign, Store, Pr
 use Rattle.base.specs.Memory.{View, Scalars}
 use Rattle.base.specs.Value.{on_both, value}
 use Rattle.base.specs.Meaning.{Run, names_in, set_scalar, assigned, stored, run_stmt, run_list}
-use Rattle.lanes.specs.Apart.{Set, is_turn, is_apart, stmt_apart, loose_after, loose_body, body_apart}
+use Rattle.lanes.specs.Apart.{Set, Kept, Places, NamesPlaces, is_apart, stmt_apart, loose_after, loose_body, body_apart}
 use Rattle.lanes.specs.Sums.{CarriesOn, ended}
+use Rattle.lanes.proofs.Deltas.{set_kept, stmt_kept, body_kept}
 use Rattle.lanes.proofs.Alike.{Alike, value_same}
-use Rattle.lanes.proofs.Deltas.{turn_value}
 
 pub same_is : (x : ℕ) → (x == x) ≡ true
 same_is x = grind (arith, nat_tests)
@@ -73,8 +73,9 @@ not_it : (p q : Bool) → (not p && q) ≡ true → p ≡ false
 not_it true q h = absurd (false≢true h)
 not_it false q h = refl
 
-module _ (taken own : Set) (view : View) (loops : List ℕ) (v x : ℕ) where
-  alike_over : (loose : Set) (a : ℕ) (t : Run) → loose x ≡ true → Alike taken view loose (λ i. i ≡ v) (over x a t) t
+module _ (taken own : Set) (view : View) (here : Expr → Bool) (pl : Places) (loops : List ℕ) (before : Scalars)
+    (named : NamesPlaces here pl own before loops) (v x : ℕ) (its : own x ≡ true) where
+  alike_over : (loose : Set) (a : ℕ) (t : Run) → loose x ≡ true → Alike taken view loose (λ i. i ≡ pl.place v) (over x a t) t
   alike_over loose a t l =
       record { scalars = λ y k. go y (x == y) refl k; others = λ c k. refl; mine = λ c k. refl }
     where
@@ -83,9 +84,10 @@ module _ (taken own : Set) (view : View) (loops : List ℕ) (v x : ℕ) where
       go y false e k = refl
 
   -- an expression that does not name the scalar
-  pub value_over : (loose : Set) (a : ℕ) (t : Run) (e : Expr) → loose x ≡ true → is_apart taken loose (length loops) e ≡ true →
+  pub value_over : (loose : Set) (a : ℕ) (t : Run) (e : Expr) → Kept own before t.scalars → loose x ≡ true → is_apart taken loose here e ≡ true →
       value e (names_in view (loops ++ v ∷ []) (over x a t)) ≡ value e (names_in view (loops ++ v ∷ []) t)
-  value_over loose a t e l k = value_same taken view loops v loose (over x a t) t (alike_over loose a t l) e k
+  value_over loose a t e kept l k =
+      value_same taken view here pl loops own before named v loose (over x a t) t (alike_over loose a t l) kept e k
 
   set_over : (a : ℕ) (t : Run) (y : ℕ) (o : Option ℕ) → (y == x) ≡ false →
       assigned y (option_map (λ n. (n, over x a t)) o) ≡ option_map (over x a) (assigned y (option_map (λ n. (n, t)) o))
@@ -105,54 +107,57 @@ module _ (taken own : Set) (view : View) (loops : List ℕ) (v x : ℕ) where
       go None = refl
       go (Some old) = refl
 
-  assigned_over : (loose : Set) (a : ℕ) (t : Run) (y : ScalarId) (e : Expr) → (own y.0 && is_apart taken loose (length loops) e) ≡ true →
+  assigned_over : (loose : Set) (a : ℕ) (t : Run) (y : ScalarId) (e : Expr) → Kept own before t.scalars → (own y.0 && is_apart taken loose here e) ≡ true →
       (not (y.0 == x) && loose x) ≡ true →
       assigned y.0 (option_map (λ n. (n, over x a t)) (value e (names_in view (loops ++ v ∷ []) (over x a t))))
       ≡ option_map (over x a) (assigned y.0 (option_map (λ n. (n, t)) (value e (names_in view (loops ++ v ∷ []) t))))
-  assigned_over loose a t y e ok m =
+  assigned_over loose a t y e kept ok m =
       ap (λ o. assigned y.0 (option_map (λ n. (n, over x a t)) o))
-      (value_over loose a t e (and_parts (not (y.0 == x)) (loose x) m).1 (and_parts (own y.0) (is_apart taken loose (length loops) e) ok).1)
+      (value_over loose a t e kept (and_parts (not (y.0 == x)) (loose x) m).1 (and_parts (own y.0) (is_apart taken loose here e) ok).1)
       ∙ set_over a t y.0 (value e (names_in view (loops ++ v ∷ []) t)) (not_it (y.0 == x) (loose x) m)
 
   -- a statement that leaves the scalar loose does the same, whatever its number is
-  stmt_over : (loose : Set) (a : ℕ) (t : Run) (first : Stmt) → stmt_apart taken own loose (length loops) first ≡ true →
+  stmt_over : (loose : Set) (a : ℕ) (t : Run) (first : Stmt) → Kept own before t.scalars → stmt_apart taken own loose here first ≡ true →
       loose_after loose first x ≡ true →
       run_stmt first view (loops ++ v ∷ []) (over x a t) ≡ option_map (over x a) (run_stmt first view (loops ++ v ∷ []) t)
-  stmt_over loose a t (Declare y (Value e)) ok m = assigned_over loose a t y e ok m
-  stmt_over loose a t (Declare y Read) ok m = absurd (false≢true (and_parts (own y.0) false ok).1)
-  stmt_over loose a t (Assign y (Value e)) ok m = assigned_over loose a t y e ok m
-  stmt_over loose a t (Assign y Read) ok m = absurd (false≢true (and_parts (own y.0) false ok).1)
-  stmt_over loose a t (Store r place e (Value g)) ok m =
-      let k = and_parts (taken r.0) (is_turn (length loops) e && is_apart taken loose (length loops) g) ok in
-      let l = and_parts (is_turn (length loops) e) (is_apart taken loose (length loops) g) k.1 in
+  stmt_over loose a t (Declare y (Value e)) kept ok m = assigned_over loose a t y e kept ok m
+  stmt_over loose a t (Declare y Read) kept ok m = absurd (false≢true (and_parts (own y.0) false ok).1)
+  stmt_over loose a t (Assign y (Value e)) kept ok m = assigned_over loose a t y e kept ok m
+  stmt_over loose a t (Assign y Read) kept ok m = absurd (false≢true (and_parts (own y.0) false ok).1)
+  stmt_over loose a t (Store r place e (Value g)) kept ok m =
+      let k = and_parts (taken r.0) (here e && is_apart taken loose here g) ok in
+      let l = and_parts (here e) (is_apart taken loose here g) k.1 in
       ap₂ (λ oi ov. option_and_then (λ i. stored view (record { array = r; index = i }) (option_map (λ n. (n, over x a t)) ov)) oi)
-      (turn_value loops v e (names_in view (loops ++ v ∷ []) (over x a t)) refl l.0
-      ∙ sym (turn_value loops v e (names_in view (loops ++ v ∷ []) t) refl l.0))
-      (value_over loose a t g m l.1)
+      (named v e (names_in view (loops ++ v ∷ []) (over x a t)) refl (set_kept own before t.scalars x a its kept) l.0
+      ∙ sym (named v e (names_in view (loops ++ v ∷ []) t) refl kept l.0))
+      (value_over loose a t g kept m l.1)
       ∙ store_over a t r (value e (names_in view (loops ++ v ∷ []) t)) (value g (names_in view (loops ++ v ∷ []) t))
-  stmt_over loose a t (Store r place e Read) ok m =
-      absurd (false≢true (and_parts (is_turn (length loops) e) false (and_parts (taken r.0) (is_turn (length loops) e && false) ok).1).1)
-  stmt_over loose a t (Print e) ok m = absurd (false≢true ok)
-  stmt_over loose a t (Block' shape all) ok m = absurd (false≢true ok)
-  stmt_over loose a t (Loop' b shape all) ok m = absurd (false≢true ok)
-  stmt_over loose a t (If' c shape all shape' all') ok m = absurd (false≢true ok)
+  stmt_over loose a t (Store r place e Read) kept ok m =
+      absurd (false≢true (and_parts (here e) false (and_parts (taken r.0) (here e && false) ok).1).1)
+  stmt_over loose a t (Print e) kept ok m = absurd (false≢true ok)
+  stmt_over loose a t (Block' shape all) kept ok m = absurd (false≢true ok)
+  stmt_over loose a t (Loop' b shape all) kept ok m = absurd (false≢true ok)
+  stmt_over loose a t (If' c shape all shape' all') kept ok m = absurd (false≢true ok)
 
-  front_over : (loose : Set) (a : ℕ) (t : Run) (front : List Stmt) → body_apart taken own loose (length loops) front ≡ true →
+  front_over : (loose : Set) (a : ℕ) (t : Run) (front : List Stmt) → Kept own before t.scalars → body_apart taken own loose here front ≡ true →
       loose_body loose front x ≡ true →
       run_list front view (loops ++ v ∷ []) (over x a t) ≡ option_map (over x a) (run_list front view (loops ++ v ∷ []) t)
-  front_over loose a t [] ok m = refl
-  front_over loose a t (first ∷ rest) ok m =
-      let k = and_parts (stmt_apart taken own loose (length loops) first)
-      (body_apart taken own (loose_after loose first) (length loops) rest) ok in
+  front_over loose a t [] kept ok m = refl
+  front_over loose a t (first ∷ rest) kept ok m =
+      let k = and_parts (stmt_apart taken own loose here first)
+      (body_apart taken own (loose_after loose first) here rest) ok in
       ap (option_and_then (run_list rest view (loops ++ v ∷ [])))
-      (stmt_over loose a t first k.0 (still_loose (loose_after loose first) rest x m))
-      ∙ go (λ u. front_over (loose_after loose first) a u rest k.1 m) (run_stmt first view (loops ++ v ∷ []) t)
+      (stmt_over loose a t first kept k.0 (still_loose (loose_after loose first) rest x m))
+      ∙ go (λ u is. front_over (loose_after loose first) a u rest
+      (stmt_kept taken own view here pl loops before named v loose t u first kept k.0 is) k.1 m)
+      (run_stmt first view (loops ++ v ∷ []) t) refl
     where
-      go : ((u : Run) → run_list rest view (loops ++ v ∷ []) (over x a u) ≡ option_map (over x a) (run_list rest view (loops ++ v ∷ []) u)) →
-          (o : Option Run) → option_and_then (run_list rest view (loops ++ v ∷ [])) (option_map (over x a) o)
+      go : ((u : Run) → run_stmt first view (loops ++ v ∷ []) t ≡ Some u → run_list rest view (loops ++ v ∷ []) (over x a u) ≡ option_map (over x a) (run_list rest view (loops ++ v ∷ []) u)) →
+          (o : Option Run) → run_stmt first view (loops ++ v ∷ []) t ≡ o →
+          option_and_then (run_list rest view (loops ++ v ∷ [])) (option_map (over x a) o)
           ≡ option_map (over x a) (option_and_then (run_list rest view (loops ++ v ∷ [])) o)
-      go next None = refl
-      go next (Some u) = next u
+      go next None is = refl
+      go next (Some u) is = next u is
 
 and_done : (o : Option Run) → option_and_then (λ s. Some s) o ≡ o
 and_done None = refl
@@ -172,31 +177,35 @@ run_ended (first ∷ rest) last view loops s =
     go next None = refl
     go next (Some t) = next t
 
-pub apart_ended : (taken own loose : Set) (level : ℕ) (front : List Stmt) (last : Stmt) →
-    body_apart taken own loose level (front ++ last ∷ []) ≡ true →
-    (body_apart taken own loose level front ≡ true) × (stmt_apart taken own (loose_body loose front) level last ≡ true)
-apart_ended taken own loose level [] last h = (refl, (and_parts (stmt_apart taken own loose level last) true h).0)
-apart_ended taken own loose level (first ∷ rest) last h =
-    let k = and_parts (stmt_apart taken own loose level first) (body_apart taken own (loose_after loose first) level (rest ++ last ∷ [])) h in
-    let r = apart_ended taken own (loose_after loose first) level rest last k.1 in
+pub apart_ended : (taken own loose : Set) (here : Expr → Bool) (front : List Stmt) (last : Stmt) →
+    body_apart taken own loose here (front ++ last ∷ []) ≡ true →
+    (body_apart taken own loose here front ≡ true) × (stmt_apart taken own (loose_body loose front) here last ≡ true)
+apart_ended taken own loose here [] last h = (refl, (and_parts (stmt_apart taken own loose here last) true h).0)
+apart_ended taken own loose here (first ∷ rest) last h =
+    let k = and_parts (stmt_apart taken own loose here first) (body_apart taken own (loose_after loose first) here (rest ++ last ∷ [])) h in
+    let r = apart_ended taken own (loose_after loose first) here rest last k.1 in
     (ap₂ (λ p q. p && q) k.0 r.0, r.1)
 
 -- a turn that carries the scalar on
-pub turn_over : (taken own : Set) (view : View) (loops : List ℕ) (v : ℕ) (f : ℕ → ℕ → ℕ) (front : List Stmt) (x : ScalarId) (e c : Expr) →
-    CarriesOn f x e c → body_apart taken own own (length loops) (ended front x e) ≡ true → loose_body own front x.0 ≡ true →
-    (a : ℕ) (t : Run) →
+pub turn_over : (taken own : Set) (view : View) (here : Expr → Bool) (pl : Places) (loops : List ℕ) (before : Scalars)
+    (named : NamesPlaces here pl own before loops) (v : ℕ) (f : ℕ → ℕ → ℕ) (front : List Stmt) (x : ScalarId) (e c : Expr) →
+    CarriesOn f x e c → body_apart taken own own here (ended front x e) ≡ true → loose_body own front x.0 ≡ true →
+    (a : ℕ) (t : Run) → Kept own before t.scalars →
     run_list (ended front x c) view (loops ++ v ∷ []) (over x.0 a t)
     ≡ option_map (λ u. over x.0 (f a (u.scalars x.0)) u) (run_list (ended front x e) view (loops ++ v ∷ []) t)
-turn_over taken own view loops v f front x e c carries ok loose a t =
+turn_over taken own view here pl loops before named v f front x e c carries ok loose a t kept =
     run_ended front (Assign x (Value c)) view (loops ++ v ∷ []) (over x.0 a t)
     ∙ ap (option_and_then (run_stmt (Assign x (Value c)) view (loops ++ v ∷ [])))
-    (front_over taken own view loops v x.0 own a t front parts.0 loose)
-    ∙ go (run_list front view (loops ++ v ∷ []) t)
+    (front_over taken own view here pl loops before named v x.0 its own a t front kept parts.0 loose)
+    ∙ go (run_list front view (loops ++ v ∷ []) t) refl
     ∙ sym (ap (option_map (λ u. over x.0 (f a (u.scalars x.0)) u)) (run_ended front (Assign x (Value e)) view (loops ++ v ∷ []) t))
   where
-    parts : (body_apart taken own own (length loops) front ≡ true)
-        × (stmt_apart taken own (loose_body own front) (length loops) (Assign x (Value e)) ≡ true)
-    parts = apart_ended taken own own (length loops) front (Assign x (Value e)) ok
+    parts : (body_apart taken own own here front ≡ true)
+        × (stmt_apart taken own (loose_body own front) here (Assign x (Value e)) ≡ true)
+    parts = apart_ended taken own own here front (Assign x (Value e)) ok
+
+    its : own x.0 ≡ true
+    its = (and_parts (own x.0) (is_apart taken (loose_body own front) here e) parts.1).0
 
     carried : (u : Run) (o : Option ℕ) →
         assigned x.0 (option_map (λ n. (n, over x.0 a u)) (on_both f (Some a) o))
@@ -208,18 +217,19 @@ turn_over taken own view loops v f front x e c carries ok loose a t =
         ∙ sym (set_twice x.0 n (f a n) u.scalars)
         ∙ ap (λ m. set_scalar x.0 (f a m) (set_scalar x.0 n u.scalars)) (sym (set_own x.0 n u.scalars)))
 
-    here : (u : Run) → value c (names_in view (loops ++ v ∷ []) (over x.0 a u))
+    now : (u : Run) → Kept own before u.scalars → value c (names_in view (loops ++ v ∷ []) (over x.0 a u))
         ≡ on_both f (Some a) (value e (names_in view (loops ++ v ∷ []) u))
-    here u =
+    now u ku =
         carries (names_in view (loops ++ v ∷ []) (over x.0 a u))
         ∙ ap₂ (λ m o. on_both f (Some m) o) (set_own x.0 a u.scalars)
-        (value_over taken own view loops v x.0 (loose_body own front) a u e loose
-        (and_parts (own x.0) (is_apart taken (loose_body own front) (length loops) e) parts.1).1)
+        (value_over taken own view here pl loops before named v x.0 its (loose_body own front) a u e ku loose
+        (and_parts (own x.0) (is_apart taken (loose_body own front) here e) parts.1).1)
 
-    go : (o : Option Run) →
+    go : (o : Option Run) → run_list front view (loops ++ v ∷ []) t ≡ o →
         option_and_then (run_stmt (Assign x (Value c)) view (loops ++ v ∷ [])) (option_map (over x.0 a) o)
         ≡ option_map (λ (w : Run). over x.0 (f a (w.scalars x.0)) w) (option_and_then (run_stmt (Assign x (Value e)) view (loops ++ v ∷ [])) o)
-    go None = refl
-    go (Some u) =
-        ap (λ o. assigned x.0 (option_map (λ n. (n, over x.0 a u)) o)) (here u)
+    go None is = refl
+    go (Some u) is =
+        ap (λ o. assigned x.0 (option_map (λ n. (n, over x.0 a u)) o)) (now u
+        (body_kept taken own view here pl loops before named v own t u front kept parts.0 is))
         ∙ carried u (value e (names_in view (loops ++ v ∷ []) u))

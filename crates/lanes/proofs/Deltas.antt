@@ -3,6 +3,7 @@ use Rattle.std.proofs.Common.{◌≡◌, ℕ, ◌==◌, Bool, true, false, List,
 use Rattle.std.specs.Prelude.{◌&&◌, option_and_then, option_map, slice_index}
 use Rattle.std.proofs.lemmas.Bool.{and_parts, false≢true}
 use Rattle.std.proofs.lemmas.Bool.Decides.{nat_tests}
+use Rattle.std.proofs.lemmas.Option.{same_Some}
 use Rattle.base.specs.declared.item.Cell.{Cell}
 use Rattle.base.specs.declared.tree.Expr.{Expr}
 use Rattle.base.specs.declared.tree.Expr.TheVariants.{Number, Scalar, LoopName, Cell', Unary', Binary', And', Or', Shift', Divide'}
@@ -13,7 +14,7 @@ use Rattle.base.specs.declared.tree.Stmt.TheVariants.{Declare, Assign, Store, Pr
 use Rattle.base.specs.Memory.{View, Scalars, Stores, same_cell, last_stored}
 use Rattle.base.specs.Value.{Names, value}
 use Rattle.base.specs.Meaning.{Run, names_in, set_scalar, assigned, stored, run_stmt, run_list}
-use Rattle.lanes.specs.Apart.{Set, is_turn, source_apart, stmt_apart, loose_after, body_apart, Delta, apply, idle, join, own_value, setting, storing, store_delta, stmt_delta, join_all, body_delta}
+use Rattle.lanes.specs.Apart.{Set, Kept, Places, NamesPlaces, HavePlaces, own_value_places, is_turn, source_apart, stmt_apart, loose_after, body_apart, Delta, apply, idle, join, own_value, setting, storing, store_delta, stmt_delta, join_all, body_delta}
 
 pub apply_idle : (s : Run) → apply s idle ≡ s
 apply_idle s = ap (λ (xs : Stores). record s { stores = xs }) (append-nil s.stores)
@@ -46,21 +47,21 @@ store_is view s a (Some i) None = refl
 store_is view s a (Some i) (Some n) = store_there s (record { array = a; index = i }) n (view (record { array = a; index = i }))
 
 module _ (taken own : Set) (view : View) where
-  stmt_is : (loose : Set) (level : ℕ) (loops : List ℕ) (s : Run) (first : Stmt) →
-      stmt_apart taken own loose level first ≡ true →
+  stmt_is : (loose : Set) (here : Expr → Bool) (loops : List ℕ) (s : Run) (first : Stmt) →
+      stmt_apart taken own loose here first ≡ true →
       run_stmt first view loops s ≡ option_map (apply s) (stmt_delta first view loops s)
-  stmt_is loose level loops s (Declare x (Value e)) h = set_is s x.0 (value e (names_in view loops s))
-  stmt_is loose level loops s (Declare x Read) h = absurd (false≢true (and_parts (own x.0) false h).1)
-  stmt_is loose level loops s (Assign x (Value e)) h = set_is s x.0 (value e (names_in view loops s))
-  stmt_is loose level loops s (Assign x Read) h = absurd (false≢true (and_parts (own x.0) false h).1)
-  stmt_is loose level loops s (Store a place e (Value f)) h =
+  stmt_is loose here loops s (Declare x (Value e)) h = set_is s x.0 (value e (names_in view loops s))
+  stmt_is loose here loops s (Declare x Read) h = absurd (false≢true (and_parts (own x.0) false h).1)
+  stmt_is loose here loops s (Assign x (Value e)) h = set_is s x.0 (value e (names_in view loops s))
+  stmt_is loose here loops s (Assign x Read) h = absurd (false≢true (and_parts (own x.0) false h).1)
+  stmt_is loose here loops s (Store a place e (Value f)) h =
       store_is view s a (value e (names_in view loops s)) (value f (names_in view loops s))
-  stmt_is loose level loops s (Store a place e Read) h =
-      absurd (false≢true (and_parts (is_turn level e) false (and_parts (taken a.0) (is_turn level e && false) h).1).1)
-  stmt_is loose level loops s (Print e) h = absurd (false≢true h)
-  stmt_is loose level loops s (Block' shape all) h = absurd (false≢true h)
-  stmt_is loose level loops s (Loop' b shape all) h = absurd (false≢true h)
-  stmt_is loose level loops s (If' c shape all shape' all') h = absurd (false≢true h)
+  stmt_is loose here loops s (Store a place e Read) h =
+      absurd (false≢true (and_parts (here e) false (and_parts (taken a.0) (here e && false) h).1).1)
+  stmt_is loose here loops s (Print e) h = absurd (false≢true h)
+  stmt_is loose here loops s (Block' shape all) h = absurd (false≢true h)
+  stmt_is loose here loops s (Loop' b shape all) h = absurd (false≢true h)
+  stmt_is loose here loops s (If' c shape all shape' all') h = absurd (false≢true h)
 
   rest_is : (s : Run) (f : Run → Option Run) (g : Delta → Option Delta) (o : Option Delta) →
       ((d : Delta) → f (apply s d) ≡ option_map (apply (apply s d)) (g d)) →
@@ -68,15 +69,15 @@ module _ (taken own : Set) (view : View) where
   rest_is s f g None h = refl
   rest_is s f g (Some d) h = h d ∙ apply_all s d (g d)
 
-  pub body_is : (loose : Set) (level : ℕ) (loops : List ℕ) (s : Run) (body : List Stmt) →
-      body_apart taken own loose level body ≡ true →
+  pub body_is : (loose : Set) (here : Expr → Bool) (loops : List ℕ) (s : Run) (body : List Stmt) →
+      body_apart taken own loose here body ≡ true →
       run_list body view loops s ≡ option_map (apply s) (body_delta body view loops s)
-  body_is loose level loops s [] h = ap Some (sym (apply_idle s))
-  body_is loose level loops s (first ∷ rest) h =
-      let k = and_parts (stmt_apart taken own loose level first) (body_apart taken own (loose_after loose first) level rest) h in
-      ap (option_and_then (run_list rest view loops)) (stmt_is loose level loops s first k.0)
+  body_is loose here loops s [] h = ap Some (sym (apply_idle s))
+  body_is loose here loops s (first ∷ rest) h =
+      let k = and_parts (stmt_apart taken own loose here first) (body_apart taken own (loose_after loose first) here rest) h in
+      ap (option_and_then (run_list rest view loops)) (stmt_is loose here loops s first k.0)
       ∙ rest_is s (run_list rest view loops) (λ d. body_delta rest view loops (apply s d)) (stmt_delta first view loops s)
-      (λ d. body_is (loose_after loose first) level loops (apply s d) rest k.1)
+      (λ d. body_is (loose_after loose first) here loops (apply s d) rest k.1)
 
 -- later stores that leave a cell alone
 pub last_over : (xs ys : Stores) (c : Cell) → last_stored ys c ≡ None → last_stored (xs ++ ys) c ≡ last_stored xs c
@@ -104,8 +105,25 @@ turn_value loops v (Or' p e q f) names is h = absurd (false≢true h)
 turn_value loops v (Shift' op p e n) names is h = absurd (false≢true h)
 turn_value loops v (Divide' op p e n) names is h = absurd (false≢true h)
 
+-- a scalar of the turn takes a number
+pub set_kept : (own : Set) (before f : Scalars) (x n : ℕ) → own x ≡ true → Kept own before f →
+    Kept own before (set_scalar x n f)
+set_kept own before f x n its kept y o = go (x == y) refl
+  where
+    go : (q : Bool) → (x == y) ≡ q → (if q then n else f y) ≡ before y
+    go true e = absurd (false≢true (sym o ∙ ap own (sym (eqb-true x y e)) ∙ its))
+    go false e = kept y o
+
+-- so the loop's own value names the place of each turn
+pub turn_names : (own : Set) (before : Scalars) (loops : List ℕ) →
+    NamesPlaces (is_turn (length loops)) own_value_places own before loops
+turn_names own before loops v e names is kept h = turn_value loops v e names is h
+
+pub turn_places : (inside : ℕ → Bool) → HavePlaces inside own_value_places
+turn_places inside = record { back = λ v h. refl; forth = λ i h. refl }
+
 module _ (taken own : Set) (view : View) where
-  -- the cells of a turn
+  -- the cells of a turn, by its place
   abbrev pub is_mine : ℕ → Cell → Bool
   is_mine v c = taken c.array.0 && (c.index == v)
 
@@ -132,10 +150,10 @@ module _ (taken own : Set) (view : View) where
   all_join v d None h k = tt
   all_join v d (Some e) h k = join_within v d e h k
 
-  all_then : (v : ℕ) (o : Option Delta) (f : Delta → Option Delta) → AllWithin v o → ((d : Delta) → AllWithin v (f d)) →
+  all_then : (v : ℕ) (o : Option Delta) (f : Delta → Option Delta) → AllWithin v o → ((d : Delta) → Within v d → AllWithin v (f d)) →
       AllWithin v (join_all o f)
   all_then v None f h k = tt
-  all_then v (Some d) f h k = all_join v d (f d) h (k d)
+  all_then v (Some d) f h k = all_join v d (f d) h (k d h)
 
   set_within : (v x : ℕ) (o : Option ℕ) → own x ≡ true → AllWithin v (option_map (setting x) o)
   set_within v x None h = tt
@@ -169,31 +187,54 @@ module _ (taken own : Set) (view : View) where
       go None = tt
       go (Some n) = one_within v (record { array = a; index = v }) n (view (record { array = a; index = v })) h refl
 
-  module _ (loops : List ℕ) (v : ℕ) where
-    stmt_within : (loose : Set) (s : Run) (first : Stmt) → stmt_apart taken own loose (length loops) first ≡ true →
-        AllWithin v (stmt_delta first view (loops ++ v ∷ []) s)
-    stmt_within loose s (Declare x w) h =
-        set_within v x.0 (own_value w view (loops ++ v ∷ []) s)
-        (and_parts (own x.0) (source_apart taken loose (length loops) w) h).0
-    stmt_within loose s (Assign x w) h =
-        set_within v x.0 (own_value w view (loops ++ v ∷ []) s)
-        (and_parts (own x.0) (source_apart taken loose (length loops) w) h).0
-    stmt_within loose s (Store a place e w) h =
-        let k = and_parts (taken a.0) (is_turn (length loops) e && source_apart taken loose (length loops) w) h in
-        let l = and_parts (is_turn (length loops) e) (source_apart taken loose (length loops) w) k.1 in
-        store_within v a (value e (names_in view (loops ++ v ∷ []) s)) (own_value w view (loops ++ v ∷ []) s) k.0
-        (turn_value loops v e (names_in view (loops ++ v ∷ []) s) refl l.0)
-    stmt_within loose s (Print e) h = tt
-    stmt_within loose s (Block' shape all) h = tt
-    stmt_within loose s (Loop' b shape all) h = tt
-    stmt_within loose s (If' c shape all shape' all') h = tt
+  module _ (here : Expr → Bool) (pl : Places) (loops : List ℕ) (before : Scalars)
+      (named : NamesPlaces here pl own before loops) (v : ℕ) where
+    stmt_within : (loose : Set) (s : Run) (first : Stmt) → Kept own before s.scalars → stmt_apart taken own loose here first ≡ true →
+        AllWithin (pl.place v) (stmt_delta first view (loops ++ v ∷ []) s)
+    stmt_within loose s (Declare x w) kept h =
+        set_within (pl.place v) x.0 (own_value w view (loops ++ v ∷ []) s)
+        (and_parts (own x.0) (source_apart taken loose here w) h).0
+    stmt_within loose s (Assign x w) kept h =
+        set_within (pl.place v) x.0 (own_value w view (loops ++ v ∷ []) s)
+        (and_parts (own x.0) (source_apart taken loose here w) h).0
+    stmt_within loose s (Store a place e w) kept h =
+        let k = and_parts (taken a.0) (here e && source_apart taken loose here w) h in
+        let l = and_parts (here e) (source_apart taken loose here w) k.1 in
+        store_within (pl.place v) a (value e (names_in view (loops ++ v ∷ []) s)) (own_value w view (loops ++ v ∷ []) s) k.0
+        (named v e (names_in view (loops ++ v ∷ []) s) refl kept l.0)
+    stmt_within loose s (Print e) kept h = tt
+    stmt_within loose s (Block' shape all) kept h = tt
+    stmt_within loose s (Loop' b shape all) kept h = tt
+    stmt_within loose s (If' c shape all shape' all') kept h = tt
 
-    pub body_within : (loose : Set) (s : Run) (body : List Stmt) →
-        body_apart taken own loose (length loops) body ≡ true →
-        AllWithin v (body_delta body view (loops ++ v ∷ []) s)
-    body_within loose s [] h = idle_within v
-    body_within loose s (first ∷ rest) h =
-        let k = and_parts (stmt_apart taken own loose (length loops) first)
-        (body_apart taken own (loose_after loose first) (length loops) rest) h in
-        all_then v (stmt_delta first view (loops ++ v ∷ []) s) (λ d. body_delta rest view (loops ++ v ∷ []) (apply s d))
-        (stmt_within loose s first k.0) (λ d. body_within (loose_after loose first) (apply s d) rest k.1)
+    pub body_within : (loose : Set) (s : Run) (body : List Stmt) → Kept own before s.scalars →
+        body_apart taken own loose here body ≡ true →
+        AllWithin (pl.place v) (body_delta body view (loops ++ v ∷ []) s)
+    body_within loose s [] kept h = idle_within (pl.place v)
+    body_within loose s (first ∷ rest) kept h =
+        let k = and_parts (stmt_apart taken own loose here first)
+        (body_apart taken own (loose_after loose first) here rest) h in
+        all_then (pl.place v) (stmt_delta first view (loops ++ v ∷ []) s) (λ d. body_delta rest view (loops ++ v ∷ []) (apply s d))
+        (stmt_within loose s first kept k.0)
+        (λ d w. body_within (loose_after loose first) (apply s d) rest (λ x o. w.sets s.scalars x o ∙ kept x o) k.1)
+
+    -- a turn leaves the scalars that it does not assign
+    run_kept : (s u : Run) (o : Option Delta) → AllWithin (pl.place v) o → Kept own before s.scalars →
+        option_map (apply s) o ≡ Some u → Kept own before u.scalars
+    run_kept s u None w kept is = absurd cc
+    run_kept s u (Some d) w kept is =
+        λ x o. ap (λ (r : Run). r.scalars x) (sym (same_Some (apply s d) u is)) ∙ w.sets s.scalars x o ∙ kept x o
+
+    pub stmt_kept : (loose : Set) (s u : Run) (first : Stmt) → Kept own before s.scalars →
+        stmt_apart taken own loose here first ≡ true →
+        run_stmt first view (loops ++ v ∷ []) s ≡ Some u → Kept own before u.scalars
+    stmt_kept loose s u first kept h is =
+        run_kept s u (stmt_delta first view (loops ++ v ∷ []) s) (stmt_within loose s first kept h) kept
+        (sym (stmt_is taken own view loose here (loops ++ v ∷ []) s first h) ∙ is)
+
+    pub body_kept : (loose : Set) (s u : Run) (body : List Stmt) → Kept own before s.scalars →
+        body_apart taken own loose here body ≡ true →
+        run_list body view (loops ++ v ∷ []) s ≡ Some u → Kept own before u.scalars
+    body_kept loose s u body kept h is =
+        run_kept s u (body_delta body view (loops ++ v ∷ []) s) (body_within loose s body kept h) kept
+        (sym (body_is taken own view loose here (loops ++ v ∷ []) s body h) ∙ is)

@@ -9,3 +9,8 @@ pub mod Blocks
 pub mod Carried
 pub mod Sums
 pub mod Folds
+pub mod Fixed
+pub mod Moved
+pub mod Along
+pub mod Keeping
+pub mod MovedShown

@@ -1,5 +1,5 @@
 -- Loops whose turns are apart, and what a turn does.
-use Rattle.std.specs.Prelude.{ℕ, ◌≡◌, zero, suc, ◌+◌, ◌≤◌, nat_lt, nat_le, if◌then◌else◌, unwrap_or, Bool, true, false, not, ◌&&◌, ◌||◌, ◌==◌, List, [], ◌∷◌, ◌++◌, length, Option, Some, None, option_and_then, option_map}
+use Rattle.std.specs.Prelude.{ℕ, ◌≡◌, zero, suc, ◌+◌, ◌≤◌, nat_lt, nat_le, if◌then◌else◌, unwrap_or, Bool, true, false, not, ◌&&◌, ◌||◌, ◌==◌, List, [], ◌∷◌, ◌++◌, Option, Some, None, option_and_then, option_map}
 use Rattle.base.specs.declared.item.Cell.{Cell}
 use Rattle.base.specs.declared.tree.Expr.{Expr}
 use Rattle.base.specs.declared.tree.Expr.TheVariants.{Number, Scalar, LoopName, Cell', Unary', Binary', And', Or', Shift', Divide'}
@@ -28,34 +28,63 @@ is_turn level (Or' p e q f) = false
 is_turn level (Shift' op p e n) = false
 is_turn level (Divide' op p e n) = false
 
--- whether an expression names the stored arrays at the loop's value alone, and no loose scalar
-abbrev pub is_apart : Set → Set → ℕ → Expr → Bool
-is_apart stored loose level (Number n) = true
-is_apart stored loose level (Scalar x) = not (loose x.0)
-is_apart stored loose level (LoopName l) = true
-is_apart stored loose level (Cell' a place p e) =
-    (is_turn level e || not (stored a.0)) && is_apart stored loose level e
-is_apart stored loose level (Unary' op p e) = is_apart stored loose level e
-is_apart stored loose level (Binary' op p e q f) = is_apart stored loose level e && is_apart stored loose level f
-is_apart stored loose level (And' p e q f) = is_apart stored loose level e && is_apart stored loose level f
-is_apart stored loose level (Or' p e q f) = is_apart stored loose level e && is_apart stored loose level f
-is_apart stored loose level (Shift' op p e n) = is_apart stored loose level e
-is_apart stored loose level (Divide' op p e n) = is_apart stored loose level e
+-- where each turn has its cells: the index, and the turn of an index
+pub record Places : Type 0 where
+  pub place : ℕ → ℕ
+  pub turn_of : ℕ → ℕ
 
-abbrev pub source_apart : Set → Set → ℕ → Source → Bool
-source_apart stored loose level (Value e) = is_apart stored loose level e
-source_apart stored loose level Read = false
+-- each turn at the loop's own value
+abbrev pub own_value_places : Places
+own_value_places = record { place = λ v. v; turn_of = λ i. i }
 
--- whether a statement is such, stores in the stored arrays at the loop's value alone, and assigns scalars of the turn
-abbrev pub stmt_apart : Set → Set → Set → ℕ → Stmt → Bool
-stmt_apart stored own loose level (Declare x v) = own x.0 && source_apart stored loose level v
-stmt_apart stored own loose level (Assign x v) = own x.0 && source_apart stored loose level v
-stmt_apart stored own loose level (Store a place e v) =
-    stored a.0 && (is_turn level e && source_apart stored loose level v)
-stmt_apart stored own loose level (Print e) = false
-stmt_apart stored own loose level (Block' shape all) = false
-stmt_apart stored own loose level (Loop' b shape all) = false
-stmt_apart stored own loose level (If' c shape all shape' all') = false
+-- scalars that are as before the turns, but for those that a turn assigns
+abbrev pub Kept : Set → Scalars → Scalars → Type 0
+Kept own before f = (x : ℕ) → own x ≡ false → f x ≡ before x
+
+-- the index expressions of a set name, in each turn, its place, whatever the cells and the scalars of the turn are
+abbrev pub NamesPlaces : (Expr → Bool) → Places → Set → Scalars → List ℕ → Type 0
+NamesPlaces here at own before loops =
+    (v : ℕ) (e : Expr) (names : Names) → names.loops ≡ loops ++ v ∷ [] → Kept own before names.scalars → here e ≡ true →
+    value e names ≡ Some (at.place v)
+
+-- as many turns, from this one on, have places of their own
+abbrev pub OwnPlaces : Places → ℕ → ℕ → ℕ → Type 0
+OwnPlaces at zero v step = Unit {0}
+OwnPlaces at (suc n) v step = (at.turn_of (at.place v) ≡ v) × OwnPlaces at n (v + step) step
+
+-- the turns of a set have places of their own, and no others have these places
+pub record HavePlaces (inside : ℕ → Bool) (at : Places) : Type 0 where
+  pub back : (v : ℕ) → inside v ≡ true → at.turn_of (at.place v) ≡ v
+  pub forth : (i : ℕ) → inside (at.turn_of i) ≡ true → at.place (at.turn_of i) ≡ i
+
+-- whether an expression names the stored arrays only by index expressions of a set, and no loose scalar
+abbrev pub is_apart : Set → Set → (Expr → Bool) → Expr → Bool
+is_apart stored loose here (Number n) = true
+is_apart stored loose here (Scalar x) = not (loose x.0)
+is_apart stored loose here (LoopName l) = true
+is_apart stored loose here (Cell' a place p e) =
+    (here e || not (stored a.0)) && is_apart stored loose here e
+is_apart stored loose here (Unary' op p e) = is_apart stored loose here e
+is_apart stored loose here (Binary' op p e q f) = is_apart stored loose here e && is_apart stored loose here f
+is_apart stored loose here (And' p e q f) = is_apart stored loose here e && is_apart stored loose here f
+is_apart stored loose here (Or' p e q f) = is_apart stored loose here e && is_apart stored loose here f
+is_apart stored loose here (Shift' op p e n) = is_apart stored loose here e
+is_apart stored loose here (Divide' op p e n) = is_apart stored loose here e
+
+abbrev pub source_apart : Set → Set → (Expr → Bool) → Source → Bool
+source_apart stored loose here (Value e) = is_apart stored loose here e
+source_apart stored loose here Read = false
+
+-- whether a statement is such, stores in the stored arrays only by such index expressions, and assigns scalars of the turn
+abbrev pub stmt_apart : Set → Set → Set → (Expr → Bool) → Stmt → Bool
+stmt_apart stored own loose here (Declare x v) = own x.0 && source_apart stored loose here v
+stmt_apart stored own loose here (Assign x v) = own x.0 && source_apart stored loose here v
+stmt_apart stored own loose here (Store a place e v) =
+    stored a.0 && (here e && source_apart stored loose here v)
+stmt_apart stored own loose here (Print e) = false
+stmt_apart stored own loose here (Block' shape all) = false
+stmt_apart stored own loose here (Loop' b shape all) = false
+stmt_apart stored own loose here (If' c shape all shape' all') = false
 
 -- the scalars of the turn that are not yet assigned after a statement
 abbrev pub loose_after : Set → Stmt → Set
@@ -67,10 +96,10 @@ loose_after loose (Block' shape all) y = loose y
 loose_after loose (Loop' b shape all) y = loose y
 loose_after loose (If' c shape all shape' all') y = loose y
 
-abbrev pub body_apart : Set → Set → Set → ℕ → List Stmt → Bool
-body_apart stored own loose level [] = true
-body_apart stored own loose level (first ∷ rest) =
-    stmt_apart stored own loose level first && body_apart stored own (loose_after loose first) level rest
+abbrev pub body_apart : Set → Set → Set → (Expr → Bool) → List Stmt → Bool
+body_apart stored own loose here [] = true
+body_apart stored own loose here (first ∷ rest) =
+    stmt_apart stored own loose here first && body_apart stored own (loose_after loose first) here rest
 
 -- what a run adds: its stores in order, and what becomes of the scalars
 pub record Delta : Type 0 where
@@ -130,8 +159,9 @@ all_deltas (suc n) v step f = join_all (f v) (λ d. all_deltas n (v + step) step
 -- each turn does what it does from where the first one begins
 abbrev pub TurnsApart : Type 0
 TurnsApart =
-    (body : List Stmt) (view : View) (loops : List ℕ) (stored own : Set) (n first step : ℕ) (s : Run) →
-    1 ≤ step → body_apart stored own own (length loops) body ≡ true →
+    (body : List Stmt) (view : View) (here : Expr → Bool) (at : Places) (loops : List ℕ) (stored own : Set)
+    (n first step : ℕ) (s : Run) →
+    1 ≤ step → NamesPlaces here at own s.scalars loops → OwnPlaces at n first step → body_apart stored own own here body ≡ true →
     turn n first step (λ v. run_list body view (loops ++ v ∷ [])) s
     ≡ option_map (apply s) (all_deltas n first step (λ v. body_delta body view (loops ++ v ∷ []) s))
 
@@ -158,31 +188,32 @@ abbrev pub set_lanes : (ℕ → Bool) → ℕ → (ℕ → ℕ) → Block → Bl
 set_lanes inside x n b =
     record b { scalars = λ v. if inside v then set_scalar x (n v) (b.scalars v) else b.scalars v }
 
--- so do the cells of an array whose indices are the turns of the block
-abbrev pub with_lanes : (ℕ → Bool) → ℕ → (ℕ → ℕ) → View → View
-with_lanes inside a n view c = if (a == c.array.0) && inside c.index then Some (n c.index) else view c
+-- so do the cells of an array at the places of the turns of the block
+abbrev pub with_lanes : Places → (ℕ → Bool) → ℕ → (ℕ → ℕ) → View → View
+with_lanes at inside a n view c =
+    if (a == c.array.0) && inside (at.turn_of c.index) then Some (n (at.turn_of c.index)) else view c
 
-abbrev pub store_lanes : (ℕ → Bool) → ℕ → (ℕ → ℕ) → Block → Block
-store_lanes inside a n b =
-    record b { cells = with_lanes inside a n b.cells; stored = with_lanes inside a n b.stored }
+abbrev pub store_lanes : Places → (ℕ → Bool) → ℕ → (ℕ → ℕ) → Block → Block
+store_lanes at inside a n b =
+    record b { cells = with_lanes at inside a n b.cells; stored = with_lanes at inside a n b.stored }
 
 -- an assignment, for all turns of a block
-abbrev pub block_stmt : (ℕ → Bool) → List ℕ → Stmt → Block → Block
-block_stmt inside loops (Declare x (Value e)) b = set_lanes inside x.0 (numbers e b loops) b
-block_stmt inside loops (Declare x Read) b = b
-block_stmt inside loops (Assign x (Value e)) b = set_lanes inside x.0 (numbers e b loops) b
-block_stmt inside loops (Assign x Read) b = b
-block_stmt inside loops (Store a place e (Value f)) b = store_lanes inside a.0 (numbers f b loops) b
-block_stmt inside loops (Store a place e Read) b = b
-block_stmt inside loops (Print e) b = b
-block_stmt inside loops (Block' shape all) b = b
-block_stmt inside loops (Loop' c shape all) b = b
-block_stmt inside loops (If' c shape all shape' all') b = b
+abbrev pub block_stmt : Places → (ℕ → Bool) → List ℕ → Stmt → Block → Block
+block_stmt at inside loops (Declare x (Value e)) b = set_lanes inside x.0 (numbers e b loops) b
+block_stmt at inside loops (Declare x Read) b = b
+block_stmt at inside loops (Assign x (Value e)) b = set_lanes inside x.0 (numbers e b loops) b
+block_stmt at inside loops (Assign x Read) b = b
+block_stmt at inside loops (Store a place e (Value f)) b = store_lanes at inside a.0 (numbers f b loops) b
+block_stmt at inside loops (Store a place e Read) b = b
+block_stmt at inside loops (Print e) b = b
+block_stmt at inside loops (Block' shape all) b = b
+block_stmt at inside loops (Loop' c shape all) b = b
+block_stmt at inside loops (If' c shape all shape' all') b = b
 
 -- each assignment in turn, for all turns of a block
-abbrev pub block_body : (ℕ → Bool) → List ℕ → List Stmt → Block → Block
-block_body inside loops [] b = b
-block_body inside loops (first ∷ rest) b = block_body inside loops rest (block_stmt inside loops first b)
+abbrev pub block_body : Places → (ℕ → Bool) → List ℕ → List Stmt → Block → Block
+block_body at inside loops [] b = b
+block_body at inside loops (first ∷ rest) b = block_body at inside loops rest (block_stmt at inside loops first b)
 
 -- a block before its first assignment
 abbrev pub block_start : View → Run → Block
@@ -191,10 +222,10 @@ block_start view s =
 
 -- a block beside the runs of its turns, each from the same state: each turn has its scalars, and each cell is as the turn
 -- of its index left it
-pub record StandsFor (view : View) (b : Block) (lane : ℕ → Run) : Type 0 where
+pub record StandsFor (at : Places) (view : View) (b : Block) (lane : ℕ → Run) : Type 0 where
   pub scalars : (v x : ℕ) → b.scalars v x ≡ (lane v).scalars x
-  pub cells : (c : Cell) → b.cells c ≡ seen view (lane c.index).stores c
-  pub stored : (c : Cell) → b.stored c ≡ last_stored (lane c.index).stores c
+  pub cells : (c : Cell) → b.cells c ≡ seen view (lane (at.turn_of c.index)).stores c
+  pub stored : (c : Cell) → b.stored c ≡ last_stored (lane (at.turn_of c.index)).stores c
 
 -- the turns of a block run alone, the others do nothing
 pub record RunAlone (inside : ℕ → Bool) (run : ℕ → Run → Option Run) (lane end : ℕ → Run) : Type 0 where
@@ -204,11 +235,11 @@ pub record RunAlone (inside : ℕ → Bool) (run : ℕ → Run → Option Run) (
 -- what is done assignment by assignment is what each turn does alone
 abbrev pub ByAssignments : Type 0
 ByAssignments =
-    (body : List Stmt) (view : View) (loops : List ℕ) (stored own : Set) (inside : ℕ → Bool)
-    (s : Run) (end : ℕ → Run) →
-    body_apart stored own own (length loops) body ≡ true →
+    (body : List Stmt) (view : View) (here : Expr → Bool) (at : Places) (loops : List ℕ) (stored own : Set)
+    (inside : ℕ → Bool) (s : Run) (end : ℕ → Run) →
+    NamesPlaces here at own s.scalars loops → HavePlaces inside at → body_apart stored own own here body ≡ true →
     RunAlone inside (λ v. run_list body view (loops ++ v ∷ [])) (λ v. s) end →
-    StandsFor view (block_body inside loops body (block_start view s)) end
+    StandsFor at view (block_body at inside loops body (block_start view s)) end
 
 -- the scalars of the turn that are not yet assigned at the end of a body
 abbrev pub loose_body : Set → List Stmt → Set

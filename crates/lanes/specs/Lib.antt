@@ -3,3 +3,4 @@ pub mod Numbers
 pub mod There
 pub mod Turned
 pub mod Sums
+pub mod Moved

@@ -1,6 +1,6 @@
 -- Loops that carry a number on: the last statement of a turn makes a scalar, which no other statement names, of itself and
 -- of the value of an expression, as a sum does.
-use Rattle.std.specs.Prelude.{ℕ, ◌≡◌, zero, suc, ◌+◌, true, false, List, [], ◌∷◌, ◌++◌, length, Some}
+use Rattle.std.specs.Prelude.{ℕ, Bool, ◌≡◌, zero, suc, ◌+◌, true, false, List, [], ◌∷◌, ◌++◌, Some}
 use Rattle.base.specs.declared.tree.Expr.{Expr}
 use Rattle.base.specs.declared.tree.ScalarId.{ScalarId}
 use Rattle.base.specs.declared.tree.Source.TheVariants.{Value}
@@ -9,7 +9,7 @@ use Rattle.base.specs.declared.tree.Stmt.TheVariants.{Assign}
 use Rattle.base.specs.Memory.{View}
 use Rattle.base.specs.Value.{Names, on_both, value}
 use Rattle.base.specs.Meaning.{Run, turn, run_list, set_scalar}
-use Rattle.lanes.specs.Apart.{Set, body_apart, loose_body, in_block, Block, block_body, block_start}
+use Rattle.lanes.specs.Apart.{Set, Places, NamesPlaces, HavePlaces, body_apart, loose_body, in_block, Block, block_body, block_start}
 use Rattle.lanes.specs.There.{BodyThere}
 use Rattle.lanes.specs.Turned.{IsRun}
 
@@ -35,12 +35,13 @@ summed f x a n first b =
 -- that is carried on over its scalars
 abbrev pub SumIsTurns : Type 0
 SumIsTurns =
-    (f : ℕ → ℕ → ℕ) (front : List Stmt) (x : ScalarId) (e c : Expr) (view : View) (loops : List ℕ) (stored own : Set)
-    (first more : ℕ) (s u : Run) →
-    CarriesOn f x e c → body_apart stored own own (length loops) (ended front x e) ≡ true →
+    (f : ℕ → ℕ → ℕ) (front : List Stmt) (x : ScalarId) (e c : Expr) (view : View)
+    (here : Expr → Bool) (at : Places) (loops : List ℕ) (stored own : Set) (first more : ℕ) (s u : Run) →
+    NamesPlaces here at own s.scalars loops → HavePlaces (in_block first (suc more)) at →
+    CarriesOn f x e c → body_apart stored own own here (ended front x e) ≡ true →
     ((y : ℕ) → loose_body own (ended front x e) y ≡ false) → loose_body own front x.0 ≡ true →
     turn (suc more) first 1 (λ v. run_list (ended front x c) view (loops ++ v ∷ [])) s ≡ Some u →
-    BodyThere (in_block first (suc more)) loops (ended front x e) (block_start view s)
+    BodyThere at (in_block first (suc more)) loops (ended front x e) (block_start view s)
     × IsRun view
     (summed f x.0 (s.scalars x.0) (suc more) first
-    (block_body (in_block first (suc more)) loops (ended front x e) (block_start view s))) (first + more) s u
+    (block_body at (in_block first (suc more)) loops (ended front x e) (block_start view s))) (first + more) s u

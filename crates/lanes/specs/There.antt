@@ -6,7 +6,7 @@ use Rattle.base.specs.declared.tree.Source.TheVariants.{Value, Read}
 use Rattle.base.specs.declared.tree.Stmt.{Stmt}
 use Rattle.base.specs.declared.tree.Stmt.TheVariants.{Declare, Assign, Store, Print, Block', Loop', If'}
 use Rattle.base.specs.Value.{value}
-use Rattle.lanes.specs.Apart.{Block, names_at, block_stmt}
+use Rattle.lanes.specs.Apart.{Places, Block, names_at, block_stmt}
 
 -- an expression whose operands all have a value, where it has one
 abbrev pub is_plain : Expr → Bool
@@ -42,21 +42,21 @@ body_plain (first ∷ rest) = stmt_plain first && body_plain rest
 abbrev pub HasValues : (ℕ → Bool) → List ℕ → Expr → Block → Type 0
 HasValues inside loops e b = (v : ℕ) → inside v ≡ true → IsSome (value e (names_at b loops v))
 
-abbrev pub StmtThere : (ℕ → Bool) → List ℕ → Stmt → Block → Type 0
-StmtThere inside loops (Declare x (Value e)) b = HasValues inside loops e b
-StmtThere inside loops (Declare x Read) b = Unit {0}
-StmtThere inside loops (Assign x (Value e)) b = HasValues inside loops e b
-StmtThere inside loops (Assign x Read) b = Unit {0}
-StmtThere inside loops (Store a place e (Value f)) b =
-    HasValues inside loops f b × ((v : ℕ) → inside v ≡ true → IsSome (b.cells (record { array = a; index = v })))
-StmtThere inside loops (Store a place e Read) b = Unit {0}
-StmtThere inside loops (Print e) b = Unit {0}
-StmtThere inside loops (Block' shape all) b = Unit {0}
-StmtThere inside loops (Loop' c shape all) b = Unit {0}
-StmtThere inside loops (If' c shape all shape' all') b = Unit {0}
+abbrev pub StmtThere : Places → (ℕ → Bool) → List ℕ → Stmt → Block → Type 0
+StmtThere at inside loops (Declare x (Value e)) b = HasValues inside loops e b
+StmtThere at inside loops (Declare x Read) b = Unit {0}
+StmtThere at inside loops (Assign x (Value e)) b = HasValues inside loops e b
+StmtThere at inside loops (Assign x Read) b = Unit {0}
+StmtThere at inside loops (Store a place e (Value f)) b =
+    HasValues inside loops f b × ((v : ℕ) → inside v ≡ true → IsSome (b.cells (record { array = a; index = at.place v })))
+StmtThere at inside loops (Store a place e Read) b = Unit {0}
+StmtThere at inside loops (Print e) b = Unit {0}
+StmtThere at inside loops (Block' shape all) b = Unit {0}
+StmtThere at inside loops (Loop' c shape all) b = Unit {0}
+StmtThere at inside loops (If' c shape all shape' all') b = Unit {0}
 
 -- so it is for each statement of a body, in turn
-abbrev pub BodyThere : (ℕ → Bool) → List ℕ → List Stmt → Block → Type 0
-BodyThere inside loops [] b = Unit {0}
-BodyThere inside loops (first ∷ rest) b =
-    StmtThere inside loops first b × BodyThere inside loops rest (block_stmt inside loops first b)
+abbrev pub BodyThere : Places → (ℕ → Bool) → List ℕ → List Stmt → Block → Type 0
+BodyThere at inside loops [] b = Unit {0}
+BodyThere at inside loops (first ∷ rest) b =
+    StmtThere at inside loops first b × BodyThere at inside loops rest (block_stmt at inside loops first b)

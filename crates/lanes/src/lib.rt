@@ -2,13 +2,21 @@
 #![tactic(auto)]
 
 ghost use Rattle.lanes.specs.Apart.{ByAssignments, TurnsApart};
+ghost use Rattle.lanes.specs.Moved.{MovedPlaces, OwnValuePlaces};
 ghost use Rattle.lanes.specs.Sums.{SumIsTurns};
 ghost use Rattle.lanes.specs.Turned.{BlockIsTurns};
 
 pub mod numbers;
 
-/// In a loop whose body names each array that it stores at the loop's own value alone, and reads no scalar that another
-/// turn assigns, each turn does what it does from where the first one begins.
+/// The indices at which the turns of a loop store: the loop's own value, and its value added to a number that no turn
+/// changes, modulo 2^64. In turns below 2^64 no two are the same.
+pub fn places()
+    ensures own_value { OwnValuePlaces }
+    ensures moved { MovedPlaces }
+{}
+
+/// In a loop whose body names each array that it stores only at an index of the turn's own, and reads no scalar that
+/// another turn assigns, each turn does what it does from where the first one begins.
 pub fn turns_apart()
     ensures { TurnsApart }
 {}

@@ -59,6 +59,8 @@ pub struct Heads {
     alloc: Global,
     // The last item of each statement that stands in a loop.
     last: BTreeMap<(usize, usize, usize, u64), usize>,
+    // The place of the item that was noted last, and its innermost loop's value.
+    before: (usize, usize, u64),
     pub head: Head,
     // How many turns in a row were watched in vain.
     failures: usize,
@@ -73,13 +75,15 @@ impl Heads {
         Heads {
             alloc,
             last: BTreeMap::new(alloc),
+            before: (0, 0, 0),
             head: Head::Unknown,
             failures: 0,
             next: 0,
         }
     }
 
-    /// Notes an item. The answer is the last one of the same statement, none where no loop is around it.
+    /// Notes an item. The answer is the last one of the same statement, none where no loop is around it; or the item just
+    /// before, where that is the turn before of a loop around this place alone.
     pub fn note(
         &mut self,
         item: &Item,
@@ -88,8 +92,13 @@ impl Heads {
     ) -> Result<Option<usize>, AllocError>
         ensures { self.new.head ≡ self.old.head }
     {
-        if item.loops.values.as_slice().is_empty() {
+        let Some(turn) = item.loops.values.as_slice().last().copied() else {
             return Ok(None);
+        };
+        let (line, column, before) = self.before;
+        self.before = (item.place.line, item.place.column, turn);
+        if line == item.place.line && column == item.place.column && before < turn {
+            return Ok(number.checked_sub(1));
         }
         if self.last.len() >= STATEMENTS {
             self.last = BTreeMap::new(self.alloc);

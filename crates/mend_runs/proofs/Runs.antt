@@ -1,21 +1,7 @@
 -- What is answered where a mend is run.
-use Rattle.std.proofs.Common.{ℕ, List}
-use Rattle.base.specs.declared.tree.Program.{Program}
-use Rattle.base.specs.declared.item.Answer.{Answer}
-use Rattle.pipeline.specs.Source.{by_choices, on_threads}
-use Rattle.pipeline.proofs.Runs.{Shows, plain_answer}
+use Rattle.pipeline.proofs.Runs.{by_choices_shows, on_threads_shows, plain_answer}
 use Rattle.same_text.proofs.Laws.{mend_erases}
 use Rattle.mend_runs.specs.Laws.{MendRunsByChoices, MendRunsOnThreads, MendSteps}
-
-by_choices_shows : (p : Program) (input choices : List ℕ) (capacity : ℕ) (a : Answer) →
-    by_choices input choices capacity p a → Shows p input a
-by_choices_shows p input choices capacity a (h, within) =
-    record { plain = h.plain; is_erased = h.is_erased; output = h.output; finals = h.finals }
-
-on_threads_shows : (p : Program) (input : List ℕ) (capacity : ℕ) (a : Answer) → on_threads input capacity p a →
-    Shows p input a
-on_threads_shows p input capacity a (h, within) =
-    record { plain = h.plain; is_erased = h.is_erased; output = h.output; finals = h.finals }
 
 pub mend_runs_by_choices : MendRunsByChoices
 mend_runs_by_choices bytes text input choices capacity a q e s r =

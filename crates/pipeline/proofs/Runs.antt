@@ -24,12 +24,12 @@ pub record Shows (p : Program) (input : List ℕ) (a : Answer) : Type 0 where
   pub output : a.out.items ≡ output_of plain.printed
   pub finals : finals_in a ≡ marked_values p plain.memory
 
-by_choices_shows : (p : Program) (input choices : List ℕ) (capacity : ℕ) (a : Answer) →
+pub by_choices_shows : (p : Program) (input choices : List ℕ) (capacity : ℕ) (a : Answer) →
     by_choices input choices capacity p a → Shows p input a
 by_choices_shows p input choices capacity a (h, within) =
     record { plain = h.plain; is_erased = h.is_erased; output = h.output; finals = h.finals }
 
-on_threads_shows : (p : Program) (input : List ℕ) (capacity : ℕ) (a : Answer) → on_threads input capacity p a →
+pub on_threads_shows : (p : Program) (input : List ℕ) (capacity : ℕ) (a : Answer) → on_threads input capacity p a →
     Shows p input a
 on_threads_shows p input capacity a (h, within) =
     record { plain = h.plain; is_erased = h.is_erased; output = h.output; finals = h.finals }

@@ -13,7 +13,7 @@ use crate::touching::is_same_loc;
 use crate::words::add;
 use base::fault::{OrderFault, Refusal};
 use base::item::{Cell, Depend, Item, ItemKind, Loc, MapItem};
-use base::tree::{DependKind, Place};
+use base::tree::Place;
 use mapwalk::Acts;
 use std::alloc::AllocError;
 

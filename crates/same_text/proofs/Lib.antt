@@ -8,4 +8,3 @@ mod Gaps
 mod Outside
 mod SameTokens
 pub mod Laws
-pub mod ErasedRuns

@@ -14,7 +14,7 @@ use Rattle.erasure.proofs.Cuts.{line_is, not_fresh, piece_blank}
 use Rattle.mend.specs.Bare.{gap, outside, without_directives}
 use Rattle.same_text.proofs.Whole.{waits, whole_piece, whole_from}
 use Rattle.same_text.proofs.Places.{behind_end, blank_feed}
-use Rattle.same_text.proofs.Pieces.{inside_not_fresh}
+use Rattle.erasure.proofs.Items.{inside_not_fresh}
 use Rattle.same_text.proofs.Copies.{Split, Stands, Copied, kept_byte, wait_byte}
 use Rattle.same_text.proofs.Gaps.{Gone, line_gone, gone_byte}
 

@@ -13,13 +13,11 @@ use Rattle.c_grammar.specs.Terminal.{Terminal}
 use Rattle.erasure.specs.Erased.{is_line}
 use Rattle.erasure.proofs.Pieces.{Alike, alike_cons, alike_take}
 use Rattle.erasure.proofs.Sound.{IsSound, piece_sound}
+use Rattle.erasure.proofs.Items.{inside_not_fresh}
 use Rattle.erasure.proofs.Cuts.{line_is, not_fresh, piece_blank}
 use Rattle.mend.specs.Bare.{is_space}
 use Rattle.same_text.proofs.Told.{told, told_from}
 use Rattle.same_text.proofs.Whole.{waits, whole_piece, whole_from, whole_alike}
-
-pub inside_not_fresh : (m : Mood) → m ≡ Inside → m ≡ Fresh → ⊥
-inside_not_fresh m e f = let bad : Inside ≡ Fresh = sym e ∙ f in absurd cc
 
 pub space_blank : (b : ℕ) → is_space b ≡ true → is_blank b ≡ true
 space_blank b e = grind (arith, nat_tests)

@@ -1,37 +1,27 @@
 -- Texts whose tokens are the same but for directive lines spell programs that do the same without directives.
-use Rattle.std.proofs.Common.{◌≡◌, ◌≤◌, ℕ, ◌+◌, Bool, true, false, cond, List, [], ◌∷◌, ◌++◌, length, refl, sym, ap, subst, ◌∙◌, arith}
-use Rattle.std.specs.List.{list_any}
+use Rattle.std.proofs.Common.{◌≡◌, ◌≤◌, ℕ, Bool, true, false, cond, List, [], ◌∷◌, ◌++◌, length, refl, sym, ap, subst, ◌∙◌, arith}
 use Rattle.base.specs.declared.tree.Program.{Program}
-use Rattle.c_tokens.specs.declared.kind.Token.{Token}
-use Rattle.c_tokens.specs.Text.{tokens_of}
 use Rattle.c_grammar.specs.Grammar.{Text, slots}
 use Rattle.c_grammar.specs.Rules.{source_grammar}
 use Rattle.c_grammar.specs.Source.{items_of, end_of, max_source, Spells as SpellsText}
 use Rattle.c_grammar.specs.Terminal.{Terminal, End}
-use Rattle.c_grammar.specs.Texts.{Item, terminals, kinds}
+use Rattle.c_grammar.specs.Texts.{Item, kinds}
 use Rattle.c_grammar.proofs.SourceOne.{same_text}
 use Rattle.c_read.specs.Spells.{IsProgram, Spells}
-use Rattle.erasure.specs.Erased.{covers, uncovered, erased_text, items_in, unlined, is_line_terminal}
+use Rattle.erasure.specs.Erased.{erased_text, items_in, unlined, is_line_terminal}
 use Rattle.erasure.specs.Plain.{plain_tree}
 use Rattle.erasure.proofs.Covered.{erased_items}
-use Rattle.erasure.proofs.Spelled.{spells_plain}
+use Rattle.erasure.proofs.Spelled.{kinds_in, with_end, erased_shorter, spells_plain}
 use Rattle.erased_meaning.specs.Laws.{IsErased}
-use Rattle.same_text.proofs.ErasedRuns.{erased_is}
+use Rattle.erased_meaning.proofs.ErasedRuns.{erased_is}
 use Rattle.erased_meaning.proofs.Globals.{main_safe}
 use Rattle.same_text.specs.Laws.{bare_tokens, RunAlike}
 
-abbrev tokens_in : List (Item Terminal) → List Terminal
-tokens_in is = terminals source_grammar is
-
-with_end : (is : List (Item Terminal)) (i : Item Terminal) → tokens_in (is ++ i ∷ []) ≡ tokens_in is ++ i.terminal ∷ []
-with_end [] i = refl
-with_end (j ∷ is) i = ap (λ (ts : List Terminal). j.terminal ∷ ts) (with_end is i)
-
 -- all tokens of the text without its lines
-erased_tokens : (bytes : List ℕ) → tokens_in (items_of (erased_text bytes)) ≡ bare_tokens bytes ++ End ∷ []
+erased_tokens : (bytes : List ℕ) → kinds_in (items_of (erased_text bytes)) ≡ bare_tokens bytes ++ End ∷ []
 erased_tokens bytes =
     with_end (items_in (erased_text bytes)) (end_of (erased_text bytes))
-    ∙ ap (λ (is : List (Item Terminal)). tokens_in is ++ End ∷ []) (erased_items bytes)
+    ∙ ap (λ (is : List (Item Terminal)). kinds_in is ++ End ∷ []) (erased_items bytes)
 
 unlined_twice : (is : List (Item Terminal)) → unlined (unlined is) ≡ unlined is
 unlined_twice [] = refl
@@ -46,11 +36,11 @@ unlined_twice (i ∷ is) = step (is_line_terminal i.terminal) refl (unlined_twic
 
 -- without its lines a text has no lines
 twice_bare : (bytes : List ℕ) → bare_tokens (erased_text bytes) ≡ bare_tokens bytes
-twice_bare bytes = ap tokens_in (ap unlined (erased_items bytes) ∙ unlined_twice (items_in bytes))
+twice_bare bytes = ap kinds_in (ap unlined (erased_items bytes) ∙ unlined_twice (items_in bytes))
 
 -- the tokens of the second text without lines are those of the tree of the first without its directives
 tree_tokens : (a b : List ℕ) (t : Text) → bare_tokens a ≡ bare_tokens b → SpellsText (erased_text a) (plain_tree t) →
-    tokens_in (items_of (erased_text b)) ≡ kinds source_grammar (slots (plain_tree t))
+    kinds_in (items_of (erased_text b)) ≡ kinds source_grammar (slots (plain_tree t))
 tree_tokens a b t e plain =
     erased_tokens b ∙ ap (λ (ts : List Terminal). ts ++ End ∷ []) (sym e) ∙ sym (erased_tokens a)
     ∙ plain.spelled.tokens
@@ -76,19 +66,6 @@ same_tokens_run a b p q e s u =
     record { lengths = sym all.lengths; runs = all.runs }
 
 -- ---- the second text without lines is one of the grammar
-
-shorter : (ts : List Token) (k : ℕ) (bs : List ℕ) → length (uncovered ts k bs) ≤ length bs
-shorter ts k [] = omega arith
-shorter ts k (b ∷ bs) = step (list_any (covers k) ts) (shorter ts (k + 1) bs)
-  where
-    step : (t : Bool) → length (uncovered ts (k + 1) bs) ≤ length bs →
-        length (cond t (uncovered ts (k + 1) bs) (b ∷ uncovered ts (k + 1) bs)) ≤ length (b ∷ bs)
-    step true h = omega (arith, h)
-    step false h = omega (arith, h)
-
-erased_shorter : (bytes : List ℕ) → length (erased_text bytes) ≤ length bytes
-unfolding erased_text
-erased_shorter bytes = shorter (tokens_of bytes) 0 bytes
 
 pub same_tokens_text : (a b : List ℕ) (t : Text) → bare_tokens a ≡ bare_tokens b → SpellsText a t →
     length b ≤ max_source → SpellsText (erased_text b) (plain_tree t)

@@ -9,7 +9,7 @@ pub returns-then-stmt_apart : goal.returns-then-stmt_apart
 returns-then-stmt_apart t c =
     let body = c.args.body.now in
     let some = c.args.some.now in
-    let level = c.args.level in
+    let level = lanes.is_turn c.args.level in
     let here = lanes.stmt_apart (stored_in body) (assigned_in body) (loose_in body (take c.args.k some)) level in
     let rest = lanes.body_apart (stored_in body) (assigned_in body) (loose_in body (take (c.args.k + 1) some)) level (drop (c.args.k + 1) some) in
     let inside : c.args.k < length some = omega (arith, c.if-k-some.false, c.requires) in

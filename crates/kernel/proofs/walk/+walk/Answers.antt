@@ -1,5 +1,7 @@
-use Rattle.std.proofs.Common.{◌+◌, rules}
+use Rattle.std.proofs.Common.{◌≡◌, ℕ, List, length, ◌+◌, ◌∙◌, arith, rules, sym, subst}
 use Rattle.base.specs.declared.tree.Stmt.TheViews.{the_lemmas}
+use Rattle.base.specs.declared.tree.Stmt.{Stmt}
+use Rattle.kernel.specs.Forms.{IsForm}
 use Rattle.kernel.specs.Walks.{list_meaning, loop_meaning, stmt_meaning, turn_meaning}
 use Rattle.kernel.proofs.Walking.{next_can, next_done, all_done, from_on, this_first, none_left, turns_from, turn_first, no_turn}
 use Rattle.kernel.proofs.WalkedLoops.{loop_can, loop_done, alone_done}
@@ -66,6 +68,13 @@ walk_one-returns-then-has_blocks t c =
 pub walk_one-returns : goal.walk_one-returns
 walk_one-returns t c =
     alone_done c.args.s.now c.from_ref.result.now c.args.m.now c.by_code.new.m c.from_ref.ensures.value c.in_ok-by_code.ensures
+
+pub walk_one-in_blocks-requires-clause-form : goal.walk_one-in_blocks-requires-clause-form
+walk_one-in_blocks-requires-clause-form t c =
+    let level : c.len-level.result ≡ length c.args.m.now.loops.items = omega (arith, c.len-level.ensures, c.args.m.now.loops.ok.0) in
+    subst (λ (n : ℕ). IsForm n c.deref-in-Some.result.now c.in-Some.form) level
+    (subst (λ (body : List Stmt). IsForm c.len-level.result body c.in-Some.form)
+    (c.deref.ensures.value ∙ sym c.deref-in-Some.ensures.value) c.in-Some.ensures)
 
 pub walk_one-in_blocks-requires-clause-can : goal.walk_one-in_blocks-requires-clause-can
 walk_one-in_blocks-requires-clause-can t c =

@@ -1,7 +1,12 @@
-use Rattle.std.proofs.Common.{length, ap, arith, refl}
+use Rattle.std.proofs.Common.{ℕ, length, ap, arith, refl, sym, subst}
 use Rattle.std.proofs.lemmas.List.{with_items_is}
+use Rattle.kernel.specs.Forms.{IsForm}
 use Rattle.kernel.proofs.WalkedLoops.{blocks_can, blocks_done}
 use Rattle.kernel.proofs.walk.in_blocks.Goals as goal
+
+pub blocks-requires-clause-form : goal.blocks-requires-clause-form
+blocks-requires-clause-form c =
+    subst (λ (n : ℕ). IsForm n c.args.body.now c.args.form) (sym (ap length c.deref.ensures.value)) c.requires.form
 
 pub blocks-requires-clause-turns : goal.blocks-requires-clause-turns
 blocks-requires-clause-turns c =

@@ -1,0 +1,78 @@
+// Indices that are the loop's value and a number that no turn changes, as those along a row of a matrix.
+
+ghost use Rattle.std.specs.Prelude.{◌≡◌, slice_index};
+ghost use Rattle.kernel.specs.Loops.{assigned_in};
+ghost use Rattle.lanes.specs.Moved as moved;
+
+use crate::apart::{is_assigned, is_turn};
+use crate::state::{of_both, of_division, of_one, of_shift};
+use base::tree::{BinaryOp, Expr, Stmt};
+
+/// The value of an expression that no turn of a loop with this body changes, if it is one: it names no cell, no scalar that
+/// the body assigns, and of the loops only those around.
+pub fn fixed_value(body: &[Stmt], outer: &[u64], scalars: &[u64; 256], e: &Expr) -> Option<u64>
+    ensures { result ≡ moved.fixed_value (assigned_in body.now) (slice_index scalars.now) outer.now e.now }
+{
+    match e {
+        Expr::Number(n) => Some(*n),
+        Expr::Scalar(x) => {
+            if is_assigned(body, *x) {
+                None
+            } else {
+                Some(scalars[x.0 as usize])
+            }
+        }
+        Expr::LoopName(l) => outer.get(*l as usize).copied(),
+        Expr::Unary(op, a) => {
+            let n = fixed_value(body, outer, scalars, a)?;
+            Some(of_one(*op, n))
+        }
+        Expr::Binary(op, a, b) => {
+            let n = fixed_value(body, outer, scalars, a)?;
+            let m = fixed_value(body, outer, scalars, b)?;
+            Some(of_both(*op, n, m))
+        }
+        Expr::Shift(op, a, by) => {
+            let n = fixed_value(body, outer, scalars, a)?;
+            Some(of_shift(*op, n, *by))
+        }
+        Expr::Divide(op, a, by) => {
+            let n = fixed_value(body, outer, scalars, a)?;
+            Some(of_division(*op, n, *by))
+        }
+        Expr::Cell(_, _, _) | Expr::And(_, _) | Expr::Or(_, _) => None,
+    }
+}
+
+fn is_number(u: u64, o: Option<u64>) -> bool
+    ensures { result ≡ moved.is_number u o }
+{
+    match o {
+        Some(n) => n == u,
+        None => false,
+    }
+}
+
+fn is_add(op: BinaryOp) -> bool
+    ensures { result ≡ moved.is_add op }
+{
+    match op {
+        BinaryOp::Add => true,
+        _ => false,
+    }
+}
+
+/// Whether an index is the sum of such an expression with this value and of the loop's value, in either order.
+pub fn is_moved(body: &[Stmt], outer: &[u64], scalars: &[u64; 256], u: u64, e: &Expr) -> bool
+    ensures { result ≡ moved.is_moved (assigned_in body.now) (slice_index scalars.now) outer.now u e.now }
+{
+    match e {
+        Expr::Binary(op, a, b) => {
+            let level = outer.len();
+            is_add(*op)
+                && ((is_number(u, fixed_value(body, outer, scalars, a)) && is_turn(level, b))
+                    || (is_turn(level, a) && is_number(u, fixed_value(body, outer, scalars, b))))
+        }
+        _ => false,
+    }
+}

@@ -1,0 +1,94 @@
+-- Turns leave the scalars that they do not assign.
+use Rattle.std.proofs.Common.{◌≡◌, ℕ, zero, suc, ◌+◌, Bool, true, false, List, [], ◌∷◌, ◌++◌, Option, Some, None, refl, sym, ap, ◌∙◌}
+use Rattle.std.specs.Prelude.{◌&&◌, option_and_then, option_map}
+use Rattle.std.proofs.lemmas.Bool.{and_parts, false≢true}
+use Rattle.std.proofs.lemmas.Option.{same_Some}
+use Rattle.base.specs.declared.item.Cell.{Cell}
+use Rattle.base.specs.declared.tree.ArrayId.{ArrayId}
+use Rattle.base.specs.declared.tree.Source.TheVariants.{Value, Read}
+use Rattle.base.specs.declared.tree.Stmt.{Stmt}
+use Rattle.base.specs.declared.tree.Stmt.TheVariants.{Declare, Assign, Store, Print, Block', Loop', If'}
+use Rattle.base.specs.Memory.{View}
+use Rattle.base.specs.Value.{value}
+use Rattle.base.specs.Meaning.{Run, names_in, set_scalar, assigned, stored, turn, run_stmt, run_list}
+use Rattle.lanes.specs.Apart.{Set, Kept}
+use Rattle.lanes.proofs.Deltas.{set_kept}
+
+-- an assignment, of one of these scalars where it is of a scalar
+abbrev pub assigns_only : Set → Stmt → Bool
+assigns_only own (Declare x (Value e)) = own x.0
+assigns_only own (Declare x Read) = false
+assigns_only own (Assign x (Value e)) = own x.0
+assigns_only own (Assign x Read) = false
+assigns_only own (Store a place e (Value f)) = true
+assigns_only own (Store a place e Read) = false
+assigns_only own (Print e) = false
+assigns_only own (Block' shape all) = false
+assigns_only own (Loop' b shape all) = false
+assigns_only own (If' c shape all shape' all') = false
+
+abbrev pub all_assign : Set → List Stmt → Bool
+all_assign own [] = true
+all_assign own (first ∷ rest) = assigns_only own first && all_assign own rest
+
+module _ (own : Set) where
+  abbrev pub Keep : (Run → Option Run) → Type 0
+  Keep f = (s t : Run) → f s ≡ Some t → Kept own s.scalars t.scalars
+
+  assigned_keeps : (x : ℕ) (o : Option ℕ) → own x ≡ true → (s t : Run) →
+      assigned x (option_map (λ n. (n, s)) o) ≡ Some t → Kept own s.scalars t.scalars
+  assigned_keeps x None its s t h = absurd cc
+  assigned_keeps x (Some n) its s t h =
+      let e = same_Some (record s { scalars = set_scalar x n s.scalars }) t h in
+      λ y o. ap (λ (r : Run). r.scalars y) (sym e) ∙ set_kept own s.scalars s.scalars x n its (λ z k. refl) y o
+
+  stored_keeps : (view : View) (a : ArrayId) (oi ov : Option ℕ) (s t : Run) →
+      option_and_then (λ i. stored view (record { array = a; index = i }) (option_map (λ n. (n, s)) ov)) oi ≡ Some t →
+      Kept own s.scalars t.scalars
+  stored_keeps view a None ov s t h = absurd cc
+  stored_keeps view a (Some i) None s t h = absurd cc
+  stored_keeps view a (Some i) (Some n) s t h = go (record { array = a; index = i }) (view (record { array = a; index = i })) h
+    where
+      go : (c : Cell) (there : Option ℕ) →
+          option_map (λ old. record s { stores = s.stores ++ (c, n) ∷ [] }) there ≡ Some t → Kept own s.scalars t.scalars
+      go c None h = absurd cc
+      go c (Some old) h =
+          λ y o. ap (λ (r : Run). r.scalars y) (sym (same_Some (record s { stores = s.stores ++ (c, n) ∷ [] }) t h))
+
+  stmt_keeps : (view : View) (loops : List ℕ) (first : Stmt) → assigns_only own first ≡ true → Keep (run_stmt first view loops)
+  stmt_keeps view loops (Declare x (Value e)) its s t h = assigned_keeps x.0 (value e (names_in view loops s)) its s t h
+  stmt_keeps view loops (Declare x Read) its s t h = absurd (false≢true its)
+  stmt_keeps view loops (Assign x (Value e)) its s t h = assigned_keeps x.0 (value e (names_in view loops s)) its s t h
+  stmt_keeps view loops (Assign x Read) its s t h = absurd (false≢true its)
+  stmt_keeps view loops (Store a place e (Value f)) its s t h =
+      stored_keeps view a (value e (names_in view loops s)) (value f (names_in view loops s)) s t h
+  stmt_keeps view loops (Store a place e Read) its s t h = absurd (false≢true its)
+  stmt_keeps view loops (Print e) its s t h = absurd (false≢true its)
+  stmt_keeps view loops (Block' shape all) its s t h = absurd (false≢true its)
+  stmt_keeps view loops (Loop' b shape all) its s t h = absurd (false≢true its)
+  stmt_keeps view loops (If' c shape all shape' all') its s t h = absurd (false≢true its)
+
+  then_keeps : (f g : Run → Option Run) → Keep f → Keep g → Keep (λ s. option_and_then g (f s))
+  then_keeps f g h k s t e = go (f s) refl e
+    where
+      go : (o : Option Run) → f s ≡ o → option_and_then g o ≡ Some t → Kept own s.scalars t.scalars
+      go None is e = absurd cc
+      go (Some u) is e = λ x o. k u t e x o ∙ h s u is x o
+
+  pub body_keeps : (view : View) (loops : List ℕ) (body : List Stmt) → all_assign own body ≡ true →
+      Keep (run_list body view loops)
+  body_keeps view loops [] its s t h = λ x o. ap (λ (r : Run). r.scalars x) (sym (same_Some s t h))
+  body_keeps view loops (first ∷ rest) its s t h =
+      let p = and_parts (assigns_only own first) (all_assign own rest) its in
+      then_keeps (run_stmt first view loops) (run_list rest view loops) (stmt_keeps view loops first p.0)
+      (λ u w e. body_keeps view loops rest p.1 u w e) s t h
+
+  pub turns_keep : (step : ℕ) (f : ℕ → Run → Option Run) → ((v : ℕ) → Keep (f v)) → (n v : ℕ) → Keep (turn n v step f)
+  turns_keep step f h zero v s t e = λ x o. ap (λ (r : Run). r.scalars x) (sym (same_Some s t e))
+  turns_keep step f h (suc n) v s t e = go (λ u k. turns_keep step f h n (v + step) u t k) (f v s) refl e
+    where
+      go : ((u : Run) → turn n (v + step) step f u ≡ Some t → Kept own u.scalars t.scalars) →
+          (o : Option Run) → f v s ≡ o →
+          elim o as (λ q. Option Run) [ None ↦ None | Some u ↦ turn n (v + step) step f u ] ≡ Some t → Kept own s.scalars t.scalars
+      go again None is e = absurd cc
+      go again (Some u) is e = λ x o. again u e x o ∙ h v s u is x o
