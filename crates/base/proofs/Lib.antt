@@ -11,3 +11,4 @@ pub mod Moves
 pub mod StmtRows
 pub mod LoopTurns
 pub mod Devices
+pub mod ShortArrays

@@ -271,9 +271,11 @@ pub enum Part {
     Alone(Place, Directive),
 }
 
+/// An array, by its number of cells.
 #[derive(Drop)]
 pub struct ArrayInfo {
     pub length: u32,
+    ghost few: { length ≤ 65536 },
 }
 
 /// A program. Each part's regions are the longest that its block has.

@@ -7,7 +7,6 @@ use Rattle.base.specs.declared.tree.ArrayInfo.{ArrayInfo}
 use Rattle.base.specs.declared.tree.Program.{Program}
 use Rattle.base.specs.declared.fault.TextFault.{TextFault}
 use Rattle.base.specs.declared.fault.ReadCode.TheVariants.{TooMany}
-use Rattle.base.specs.Limits.{AreShort}
 use Rattle.c_grammar.specs.Program.{start}
 use Rattle.c_grammar.specs.Rules.{begin}
 use Rattle.c_grammar.specs.Grammar.{Text}
@@ -15,7 +14,6 @@ use Rattle.c_grammar.specs.Source.{items_of, max_source, answer, fault_in, IsFir
 use Rattle.c_grammar.proofs.Sources.{fault_first, text_spelled, text_not_spelled}
 use Rattle.c_expressions.specs.Means.{Items}
 use Rattle.c_expressions.specs.Reading.{run}
-use Rattle.c_read.specs.Globals.{AreShortArrays, entry_of}
 use Rattle.c_read.specs.Spells.{Spells, IsTextRead}
 
 abbrev too_long : TextFault
@@ -40,18 +38,6 @@ spells bytes p h none r = record {
   spelled = text_spelled bytes r.text (answer_short bytes h ∙ none) r.tokens r.is_text;
   means = r.means;
 }
-
-module _ {Z : Type 0} where
-  short_lengths : (es : List (String Z × ArrayInfo)) → AreShortArrays (map entry_of es) →
-      (a : ℕ) → slice_index (map (λ (i : ArrayInfo). i.length) (map (λ (e : String Z × ArrayInfo). e.1) es)) a ≤ 65536
-  short_lengths [] h a = omega arith
-  short_lengths (e ∷ es) h zero = h.0
-  short_lengths (e ∷ es) h (suc a) = short_lengths es h.1 a
-
--- no array has more cells than a source may give it
-pub is_short : (is : Items) (p : Program) → IsTextRead is p → AreShort p
-is_short is p r = short_lengths p.arrays.entries
-    (subst (λ (arrays : List (List ℕ × Option ℕ)). AreShortArrays arrays) (sym r.means.arrays) r.short)
 
 pub is_first : (bytes : List ℕ) (f : TextFault) → length bytes ≤ max_source → run begin start (items_of bytes) ≡ Some f →
     IsFirstFault bytes f

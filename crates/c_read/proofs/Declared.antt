@@ -171,14 +171,13 @@ module _ {Z : Type 0} where
       IsAscii x → meaning_of (names_of old) x ≡ None → AreKnown (names_of old) es → string_bytes k ≡ utf8_lossy x →
       fs ≡ insert_entry string_eq es k v → IsArrayNamed x old new →
       IsGone (Mark sign.OpenBracket ∷ Num (Some v.length) ∷ Mark sign.CloseBracket ∷ Mark sign.Semicolon ∷ []) before after →
-      (1 ≤ v.length) × (v.length ≤ 65536) → IsArrayRead x old new es fs before after
-  array_added x k v old new es fs before after a m h b e named gone few =
+      IsArrayRead x old new es fs before after
+  array_added x k v old new es fs before after a m h b e named gone =
       let same_bytes : string_bytes k ≡ x = b ∙ name_kept x a in
       let last : fs ≡ es ++ (k, v) ∷ [] =
       e ∙ insert_last k v (names_of old) es h (ap (meaning_of (names_of old)) same_bytes ∙ m) in
       record {
         cells = v.length;
-        few = few.1;
         gone = gone;
         named = named;
         entries =
@@ -208,7 +207,6 @@ module _ {Z : Type 0} where
         front = array_front old new x r.named;
         still = r.named.still;
         entries = r.entries;
-        short = (r.few, tt);
         known = r.known;
       }
 
@@ -225,7 +223,6 @@ module _ {Z : Type 0} where
         front = scalar_front old new x s;
         still = s.still;
         entries = sym (append-nil (map entry_of es));
-        short = tt;
         known =
             subst (λ (ns : Names). AreKnown ns es) (sym s.names)
             (known_more x (meaning.Scalar (record { 0 = old.next_scalar }) (inside (context_of old 0 0))) (names_of old) es h);

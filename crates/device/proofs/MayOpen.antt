@@ -4,6 +4,7 @@ use Rattle.std.specs.Prelude.{not, ◌&&◌, ◌||◌, ◌==◌, nat_lt, option_
 use Rattle.std.proofs.lemmas.Bool.{and_parts}
 use Rattle.std.proofs.lemmas.Bool.Decides.{nat_tests}
 use Rattle.std.proofs.lemmas.Option.{same_Some, slice_get-map, slice_get_within}
+use Rattle.base.proofs.ShortArrays.{are_short}
 use Rattle.base.specs.declared.item.Event.TheVariants as event
 use Rattle.base.specs.declared.item.Item.{Item}
 use Rattle.base.specs.declared.item.ItemKind.{ItemKind}
@@ -135,8 +136,8 @@ is_item r now h entries its e i it w at_it at_w = record {
   of = of;
   fine = fine;
   inside = (let a = h.at.slots in let b = slice_get_within (plan r.program).items i w at_w in omega arith);
-  sections = subst AreSections of.maps (sections r.program now.host w fine h.at.lengths h.reached.short);
-  within = subst (AreWithin now.host) of.maps (within r.program now.host w fine h.at.lengths h.reached.short);
+  sections = subst AreSections of.maps (sections r.program now.host w fine h.at.lengths (are_short r.program));
+  within = subst (AreWithin now.host) of.maps (within r.program now.host w fine h.at.lengths (are_short r.program));
   counted = λ t has.
       table_counts t ((state_of r).memories.devices it.device.number) now.entered (h.at.devices it.device.number t has)
       (h.at.counts it.device.number);

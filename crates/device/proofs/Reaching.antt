@@ -6,7 +6,6 @@ use Rattle.base.specs.Items.{plan}
 use Rattle.base.specs.Machine.{State, start, all_enabled, enabled, step, RunFrom}
 use Rattle.base.specs.Accepted.{IsAccepted}
 use Rattle.base.specs.Headline.{AreNumbers}
-use Rattle.base.specs.Limits.{AreShort}
 pub use Rattle.device.specs.Leading.{IsNext, Next, is_after, leads_to, next, one_more_run, reached_next, takes}
 use Rattle.device.specs.Run as run
 use Rattle.device.specs.Run.{fill_in, state_of}
@@ -138,10 +137,10 @@ pub asked : (s : Inside) (r : run.Run) (e : Event) → run_of s ≡ r → enable
 asked s r e is may = subst (λ (x : run.Run). enabled (plan x.program) (state_of x) e ≡ true) (sym is) may
 
 -- a run begins where nothing was done
-pub begun : (r : run.Run) (now : Standing) → IsAccepted (plan r.program) → AreShort r.program → AreNumbers r.input →
+pub begun : (r : run.Run) (now : Standing) → IsAccepted (plan r.program) → AreNumbers r.input →
     r.fresh < 2 ^ 64 → r.history ≡ [] → IsAt (plan r.program) now (start r.input) → HaveRoom now.devices r.capacity →
     IsRunning r now
-begun r now accepted short numbers fresh none at room = record {
+begun r now accepted numbers fresh none at room = record {
   reached = reached;
   at = now_at;
   room = room;
@@ -160,7 +159,6 @@ begun r now accepted short numbers fresh none at room = record {
     reached : IsReached r
     reached = record {
       accepted = accepted;
-      short = short;
       numbers = numbers;
       fresh = fresh;
       ran = subst (λ (s : State). RunFrom (plan r.program) (fill_in r) r.input r.history (Some s)) (sym here) ran;

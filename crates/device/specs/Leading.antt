@@ -7,7 +7,6 @@ use Rattle.base.specs.Map.{Fill}
 use Rattle.base.specs.Machine.{State, start, enabled, step, Run, RunFrom}
 use Rattle.base.specs.Accepted.{IsAccepted}
 use Rattle.base.specs.Headline.{AreNumbers}
-use Rattle.base.specs.Limits.{AreShort}
 use Rattle.base.proofs.Runs.{Run-append}
 use Rattle.headline.proofs.Headline.{headline}
 use Rattle.device.specs.Reached.{after_events}
@@ -78,7 +77,6 @@ reached_next r r' e h n program input fresh history = (made, to)
     made : IsReached r'
     made = record {
       accepted = subst (λ q. IsAccepted (plan q)) (sym program) h.accepted;
-      short = subst (λ q. AreShort q) (sym program) h.short;
       numbers = subst AreNumbers (sym input) h.numbers;
       fresh = subst (λ n. n < 2 ^ 64) (sym fresh) h.fresh;
       ran = subst (λ t. RunFrom (plan r'.program) (fill_in r') r'.input r'.history (Some t)) (sym to) ran;

@@ -7,7 +7,6 @@ use Rattle.base.specs.Headline.{AreNumbers}
 use Rattle.device.specs.Devices.{HaveRoom, fresh_of}
 use Rattle.device.specs.declared.state.RunState.TheInside.{Inside}
 use Rattle.device.specs.declared.standing.Standing.{Standing}
-use Rattle.base.specs.Limits.{AreShort}
 use Rattle.device.specs.Room.{HasStayed}
 use Rattle.device.specs.Run.{Run, fill_in, state_of}
 use Rattle.device.specs.Standing.{IsAt, issue_of}
@@ -15,7 +14,6 @@ use Rattle.device.specs.Standing.{IsAt, issue_of}
 -- the program is accepted, and its events so far are a run, which leads to the state of the machine
 pub record IsReached (r : Run) : Type 0 where
   pub accepted : IsAccepted (plan r.program)
-  pub short : AreShort r.program
   pub numbers : AreNumbers r.input
   pub fresh : r.fresh < 2 ^ 64
   pub ran : RunFrom (plan r.program) (fill_in r) r.input r.history (Some (state_of r))

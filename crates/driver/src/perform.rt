@@ -4,7 +4,6 @@ ghost use Rattle.std.specs.Prelude.{◌≡◌, ◌≢◌, ◌≤◌, ◌⊎◌, 
 ghost use Rattle.std.specs.Io.KnownBytes.{Appends};
 ghost use Rattle.clap.specs.Faults.{fault_of};
 ghost use Rattle.clap.specs.Values.{kind_of};
-ghost use Rattle.base.specs.Limits.{AreShort};
 ghost use Rattle.pipeline.specs.Checking.{IsChecked, IsRefused, IsUnaccepted};
 ghost use Rattle.pipeline.specs.Listing.{IsListed};
 ghost use Rattle.command.specs.CommandLine.{ompc};
@@ -222,7 +221,6 @@ fn run_by<T: Threads + Wait + Sync>(
     next: Next<'_>,
     capacity: u64,
 ) -> Result<Answer, RunFault>
-    requires { AreShort accepted.now }
     ensures { IfOk result (next_of next.entry capacity numbers.now accepted.now) }
 {
     match next {
@@ -234,7 +232,6 @@ fn run_by<T: Threads + Wait + Sync>(
 }
 
 /// Checks a program, reads its input and runs it.
-#[tactic(auto, using(pipeline::proofs::Runs::short_too))]
 fn answer_checked<'a, T: Threads + Wait + Sync, R: Read, E: Write>(
     rt: &T,
     alloc: Global,
@@ -244,7 +241,6 @@ fn answer_checked<'a, T: Threads + Wait + Sync, R: Read, E: Write>(
     input: &mut R,
     err: &mut E,
 ) -> Result<Answer, Ending<'a>>
-    requires { AreShort outlined.now }
     ensures answered { IfOk result (IsReadAnswer (accepted_by (next_of next.entry capacity)) (R.remaining input.old) outlined.now) }
     ensures refused { IfErr result (IsRefusalBy (IsUnaccepted outlined.now)) }
 {
@@ -268,7 +264,6 @@ fn answer_fine<'a, R: Read>(
     capacity: u64,
     input: &mut R,
 ) -> Result<Answer, Ending<'a>>
-    requires { AreShort outlined.now }
     ensures answered { IfOk result (IsReadAnswer (by_actions choices.now capacity) (R.remaining input.old) outlined.now) }
     ensures refused { IfErr result IsNoRefusal }
 {
@@ -280,7 +275,6 @@ fn answer_fine<'a, R: Read>(
 }
 
 /// The answer of a run of a program.
-#[tactic(auto, using(pipeline::proofs::Runs::short_too))]
 fn answer<'a, T: Threads + Wait + Sync, R: Read, E: Write>(
     rt: &T,
     alloc: Global,
@@ -289,7 +283,6 @@ fn answer<'a, T: Threads + Wait + Sync, R: Read, E: Write>(
     input: &mut R,
     err: &mut E,
 ) -> Result<Answer, Ending<'a>>
-    requires { AreShort program.now }
     ensures answered { IfOk result (IsReadAnswer (answers_of asked.entry.way asked.entry.capacity) (R.remaining input.old) program.now) }
     ensures refused { IfErr result (IsRefusalBy (IsPlanFault (is_checked asked.entry.way) program.now)) }
 {

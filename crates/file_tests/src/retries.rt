@@ -3,7 +3,6 @@
 
 ghost use Rattle.std.specs.Prelude.{◌≡◌, IfOk, IsTrue};
 ghost use Rattle.base.specs.Items.{plan};
-ghost use Rattle.base.specs.Limits.{AreShort};
 ghost use Rattle.base.specs.Machine.{enabled};
 ghost use Rattle.base.specs.declared.item.Event.TheVariants as event;
 ghost use Rattle.device.specs.Run.{state_of};
@@ -241,7 +240,6 @@ fn tell_runs<W: Write>(alloc: Global, image: &Image<'_>, out: &mut W) -> io::Res
 }
 
 fn lowered<'a>(alloc: Global, accepted: &'a Accepted<'a>) -> Result<Image<'a>, AllocError>
-    requires { AreShort accepted.now }
 {
     match lower(alloc, accepted) {
         Ok(image) => Ok(image),
@@ -250,7 +248,6 @@ fn lowered<'a>(alloc: Global, accepted: &'a Accepted<'a>) -> Result<Image<'a>, A
 }
 
 fn tell_accepted<W: Write>(alloc: Global, accepted: &Accepted<'_>, out: &mut W) -> io::Result<()>
-    requires { AreShort accepted.now }
 {
     match lowered(alloc, accepted) {
         Ok(image) => tell_runs(alloc, &image, out),
@@ -268,7 +265,6 @@ fn checked<'a>(alloc: Global, outlined: &'a Outlined<'a>) -> Result<Accepted<'a>
 }
 
 fn tell_outlined<W: Write>(alloc: Global, outlined: &Outlined<'_>, out: &mut W) -> io::Result<()>
-    requires { AreShort outlined.now }
 {
     match checked(alloc, outlined) {
         Ok(accepted) => tell_accepted(alloc, &accepted, out),
@@ -277,7 +273,6 @@ fn tell_outlined<W: Write>(alloc: Global, outlined: &Outlined<'_>, out: &mut W) 
 }
 
 fn read(alloc: Global) -> Result<Program, ReadFault>
-    ensures { IfOk result AreShort }
 {
     match read_program(alloc, SOURCE.as_bytes()) {
         Ok(program) => Ok(program),
@@ -295,7 +290,6 @@ fn listed<'a>(alloc: Global, program: &'a Program) -> Result<Outlined<'a>, Outli
 }
 
 fn tell_program<W: Write>(alloc: Global, program: &Program, out: &mut W) -> io::Result<()>
-    requires { AreShort program.now }
 {
     match listed(alloc, program) {
         Ok(outlined) => tell_outlined(alloc, &outlined, out),

@@ -8,7 +8,6 @@ use Rattle.base.specs.declared.item.Section.{Section}
 use Rattle.base.specs.Accepted.{IsAccepted}
 use Rattle.base.specs.Actions.{touches_in}
 use Rattle.base.specs.Items.{Work, plan}
-use Rattle.base.specs.Limits.{AreShort}
 use Rattle.base.specs.Meaning.{lengths_of}
 use Rattle.frames.specs.Reach.{AreRuns, HasTouched}
 use Rattle.mapcheck.specs.Third.{AreMarked}
@@ -35,7 +34,6 @@ AreReaches lengths works reaches = (i : ℕ) (w : Work) (v : Vec Section Global)
 pub record IsImage (p : Program) (none : Region) (codes : List Region) (marked : List ArrayId)
     (reaches : List (Vec Section Global)) : Type 0 where
   pub accepted : IsAccepted (plan p)
-  pub short : AreShort p
   pub no_statement : none.body.items ≡ []
   pub codes_kept : codes ≡ map region_of (entries_of p)
   pub marked_kept : AreMarked (plan p) marked

@@ -4,7 +4,7 @@ ghost use Rattle.std.specs.Prelude.{◌≡◌, ◌<◌, ◌≤◌, ◌^◌, IfOk
 ghost use Rattle.base.specs.Accepted.{IsAccepted};
 ghost use Rattle.base.specs.Items.{Work, plan};
 ghost use Rattle.base.specs.Meaning.{lengths_of};
-ghost use Rattle.base.specs.Limits.{AreShort, most_items};
+ghost use Rattle.base.specs.Limits.{most_items};
 ghost use Rattle.lower.specs.Image.{AreReaches, IsReach, IsRegionOf, region_of};
 ghost use Rattle.mapcheck.specs.Reaches;
 ghost use Rattle.mapcheck.specs.Third.{AreMarked};
@@ -53,10 +53,9 @@ impl<'a> Image<'a> {
         self.outlined.program()
     }
 
-    /// The program is accepted, and no array has more than 65,536 cells.
+    /// The program is accepted.
     pub fn is_accepted(&self)
-        ensures accepted { IsAccepted (plan self.now) }
-        ensures short { AreShort self.now }
+        ensures { IsAccepted (plan self.now) }
     {
         let _marked = &self.marked;
     }
@@ -123,7 +122,8 @@ fn codes<'a>(alloc: Global, outlined: &'a Outlined<'a>) -> Result<Vec<Code<'a>>,
     Ok(codes)
 }
 
-// The image of an accepted program, of which these arrays are marked current and whose items reach these cells. The error comes for want of memory.
+// The image of an accepted program, of which these arrays are marked current and whose items reach these cells. The error
+// comes for want of memory.
 pub(crate) fn build<'a>(
     alloc: Global,
     outlined: &'a Outlined<'a>,
@@ -131,7 +131,6 @@ pub(crate) fn build<'a>(
     reaches: &'a [Vec<Section>],
 ) -> Result<Image<'a>, AllocError>
     requires accepted { IsAccepted (plan outlined.now) }
-    requires short { AreShort outlined.now }
     requires marked { AreMarked (plan outlined.now) marked.items }
     requires reaches { Reaches.AreReaches (plan outlined.now) reaches.now }
     ensures { IfOk result (λ image. image ≡ outlined.now) }

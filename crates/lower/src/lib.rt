@@ -2,7 +2,6 @@
 #![tactic(auto)]
 
 ghost use Rattle.std.specs.Prelude.{◌≡◌, IfOk};
-ghost use Rattle.base.specs.Limits.{AreShort};
 
 pub use crate::image::Image;
 use crate::image::build;
@@ -12,10 +11,8 @@ use std::alloc::{AllocError, Global};
 mod image;
 
 /// The image of an accepted program: each region is compiled once. The cells that the items' regions may touch are those
-/// that the check found. No array may have more than 65,536 cells,
-/// as in every program that is read. The error comes for want of memory.
+/// that the check found. The error comes for want of memory.
 pub fn lower<'a>(alloc: Global, accepted: &'a Accepted<'a>) -> Result<Image<'a>, AllocError>
-    requires { AreShort accepted.now }
     ensures { IfOk result (λ image. image ≡ accepted.now) }
 {
     accepted.is_accepted();

@@ -9,7 +9,7 @@ use Rattle.base.specs.declared.fault.SourceFault.TheVariants.{Read, Outline, Che
 use Rattle.base.specs.Accepted.{IsAccepted}
 use Rattle.base.specs.Answer.{finals_in, marked_values}
 use Rattle.base.specs.Items.{plan}
-use Rattle.base.specs.Limits.{AreShort, most_items}
+use Rattle.base.specs.Limits.{most_items}
 use Rattle.base.specs.Memory.{Memory}
 use Rattle.base.specs.Meaning.{Plain, erased, output_of}
 use Rattle.c_read.specs.Spells.{Spells}
@@ -99,5 +99,3 @@ both P Q (Err f) p q = tt
 pub accepted_too : (p q : Program) → q ≡ p → IsAccepted (plan q) → IsAccepted (plan p)
 accepted_too p q e h = subst (λ (r : Program). IsAccepted (plan r)) e h
 
-pub short_too : (p q : Program) → q ≡ p → AreShort p → AreShort q
-short_too p q e h = subst (λ (r : Program). AreShort r) (sym e) h

@@ -1,7 +1,6 @@
 //! From a source to what it answers on the fine-grained machine.
 
 ghost use Rattle.std.specs.Prelude.{IfOk, IfErr};
-ghost use Rattle.base.specs.Limits.{AreShort};
 ghost use Rattle.stepper.specs.Answering.{IsFineAnswer, IsFineFault};
 ghost use Rattle.pipeline.specs.Fine.{IsFineSourceAnswer, IsFineSourceFault};
 
@@ -22,7 +21,6 @@ fn run_by_actions(
     choices: &[u32],
     capacity: u64,
 ) -> Result<Answer, RunFault>
-    requires { AreShort outlined.now }
     ensures answer { IfOk result (IsFineAnswer outlined.now input.now choices.now capacity) }
     ensures fault { IfErr result (IsFineFault outlined.now input.now choices.now capacity) }
 {
@@ -33,7 +31,7 @@ fn run_by_actions(
 /// for `capacity` cells. At each step the next choice picks among the events that may happen, as `stepper::run_fine` says.
 /// The fault is that of the first pass that fails: the text, the number of items, the run; want of memory may come in
 /// place of any.
-#[tactic(auto, using(crate::proofs::Runs::short_too, crate::proofs::Texts::unlisted_fine))]
+#[tactic(auto, using(crate::proofs::Texts::unlisted_fine))]
 pub fn run_source_fine(
     alloc: Global,
     bytes: &[u8],

@@ -1,7 +1,6 @@
 //! From a source to its answer.
 
 ghost use Rattle.std.specs.Prelude.{◌≡◌, IfOk, IfErr};
-ghost use Rattle.base.specs.Limits.{AreShort};
 ghost use Rattle.pipeline.specs.Source.{IsAcceptedAnswer, IsProgramFault, IsSourceAnswer, IsSourceFault, by_choices, stopped_by_choices};
 
 use crate::text::{items, read};
@@ -22,7 +21,6 @@ pub fn run_accepted(
     choices: &[u32],
     capacity: u64,
 ) -> Result<Answer, RunFault>
-    requires { AreShort accepted.now }
     ensures answer { IfOk result (by_choices input.now choices.now capacity accepted.now) }
     ensures fault { IfErr result (stopped_by_choices input.now choices.now capacity accepted.now) }
 {
@@ -33,7 +31,7 @@ pub fn run_accepted(
 }
 
 // Checks a program, and runs it.
-#[tactic(auto, using(crate::proofs::Runs::accepted_too, crate::proofs::Runs::short_too))]
+#[tactic(auto, using(crate::proofs::Runs::accepted_too))]
 fn run_outlined(
     alloc: Global,
     outlined: &Outlined<'_>,
@@ -41,7 +39,6 @@ fn run_outlined(
     choices: &[u32],
     capacity: u64,
 ) -> Result<Answer, SourceFault>
-    requires { AreShort outlined.now }
     ensures answer { IfOk result (IsAcceptedAnswer (by_choices input.now choices.now capacity) outlined.now) }
     ensures fault { IfErr result (IsProgramFault (stopped_by_choices input.now choices.now capacity) outlined.now) }
 {
@@ -62,7 +59,7 @@ fn run_outlined(
 /// at its place modulo their number, and the first when the choices are used up. The answer has the output's bytes, the
 /// values of the arrays that are current at the end, and the events in their order. The fault is that of the first pass
 /// that fails: the text, the number of items, the check, the run; want of memory may come in place of any.
-#[tactic(auto, using(crate::proofs::Runs::short_too, crate::proofs::Texts::unlisted_source))]
+#[tactic(auto, using(crate::proofs::Texts::unlisted_source))]
 pub fn run_source(
     alloc: Global,
     bytes: &[u8],

@@ -2,7 +2,7 @@
 
 ghost use Rattle.std.specs.Prelude.{◌≡◌, ◌≤◌, IfErr, IfOk, OnOk, length};
 ghost use Rattle.base.specs.Items.{plan};
-ghost use Rattle.base.specs.Limits.{AreShort, most_items};
+ghost use Rattle.base.specs.Limits.{most_items};
 ghost use Rattle.c_read.specs.Spells.{Spells};
 ghost use Rattle.pipeline.specs.Checking.{IsUnlisted, IsUnread};
 
@@ -15,7 +15,6 @@ use std::alloc::Global;
 /// The program that a source spells. A fault is the first of the text; want of memory may come in place of any answer.
 pub fn read(alloc: Global, bytes: &[u8]) -> Result<Program, SourceFault>
     ensures spelled { IfOk result (λ p. Spells bytes.now p) }
-    ensures short { IfOk result AreShort }
     ensures fault { IfErr result (IsUnread bytes.now) }
 {
     match read_program(alloc, bytes) {

@@ -1,7 +1,6 @@
 //! From a source to its answer, on worker threads.
 
 ghost use Rattle.std.specs.Prelude.{◌≡◌, ◌≤◌, IfOk, IfErr};
-ghost use Rattle.base.specs.Limits.{AreShort};
 ghost use Rattle.pipeline.specs.Source.{IsAcceptedAnswer, IsProgramFault, IsSourceAnswer, IsSourceFault, on_threads, stopped_on_threads};
 
 use crate::text::{items, read};
@@ -27,7 +26,6 @@ pub fn run_accepted_on_threads<T: Threads + Wait + Sync>(
 ) -> Result<Answer, RunFault>
     requires some { 1 ≤ workers }
     requires few { workers ≤ 16 }
-    requires short { AreShort accepted.now }
     ensures answer { IfOk result (on_threads input.now capacity accepted.now) }
     ensures fault { IfErr result (stopped_on_threads input.now capacity accepted.now) }
 {
@@ -38,7 +36,7 @@ pub fn run_accepted_on_threads<T: Threads + Wait + Sync>(
 }
 
 // Checks a program, and runs it.
-#[tactic(auto, using(crate::proofs::Runs::accepted_too, crate::proofs::Runs::short_too))]
+#[tactic(auto, using(crate::proofs::Runs::accepted_too))]
 fn run_outlined_on_threads<T: Threads + Wait + Sync>(
     rt: &T,
     alloc: Global,
@@ -49,7 +47,6 @@ fn run_outlined_on_threads<T: Threads + Wait + Sync>(
 ) -> Result<Answer, SourceFault>
     requires some { 1 ≤ workers }
     requires few { workers ≤ 16 }
-    requires short { AreShort outlined.now }
     ensures answer { IfOk result (IsAcceptedAnswer (on_threads input.now capacity) outlined.now) }
     ensures fault { IfErr result (IsProgramFault (stopped_on_threads input.now capacity) outlined.now) }
 {
@@ -66,7 +63,7 @@ fn run_outlined_on_threads<T: Threads + Wait + Sync>(
 
 /// Runs a source by worker threads, on a host memory and devices, each of which has room for `capacity` cells. Which
 /// events happen when is left to the threads. The answer and the faults are otherwise those of `run_source`.
-#[tactic(auto, using(crate::proofs::Runs::short_too, crate::proofs::Texts::unlisted_source))]
+#[tactic(auto, using(crate::proofs::Texts::unlisted_source))]
 pub fn run_source_on_threads<T: Threads + Wait + Sync>(
     rt: &T,
     alloc: Global,

@@ -101,7 +101,6 @@ module _ (r : Run) (now : Standing) (h : IsRunning r now) (going : IsGoing r) wh
 
       pub goes_on : IsRunning later new
       goes_on = record {
-        short = h.short;
         fine = h.fine;
         numbers = h.numbers;
         fresh = subst (λ n. n < 2 ^ 64) (sym same_fresh) h.fresh;

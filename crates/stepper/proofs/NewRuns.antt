@@ -2,7 +2,6 @@
 use Rattle.std.proofs.Common.{◌≡◌, ◌<◌, ◌^◌, [], Some, sym, ap, subst, arith}
 use Rattle.base.specs.Headline.{AreNumbers}
 use Rattle.base.specs.Items.{plan}
-use Rattle.base.specs.Limits.{AreShort}
 use Rattle.device.specs.Devices.{HaveRoom}
 use Rattle.fine_machine.specs.Machine.{RunFrom, State, start}
 use Rattle.mapwalk.specs.Walk.{HasNoRangeFault}
@@ -13,11 +12,10 @@ use Rattle.stepper.specs.Running.{IsRunning}
 use Rattle.stepper.specs.Standing.{IsAt}
 
 -- a run begins
-pub is_new : (r : Run) (now : Standing) → AreShort r.program → HasNoRangeFault (plan r.program) → AreNumbers r.input →
+pub is_new : (r : Run) (now : Standing) → HasNoRangeFault (plan r.program) → AreNumbers r.input →
     r.fresh < 2 ^ 64 → r.history ≡ [] → IsGoing r → IsAt (plan r.program) now (start r.input) →
     HaveRoom now.devices r.capacity → IsRunning r now
-is_new r now short fine numbers fresh none going at room = record {
-  short = short;
+is_new r now fine numbers fresh none going at room = record {
   fine = fine;
   numbers = numbers;
   fresh = fresh;

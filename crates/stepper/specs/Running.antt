@@ -11,7 +11,6 @@ use Rattle.base.specs.Answer.{array_values, finals_in}
 use Rattle.base.specs.Meaning.{output_of}
 use Rattle.base.specs.Headline.{AreNumbers}
 use Rattle.base.specs.Items.{plan}
-use Rattle.base.specs.Limits.{AreShort}
 use Rattle.device.specs.Devices.{HaveRoom, fresh_of}
 use Rattle.fine_machine.specs.Machine.{RunFrom, step}
 use Rattle.mapwalk.specs.Walk.{HasNoRangeFault}
@@ -31,7 +30,6 @@ pub record IsThere (r : Run) (now : Standing) : Type 0 where
   pub below : (state_of r).place ≤ length (plan r.program).items + 1
 
 pub record IsRunning (r : Run) (now : Standing) : Type 0 where
-  pub short : AreShort r.program
   pub fine : HasNoRangeFault (plan r.program)
   pub numbers : AreNumbers r.input
   pub fresh : r.fresh < 2 ^ 64

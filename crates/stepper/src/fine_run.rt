@@ -3,7 +3,6 @@
 ghost use Rattle.std.specs.Prelude.{◌≡◌, IfErr, IfOk, IsTrue, OnErr, OnOk, option_map};
 ghost use Rattle.base.specs.Blocks.{holder};
 ghost use Rattle.base.specs.Items.{plan};
-ghost use Rattle.base.specs.Limits.{AreShort};
 ghost use Rattle.fine_machine.specs.Machine.{enabled};
 ghost use Rattle.mapwalk.specs.Walk.{HasNoRangeFault};
 ghost use Rattle.stepper.specs.Answering.{next_by};
@@ -57,8 +56,7 @@ impl<'p> FineRun<'p> {
         input: &'p [u64],
         capacity: u64,
     ) -> Result<FineRun<'p>, RunFault>
-        requires short { AreShort outlined.now }
-        requires fine { HasNoRangeFault (plan outlined.now) }
+        requires { HasNoRangeFault (plan outlined.now) }
         ensures start { IfOk result (IsNew outlined.now input.now capacity) }
         ensures memory { IfErr result (λ fault. fault ≡ RunFault.OutOfMemory) }
     {

@@ -2,7 +2,6 @@
 
 ghost use Rattle.std.specs.Prelude.{◌≡◌, IfErr, IfOk, drop, length};
 ghost use Rattle.base.specs.Items.{plan};
-ghost use Rattle.base.specs.Limits.{AreShort};
 ghost use Rattle.stepper.specs.Answering.{IsAnswerOf, IsFineAnswer, IsFineFault, next_by};
 ghost use Rattle.stepper.specs.Run.{IsGoing, state_of};
 ghost use Rattle.stepper.specs.Running.{IsAnswerAt};
@@ -69,7 +68,6 @@ pub fn run_fine<'p>(
     choices: &[u32],
     capacity: u64,
 ) -> Result<Answer, RunFault>
-    requires { AreShort outlined.now }
     ensures answer { IfOk result (IsFineAnswer outlined.now input.now choices.now capacity) }
     ensures fault { IfErr result (IsFineFault outlined.now input.now choices.now capacity) }
 {

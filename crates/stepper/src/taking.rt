@@ -2,7 +2,6 @@
 
 ghost use Rattle.std.specs.Prelude.{◌≡◌, ℕ, IfErr, OnOk};
 ghost use Rattle.base.specs.Items.{plan};
-ghost use Rattle.base.specs.Limits.{AreShort};
 ghost use Rattle.device.specs.Devices.{AreKept, HaveRoom};
 ghost use Rattle.mapwalk.specs.Walk.{HasNoRangeFault};
 ghost use Rattle.outline.specs.Regions.{entries_of};
@@ -33,7 +32,6 @@ pub fn take<'p>(
     standing: &mut Standing<'p>,
     event: Event,
 ) -> Result<(), RunFault>
-    requires short { AreShort outlined.now }
     requires fine { HasNoRangeFault (plan outlined.now) }
     requires able { IsAble (plan outlined.now) standing.old event }
     ensures done { OnOk result (Does (plan outlined.now) standing.old event standing.new) }

@@ -1,6 +1,5 @@
 // A run of a source, action by action.
 
-ghost use Rattle.base.specs.Limits.{AreShort};
 
 use base::fault::RunFault;
 use base::item::{Cell, Event};
@@ -109,7 +108,6 @@ fn is_full(run: &mut FineRun<'_>) -> bool {
 }
 
 fn look(alloc: Global, outlined: &Outlined<'_>) -> Result<bool, Fail>
-    requires { AreShort outlined.now }
 {
     let arrays = shown_of(alloc, outlined).map_err(Fail::new)?;
     let mut run = FineRun::new(alloc, outlined, &[], 2).map_err(Fail::new)?;

@@ -1,7 +1,6 @@
 // Sources that are read, checked and lowered, and what is done with their images.
 
 ghost use Rattle.std.specs.Prelude.{◌≤◌};
-ghost use Rattle.base.specs.Limits.{AreShort};
 
 use base::fault::{CheckFault, OutlineFault, ReadFault, RunFault};
 use base::item::Answer;
@@ -21,14 +20,12 @@ pub trait Look {
 }
 
 fn look_accepted<L: Look>(alloc: Global, accepted: &Accepted<'_>, by: &L) -> Result<bool, Fail>
-    requires { AreShort accepted.now }
 {
     let image = lower(alloc, accepted)?;
     by.look(alloc, &image)
 }
 
 fn look_outlined<L: Look>(alloc: Global, outlined: &Outlined<'_>, by: &L) -> Result<bool, Fail>
-    requires { AreShort outlined.now }
 {
     let accepted = check(alloc, outlined).map_err(Fail::new)?;
     look_accepted(alloc, &accepted, by)
@@ -62,7 +59,6 @@ fn run_accepted<R: Threads + Wait + Sync, G: Gate + Sync>(
 ) -> Result<Answer, Fault>
     requires some { 1 ≤ workers }
     requires few { workers ≤ 16 }
-    requires short { AreShort accepted.now }
 {
     let Ok(image) = lower(alloc, accepted) else {
         return Err(Fault::Run(RunFault::OutOfMemory));
@@ -85,7 +81,6 @@ fn run_outlined<R: Threads + Wait + Sync, G: Gate + Sync>(
 ) -> Result<Answer, Fault>
     requires some { 1 ≤ workers }
     requires few { workers ≤ 16 }
-    requires short { AreShort outlined.now }
 {
     match check(alloc, outlined) {
         Ok(accepted) => run_accepted(rt, alloc, &accepted, input, workers, capacity, gate),

@@ -4,7 +4,7 @@ use Rattle.c_grammar.specs.Rules.{begin}
 use Rattle.c_grammar.specs.Source.{items_of, max_source}
 use Rattle.c_expressions.specs.declared.fault.ReadError.{ReadError}
 use Rattle.c_expressions.specs.Reading.{run, Failed}
-use Rattle.c_read.proofs.Answered.{spells, no_text, is_short, is_first, is_none}
+use Rattle.c_read.proofs.Answered.{spells, no_text, is_first, is_none}
 use Rattle.c_read.proofs.program.read_program.Goals as goal
 
 pub returns-in-Err-Fault-clause-refused : goal.returns-in-Err-Fault-clause-refused
@@ -15,9 +15,6 @@ returns-in-Err-Fault-clause-refused c =
 
 pub returns-in-Ok-clause-found : goal.returns-in-Ok-clause-found
 returns-in-Ok-clause-found c = grind (arith, spells)
-
-pub returns-in-Ok-clause-short : goal.returns-in-Ok-clause-short
-returns-in-Ok-clause-short c = grind (arith, is_short)
 
 pub returns-in-Err-Fault-clause-fault : goal.returns-in-Err-Fault-clause-fault
 returns-in-Err-Fault-clause-fault c = grind (arith, is_first)

@@ -5,7 +5,6 @@ use Rattle.lower.proofs.image.build.Goals as goal
 pub invariant_of-result : goal.invariant_of-result
 invariant_of-result c = record {
   accepted = c.requires.accepted;
-  short = c.requires.short;
   no_statement = search rules;
   codes_kept = c.in_ok-codes.ensures;
   marked_kept = c.requires.marked;

@@ -3,6 +3,7 @@ use Rattle.std.proofs.lemmas.Result.{IfErr-weaker, on_ok_weaker}
 use Rattle.std.proofs.lemmas.Option.{slice_get_within}
 use Rattle.base.specs.declared.item.Event.TheVariants as event
 use Rattle.base.specs.Items.{plan}
+use Rattle.base.proofs.ShortArrays.{are_short}
 use Rattle.outline.specs.Regions.{entries_of}
 use Rattle.stepper.specs.Opening.{region_in}
 use Rattle.stepper.specs.Taking.{Does, IsAble, IsTakeFault}
@@ -31,7 +32,7 @@ open-requires-clause-inside c = let able = (subst (IsAble (plan c.args.outlined.
 pub open-requires-clause-sections : goal.open-requires-clause-sections
 open-requires-clause-sections c =
     found_sections (plan c.args.outlined.now) (entries_of c.args.outlined.now) c.items.result.now c.items.ensures.shown c.in-Open.item _ ((subst (IsAble (plan c.args.outlined.now) c.args.standing.now) c.in-Open.is c.requires.able)).may
-    c.index-items-item.result c.index-items-item.is c.requires.fine c.requires.short
+    c.index-items-item.result c.index-items-item.is c.requires.fine (are_short c.args.outlined.now)
 
 pub unreachable-requires : goal.unreachable-requires
 unreachable-requires c =
