@@ -35,9 +35,9 @@ fn store_values(values: &mut [u64], start: u64, first: u64, numbers: &[u64], mar
     let end = (start + values.len() as u64).min(first.saturating_add(numbers.len() as u64));
     'indices: for index in begin..end {
         let k = (index - first) as usize;
-        if marks[k] {
-            values[(index - start) as usize] = numbers[k];
-        }
+        let at = (index - start) as usize;
+        // stored in any case: with no branch several are done at once
+        values[at] = if marks[k] { numbers[k] } else { values[at] };
     }
 }
 
