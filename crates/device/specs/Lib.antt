@@ -4,6 +4,7 @@ pub mod Reached
 pub mod Allowed
 pub mod Standing
 pub mod Opening
+pub mod Blank
 pub mod Framing
 pub mod Closing
 pub mod Run

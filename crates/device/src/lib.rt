@@ -13,6 +13,7 @@ pub use crate::turns::Turn;
 
 mod allowed;
 mod answer;
+mod blank;
 mod choosing;
 mod close;
 mod closing;

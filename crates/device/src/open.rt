@@ -7,9 +7,9 @@ ghost use Rattle.base.specs.declared.item.Event.TheVariants as event;
 ghost use Rattle.device.specs.Jobs.{IsJob};
 ghost use Rattle.device.specs.Run.{HasOpened, IsOpenFault, is_over, state_of};
 
+use crate::blank::{blank_if, take_cells};
 use crate::jobs::Job;
-use crate::opening::fill;
-use crate::same_frame::copy_if;
+use crate::standing::Held;
 use crate::state::{RunState, forget, note};
 use base::fault::RunFault;
 use base::item::Event;
@@ -29,16 +29,19 @@ impl<'a> RunState<'a> {
         let Ok(frame) = self.standing.frame(self.alloc, self.image, it, item) else {
             return Err(RunFault::OutOfMemory);
         };
-        let Ok(copy) = copy_if(self.alloc, &frame, wanted) else {
+        let Ok(blank) = blank_if(self.alloc, &frame, wanted) else {
             return Err(RunFault::OutOfMemory);
         };
         note(&mut self.history, Event::Open(item))?;
         match self.standing.open(it, item, frame) {
             Ok(()) => {
-                let Some(mut issued) = copy else {
+                let Some(mut issued) = blank else {
                     return Ok(None);
                 };
-                fill(it.kind, &mut issued, self.standing.devices.table(it.device));
+                let Held::Issued(held) = &self.standing.held[item as usize] else {
+                    unreachable!()
+                };
+                take_cells(&mut issued, held);
                 Ok(Some(self.job(item, issued)))
             }
             Err(fault) => {

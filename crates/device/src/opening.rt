@@ -15,8 +15,8 @@ use frames::load_rows;
 use kernel::Frame;
 use present::Table;
 
-/// The frame of a kernel takes the numbers of its device. It takes no memory.
-pub fn fill(kind: ItemKind, frame: &mut Frame<'_>, table: &Table)
+// The frame of a kernel takes the numbers of its device. It takes no memory.
+fn fill(kind: ItemKind, frame: &mut Frame<'_>, table: &Table)
     requires { kind ≡ ItemKind.Target → length frame.old.rows.items ≤ 2 ^ 32 }
     ensures filled { IsFilled kind frame.old table.now frame.new }
     ensures rows { FillsRows kind frame.old table.now frame.new }

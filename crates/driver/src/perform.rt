@@ -17,15 +17,16 @@ use crate::explained::do_explain;
 use base::fault::{CheckFault, OutlineFault, ReadFault, RunFault, SourceFault};
 use base::item::Answer;
 use base::tree::Program;
-use c_read::read_program;
 use clap::error::ErrorKind;
 use command::{Request, Run, Step, Workers, parse};
 use erased_meaning::erased_text_runs;
 use mapcheck::{Accepted, check};
 use mend::mend;
 use numbers::{NumbersFault, choice_list, input_numbers};
-use outline::{Outlined, outline};
-use pipeline::{check_source, list_source, run_accepted, run_accepted_on_threads, tell};
+use outline::Outlined;
+use pipeline::{
+    check_source, items, list_source, read, run_accepted, run_accepted_on_threads, tell,
+};
 use report::{Misuse, fault_text, finals_text, log_text, misuse_text};
 use std::alloc::Global;
 use std::io;
@@ -286,9 +287,9 @@ fn answer<'a, T: Threads + Wait + Sync, R: Read, E: Write>(
     ensures answered { IfOk result (IsReadAnswer (answers_of asked.entry.way asked.entry.capacity) (R.remaining input.old) program.now) }
     ensures refused { IfErr result (IsRefusalBy (IsPlanFault (is_checked asked.entry.way) program.now)) }
 {
-    let outlined = match outline(alloc, program) {
+    let outlined = match items(alloc, program) {
         Ok(outlined) => outlined,
-        Err(fault) => return Err(Ending::Source(SourceFault::Outline(fault))),
+        Err(fault) => return Err(Ending::Source(fault)),
     };
     match asked.way {
         Way::Checked(next) => {
@@ -334,9 +335,9 @@ fn run_file<'a, T: Threads + Wait + Sync, S: Sources, R: Read, W: Write, E: Writ
     ensures printed { IfOk result (λ s. s ≡ 0 → OfSource (S.known sources.old asked.entry.file.now) (λ bytes. IsPrinted (answers_of asked.entry.way asked.entry.capacity) asked.entry.log asked.entry.finals bytes (R.remaining input.old) (W.contents out.old) (W.contents out.new))) }
 {
     let bytes = bytes_of(sources, asked.file)?;
-    let program = match read_program(alloc, &bytes) {
+    let program = match read(alloc, &bytes) {
         Ok(program) => program,
-        Err(fault) => return Err(Ending::Source(SourceFault::Read(fault))),
+        Err(fault) => return Err(Ending::Source(fault)),
     };
     erased_text_runs();
     let answer = answer(rt, alloc, &program, asked, input, err)?;

@@ -15,7 +15,7 @@ returns-in_err-answer-clause-refused g c =
     (by_wider (IsPlanFault checked c.in-Ok.program) (IsRefusedOf checked source) e (λ f h. (
       is_sought checked c.in-Ok.program f h,
       of_source source (λ bytes. IsRefused bytes f) c.in_ok-bytes.bytes.items c.deref.result.now c.in_ok-bytes.ensures.bytes c.deref.ensures.value
-          (of_bytes checked c.deref.result.now c.in-Ok.program f c.in-Ok.ensures.found h),
+          (of_bytes checked c.deref.result.now c.in-Ok.program f c.in-Ok.ensures.spelled h),
     )) c.in_err-answer.ensures.refused)
 
 pub returns-in-Ok-write_answer-clause-printed : goal.returns-in-Ok-write_answer-clause-printed
@@ -25,10 +25,10 @@ returns-in-Ok-write_answer-clause-printed g c =
     (g.W.Write.contents c.args.out.now) (g.W.Write.contents c.write_answer.new.out))
     c.in_ok-bytes.bytes.items c.deref.result.now c.in_ok-bytes.ensures.bytes c.deref.ensures.value (record {
       program = c.in-Ok.program;
-      spelled = c.in-Ok.ensures.found;
+      spelled = c.in-Ok.ensures.spelled;
       answer = c.in_ok-answer.answer;
       answered = c.in_ok-answer.ensures.answered;
       without = without_directives c.erased_text_runs.ensures c.args.asked.way c.args.asked.capacity c.in_ok-answer.ensures.answered.input
-          c.deref.result.now c.in-Ok.program c.in_ok-answer.answer c.in-Ok.ensures.found c.in_ok-answer.ensures.answered.answer;
+          c.deref.result.now c.in-Ok.program c.in_ok-answer.answer c.in-Ok.ensures.spelled c.in_ok-answer.ensures.answered.answer;
       written = c.in-Ok-write_answer.ensures;
     })

@@ -1,6 +1,0 @@
-use Rattle.std.proofs.Common.{◌≡◌, map, take}
-use Rattle.device.specs.Standing.{row_parts}
-use Rattle.device.proofs.same_frame.copy_of_rows.Given as goal
-
-abbrev pub invariant-each : goal.invariant-each
-invariant-each l = map row_parts l.copy.items ≡ map row_parts (take l.row-index l.rows)

@@ -1,0 +1,24 @@
+-- A frame without its cells, with room for them.
+use Rattle.std.specs.Prelude.{◌≡◌, ◌≤◌, ℕ, List, [], Some, length, slice_get, vec_capacity}
+use Rattle.kernel.specs.declared.frames.Frame.{Frame}
+use Rattle.kernel.specs.declared.frames.Row.{Row}
+use Rattle.device.specs.Standing.{Issue}
+
+-- such a row, by the first place and the numbers that it is for
+pub record IsBlankRow (p : ℕ × List ℕ) (r : Row) : Type 0 where
+  pub first : r.first ≡ p.0
+  pub cells : r.cells.items ≡ []
+  pub room : length p.1 ≤ vec_capacity r.cells
+
+-- such rows
+pub record AreBlankRows (ps : List (ℕ × List ℕ)) (rs : List Row) : Type 0 where
+  pub count : length rs ≡ length ps
+  pub each : (k : ℕ) (p : ℕ × List ℕ) (r : Row) → slice_get ps k ≡ Some p → slice_get rs k ≡ Some r → IsBlankRow p r
+
+-- such a frame
+pub record IsBlank (p : Issue) (f : Frame) : Type 0 where
+  pub item : f.item ≡ p.item
+  pub loops : f.loops.now.values.items ≡ p.loops
+  pub scalars : f.scalars ≡ p.scalars
+  pub rows : AreBlankRows p.rows f.rows.items
+  pub input : f.input.now ≡ p.input

@@ -1,0 +1,78 @@
+// A frame without its cells, with room for them.
+
+ghost use Rattle.std.specs.Prelude.{◌≡◌, IfOk, IfSome, IsSome, map, true};
+ghost use Rattle.device.specs.Blank.{AreBlankRows, IsBlank, IsBlankRow};
+ghost use Rattle.device.specs.Standing.{frame_parts, row_parts};
+
+use kernel::{Frame, Row};
+use std::alloc::{AllocError, Global};
+
+fn blank_rows(alloc: Global, rows: &[Row]) -> Result<Vec<Row>, AllocError>
+    ensures { IfOk result (λ blank. AreBlankRows (map row_parts rows.now) blank.items) }
+{
+    let mut blank = Vec::new(alloc);
+    'each: for row in rows {
+        blank.push(Row {
+            first: row.first,
+            cells: Vec::with_capacity(alloc, row.cells.len())?,
+        })?;
+    }
+    Ok(blank)
+}
+
+fn blank_of<'a>(alloc: Global, frame: &Frame<'a>) -> Result<Frame<'a>, AllocError>
+    ensures { IfOk result (IsBlank (frame_parts frame.now)) }
+{
+    let rows = blank_rows(alloc, &frame.rows)?;
+    Ok(Frame {
+        item: frame.item,
+        loops: frame.loops,
+        scalars: frame.scalars.copy(alloc)?,
+        rows,
+        input: frame.input,
+    })
+}
+
+/// The same frame without its cells, if it is wanted.
+pub fn blank_if<'a>(
+    alloc: Global,
+    frame: &Frame<'a>,
+    wanted: bool,
+) -> Result<Option<Frame<'a>>, AllocError>
+    ensures wanted { IfOk result (λ blank. wanted ≡ true → IsSome blank) }
+    ensures blank { IfOk result (λ blank. IfSome blank (IsBlank (frame_parts frame.now))) }
+{
+    if !wanted {
+        return Ok(None);
+    }
+    Ok(Some(blank_of(alloc, frame)?))
+}
+
+fn fill_row(blank: &mut Row, row: &Row)
+    requires { IsBlankRow (row_parts row.now) blank.old }
+    ensures { row_parts blank.new ≡ row_parts row.now }
+{
+    if blank.cells.extend_from_slice(&row.cells).is_err() {
+        unreachable!()
+    }
+}
+
+fn fill_rows(blank: &mut [Row], rows: &[Row])
+    requires { AreBlankRows (map row_parts rows.now) blank.old }
+    ensures { map row_parts blank.new ≡ map row_parts rows.now }
+{
+    if let [row, rest @ ..] = rows {
+        if let [first, others @ ..] = blank {
+            fill_row(first, row);
+            fill_rows(others, rest);
+        }
+    }
+}
+
+/// It takes the cells of the frame that it is for. It takes no memory.
+pub fn take_cells(blank: &mut Frame<'_>, frame: &Frame<'_>)
+    requires { IsBlank (frame_parts frame.now) blank.old }
+    ensures { frame_parts blank.new ≡ frame_parts frame.now }
+{
+    fill_rows(&mut blank.rows, &frame.rows);
+}
