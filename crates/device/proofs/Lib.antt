@@ -17,6 +17,8 @@ pub mod MayClose
 pub mod Allowing
 pub mod EventBounds
 pub mod Choices
+pub mod InOrder
+pub mod Blanks
 pub mod Answers
 pub mod Places
 pub mod SameBodies

@@ -1,8 +1,9 @@
 -- An item that was opened may be closed, and its frame was issued.
-use Rattle.std.proofs.Common.{◌≡◌, ◌<◌, ℕ, true, false, length, map, Some, sym, ap, ap₂, ◌∙◌, subst, arith}
-use Rattle.std.specs.Prelude.{◌==◌, if◌then◌else◌, slice_get}
+use Rattle.std.proofs.Common.{◌≡◌, ◌<◌, ℕ, true, false, length, map, List, Option, Some, sym, ap, ap₂, ◌∙◌, subst, arith}
+use Rattle.std.specs.Prelude.{◌==◌, if◌then◌else◌, option_map, slice_get}
 use Rattle.std.proofs.lemmas.Bool.Decides.{nat_tests}
 use Rattle.std.proofs.lemmas.List.{length-map}
+use Rattle.std.proofs.lemmas.Option.{same_Some, slice_get-map, slice_get_within}
 use Rattle.base.specs.declared.item.Event.TheVariants as event
 use Rattle.base.specs.declared.item.Item.{Item}
 use Rattle.base.specs.declared.tree.Program.{Program}
@@ -11,14 +12,14 @@ use Rattle.base.specs.Machine.{Condition, Opened, State, captured_by, enabled, i
 use Rattle.base.proofs.Places.{get_set_same}
 use Rattle.kernel.specs.declared.frames.Frame.{Frame}
 use Rattle.device.specs.declared.standing.Standing.{Standing}
-use Rattle.present.specs.declared.Table.{Table}
-use Rattle.device.specs.Devices.{table_at}
-use Rattle.device.proofs.Tables.{same_table}
-use Rattle.device.specs.Opening.{FillsRows, IsFilled, Issues}
+use Rattle.device.specs.declared.standing.Held.{Held}
+use Rattle.device.specs.declared.standing.Held.TheVariants as held
+use Rattle.device.specs.Blank.{IsBlank}
+use Rattle.device.specs.Opening.{Issues}
 use Rattle.device.specs.Run.{Run, fill_in, state_of}
 use Rattle.device.specs.Running.{IsReached}
-use Rattle.device.specs.Standing.{frame_parts, issue_of}
-use Rattle.device.proofs.FrameParts.{filled_alike}
+use Rattle.device.specs.Standing.{Issue, frame_parts, issue_of}
+use Rattle.device.proofs.Blanks.{still_blank}
 use Rattle.device.proofs.Openings.{IsOpened, is_opened, on_work}
 use Rattle.device.proofs.Reaching.{IsNext, Next, reached_next}
 
@@ -42,17 +43,36 @@ may_close r r' i w h n at is =
     opened : State
     opened = with_condition i now (with_memories w.device o.memories (state_of r))
 
--- a frame that is the same as the one that was given is the one that was issued, once it is filled
-pub is_held : (it : Item) (given other filled : Frame) (i : ℕ) (old new : Standing) (t : Table) → Issues it given i old new →
-    table_at new.devices it.device.number ≡ Some t → i < length old.held.items → frame_parts other ≡ frame_parts given →
-    IsFilled it.kind other t filled → FillsRows it.kind other t filled →
-    slice_get (map issue_of new.held.items) i ≡ Some (Some (frame_parts filled))
-is_held it given other filled i old new t h has lt e f g =
-    ap (λ xs. slice_get xs i) h.is
-    ∙ get_set_same (map issue_of old.held.items) i (Some (frame_parts h.frame)) (let n = length-map old.held.items issue_of in omega arith)
-    ∙ ap (λ p. Some (Some p))
-    (filled_alike it.kind t given h.frame other filled (sym e) (subst (λ (x : Table). IsFilled it.kind given x h.frame) same h.filled)
-    (subst (λ (x : Table). FillsRows it.kind given x h.frame) same h.rows) f g)
-  where
-    same : h.table ≡ t
-    same = same_table new.devices it.device.number h.table t h.has has
+-- what is kept for the item is the frame that was issued
+module _ (it : Item) (given : Frame) (i : ℕ) (old new : Standing) (h : Issues it given i old new)
+    (lt : i < length old.held.items) where
+  issued_at : slice_get (map issue_of new.held.items) i ≡ Some (Some (frame_parts h.frame))
+  issued_at =
+      ap (λ xs. slice_get xs i) h.is
+      ∙ get_set_same (map issue_of old.held.items) i (Some (frame_parts h.frame))
+      (let n = length-map old.held.items issue_of in omega arith)
+
+  pub still_there : i < length new.held.items
+  still_there =
+      let l = length-map new.held.items issue_of in
+      let m = slice_get_within (map issue_of new.held.items) i (Some (frame_parts h.frame)) issued_at in
+      omega arith
+
+  pub kept_issue : (x : Held) → slice_get new.held.items i ≡ Some x → issue_of x ≡ Some (frame_parts h.frame)
+  kept_issue x at =
+      same_Some (issue_of x) (Some (frame_parts h.frame))
+      (sym (slice_get-map issue_of new.held.items i ∙ ap (option_map issue_of) at) ∙ issued_at)
+
+  pub kept_frame : (f : Frame) → slice_get new.held.items i ≡ Some (held.Issued f) → frame_parts f ≡ frame_parts h.frame
+  kept_frame f at = same_Some (frame_parts f) (frame_parts h.frame) (kept_issue (held.Issued f) at)
+
+  -- a frame without cells is for it, if it was for the one that was given
+  pub is_for_kept : (blank f : Frame) → slice_get new.held.items i ≡ Some (held.Issued f) → IsBlank (frame_parts given) blank →
+      IsBlank (frame_parts f) blank
+  is_for_kept blank f at b =
+      subst (λ (p : Issue). IsBlank p blank) (sym (kept_frame f at))
+      (still_blank it.kind h.table given h.frame blank h.filled h.rows b)
+
+  pub is_held : (filled f : Frame) → slice_get new.held.items i ≡ Some (held.Issued f) → frame_parts filled ≡ frame_parts f →
+      slice_get (map issue_of new.held.items) i ≡ Some (Some (frame_parts filled))
+  is_held filled f at e = issued_at ∙ ap (λ p. Some (Some p)) (sym (e ∙ kept_frame f at))

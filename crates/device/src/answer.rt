@@ -115,8 +115,8 @@ impl<'a> RunState<'a> {
 
 /// Runs an accepted program on this input by these choices, on devices each with room for `capacity` cells. The answer
 /// has the values of the arrays that are marked current, and after none of its events are more than `capacity` cells of
-/// a device in use. The error is `DeviceFull` where the run comes to an opening that would create more cells than its
-/// device has room for, or `OutOfMemory`.
+/// a device in use. With no choice at all each item is closed before the next one is met. The error is `DeviceFull` where
+/// the run comes to an opening that would create more cells than its device has room for, or `OutOfMemory`.
 pub fn run_choices(
     alloc: Global,
     image: &Image<'_>,
@@ -126,6 +126,7 @@ pub fn run_choices(
 ) -> Result<Answer, RunFault>
     ensures answer { IfOk result (IsAnswer image.now input.now choices.now) }
     ensures within { IfOk result (IsAnswerWithin image.now input.now capacity) }
+    ensures in_order { IfOk result (λ answer. choices.now ≡ [] → answer.history.items ≡ program_order (plan image.now)) }
     ensures fault { IfErr result (IsAnswerFault image.now input.now choices.now capacity) }
 {
     let mut run = match RunState::new(alloc, image, input, capacity) {

@@ -1,11 +1,12 @@
 // A run by choices to its end.
 
-ghost use Rattle.std.specs.Prelude.{◌≡◌, drop, length, slice_get, IfErr, OnOk};
+ghost use Rattle.std.specs.Prelude.{◌≡◌, [], drop, length, slice_get, IfErr, OnOk};
 ghost use Rattle.base.specs.Headline.{ShowsErased};
 ghost use Rattle.base.specs.Items.{plan};
 ghost use Rattle.base.specs.Machine.{all_enabled, first_or_zero};
 ghost use Rattle.device.specs.Choosing.{IsPlayed, IsStopped, most_events, next_by};
 ghost use Rattle.device.specs.Run.{state_of};
+ghost use Rattle.headline.specs.Stepwise.{program_order};
 
 use crate::allowed::{allowed_count, nth_allowed};
 use crate::state::RunState;
@@ -66,14 +67,17 @@ impl<'a> RunState<'a> {
 
     /// The run goes on to its end: of the events that may happen next, in the order of `enabled`, each choice in turn
     /// takes the one at its place, counted around, and after the last choice it is the first one. Whatever the choices, what was
-    /// printed at the end and the arrays that are marked current are those of the erased program. The error is
+    /// printed at the end and the arrays that are marked current are those of the erased program. With no choice at all a run
+    /// that has done nothing closes each item before it meets the next one. The error is
     /// `DeviceFull` where an opening would create more cells than its device has room for, or `OutOfMemory`; the run
     /// then stands before the event that was not done.
     pub fn play_choices(&mut self, choices: &[u32]) -> Result<(), RunFault>
         ensures played { OnOk result (IsPlayed choices.now self.old self.new) }
         ensures shows { OnOk result (ShowsErased self.new.program self.new.input (state_of self.new)) }
+        ensures in_order { OnOk result (choices.now ≡ [] → self.old.history ≡ [] → self.new.history ≡ program_order (plan self.new.program)) }
         ensures stopped { IfErr result (IsStopped choices.now self.old self.new) }
     {
+        self.is_reached();
         let most = self.most_events();
         for turn in 0..most {
             self.is_reached();

@@ -153,6 +153,36 @@ fn a_full_device_changes_nothing(rt: HostRuntime) -> Result<(), Fail> {
     Ok(())
 }
 
+// Whether the choices stop before the opening of this item, after so many events, on a device of this size.
+fn stops_at(
+    alloc: Global,
+    image: &Image<'_>,
+    capacity: u64,
+    item: u32,
+    events: usize,
+) -> Result<bool, Fail> {
+    let mut run = RunState::new(alloc, image, &[], capacity).map_err(Fail::new)?;
+    Ok(run.play_choices(&[0, 0, 0, 0, 1, 1]) == Err(RunFault::DeviceFull)
+        && run.history().len() == events
+        && run.is_enabled(Event::Open(item)))
+}
+
+struct Sizes;
+
+impl Look for Sizes {
+    fn look(&self, alloc: Global, image: &Image<'_>) -> Result<bool, Fail> {
+        Ok(stops_at(alloc, image, 0, 1, 3)?
+            && stops_at(alloc, image, 7, 1, 3)?
+            && stops_at(alloc, image, 15, 2, 5)?)
+    }
+}
+
+#[test]
+fn a_run_stops_where_its_device_is_full(rt: HostRuntime) -> Result<(), Fail> {
+    assert!(rt; look_at(rt.alloc(), TWO_ARRAYS, &Sizes)?);
+    Ok(())
+}
+
 // The target adds to the count of the entry, and leaves it its cells.
 fn is_kept(run: &mut RunState<'_>) -> bool {
     let events = [

@@ -16,6 +16,8 @@ mod jobs;
 #[cfg(test)]
 mod kernel_tests;
 #[cfg(test)]
+mod limits;
+#[cfg(test)]
 mod order_tests;
 #[cfg(test)]
 mod orders;

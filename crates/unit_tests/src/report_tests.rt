@@ -1,11 +1,11 @@
 // Lines of refusals that no source of the others has, and writers that fail.
 
 use base::fault::{CheckFault, OrderFault, Refusal, RefusalCode};
-use base::item::Cell;
+use base::item::{Cell, Event};
 use base::tree::{ArrayId, Program};
 use c_read::read_program;
 use outline::{Outlined, outline};
-use report::{list_text, refusal_text};
+use report::{list_text, log_text, refusal_text};
 use std::alloc::Global;
 use std::io;
 use std::io::Write;
@@ -74,6 +74,16 @@ fn a_failing_writer_ends_the_listing(rt: HostRuntime) -> Result<(), Fail> {
         assert!(rt; ends_at(alloc, &outlined, room), "{room}");
     }
     Ok(())
+}
+
+#[test]
+fn a_failing_writer_ends_the_log(rt: HostRuntime) {
+    let mut out = Narrow {
+        room: 7,
+        taken: Vec::new(rt.alloc()),
+    };
+    assert!(rt; is_full(log_text(&[Event::Open(0), Event::Close(0)], &mut out)));
+    assert!(rt; out.taken.as_slice() == b"open 0\n".as_slice());
 }
 
 const FAR: CheckFault = CheckFault::Refused(Refusal {

@@ -95,17 +95,33 @@ impl Gate for TwoAtOnce {
     }
 }
 
-#[test]
-fn two_kernels_are_computed_at_once(rt: HostRuntime) -> Result<(), Fail> {
+// Whether so many workers compute the two kernels at once.
+fn computes_two<R: Threads + Wait + Sync>(
+    rt: &R,
+    alloc: Global,
+    workers: usize,
+) -> Result<bool, Fail>
+    requires some { 1 ≤ workers }
+    requires few { workers ≤ 16 }
+{
     let gate = TwoAtOnce {
         came: AtomicU64::new(0),
         late: AtomicU64::new(0),
         passed: AtomicU64::new(0),
     };
-    let answer = run_source(&rt, rt.alloc(), TWO_KERNELS, &[], 2, 16, &gate)?;
-    assert!(rt; answer.out.as_slice() == b"7\n13\n".as_slice());
+    let answer = run_source(rt, alloc, TWO_KERNELS, &[], workers, 16, &gate)?;
     // four items, each opened, computed and closed
-    assert!(rt; is(&gate.late, 0) && is(&gate.passed, 12));
+    Ok(answer.out.as_slice() == b"7\n13\n".as_slice()
+        && is(&gate.late, 0)
+        && is(&gate.passed, 12))
+}
+
+#[test]
+fn two_kernels_are_computed_at_once(rt: HostRuntime) -> Result<(), Fail> {
+    for _ in 0..100 {
+        assert!(rt; computes_two(&rt, rt.alloc(), 2)?);
+        assert!(rt; computes_two(&rt, rt.alloc(), 16)?);
+    }
     Ok(())
 }
 

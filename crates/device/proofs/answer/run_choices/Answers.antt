@@ -1,4 +1,7 @@
-use Rattle.std.proofs.Common.{◌∙◌}
+use Rattle.std.proofs.Common.{◌∙◌, ap}
+use Rattle.base.specs.Items.{plan}
+use Rattle.base.specs.declared.tree.Program.{Program}
+use Rattle.headline.specs.Stepwise.{program_order}
 use Rattle.device.proofs.Answers.{is_answer, no_answer}
 use Rattle.device.proofs.Rooms.{answer_within}
 use Rattle.device.proofs.answer.run_choices.Goals as goal
@@ -21,3 +24,10 @@ returns-clause-within c =
     answer_within c.play_choices.new.self c.args.image.now c.args.input.now c.args.capacity c.in-Ok-answer.answer
     c.is_reached.ensures.reached c.is_reached.ensures.stayed (goes.program ∙ begun.program) (goes.input ∙ begun.input)
     (goes.capacity ∙ begun.capacity) c.in-Ok-answer.ensures.history
+
+pub returns-clause-in_order : goal.returns-clause-in_order
+returns-clause-in_order c none =
+    let goes = c.in-Ok-play_choices.ensures.played.goes in
+    let begun = c.in-Ok.ensures.start in
+    c.in-Ok-answer.ensures.history ∙ c.in-Ok-play_choices.ensures.in_order none begun.history
+    ∙ ap (λ (p : Program). program_order (plan p)) (goes.program ∙ begun.program)
