@@ -1,4 +1,4 @@
-//! Each limit of a source at its value, and one above it; and sources that end too early.
+//! Each limit of a source at its value, and one above it.
 
 use base::fault::{ReadCode, ReadFault};
 use c_read::read_program;
@@ -172,32 +172,4 @@ fn limits_are_met_and_no_more(rt: HostRuntime) -> Result<(), Fail> {
     assert!(rt; is_limit(alloc, &Terms, 8, ReadCode::TooMany)?);
     assert!(rt; is_limit(alloc, &Bytes, 1_048_576, ReadCode::TooMany)?);
     Ok(())
-}
-
-// Each ends in a brace and a line feed.
-const WHOLE: [&str; 4] = [
-    "uint64_t A[4];\nint main(void) {\nfor (uint64_t i = 0; i < 4; i += 1) { A[i] = i; }\n#pragma omp target map(tofrom: A[0:4])\nfor (uint64_t i = 0; i < 4; i += 1) { A[i] = A[i] * 2 + 1; }\nfor (uint64_t i = 0; i < 4; i += 1) { print(A[i]); }\n}\n",
-    "uint64_t A[4];\nint main(void) {\n#pragma omp target data map(alloc: A[0:4])\n{\n#pragma omp target\nfor (uint64_t i = 0; i < 4; i += 1) { A[i] = i + 5; }\n#pragma omp target update from(A[0:2])\nprint(A[1]);\n}\n}\n",
-    "uint64_t A[8];\nint main(void) {\n#pragma omp target enter data map(to: A)\n#pragma omp target map(tofrom: A[0:4]) nowait\nfor (uint64_t i = 0; i < 4; i += 1) { A[i] = i + 1; }\n#pragma omp target map(tofrom: A[4:4]) nowait\nfor (uint64_t i = 4; i < 8; i += 1) { A[i] = i * 10; }\n#pragma omp taskwait\n#pragma omp target update from(A)\nfor (uint64_t i = 0; i < 8; i += 1) { print(A[i]); }\n}\n",
-    "uint64_t A[8];\nuint64_t B[8];\nint main(void) {\nB[0] = 3;\n#pragma omp target map(tofrom: A) nowait\nfor (uint64_t i = 0; i < 8; i += 1) { A[i] = i; }\n#pragma omp target map(tofrom: B) nowait\nfor (uint64_t i = 0; i < 8; i += 1) { B[i] = B[i] + 10; }\n#pragma omp taskwait\nprint(A[7]); print(B[0]);\n}\n",
-];
-
-// Whether it is read, and refused where it ends before its last brace.
-fn is_whole(alloc: Global, text: &str) -> bool {
-    let bytes = text.as_bytes();
-    let last = bytes.len().saturating_sub(2);
-    is_read(alloc, text)
-        && (0..=last).all(|end| {
-            matches!(
-                read_program(alloc, bytes.get(..end).unwrap_or(bytes)),
-                Err(ReadFault::Text(_))
-            )
-        })
-}
-
-#[test]
-fn a_source_is_refused_wherever_it_is_cut(rt: HostRuntime) {
-    for text in WHOLE {
-        assert!(rt; is_whole(rt.alloc(), text));
-    }
 }
