@@ -53,7 +53,7 @@ pub record HasValues (lengths : List ℕ) (now : Standing) (x : State) : Type 0 
   pub counts : (d : ℕ) → CountsAtMost now.entered (x.memories.devices d).blocks
   pub scalars : x.scalars ≡ slice_index now.scalars
   pub input : x.input ≡ now.input.now
-  pub output : x.output ≡ now.output.items
+  pub output : x.output ≡ now.output
 
 -- an item that is closed: the state that its kind leads to, and then its condition
 pub record IsClosed (plan : Plan) (i : ℕ) (w : Work) (s t : State) : Type 0 where

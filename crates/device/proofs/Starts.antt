@@ -65,7 +65,7 @@ pub record IsFresh (plan : Plan) (its : List Item) (input : List ℕ) (now : Sta
   pub ended : now.ended ≡ false
   pub scalars : now.scalars ≡ []
   pub given : now.input.now ≡ input
-  pub output : now.output.items ≡ []
+  pub output : now.output ≡ []
   pub held : now.held.items ≡ replicate (length its) Nothing
 
 pub started : (plan : Plan) (entries : List Entry) (its : List Item) (input : List ℕ) (now : Standing) →

@@ -33,7 +33,7 @@ pub record HasDoneHost (k : Kept) (old new : Standing) : Type 0 where
   pub lengths : lengths_of new.host ≡ lengths_of old.host
   pub scalars : slice_index new.scalars ≡ k.scalars
   pub input : new.input.now ≡ k.input
-  pub output : new.output.items ≡ old.output.items ++ k.printed
+  pub output : new.output ≡ old.output ++ k.printed
   pub devices : new.devices ≡ old.devices
   pub entered : new.entered ≡ old.entered
   pub graph : new.graph ≡ old.graph

@@ -110,7 +110,7 @@ pub record IsAt (plan : Plan) (now : Standing) (s : State) : Type 0 where
   pub ended : now.ended ≡ true → (now.graph.place ≡ length plan.items) × (deferred_closed plan s ≡ true)
   pub scalars : s.scalars ≡ slice_index now.scalars
   pub input : s.input ≡ now.input.now
-  pub output : s.output ≡ now.output.items
+  pub output : s.output ≡ now.output
   pub slots : length now.held.items ≡ length plan.items
   pub held : (i : ℕ) (w : Work) → slice_get plan.items i ≡ Some w →
       Keeps i w s.input (s.condition i) (slice_get now.held.items i)

@@ -1,13 +1,14 @@
 // What a whole run by choices answers.
 
-ghost use Rattle.std.specs.Prelude.{◌≡◌, ◌++◌, ◌∷◌, [], IfErr, IfOk, OnOk, decimal, map, slice_index};
+ghost use Rattle.std.specs.Prelude.{◌≡◌, [], IfErr, IfOk, map, slice_index};
 ghost use Rattle.base.specs.Answer.{IsAnswer};
 ghost use Rattle.base.specs.Items.{plan};
 ghost use Rattle.base.specs.Machine.{HasEnded};
-ghost use Rattle.base.specs.Meaning.{lengths_of, output_of};
+ghost use Rattle.base.specs.Meaning.{lengths_of};
 ghost use Rattle.device.specs.Answering.{IsAnswerFault, IsAnswerOf, IsRunAnswer, final_in, final_of, values_in};
 ghost use Rattle.device.specs.Room.{IsAnswerWithin};
 ghost use Rattle.device.specs.Run.{state_of};
+ghost use Rattle.headline.specs.Stepwise.{program_order};
 
 use crate::state::RunState;
 use base::fault::RunFault;
@@ -15,26 +16,6 @@ use base::item::{Answer, Cell, Event};
 use base::tree::ArrayId;
 use lower::Image;
 use std::alloc::{AllocError, Global};
-
-// A number in decimal, with a line feed.
-fn add_line(alloc: Global, out: &mut Vec<u8>, n: u64) -> Result<(), AllocError>
-    ensures { OnOk result (out.new.items ≡ out.old.items ++ (decimal n ++ 10 ∷ [])) }
-{
-    let line = format!(in alloc; "{}\n", n)?;
-    out.extend_from_slice(line.as_bytes())?;
-    Ok(())
-}
-
-/// The output's bytes: each number in decimal, in a line of its own.
-pub fn text_of(alloc: Global, printed: &[u64]) -> Result<Vec<u8>, AllocError>
-    ensures { IfOk result (λ out. out.items ≡ output_of printed.now) }
-{
-    let mut out = Vec::new(alloc);
-    for n in printed {
-        add_line(alloc, &mut out, *n)?;
-    }
-    Ok(out)
-}
 
 // The events again.
 fn copy_of(alloc: Global, history: &[Event]) -> Result<Vec<Event>, AllocError>
@@ -88,7 +69,7 @@ impl<'a> RunState<'a> {
     fn answer_with(&self, alloc: Global, arrays: &[ArrayId]) -> Result<Answer, AllocError>
         ensures { IfOk result (IsAnswerOf self.now arrays.now) }
     {
-        let out = text_of(alloc, self.output())?;
+        let out = Vec::from_slice(alloc, self.output())?;
         let finals = self.finals_of(alloc, arrays)?;
         let history = copy_of(alloc, self.history())?;
         Ok(Answer {

@@ -39,7 +39,7 @@ impl<'a> Standing<'a> {
         ensures devices { self.new.devices ≡ self.old.devices }
     {
         let scalars = Scalars::new(alloc, scalars)?;
-        self.output.extend_from_slice(printed)?;
+        self.output.append(alloc, printed)?;
         store_host(&mut self.host, rows);
         self.scalars = scalars;
         self.input = input;

@@ -2,10 +2,11 @@
 #![tactic(auto)]
 
 pub use crate::allowed::{allowed_count, nth_allowed};
-pub use crate::answer::{run_choices, text_of};
+pub use crate::answer::run_choices;
 pub use crate::choosing::{few_events, nothing_after_the_end, nothing_only_at_the_end};
 pub use crate::devices::{DEVICES, Devices};
 pub use crate::jobs::Job;
+pub use crate::output::{Output, text_of};
 pub use crate::play::choice_at;
 pub use crate::standing::{Held, Standing};
 pub use crate::state::{RunState, are_numbers};
@@ -25,6 +26,7 @@ mod jobs;
 mod moves;
 mod open;
 mod opening;
+mod output;
 mod place;
 mod play;
 mod same;

@@ -11,6 +11,7 @@ ghost use Rattle.device.specs.Devices.{HaveRoom, fresh_of};
 ghost use Rattle.device.specs.Standing.{IsAt, Follows, Stays, issue_of};
 
 use crate::devices::Devices;
+use crate::output::Output;
 use base::memory::Memory;
 use kernel::{Frame, Scalars};
 use lower::Image;
@@ -35,7 +36,7 @@ pub struct Standing<'a> {
     pub ended: bool,
     pub scalars: Scalars,
     pub input: &'a [u64],
-    pub output: Vec<u64>,
+    pub output: Output,
     pub held: Vec<Held<'a>>,
     pub entered: u64,
 }
@@ -77,7 +78,7 @@ impl<'a> Standing<'a> {
             ended: false,
             scalars: Scalars::zeros(alloc),
             input,
-            output: Vec::new(alloc),
+            output: Output::new(alloc),
             held,
             entered: 0,
         })

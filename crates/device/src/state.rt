@@ -4,6 +4,7 @@ ghost use Rattle.std.specs.Prelude.{◌≡◌, ◌++◌, ◌∷◌, [], true, Is
 ghost use Rattle.base.specs.declared.item.Event.{Event};
 ghost use Rattle.base.specs.Arrays.{memory_of};
 ghost use Rattle.base.specs.Items.{plan};
+ghost use Rattle.base.specs.Meaning.{output_of};
 ghost use Rattle.base.specs.Headline.{AreNumbers};
 ghost use Rattle.base.specs.Machine.{enabled};
 ghost use Rattle.base.specs.declared.item.Event.TheVariants as event;
@@ -102,11 +103,11 @@ impl<'a> RunState<'a> {
         self.capacity
     }
 
-    /// The numbers that were printed so far.
-    pub fn output(&self) -> &[u64]
-        ensures { result.now ≡ (state_of self.now).output }
+    /// What was printed so far: each number in decimal, in a line of its own.
+    pub fn output(&self) -> &[u8]
+        ensures { result.now ≡ output_of (state_of self.now).output }
     {
-        &self.standing.output
+        self.standing.output.text()
     }
 
     /// The number that a cell has on the host; 0 for a cell that is not in its array.

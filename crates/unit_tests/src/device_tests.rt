@@ -86,7 +86,7 @@ fn is_ended(run: &mut RunState<'_>) -> bool {
     let events = [Event::Wait(3), Event::Open(4), Event::Close(4), Event::End];
     are_next(run, &events[..1])
         && happen_all(run, events.as_slice())
-        && run.output() == [5].as_slice()
+        && run.output() == b"5\n".as_slice()
         && run.history().len() == 11
         && are_next(run, &[])
 }
@@ -132,9 +132,9 @@ fn is_unchanged(run: &RunState<'_>) -> bool {
 // By other choices it goes on to its end, behind which choices do nothing.
 fn goes_on(run: &mut RunState<'_>) -> bool {
     run.play_choices(&[]).is_ok()
-        && run.output() == [7, 13].as_slice()
+        && run.output() == b"7\n13\n".as_slice()
         && run.play_choices(&[1]).is_ok()
-        && run.output() == [7, 13].as_slice()
+        && run.output() == b"7\n13\n".as_slice()
         && run.history().len() == 12
 }
 
@@ -249,7 +249,7 @@ fn are_apart(run: &mut RunState<'_>) -> bool {
         && run.device_cell(FIRST, cell(0, 1)) == Some(0)
         && run.device_cell(SECOND, cell(0, 0)) == Some(0)
         && run.device_cell(SECOND, cell(0, 1)) == Some(8)
-        && run.output() == [7, 8].as_slice()
+        && run.output() == b"7\n8\n".as_slice()
 }
 
 // Nothing is on the second device before it is entered there, and then each counts for itself.

@@ -65,16 +65,16 @@ fn are_own<'a>(
 }
 
 // What was run is taken, and is a stranger once the run is at its end.
-fn is_end<'a>(state: &mut RunState<'a>, done: &Done<'_, '_, 'a>, printed: u64) -> bool {
+fn is_end<'a>(state: &mut RunState<'a>, done: &Done<'_, '_, 'a>, printed: &[u8]) -> bool {
     is_taken(state.close(done))
         && state.is_enabled(Event::End)
         && is_taken(state.end())
         && is_stranger(state.close(done))
-        && state.output() == [printed].as_slice()
+        && state.output() == printed
 }
 
 // The last item of a run.
-fn ends(alloc: Global, state: &mut RunState<'_>, item: u32, printed: u64) -> bool {
+fn ends(alloc: Global, state: &mut RunState<'_>, item: u32, printed: &[u8]) -> bool {
     let Some(job) = opened(state, item) else {
         return false;
     };
@@ -88,8 +88,8 @@ fn ends(alloc: Global, state: &mut RunState<'_>, item: u32, printed: u64) -> boo
 fn are_apart<'a>(alloc: Global, left: &mut RunState<'a>, right: &mut RunState<'a>) -> bool {
     are_own(alloc, left, right, 0)
         && are_own(alloc, left, right, 1)
-        && ends(alloc, left, 2, 6)
-        && ends(alloc, right, 2, 7)
+        && ends(alloc, left, 2, b"6\n".as_slice())
+        && ends(alloc, right, 2, b"7\n".as_slice())
 }
 
 struct TwoRuns;
@@ -117,7 +117,7 @@ fn turns(alloc: Global) -> Result<Vec<Turn>, AllocError> {
 // Seven turns are taken, and behind the last of the run none.
 fn are_played(state: &mut RunState<'_>, turns: Vec<Turn>) -> bool {
     matches!(play::<RunState<'_>>(state, turns), Ok(7))
-        && state.output() == [6].as_slice()
+        && state.output() == b"6\n".as_slice()
         && state.history().last() == Some(&Event::End)
 }
 

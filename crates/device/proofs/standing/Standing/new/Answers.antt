@@ -16,7 +16,7 @@ returns-clause-start c =
       ended = refl;
       scalars = c.zeros.ensures;
       given = refl;
-      output = c.new-3.ensures.items;
+      output = c.new-3.ensures;
       held = c.in_ok-held.ensures;
     })
 

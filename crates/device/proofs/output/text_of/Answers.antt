@@ -2,7 +2,7 @@ use Rattle.std.proofs.Common.{arith, ◌++◌, ◌∷◌, [], ap, sym, ◌∙◌
 use Rattle.std.specs.Prelude.{decimal, slice_index}
 use Rattle.device.proofs.Answers.{output_more}
 use Rattle.std.proofs.lemmas.Grind.{common_steps}
-use Rattle.device.proofs.answer.text_of.Goals as goal
+use Rattle.device.proofs.output.text_of.Goals as goal
 
 pub loop-n-preserved : goal.loop-n-preserved
 loop-n-preserved c =
