@@ -1,11 +1,13 @@
-use Rattle.std.proofs.Common.{◌≡◌, ◌∙◌, refl, sym, ap, map, length, subst, arith}
-use Rattle.std.proofs.lemmas.List.{length-map}
+use Rattle.std.proofs.Common.{◌≡◌, ◌∙◌, Some, refl, sym, ap, map, subst, arith}
+use Rattle.std.specs.Prelude.{slice_get}
+use Rattle.std.proofs.lemmas.Option.{slice_get-get_or}
+use Rattle.device.specs.declared.standing.Held.{Held}
 use Rattle.base.specs.declared.item.Event.TheVariants as event
 use Rattle.device.specs.Run.{IsOpenFault, is_over, opened, state_of}
 use Rattle.device.specs.Running.{IsRunning, run_of}
 use Rattle.device.specs.Standing.{Issue, frame_parts, issue_of, row_parts}
 use Rattle.device.proofs.MayOpen.{facts, has_room, inside_open, is_full, open_fault, same_but, same_work, unchanged}
-use Rattle.device.proofs.OpenedItems.{is_held, may_close}
+use Rattle.device.proofs.OpenedItems.{is_for_kept, is_held, may_close, still_there}
 use Rattle.device.proofs.Reaching.{goes_to}
 use Rattle.device.proofs.Tables.{own_table}
 use Rattle.device.proofs.state.RunState.open_with.Goals as goal
@@ -175,16 +177,38 @@ job-requires-clause-open c =
       history = c.in_ok-note.ensures.noted;
     })
 
+pub index-requires : goal.index-requires
+index-requires c =
+    let s = c.self.inside in
+    let f = facts s c.args.self.now c.args.item _ c.items.result.now c.index-items-item.result c.self.view_is c.self.invariant c.requires
+    c.items.ensures.shown c.index-items-item.is in
+    let inside = still_there c.index-items-item.result c.in-Ok.frame c.args.item s.standing c.open.new.self c.in-Ok-open.ensures.issued f.item.inside in
+    omega (arith, inside)
+
+pub take_cells-requires : goal.take_cells-requires
+take_cells-requires c =
+    let s = c.self.inside in
+    let f = facts s c.args.self.now c.args.item _ c.items.result.now c.index-items-item.result c.self.view_is c.self.invariant c.requires
+    c.items.ensures.shown c.index-items-item.is in
+    let inside = still_there c.index-items-item.result c.in-Ok.frame c.args.item s.standing c.open.new.self c.in-Ok-open.ensures.issued f.item.inside in
+    let at_i : slice_get c.open.new.self.held.items c.args.item ≡ Some c.index.result.now =
+    slice_get-get_or c.open.new.self.held.items c.args.item c.index.result.now inside ∙ ap (λ (x : Held). Some x) (sym c.index.ensures) in
+    is_for_kept c.index-items-item.result c.in-Ok.frame c.args.item s.standing c.open.new.self c.in-Ok-open.ensures.issued f.item.inside
+    c.in-Some.issued c.in-Issued.held (at_i ∙ ap (λ (x : Held). Some x) c.in-Issued.is) (rw c.in-Some.is at c.in-Ok-blank_if.ensures.blank)
+
 pub job-requires-clause-held : goal.job-requires-clause-held
 job-requires-clause-held c =
     let s = c.self.inside in
     let f = facts s c.args.self.now c.args.item _ c.items.result.now c.index-items-item.result c.self.view_is c.self.invariant c.requires
     c.items.ensures.shown c.index-items-item.is in
-    is_held c.index-items-item.result c.in-Ok.frame c.in-Some.issued c.fill.new.frame c.args.item s.standing c.open.new.self
-    c.table.result.now c.in-Ok-open.ensures.issued c.table.ensures f.item.inside (rw c.in-Some.is at c.in-Ok-copy_if.ensures.same) c.fill.ensures.filled c.fill.ensures.rows
+    let inside = still_there c.index-items-item.result c.in-Ok.frame c.args.item s.standing c.open.new.self c.in-Ok-open.ensures.issued f.item.inside in
+    let at_i : slice_get c.open.new.self.held.items c.args.item ≡ Some c.index.result.now =
+    slice_get-get_or c.open.new.self.held.items c.args.item c.index.result.now inside ∙ ap (λ (x : Held). Some x) (sym c.index.ensures) in
+    is_held c.index-items-item.result c.in-Ok.frame c.args.item s.standing c.open.new.self c.in-Ok-open.ensures.issued f.item.inside
+    c.take_cells.new.blank c.in-Issued.held (at_i ∙ ap (λ (x : Held). Some x) c.in-Issued.is) c.take_cells.ensures
 
-pub invariant_of-self-in_default-copy : goal.invariant_of-self-in_default-copy
-invariant_of-self-in_default-copy c =
+pub invariant_of-self-in_default-blank : goal.invariant_of-self-in_default-blank
+invariant_of-self-in_default-blank c =
     let s = c.self.inside in
     let f = facts s c.args.self.now c.args.item _ c.items.result.now c.index-items-item.result c.self.view_is c.self.invariant c.requires
     c.items.ensures.shown c.index-items-item.is in
@@ -202,8 +226,8 @@ invariant_of-self-in_default-copy c =
     })
     c.in-Ok-open.ensures.kept
 
-pub returns-in_default-copy-clause-opened : goal.returns-in_default-copy-clause-opened
-returns-in_default-copy-clause-opened c =
+pub returns-in_default-blank-clause-opened : goal.returns-in_default-blank-clause-opened
+returns-in_default-blank-clause-opened c =
     let s = c.self.inside in
     let f = facts s c.args.self.now c.args.item _ c.items.result.now c.index-items-item.result c.self.view_is c.self.invariant c.requires
     c.items.ensures.shown c.index-items-item.is in
@@ -217,8 +241,8 @@ returns-in_default-copy-clause-opened c =
           ∙ ap (λ r. opened r c.args.item (frame_parts c.in-Ok-open.ensures.issued.frame)) c.self.view_is;
     }
 
-pub returns-in_default-copy-clause-room : goal.returns-in_default-copy-clause-room
-returns-in_default-copy-clause-room c =
+pub returns-in_default-blank-clause-room : goal.returns-in_default-blank-clause-room
+returns-in_default-blank-clause-room c =
     let s = c.self.inside in
     let f = facts s c.args.self.now c.args.item _ c.items.result.now c.index-items-item.result c.self.view_is c.self.invariant c.requires
     c.items.ensures.shown c.index-items-item.is in
@@ -226,14 +250,3 @@ returns-in_default-copy-clause-room c =
     let own = own_table s.standing.devices c.self.invariant.at.alike it.device.number it.device.in_range in
     ap (λ r. is_over r c.args.item) (sym c.self.view_is) ∙ has_room (run_of s) s.standing c.args.item c.index-items-item.result c.self.invariant f.item own.0 own.1
     (λ e. c.in-Ok-open.ensures.room e own.0 own.1)
-
-pub fill-requires : goal.fill-requires
-fill-requires c target =
-    let same : frame_parts c.in-Some.issued ≡ frame_parts c.in-Ok.frame =
-    rw c.in-Some.is at c.in-Ok-copy_if.ensures.same in
-    let rows : length (map row_parts c.in-Some.issued.rows.items) ≡ length (map row_parts c.in-Ok.frame.rows.items) =
-    ap (λ (p : Issue). length p.rows) same in
-    let left = length-map c.in-Some.issued.rows.items row_parts in
-    let right = length-map c.in-Ok.frame.rows.items row_parts in
-    let few = c.in-Ok.ensures.few target in
-    omega arith
