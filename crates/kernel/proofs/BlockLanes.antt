@@ -1,7 +1,6 @@
 -- A statement for all turns of a block.
 use Rattle.std.proofs.Common.{◌≡◌, ℕ, ◌+◌, ◌-◌, ◌<◌, ◌==◌, Bool, true, false, List, [], ◌∷◌, ◌++◌, length, Some, refl, sym, ap, ap₂, ◌∙◌, arith, subst, if◌then◌else◌}
 use Rattle.std.specs.Prelude.{◌&&◌, nat_le, nat_lt, slice_index, unwrap_or}
-use Rattle.std.proofs.lemmas.Bool.Decides.{nat_tests}
 use Rattle.std.proofs.lemmas.Bool.{and_parts}
 use Rattle.std.proofs.Common.{leb-true, ltb-true}
 use mathlib.Core.Path.{fun_ext}
@@ -12,17 +11,16 @@ use Rattle.base.specs.declared.tree.Stmt.{Stmt}
 use Rattle.base.specs.Memory.{View, Scalars}
 use Rattle.base.specs.Value.{value}
 use Rattle.base.specs.Meaning.{set_scalar}
-use Rattle.lanes.specs.Apart.{own_value_places, Block, block_body, in_block, names_at, numbers, set_lanes, with_lanes}
+use Rattle.lanes.specs.Apart.{Places, own_value_places, Block, block_body, in_block, names_at, numbers, set_lanes, with_lanes}
 use Rattle.lanes.specs.There.{BodyThere}
+use Rattle.kernel.specs.Offsets.{moved_by, places_of}
 use Rattle.kernel.specs.Rows.{cells_kept, cells_stored}
 use Rattle.kernel.specs.Lanes.{lane_scalars, names_of, inside_of, block_of, stored_lanes, begun_block, IsBlock}
 use Rattle.kernel.specs.declared.frames.KeptRow.{KeptRow}
 use Rattle.kernel.specs.declared.turns.Lane.{Lane}
 use Rattle.kernel.specs.declared.turns.Turns.{Turns}
 use Rattle.kernel.specs.declared.turns.Reads.{Reads}
-
-pub place_in : (first count k : ℕ) → k < count → in_block first count (first + k) ≡ true
-place_in first count k h = grind (arith, nat_tests)
+use Rattle.kernel.proofs.Offsets.{place_in, run_same}
 
 in_place : (first count v : ℕ) → in_block first count v ≡ true → (v - first < count) × (first + (v - first) ≡ v)
 in_place first count v h =
@@ -76,32 +74,37 @@ assigned_block at lanes rows e l given =
     go v false i =
         sym (ap (λ q. if q then lane_scalars lanes (slice_index at.scalars.now) (v - at.first) else slice_index at.scalars.now) i)
 
-lanes_same : (inside : ℕ → Bool) (a : ℕ) (n m : ℕ → ℕ) (view : View) → ((v : ℕ) → inside v ≡ true → n v ≡ m v) →
-    with_lanes own_value_places inside a n view ≡ with_lanes own_value_places inside a m view
-lanes_same inside a n m view h = fun_ext (λ (c : Cell). go c (a == c.array.0) (inside c.index) refl)
+lanes_same : (pl : Places) (inside : ℕ → Bool) (a : ℕ) (n m : ℕ → ℕ) (view : View) →
+    ((v : ℕ) → inside v ≡ true → n v ≡ m v) →
+    with_lanes pl inside a n view ≡ with_lanes pl inside a m view
+lanes_same pl inside a n m view h =
+    fun_ext (λ (c : Cell). go c (pl.turn_of c.index) (a == c.array.0) (inside (pl.turn_of c.index)) refl)
   where
-    go : (c : Cell) (p q : Bool) → inside c.index ≡ q →
-        (if p && q then Some (n c.index) else view c) ≡ (if p && q then Some (m c.index) else view c)
-    go c true true i = ap Some (h c.index i)
-    go c true false i = refl
-    go c false q i = refl
+    go : (c : Cell) (v : ℕ) (p q : Bool) → inside v ≡ q →
+        (if p && q then Some (n v) else view c) ≡ (if p && q then Some (m v) else view c)
+    go c v true true i = ap Some (h v i)
+    go c v true false i = refl
+    go c v false q i = refl
+
+-- numbers that are put in a run of cells of an array
+abbrev pub PutAt : ℕ → ℕ → List ℕ → View → View → Type 0
+PutAt from a xs old new = new ≡ with_lanes own_value_places (in_block from (length xs)) a (λ i. slice_index xs (i - from)) old
 
 -- cells that all turns of the block store
-pub stored_block : (at : Turns) (lanes : List Lane) (rows rows' : List KeptRow) (a : ArrayId) (e : Expr) (xs ys : List ℕ) →
-    xs ≡ ys → length ys ≡ at.count → Given at e (block_of at lanes rows) ys →
-    cells_kept rows' ≡ with_lanes own_value_places (in_block at.first (length xs)) a.0 (λ v. slice_index xs (v - at.first)) (cells_kept rows) →
-    cells_stored rows' ≡ with_lanes own_value_places (in_block at.first (length xs)) a.0 (λ v. slice_index xs (v - at.first)) (cells_stored rows) →
-    block_of at lanes rows' ≡ stored_lanes (inside_of at) at.outer.now a.0 e (block_of at lanes rows)
-stored_block at lanes rows rows' a e xs ys same size given cells stored =
+pub stored_block : (at : Turns) (lanes : List Lane) (rows rows' : List KeptRow) (a : ArrayId) (e : Expr) (xs ys : List ℕ) (from : ℕ) →
+    from ≡ moved_by at.offset + at.first → xs ≡ ys → length ys ≡ at.count → Given at e (block_of at lanes rows) ys →
+    PutAt from a.0 xs (cells_kept rows) (cells_kept rows') → PutAt from a.0 xs (cells_stored rows) (cells_stored rows') →
+    block_of at lanes rows' ≡ stored_lanes (places_of at.offset) (inside_of at) at.outer.now a.0 e (block_of at lanes rows)
+stored_block at lanes rows rows' a e xs ys from begins same size given cells stored =
     ap₂ (λ (p q : View). record (block_of at lanes rows) { cells = p; stored = q }) (now (cells_kept rows) cells) (now (cells_stored rows) stored)
   where
-    now : {new : View} (old : View) →
-        new ≡ with_lanes own_value_places (in_block at.first (length xs)) a.0 (λ v. slice_index xs (v - at.first)) old →
-        new ≡ with_lanes own_value_places (inside_of at) a.0 (numbers e (block_of at lanes rows) at.outer.now) old
+    now : {new : View} (old : View) → PutAt from a.0 xs old new →
+        new ≡ with_lanes (places_of at.offset) (inside_of at) a.0 (numbers e (block_of at lanes rows) at.outer.now) old
     now {new} old is =
-        is ∙ ap (λ zs. with_lanes own_value_places (in_block at.first (length zs)) a.0 (λ v. slice_index zs (v - at.first)) old) same
-        ∙ ap (λ n. with_lanes own_value_places (in_block at.first n) a.0 (λ v. slice_index ys (v - at.first)) old) size
-        ∙ lanes_same (inside_of at) a.0 (λ v. slice_index ys (v - at.first)) (numbers e (block_of at lanes rows) at.outer.now) old
+        is ∙ ap₂ (λ w zs. with_lanes own_value_places (in_block w (length zs)) a.0 (λ i. slice_index zs (i - w)) old) begins same
+        ∙ ap (λ n. with_lanes own_value_places (in_block (moved_by at.offset + at.first) n) a.0 (λ i. slice_index ys (i - (moved_by at.offset + at.first))) old) size
+        ∙ run_same at.offset at.first at.count a.0 (slice_index ys) old at.no_wrap
+        ∙ lanes_same (places_of at.offset) (inside_of at) a.0 (λ v. slice_index ys (v - at.first)) (numbers e (block_of at lanes rows) at.outer.now) old
         (λ v i. sym (number_is at e (block_of at lanes rows) ys given v i))
 
 -- before the first statement
@@ -115,23 +118,23 @@ none_assigned at rows =
     go false = refl
 
 pub begin_there : (at : Turns) (body : List Stmt) (lanes : List Lane) (rows : List KeptRow) → lanes ≡ [] →
-    BodyThere own_value_places (inside_of at) at.outer.now body (begun_block at.scalars.now rows) →
-    BodyThere own_value_places (inside_of at) at.outer.now body (block_of at lanes rows)
+    BodyThere (places_of at.offset) (inside_of at) at.outer.now body (begun_block at.scalars.now rows) →
+    BodyThere (places_of at.offset) (inside_of at) at.outer.now body (block_of at lanes rows)
 begin_there at body lanes rows none h =
-    subst (λ (b : Block). BodyThere own_value_places (inside_of at) at.outer.now body b)
+    subst (λ (b : Block). BodyThere (places_of at.offset) (inside_of at) at.outer.now body b)
     (sym (ap (λ (ls : List Lane). block_of at ls rows) none ∙ none_assigned at rows)) h
 
 -- after the last one, with the scalars of the last turn
 pub all_done : (at : Turns) (body : List Stmt) (lanes lanes' slice : List Lane) (rows rows' : List KeptRow) (scalars : List ℕ) →
-    lanes ≡ [] → block_of at lanes' rows' ≡ block_body own_value_places (inside_of at) at.outer.now body (block_of at lanes rows) → slice ≡ lanes' →
+    lanes ≡ [] → block_of at lanes' rows' ≡ block_body (places_of at.offset) (inside_of at) at.outer.now body (block_of at lanes rows) → slice ≡ lanes' →
     slice_index scalars ≡ lane_scalars slice (slice_index at.scalars.now) (at.count - 1) →
-    IsBlock (block_body own_value_places (inside_of at) at.outer.now body (begun_block at.scalars.now rows)) (at.first + (at.count - 1)) scalars rows'
+    IsBlock (block_body (places_of at.offset) (inside_of at) at.outer.now body (begun_block at.scalars.now rows)) (at.first + (at.count - 1)) scalars rows'
 all_done at body lanes lanes' slice rows rows' scalars none is same last =
     let some = at.some in
     let below : at.count - 1 < at.count = omega arith in
     let less : at.first + (at.count - 1) - at.first ≡ at.count - 1 = omega arith in
     let i = place_in at.first at.count (at.count - 1) below in
-    let whole = is ∙ ap (block_body own_value_places (inside_of at) at.outer.now body)
+    let whole = is ∙ ap (block_body (places_of at.offset) (inside_of at) at.outer.now body)
     (ap (λ (ls : List Lane). block_of at ls rows) none ∙ none_assigned at rows) in
     record {
       scalars =

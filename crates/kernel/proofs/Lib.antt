@@ -19,10 +19,12 @@ pub mod Gathers
 pub mod RunLoads
 pub mod Overs
 pub mod Runs
+pub mod Offsets
 pub mod BlockLanes
 pub mod Looseness
 pub mod Sums
 pub mod SumLanes
+pub mod Keeps
 pub mod BlockTurns
 pub mod LoadedRuns
 pub mod Codings

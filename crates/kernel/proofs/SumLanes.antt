@@ -10,29 +10,31 @@ use Rattle.base.specs.declared.tree.Stmt.TheVariants.{Assign}
 use Rattle.base.specs.Memory.{Scalars}
 use Rattle.base.specs.Value.{binary, value}
 use Rattle.base.specs.Meaning.{set_scalar}
-use Rattle.lanes.specs.Apart.{own_value_places, Block, block_body, block_stmt, names_at, numbers, set_lanes}
+use Rattle.lanes.specs.Apart.{Places, Block, block_body, block_stmt, names_at, numbers, set_lanes}
 use Rattle.lanes.specs.There.{BodyThere, HasValues, StmtThere, body_plain, is_plain, stmt_plain}
 use Rattle.lanes.specs.Sums.{folded}
 use Rattle.lanes.proofs.Carried.{set_twice, set_own}
 use Rattle.kernel.specs.Forms.{IsCarriedOn, carried, with_sum}
+use Rattle.kernel.specs.Offsets.{places_of}
 use Rattle.kernel.specs.Lanes.{lane_scalars, inside_of, block_of, begun_block, IsBlock}
 use Rattle.kernel.specs.declared.frames.KeptRow.{KeptRow}
 use Rattle.kernel.specs.declared.turns.Lane.{Lane}
 use Rattle.kernel.specs.declared.turns.Sum.{Sum}
 use Rattle.kernel.specs.declared.turns.Turns.{Turns}
-use Rattle.kernel.proofs.BlockLanes.{all_done, none_assigned, place_in}
+use Rattle.kernel.proofs.BlockLanes.{all_done, none_assigned}
+use Rattle.kernel.proofs.Offsets.{place_in}
 
-body_more : (inside : ℕ → Bool) (loops : List ℕ) (front : List Stmt) (last : Stmt) (b : Block) →
-    block_body own_value_places inside loops (front ++ last ∷ []) b ≡ block_stmt own_value_places inside loops last (block_body own_value_places inside loops front b)
-body_more inside loops [] last b = refl
-body_more inside loops (first ∷ rest) last b = body_more inside loops rest last (block_stmt own_value_places inside loops first b)
+body_more : (pl : Places) (inside : ℕ → Bool) (loops : List ℕ) (front : List Stmt) (last : Stmt) (b : Block) →
+    block_body pl inside loops (front ++ last ∷ []) b ≡ block_stmt pl inside loops last (block_body pl inside loops front b)
+body_more pl inside loops [] last b = refl
+body_more pl inside loops (first ∷ rest) last b = body_more pl inside loops rest last (block_stmt pl inside loops first b)
 
-there_parts : (inside : ℕ → Bool) (loops : List ℕ) (front : List Stmt) (last : Stmt) (b : Block) →
-    BodyThere own_value_places inside loops (front ++ last ∷ []) b →
-    BodyThere own_value_places inside loops front b × StmtThere own_value_places inside loops last (block_body own_value_places inside loops front b)
-there_parts inside loops [] last b h = (tt, h.0)
-there_parts inside loops (first ∷ rest) last b h =
-    let r = there_parts inside loops rest last (block_stmt own_value_places inside loops first b) h.1 in
+there_parts : (pl : Places) (inside : ℕ → Bool) (loops : List ℕ) (front : List Stmt) (last : Stmt) (b : Block) →
+    BodyThere pl inside loops (front ++ last ∷ []) b →
+    BodyThere pl inside loops front b × StmtThere pl inside loops last (block_body pl inside loops front b)
+there_parts pl inside loops [] last b h = (tt, h.0)
+there_parts pl inside loops (first ∷ rest) last b h =
+    let r = there_parts pl inside loops rest last (block_stmt pl inside loops first b) h.1 in
     ((h.0, r.0), r.1)
 
 plain_parts : (front : List Stmt) (last : Stmt) → body_plain (front ++ last ∷ []) ≡ true →
@@ -53,16 +55,16 @@ added_plain front sum s is h =
     (plain_parts front (Assign s.scalar (Value s.added.now))
     (subst (λ o. body_plain (with_sum front o) ≡ true) is h)).1
 
-pub front_there : (inside : ℕ → Bool) (loops : List ℕ) (front : List Stmt) (sum : Option Sum) (b : Block) →
-    BodyThere own_value_places inside loops (with_sum front sum) b → BodyThere own_value_places inside loops front b
-front_there inside loops front None b h = h
-front_there inside loops front (Some s) b h = (there_parts inside loops front (Assign s.scalar (Value s.added.now)) b h).0
+pub front_there : (pl : Places) (inside : ℕ → Bool) (loops : List ℕ) (front : List Stmt) (sum : Option Sum) (b : Block) →
+    BodyThere pl inside loops (with_sum front sum) b → BodyThere pl inside loops front b
+front_there pl inside loops front None b h = h
+front_there pl inside loops front (Some s) b h = (there_parts pl inside loops front (Assign s.scalar (Value s.added.now)) b h).0
 
-pub added_there : (inside : ℕ → Bool) (loops : List ℕ) (front : List Stmt) (sum : Option Sum) (s : Sum) (b : Block) → sum ≡ Some s →
-    BodyThere own_value_places inside loops (with_sum front sum) b → HasValues inside loops s.added.now (block_body own_value_places inside loops front b)
-added_there inside loops front sum s b is h =
-    (there_parts inside loops front (Assign s.scalar (Value s.added.now)) b
-    (subst (λ o. BodyThere own_value_places inside loops (with_sum front o) b) is h)).1
+pub added_there : (pl : Places) (inside : ℕ → Bool) (loops : List ℕ) (front : List Stmt) (sum : Option Sum) (s : Sum) (b : Block) → sum ≡ Some s →
+    BodyThere pl inside loops (with_sum front sum) b → HasValues inside loops s.added.now (block_body pl inside loops front b)
+added_there pl inside loops front sum s b is h =
+    (there_parts pl inside loops front (Assign s.scalar (Value s.added.now)) b
+    (subst (λ o. BodyThere pl inside loops (with_sum front o) b) is h)).1
 
 -- the same numbers, counted from another place, lead to the same
 folded_along : (f : ℕ → ℕ → ℕ) (p q : ℕ → ℕ) (n a w v : ℕ) → ((k : ℕ) → k < n → p (w + k) ≡ q (v + k)) →
@@ -106,14 +108,14 @@ module _ (at : Turns) (b : Block) (x : ScalarId) (e : Expr) (f : ℕ → ℕ →
 -- after the last statement, and the sum
 pub sum_done : (at : Turns) (front : List Stmt) (s : Sum) (lanes lanes' slice : List Lane) (rows rows' : List KeptRow)
     (scalars scalars' : List ℕ) (n : ℕ) → lanes ≡ [] →
-    block_of at lanes' rows' ≡ block_body own_value_places (inside_of at) at.outer.now front (block_of at lanes rows) → slice ≡ lanes' →
+    block_of at lanes' rows' ≡ block_body (places_of at.offset) (inside_of at) at.outer.now front (block_of at lanes rows) → slice ≡ lanes' →
     slice_index scalars ≡ lane_scalars slice (slice_index at.scalars.now) (at.count - 1) →
     IsCarriedOn at.first at.count at.outer.now at.scalars.now (block_of at lanes' rows') s n → slice_index scalars' ≡ set_scalar s.scalar.0 n (slice_index scalars) →
     IsBlock (carried (Some s) (slice_index at.scalars.now) at.first at.count
-    (block_body own_value_places (inside_of at) at.outer.now (with_sum front (Some s)) (begun_block at.scalars.now rows))) (at.first + (at.count - 1)) scalars' rows'
+    (block_body (places_of at.offset) (inside_of at) at.outer.now (with_sum front (Some s)) (begun_block at.scalars.now rows))) (at.first + (at.count - 1)) scalars' rows'
 sum_done at front s lanes lanes' slice rows rows' scalars scalars' n none is same last sum took =
     subst (λ (c : Block). IsBlock (carried (Some s) (slice_index at.scalars.now) at.first at.count c) (at.first + (at.count - 1)) scalars' rows')
-    (sym (body_more (inside_of at) at.outer.now front (Assign s.scalar (Value s.added.now)) (begun_block at.scalars.now rows)))
+    (sym (body_more (places_of at.offset) (inside_of at) at.outer.now front (Assign s.scalar (Value s.added.now)) (begun_block at.scalars.now rows)))
     (record {
       scalars =
           took
@@ -125,14 +127,14 @@ sum_done at front s lanes lanes' slice rows rows' scalars scalars' n none is sam
     })
   where
     b : Block
-    b = block_body own_value_places (inside_of at) at.outer.now front (begun_block at.scalars.now rows)
+    b = block_body (places_of at.offset) (inside_of at) at.outer.now front (begun_block at.scalars.now rows)
 
     d : IsBlock b (at.first + (at.count - 1)) scalars rows'
     d = all_done at front lanes lanes' slice rows rows' scalars none is same last
 
     whole : block_of at lanes' rows' ≡ b
     whole =
-        is ∙ ap (block_body own_value_places (inside_of at) at.outer.now front) (ap (λ (ls : List Lane). block_of at ls rows) none ∙ none_assigned at rows)
+        is ∙ ap (block_body (places_of at.offset) (inside_of at) at.outer.now front) (ap (λ (ls : List Lane). block_of at ls rows) none ∙ none_assigned at rows)
 
     here : (k : ℕ) → k < at.count → value s.added.now (names_at b at.outer.now (at.first + k)) ≡ Some (slice_index sum.numbers k)
     here k lt = ap (λ (c : Block). value s.added.now (names_at c at.outer.now (at.first + k))) (sym whole) ∙ sum.each k lt
@@ -152,20 +154,20 @@ sum_done at front s lanes lanes' slice rows rows' scalars scalars' n none is sam
 -- what is added has a value in each turn
 pub added_at : (at : Turns) (front : List Stmt) (sum : Option Sum) (s : Sum) (lanes lanes' slice : List Lane) (rows rows' : List KeptRow) →
     sum ≡ Some s → lanes ≡ [] →
-    block_of at lanes' rows' ≡ block_body own_value_places (inside_of at) at.outer.now front (block_of at lanes rows) → slice ≡ lanes' →
-    BodyThere own_value_places (inside_of at) at.outer.now (with_sum front sum) (begun_block at.scalars.now rows) →
+    block_of at lanes' rows' ≡ block_body (places_of at.offset) (inside_of at) at.outer.now front (block_of at lanes rows) → slice ≡ lanes' →
+    BodyThere (places_of at.offset) (inside_of at) at.outer.now (with_sum front sum) (begun_block at.scalars.now rows) →
     HasValues (inside_of at) at.outer.now s.added.now (block_of at slice rows')
 added_at at front sum s lanes lanes' slice rows rows' is none block same h =
     subst (λ (b : Block). HasValues (inside_of at) at.outer.now s.added.now b)
     (sym (ap (λ (ls : List Lane). block_of at ls rows') same ∙ block
-    ∙ ap (block_body own_value_places (inside_of at) at.outer.now front) (ap (λ (ls : List Lane). block_of at ls rows) none ∙ none_assigned at rows)))
-    (added_there (inside_of at) at.outer.now front sum s (begun_block at.scalars.now rows) is h)
+    ∙ ap (block_body (places_of at.offset) (inside_of at) at.outer.now front) (ap (λ (ls : List Lane). block_of at ls rows) none ∙ none_assigned at rows)))
+    (added_there (places_of at.offset) (inside_of at) at.outer.now front sum s (begun_block at.scalars.now rows) is h)
 
 -- a block in its form
-pub formed : (sum other : Option Sum) (inside : ℕ → Bool) (outer : List ℕ) (front : List Stmt) (before : Scalars) (first count last : ℕ)
+pub formed : (sum other : Option Sum) (pl : Places) (inside : ℕ → Bool) (outer : List ℕ) (front : List Stmt) (before : Scalars) (first count last : ℕ)
     (begun : Block) (scalars scalars' : List ℕ) (rows : List KeptRow) → sum ≡ other → scalars' ≡ scalars →
-    IsBlock (carried other before first count (block_body own_value_places inside outer (with_sum front other) begun)) last scalars rows →
-    IsBlock (carried sum before first count (block_body own_value_places inside outer (with_sum front sum) begun)) last scalars' rows
-formed sum other inside outer front before first count last begun scalars scalars' rows is same h =
-    subst (λ (o : Option Sum). IsBlock (carried o before first count (block_body own_value_places inside outer (with_sum front o) begun)) last scalars' rows) (sym is)
-    (subst (λ (xs : List ℕ). IsBlock (carried other before first count (block_body own_value_places inside outer (with_sum front other) begun)) last xs rows) (sym same) h)
+    IsBlock (carried other before first count (block_body pl inside outer (with_sum front other) begun)) last scalars rows →
+    IsBlock (carried sum before first count (block_body pl inside outer (with_sum front sum) begun)) last scalars' rows
+formed sum other pl inside outer front before first count last begun scalars scalars' rows is same h =
+    subst (λ (o : Option Sum). IsBlock (carried o before first count (block_body pl inside outer (with_sum front o) begun)) last scalars' rows) (sym is)
+    (subst (λ (xs : List ℕ). IsBlock (carried other before first count (block_body pl inside outer (with_sum front other) begun)) last xs rows) (sym same) h)

@@ -1,5 +1,5 @@
 -- A body whose last statement carries a scalar on.
-use Rattle.std.proofs.Common.{◌≡◌, ℕ, Bool, true, false, List, [], ◌∷◌, ◌++◌, length, Option, Some, None, refl, sym, ap, ap₂, ◌∙◌}
+use Rattle.std.proofs.Common.{◌≡◌, ℕ, Bool, true, false, List, [], ◌∷◌, ◌++◌, Option, Some, None, refl, sym, ap, ap₂, ◌∙◌}
 use Rattle.std.specs.Prelude.{not, ◌&&◌, ◌||◌}
 use Rattle.std.proofs.lemmas.Bool.{and_parts}
 use mathlib.Core.Path.{fun_ext}
@@ -8,7 +8,7 @@ use Rattle.base.specs.declared.tree.Expr.{Expr}
 use Rattle.base.specs.declared.tree.Source.TheVariants.{Value}
 use Rattle.base.specs.declared.tree.Stmt.{Stmt}
 use Rattle.base.specs.declared.tree.Stmt.TheVariants.{Assign}
-use Rattle.lanes.specs.Apart.{Set, is_turn, is_apart, loose_after, loose_body, body_apart, stmt_apart}
+use Rattle.lanes.specs.Apart.{Set, is_apart, loose_after, loose_body, body_apart, stmt_apart}
 use Rattle.lanes.specs.There.{body_plain, is_plain, stmt_plain}
 use Rattle.lanes.specs.Sums.{ended}
 use Rattle.kernel.specs.Forms.{HasSum, IsCarriedBy, IsFormOf, IsSum, with_sum}
@@ -34,7 +34,7 @@ stored_same : (front : List Stmt) (x : ScalarId) (e c : Expr) → stored_in (end
 stored_same front x e c =
     fun_ext (λ (a : ℕ). stored_more front (Assign x (Value c)) a ∙ sym (stored_more front (Assign x (Value e)) a))
 
-assigned_same : (front : List Stmt) (x : ScalarId) (e c : Expr) → assigned_in (ended front x c) ≡ assigned_in (ended front x e)
+pub assigned_same : (front : List Stmt) (x : ScalarId) (e c : Expr) → assigned_in (ended front x c) ≡ assigned_in (ended front x e)
 assigned_same front x e c =
     fun_ext (λ (y : ℕ). in_more front (Assign x (Value c)) y ∙ sym (in_more front (Assign x (Value e)) y))
 
@@ -79,11 +79,11 @@ once_loose front x e once =
     loose_is front (assigned_in (ended front x e)) x.0 ∙ ap₂ (λ p q. not p && q) once (last_assigned front x e)
 
 -- what is looked at of a body
-pub is_sum : (level : ℕ) (body front : List Stmt) (s : Sum) → HasSum body front s → assigned_in front s.scalar.0 ≡ false →
+pub is_sum : (here : Expr → Bool) (body front : List Stmt) (s : Sum) → HasSum body front s → assigned_in front s.scalar.0 ≡ false →
     body_plain front ≡ true → is_plain s.added.now ≡ true →
-    body_apart (stored_in body) (assigned_in body) (loose_in body []) (is_turn level) front ≡ true →
-    is_apart (stored_in body) (loose_in body front) (is_turn level) s.added.now ≡ true → IsSum level body front s
-is_sum level body front s has once plain added first last =
+    body_apart (stored_in body) (assigned_in body) (loose_in body []) here front ≡ true →
+    is_apart (stored_in body) (loose_in body front) here s.added.now ≡ true → IsSum here body front s
+is_sum here body front s has once plain added first last =
     record { has = has; apart = (apart, more_plain front (Assign s.scalar (Value s.added.now)) plain added); once = once }
   where
     taken : stored_in body ≡ stored_in (ended front s.scalar s.added.now)
@@ -92,25 +92,25 @@ is_sum level body front s has once plain added first last =
     own : assigned_in body ≡ assigned_in (ended front s.scalar s.added.now)
     own = ap assigned_in has.whole ∙ assigned_same front s.scalar s.added.now has.last
 
-    front_apart : body_apart (stored_in body) (assigned_in body) (assigned_in body) (is_turn level) front ≡ true
-    front_apart = ap (λ loose. body_apart (stored_in body) (assigned_in body) loose (is_turn level) front) (sym (all_loose body)) ∙ first
+    front_apart : body_apart (stored_in body) (assigned_in body) (assigned_in body) here front ≡ true
+    front_apart = ap (λ loose. body_apart (stored_in body) (assigned_in body) loose here front) (sym (all_loose body)) ∙ first
 
-    last_apart : stmt_apart (stored_in body) (assigned_in body) (loose_body (assigned_in body) front) (is_turn level) (Assign s.scalar (Value s.added.now)) ≡ true
+    last_apart : stmt_apart (stored_in body) (assigned_in body) (loose_body (assigned_in body) front) here (Assign s.scalar (Value s.added.now)) ≡ true
     last_apart =
         ap₂ (λ p q. p && q) (ap (λ (o : Set). o s.scalar.0) own ∙ last_assigned front s.scalar s.added.now)
-        (ap (λ loose. is_apart (stored_in body) loose (is_turn level) s.added.now) (sym (front_loose body front)) ∙ last)
+        (ap (λ loose. is_apart (stored_in body) loose here s.added.now) (sym (front_loose body front)) ∙ last)
 
     apart : body_apart (stored_in (ended front s.scalar s.added.now)) (assigned_in (ended front s.scalar s.added.now))
-        (assigned_in (ended front s.scalar s.added.now)) (is_turn level) (ended front s.scalar s.added.now) ≡ true
+        (assigned_in (ended front s.scalar s.added.now)) here (ended front s.scalar s.added.now) ≡ true
     apart =
-        ap₂ (λ t o. body_apart t o o (is_turn level) (ended front s.scalar s.added.now)) (sym taken) (sym own)
-        ∙ more_apart (stored_in body) (assigned_in body) (assigned_in body) (is_turn level) front (Assign s.scalar (Value s.added.now)) front_apart last_apart
+        ap₂ (λ t o. body_apart t o o here (ended front s.scalar s.added.now)) (sym taken) (sym own)
+        ∙ more_apart (stored_in body) (assigned_in body) (assigned_in body) here front (Assign s.scalar (Value s.added.now)) front_apart last_apart
 
 -- each operand of a form has a value
-pub form_plain : (outer : List ℕ) (body front : List Stmt) (sum : Option Sum) → IsFormOf (length outer) body front sum →
+pub form_plain : (here : Expr → Bool) (body front : List Stmt) (sum : Option Sum) → IsFormOf here body front sum →
     body_plain (with_sum front sum) ≡ true
-form_plain outer body front None h = ap body_plain h.0 ∙ h.1.1
-form_plain outer body front (Some s) h = h.apart.1
+form_plain here body front None h = ap body_plain h.0 ∙ h.1.1
+form_plain here body front (Some s) h = h.apart.1
 
 -- a body that ends with a statement that carries a scalar on
 pub has_sum : (body front : List Stmt) (last : Stmt) (s : Sum) → body ≡ front ++ last ∷ [] → IsCarriedBy last s → HasSum body front s

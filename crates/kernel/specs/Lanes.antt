@@ -5,7 +5,7 @@ use Rattle.base.specs.declared.tree.Expr.{Expr}
 use Rattle.base.specs.Memory.{Scalars}
 use Rattle.base.specs.Value.{Names, value}
 use Rattle.base.specs.Meaning.{set_scalar}
-use Rattle.lanes.specs.Apart.{own_value_places, Block, in_block, numbers, set_lanes, store_lanes}
+use Rattle.lanes.specs.Apart.{Places, Block, in_block, numbers, set_lanes, store_lanes}
 use Rattle.kernel.specs.Rows.{cells_kept, cells_stored}
 use Rattle.kernel.specs.declared.frames.KeptRow.{KeptRow}
 use Rattle.kernel.specs.declared.turns.Lane.{Lane}
@@ -67,8 +67,8 @@ pub record IsBlock (b : Block) (last : ℕ) (numbers : List ℕ) (rows : List Ke
 abbrev pub assigned_lanes : (ℕ → Bool) → List ℕ → ℕ → Expr → Block → Block
 assigned_lanes inside loops x e b = set_lanes inside x (numbers e b loops) b
 
-abbrev pub stored_lanes : (ℕ → Bool) → List ℕ → ℕ → Expr → Block → Block
-stored_lanes inside loops a e b = store_lanes own_value_places inside a (numbers e b loops) b
+abbrev pub stored_lanes : Places → (ℕ → Bool) → List ℕ → ℕ → Expr → Block → Block
+stored_lanes at inside loops a e b = store_lanes at inside a (numbers e b loops) b
 
 -- from a place on, as many elements of a list became what f makes of their number
 pub record Over (A : Type 0) (f : ℕ → A) (at n : ℕ) (xs ys : List A) : Type 0 where

@@ -6,5 +6,6 @@ pub mod States
 pub mod Lanes
 pub mod Walks
 pub mod Loops
+pub mod Offsets
 pub mod Forms
 pub mod Runnable

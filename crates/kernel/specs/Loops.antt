@@ -1,10 +1,11 @@
 -- A loop whose turns are done in blocks.
-use Rattle.std.specs.Prelude.{ℕ, ◌≡◌, ◌-◌, ◌==◌, true, false, not, ◌&&◌, ◌||◌, List, [], ◌∷◌, ◌++◌, Option, Some, IsSome, slice_index}
+use Rattle.std.specs.Prelude.{ℕ, ◌≡◌, ◌-◌, ◌==◌, Bool, true, false, not, ◌&&◌, ◌||◌, List, [], ◌∷◌, ◌++◌, Option, Some, IsSome, slice_index}
 use Rattle.base.specs.declared.tree.Stmt.{Stmt}
 use Rattle.base.specs.declared.tree.Stmt.TheVariants.{Declare, Assign, Store, Print, Block', Loop', If'}
 use Rattle.base.specs.Memory.{View, last_stored}
 use Rattle.base.specs.Meaning.{Run, seen, turn, run_list}
-use Rattle.lanes.specs.Apart.{Set, is_turn, body_apart}
+use Rattle.base.specs.declared.tree.Expr.{Expr}
+use Rattle.lanes.specs.Apart.{Set, body_apart}
 use Rattle.lanes.specs.There.{body_plain}
 use Rattle.kernel.specs.Rows.{cells_kept, cells_stored}
 use Rattle.kernel.specs.declared.frames.KeptRow.{KeptRow}
@@ -40,10 +41,10 @@ stored_in (first ∷ rest) a = stored_by first a || stored_in rest a
 abbrev pub loose_in : List Stmt → List Stmt → Set
 loose_in body before x = assigned_in body x && not (assigned_in before x)
 
--- the turns of a loop with this body at this level are apart, and each operand has a value
-abbrev pub AreApart : ℕ → List Stmt → Type 0
-AreApart level body =
-    (body_apart (stored_in body) (assigned_in body) (assigned_in body) (is_turn level) body ≡ true) × (body_plain body ≡ true)
+-- the turns of a loop with this body, which store at index expressions of this set, are apart, and each operand has a value
+abbrev pub AreApart : (Expr → Bool) → List Stmt → Type 0
+AreApart here body =
+    (body_apart (stored_in body) (assigned_in body) (assigned_in body) here body ≡ true) × (body_plain body ≡ true)
 
 -- what a turn does
 abbrev pub does : View → List ℕ → List Stmt → ℕ → Run → Option Run

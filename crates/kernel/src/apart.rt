@@ -1,12 +1,14 @@
 // Whether the turns of a loop are apart, so that they can be done in blocks.
 
-ghost use Rattle.std.specs.Prelude.{◌≡◌, ◌≤◌, ◌∷◌, [], true, drop, length, take, IfSome};
+ghost use Rattle.std.specs.Prelude.{◌≡◌, ◌≤◌, ◌∷◌, [], true, drop, length, slice_index, take, IfSome};
 ghost use Rattle.kernel.specs.Forms.{HasSum, IsCarriedBy, IsForm, IsSum};
 ghost use Rattle.kernel.specs.Loops.{AreApart, assigned_by, assigned_in, loose_in, stored_by, stored_in};
+ghost use Rattle.kernel.specs.Offsets.{IsWithin, here_in};
 ghost use Rattle.lanes.specs.Apart as lanes;
 ghost use Rattle.lanes.specs.There as there;
 
-use crate::turns::{Form, Sum};
+use crate::moved::{is_here, offset_of};
+use crate::turns::{Around, Form, Sum};
 use base::tree::{ArrayId, Expr, ScalarId, Source, Stmt};
 
 /// The most statements of a body that is looked at.
@@ -38,7 +40,8 @@ fn source_shallow(v: &Source) -> bool {
 
 fn stmt_shallow(s: &Stmt) -> bool {
     match s {
-        Stmt::Declare(_, v) | Stmt::Assign(_, v) | Stmt::Store(_, _, _, v) => source_shallow(v),
+        Stmt::Declare(_, v) | Stmt::Assign(_, v) => source_shallow(v),
+        Stmt::Store(_, _, e, v) => is_shallow(e, DEEPEST) && source_shallow(v),
         _ => false,
     }
 }
@@ -107,43 +110,43 @@ pub fn is_turn(level: usize, e: &Expr) -> bool
     }
 }
 
-fn expr_apart(body: &[Stmt], before: &[Stmt], level: usize, e: &Expr) -> bool
-    ensures { result ≡ lanes.is_apart (stored_in body.now) (loose_in body.now before.now) (lanes.is_turn level) e.now }
+fn expr_apart(body: &[Stmt], before: &[Stmt], at: &Around<'_>, e: &Expr) -> bool
+    ensures { result ≡ lanes.is_apart (stored_in body.now) (loose_in body.now before.now) (here_in body.now at.now) e.now }
 {
     match e {
         Expr::Number(_) | Expr::LoopName(_) => true,
         Expr::Scalar(x) => !is_loose(body, before, *x),
         Expr::Cell(array, _, index) => {
-            (is_turn(level, index) || !is_stored(body, *array))
-                && expr_apart(body, before, level, index)
+            (is_here(body, at, index) || !is_stored(body, *array))
+                && expr_apart(body, before, at, index)
         }
         Expr::Unary(_, a) | Expr::Shift(_, a, _) | Expr::Divide(_, a, _) => expr_apart(
-            body, before, level, a,
+            body, before, at, a,
         ),
         Expr::Binary(_, a, b) | Expr::And(a, b) | Expr::Or(a, b) => {
-            expr_apart(body, before, level, a) && expr_apart(body, before, level, b)
+            expr_apart(body, before, at, a) && expr_apart(body, before, at, b)
         }
     }
 }
 
-fn source_apart(body: &[Stmt], before: &[Stmt], level: usize, v: &Source) -> bool
-    ensures { result ≡ lanes.source_apart (stored_in body.now) (loose_in body.now before.now) (lanes.is_turn level) v.now }
+fn source_apart(body: &[Stmt], before: &[Stmt], at: &Around<'_>, v: &Source) -> bool
+    ensures { result ≡ lanes.source_apart (stored_in body.now) (loose_in body.now before.now) (here_in body.now at.now) v.now }
 {
     match v {
-        Source::Value(e) => expr_apart(body, before, level, e),
+        Source::Value(e) => expr_apart(body, before, at, e),
         Source::Read => false,
     }
 }
 
-fn stmt_apart(body: &[Stmt], before: &[Stmt], level: usize, s: &Stmt) -> bool
-    ensures { result ≡ lanes.stmt_apart (stored_in body.now) (assigned_in body.now) (loose_in body.now before.now) (lanes.is_turn level) s.now }
+fn stmt_apart(body: &[Stmt], before: &[Stmt], at: &Around<'_>, s: &Stmt) -> bool
+    ensures { result ≡ lanes.stmt_apart (stored_in body.now) (assigned_in body.now) (loose_in body.now before.now) (here_in body.now at.now) s.now }
 {
     match s {
         Stmt::Declare(x, v) | Stmt::Assign(x, v) => is_assigned(body, *x)
-            && source_apart(body, before, level, v),
+            && source_apart(body, before, at, v),
         Stmt::Store(array, _, index, v) => {
             is_stored(body, *array)
-                && (is_turn(level, index) && source_apart(body, before, level, v))
+                && (is_here(body, at, index) && source_apart(body, before, at, v))
         }
         _ => false,
     }
@@ -151,14 +154,14 @@ fn stmt_apart(body: &[Stmt], before: &[Stmt], level: usize, s: &Stmt) -> bool
 
 // Of some statements of a body those from a place on.
 #[tactic(auto, using(crate::proofs::Looseness::one_apart, crate::proofs::Looseness::none_apart))]
-fn body_apart(body: &[Stmt], some: &[Stmt], level: usize, k: usize) -> bool
+fn body_apart(body: &[Stmt], some: &[Stmt], at: &Around<'_>, k: usize) -> bool
     requires { k ≤ length some.now }
-    ensures { result ≡ lanes.body_apart (stored_in body.now) (assigned_in body.now) (loose_in body.now (take k some.now)) (lanes.is_turn level) (drop k some.now) }
+    ensures { result ≡ lanes.body_apart (stored_in body.now) (assigned_in body.now) (loose_in body.now (take k some.now)) (here_in body.now at.now) (drop k some.now) }
 {
     if k == some.len() {
         return true;
     }
-    stmt_apart(body, &some[..k], level, &some[k]) && body_apart(body, some, level, k + 1)
+    stmt_apart(body, &some[..k], at, &some[k]) && body_apart(body, some, at, k + 1)
 }
 
 fn expr_plain(e: &Expr) -> bool
@@ -193,11 +196,11 @@ fn body_plain(all: &[Stmt]) -> bool
     }
 }
 
-// Whether the turns of a loop at this level with this body are apart.
-fn are_apart(body: &[Stmt], level: usize) -> bool
-    ensures { result ≡ true → AreApart level body.now }
+// Whether the turns of a loop with this body are apart.
+fn are_apart(body: &[Stmt], at: &Around<'_>) -> bool
+    ensures { result ≡ true → AreApart (here_in body.now at.now) body.now }
 {
-    body_plain(body) && body_apart(body, body, level, 0)
+    body_plain(body) && body_apart(body, body, at, 0)
 }
 
 // The scalar that a statement makes of itself.
@@ -219,9 +222,9 @@ fn carried_by(s: &Stmt) -> Option<Sum<'_>>
 
 // Whether a body whose last statement carries a scalar on has turns that are apart but for it.
 #[tactic(auto, using(crate::proofs::Sums::is_sum))]
-fn are_apart_but(body: &[Stmt], front: &[Stmt], level: usize, sum: Sum<'_>) -> bool
+fn are_apart_but(body: &[Stmt], front: &[Stmt], at: &Around<'_>, sum: Sum<'_>) -> bool
     requires { HasSum body.now front.now sum }
-    ensures { result ≡ true → IsSum level body.now front.now sum.entry }
+    ensures { result ≡ true → IsSum (here_in body.now at.now) body.now front.now sum.entry }
 {
     if is_assigned(front, sum.scalar) {
         return false;
@@ -232,44 +235,59 @@ fn are_apart_but(body: &[Stmt], front: &[Stmt], level: usize, sum: Sum<'_>) -> b
     if !expr_plain(sum.added) {
         return false;
     }
-    if !body_apart(body, front, level, 0) {
+    if !body_apart(body, front, at, 0) {
         return false;
     }
-    expr_apart(body, front, level, sum.added)
+    expr_apart(body, front, at, sum.added)
 }
 
 // A body that ends with a sum.
 #[tactic(auto, using(crate::proofs::Sums::has_sum))]
-fn sum_of(body: &[Stmt], level: usize) -> Option<Form<'_>>
-    ensures { IfSome result (IsForm level body.now) }
+fn sum_of<'b>(body: &'b [Stmt], at: &Around<'_>) -> Option<Form<'b>>
+    ensures form { IfSome result (IsForm (slice_index at.now.scalars.now) at.now.outer.now body.now) }
+    ensures offset { IfSome result (λ form. form.offset ≡ at.now.offset) }
 {
     let [front @ .., last] = body else {
         return None;
     };
     let sum = carried_by(last)?;
-    if are_apart_but(body, front, level, sum) {
+    if are_apart_but(body, front, at, sum) {
         Some(Form {
             front,
             sum: Some(sum),
+            offset: at.offset,
         })
     } else {
         None
     }
 }
 
-/// How the turns of a loop at this level with this body are done in blocks, if they can be. A long body, or a deep
-/// expression, is not looked at.
-pub fn form_of(body: &[Stmt], level: usize) -> Option<Form<'_>>
-    ensures { IfSome result (IsForm level body.now) }
+/// How the turns of a loop with this body and this end are done in blocks in these loops from these scalars, if they can
+/// be. A long body, or a deep expression, is not looked at.
+pub fn form_of<'b>(
+    body: &'b [Stmt],
+    outer: &[u64],
+    scalars: &[u64; 256],
+    end: u64,
+) -> Option<Form<'b>>
+    ensures form { IfSome result (IsForm (slice_index scalars.now) outer.now body.now) }
+    ensures within { IfSome result (λ form. IsWithin form.offset end) }
 {
     if body.len() > MOST || !are_shallow(body) {
         return None;
     }
-    if are_apart(body, level) {
+    let offset = offset_of(body, outer, scalars, end);
+    let at = Around {
+        outer,
+        scalars,
+        offset,
+    };
+    if are_apart(body, &at) {
         return Some(Form {
             front: body,
             sum: None,
+            offset,
         });
     }
-    sum_of(body, level)
+    sum_of(body, &at)
 }

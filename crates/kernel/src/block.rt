@@ -1,13 +1,14 @@
 // Blocks of turns of a loop, statement by statement.
 
-ghost use Rattle.std.specs.Prelude.{ℕ, ◌≡◌, ◌+◌, ◌-◌, ◌<◌, ◌≤◌, ◌^◌, true, Some, IsSome, IfOk, OnOk, length, slice_index};
+ghost use Rattle.std.specs.Prelude.{ℕ, ◌≡◌, ◌+◌, ◌-◌, ◌<◌, ◌≤◌, true, Some, IsSome, IfOk, OnOk, length, slice_index};
 ghost use Rattle.base.specs.Meaning.{set_scalar};
 ghost use Rattle.base.specs.Value.{value};
 ghost use Rattle.kernel.specs.Forms.{IsCarriedOn, IsForm, form_block, statements};
 ghost use Rattle.kernel.specs.Lanes.{HaveSize, IsBlock, assigned_lanes, begun_block, block_of, inside_of, lane_scalars, stored_lanes};
 ghost use Rattle.kernel.specs.Loops.{Begins, Ends};
+ghost use Rattle.kernel.specs.Offsets.{IsWithin, places_of};
 ghost use Rattle.kernel.specs.Rows.{cells_kept};
-ghost use Rattle.lanes.specs.Apart.{own_value_places, block_body, block_stmt, in_block, names_at};
+ghost use Rattle.lanes.specs.Apart.{block_body, block_stmt, in_block, names_at};
 ghost use Rattle.lanes.specs.There.{BodyThere, HasValues, StmtThere, body_plain, is_plain, stmt_plain};
 
 use crate::frames::KeptRow;
@@ -72,12 +73,13 @@ fn put(
     requires plain { is_plain e.now ≡ true }
     requires lanes { HaveSize at.now.count lanes.now }
     requires there { HasValues (inside_of at.now) at.now.outer.now e.now (block_of at.now lanes.now rows.old) }
-    requires cells { (v : ℕ) → inside_of at.now v ≡ true → IsSome (cells_kept rows.old (record { array = array; index = v })) }
+    requires cells { (v : ℕ) → inside_of at.now v ≡ true → IsSome (cells_kept rows.old (record { array = array; index = (places_of at.now.offset).place v })) }
     ensures block { OnOk result (block_of at.now lanes.now rows.new
-        ≡ stored_lanes (inside_of at.now) at.now.outer.now array.0 e.now (block_of at.now lanes.now rows.old)) }
+        ≡ stored_lanes (places_of at.now.offset) (inside_of at.now) at.now.outer.now array.0 e.now (block_of at.now lanes.now rows.old)) }
 {
     let numbers = values(alloc, e, at, lanes, rows)?;
-    store_run(rows, array, at.first, &numbers);
+    let offset = at.offset.unwrap_or(0);
+    store_run(rows, array, offset + at.first, &numbers);
     Ok(())
 }
 
@@ -91,10 +93,10 @@ fn do_stmt(
 ) -> Result<(), AllocError>
     requires plain { stmt_plain s.now ≡ true }
     requires lanes { HaveSize at.now.count lanes.old.items }
-    requires there { StmtThere own_value_places (inside_of at.now) at.now.outer.now s.now (block_of at.now lanes.old.items rows.old) }
+    requires there { StmtThere (places_of at.now.offset) (inside_of at.now) at.now.outer.now s.now (block_of at.now lanes.old.items rows.old) }
     ensures lanes { OnOk result (HaveSize at.now.count lanes.new.items) }
     ensures block { OnOk result (block_of at.now lanes.new.items rows.new
-        ≡ block_stmt own_value_places (inside_of at.now) at.now.outer.now s.now (block_of at.now lanes.old.items rows.old)) }
+        ≡ block_stmt (places_of at.now.offset) (inside_of at.now) at.now.outer.now s.now (block_of at.now lanes.old.items rows.old)) }
 {
     match s {
         Stmt::Declare(x, Source::Value(e)) => assign(alloc, *x, e, at, lanes, rows),
@@ -114,10 +116,10 @@ fn do_body(
 ) -> Result<(), AllocError>
     requires plain { body_plain body.now ≡ true }
     requires lanes { HaveSize at.now.count lanes.old.items }
-    requires there { BodyThere own_value_places (inside_of at.now) at.now.outer.now body.now (block_of at.now lanes.old.items rows.old) }
+    requires there { BodyThere (places_of at.now.offset) (inside_of at.now) at.now.outer.now body.now (block_of at.now lanes.old.items rows.old) }
     ensures lanes { OnOk result (HaveSize at.now.count lanes.new.items) }
     ensures block { OnOk result (block_of at.now lanes.new.items rows.new
-        ≡ block_body own_value_places (inside_of at.now) at.now.outer.now body.now (block_of at.now lanes.old.items rows.old)) }
+        ≡ block_body (places_of at.now.offset) (inside_of at.now) at.now.outer.now body.now (block_of at.now lanes.old.items rows.old)) }
 {
     if let [first, rest @ ..] = body {
         do_stmt(alloc, first, at, lanes, rows)?;
@@ -172,9 +174,9 @@ fn block(
     rows: &mut [KeptRow],
 ) -> Result<(), AllocError>
     requires some { 0 < count }
-    requires no_wrap { first + count ≤ 2 ^ 64 }
+    requires no_wrap { IsWithin form.offset (first + count) }
     requires plain { body_plain (statements form) ≡ true }
-    requires there { BodyThere own_value_places (in_block first count) outer.now (statements form) (begun_block scalars.old rows.old) }
+    requires there { BodyThere (places_of form.offset) (in_block first count) outer.now (statements form) (begun_block scalars.old rows.old) }
     ensures { OnOk result (IsBlock (form_block form.entry outer.now first count (slice_index scalars.old) (begun_block scalars.old rows.old)) (first + (count - 1)) scalars.new rows.new) }
 {
     let mut lanes = Vec::new(alloc);
@@ -183,6 +185,7 @@ fn block(
         count,
         outer,
         scalars: &*scalars,
+        offset: form.offset,
     };
     do_body(alloc, form.front, &at, &mut lanes, rows)?;
     match form.sum {
@@ -207,7 +210,8 @@ pub fn blocks(
     scalars: &mut [u64; 256],
     rows: &mut [KeptRow],
 ) -> Result<(), AllocError>
-    requires form { IsForm (length outer.now) body.now form }
+    requires form { IsForm (slice_index scalars.old) outer.now body.now form }
+    requires within { IsWithin form.offset bounds.end }
     requires turns { Begins body.now outer.now bounds.first bounds.end scalars.old rows.old }
     ensures { OnOk result (Ends body.now outer.now bounds.first bounds.end scalars.old rows.old scalars.new rows.new) }
 {

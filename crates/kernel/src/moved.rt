@@ -2,15 +2,17 @@
 
 ghost use Rattle.std.specs.Prelude.{◌≡◌, slice_index};
 ghost use Rattle.kernel.specs.Loops.{assigned_in};
+ghost use Rattle.kernel.specs.Offsets.{IsWithin, here_in};
 ghost use Rattle.lanes.specs.Moved as moved;
 
 use crate::apart::{is_assigned, is_turn};
 use crate::state::{of_both, of_division, of_one, of_shift};
+use crate::turns::Around;
 use base::tree::{BinaryOp, Expr, Stmt};
 
-/// The value of an expression that no turn of a loop with this body changes, if it is one: it names no cell, no scalar that
-/// the body assigns, and of the loops only those around.
-pub fn fixed_value(body: &[Stmt], outer: &[u64], scalars: &[u64; 256], e: &Expr) -> Option<u64>
+// The value of an expression that no turn of a loop with this body changes, if it is one: it names no cell, no scalar that
+// the body assigns, and of the loops only those around.
+fn fixed_value(body: &[Stmt], outer: &[u64], scalars: &[u64; 256], e: &Expr) -> Option<u64>
     ensures { result ≡ moved.fixed_value (assigned_in body.now) (slice_index scalars.now) outer.now e.now }
 {
     match e {
@@ -62,8 +64,8 @@ fn is_add(op: BinaryOp) -> bool
     }
 }
 
-/// Whether an index is the sum of such an expression with this value and of the loop's value, in either order.
-pub fn is_moved(body: &[Stmt], outer: &[u64], scalars: &[u64; 256], u: u64, e: &Expr) -> bool
+// Whether an index is the sum of such an expression with this value and of the loop's value, in either order.
+fn is_moved(body: &[Stmt], outer: &[u64], scalars: &[u64; 256], u: u64, e: &Expr) -> bool
     ensures { result ≡ moved.is_moved (assigned_in body.now) (slice_index scalars.now) outer.now u e.now }
 {
     match e {
@@ -75,4 +77,48 @@ pub fn is_moved(body: &[Stmt], outer: &[u64], scalars: &[u64; 256], u: u64, e: &
         }
         _ => false,
     }
+}
+
+/// Whether an index expression names the turn's own cell.
+pub fn is_here(body: &[Stmt], at: &Around<'_>, e: &Expr) -> bool
+    ensures { result ≡ here_in body.now at.now e.now }
+{
+    match at.offset {
+        None => is_turn(at.outer.len(), e),
+        Some(u) => is_moved(body, at.outer, at.scalars, u, e),
+    }
+}
+
+// The index at which the first of some statements that is a store does so.
+fn first_stored(all: &[Stmt]) -> Option<&Expr> {
+    for s in all {
+        if let Stmt::Store(_, _, index, _) = s {
+            return Some(index);
+        }
+    }
+    None
+}
+
+// What is added to the loop's value in an index, if no turn changes it.
+fn added_to(body: &[Stmt], outer: &[u64], scalars: &[u64; 256], index: &Expr) -> Option<u64> {
+    let Expr::Binary(BinaryOp::Add, a, b) = index else {
+        return None;
+    };
+    if is_turn(outer.len(), b) {
+        return fixed_value(body, outer, scalars, a);
+    }
+    if is_turn(outer.len(), a) {
+        return fixed_value(body, outer, scalars, b);
+    }
+    None
+}
+
+/// What is added to the loop's value in the index at which a body stores first: none where that is no such sum, or where an
+/// index before the end of the loop wraps.
+pub fn offset_of(body: &[Stmt], outer: &[u64], scalars: &[u64; 256], end: u64) -> Option<u64>
+    ensures { IsWithin result end }
+{
+    let u = added_to(body, outer, scalars, first_stored(body)?)?;
+    u.checked_add(end)?;
+    Some(u)
 }

@@ -1,6 +1,7 @@
 // What a block of turns of a loop reads.
 
-ghost use Rattle.std.specs.Prelude.{◌≤◌, ◌<◌, ◌+◌, ◌^◌};
+ghost use Rattle.std.specs.Prelude.{◌<◌, ◌+◌};
+ghost use Rattle.kernel.specs.Offsets.{IsWithin};
 
 use crate::frames::KeptRow;
 use base::tree::{BinaryOp, Expr, ScalarId, Stmt};
@@ -12,15 +13,26 @@ pub struct Lane {
     pub numbers: Vec<u64>,
 }
 
-/// A block of turns: the first, how many there are, the values of the loops around, and the scalars before the block.
+/// What a loop begins with: the values of the loops around and the scalars. At the sum of the offset and its own value it
+/// stores, or at its own value alone.
+#[derive(Clone, Copy)]
+pub struct Around<'a> {
+    pub outer: &'a [u64],
+    pub scalars: &'a [u64; 256],
+    pub offset: Option<u64>,
+}
+
+/// A block of turns: the first, how many there are, the values of the loops around, the scalars before the block, and
+/// what is added to a turn's value in the indices at which it stores.
 #[derive(Clone, Copy)]
 pub struct Turns<'a> {
     pub first: u64,
     pub count: usize,
     pub outer: &'a [u64],
     pub scalars: &'a [u64; 256],
+    pub offset: Option<u64>,
     ghost some: { 0 < count },
-    ghost no_wrap: { first + count ≤ 2 ^ 64 },
+    ghost no_wrap: { IsWithin offset (first + count) },
 }
 
 /// What the expressions of a block of turns read: beside the turns the scalars that they have assigned, the last first,
@@ -41,10 +53,11 @@ pub struct Sum<'b> {
     pub added: &'b Expr,
 }
 
-/// How the turns of a loop are done in blocks: the statements that are done for all turns, and the scalar that is carried
-/// on behind them.
+/// How the turns of a loop are done in blocks: the statements that are done for all turns, the scalar that is carried on
+/// behind them, and what is added to a turn's value in the indices at which it stores.
 #[derive(Clone, Copy)]
 pub struct Form<'b> {
     pub front: &'b [Stmt],
     pub sum: Option<Sum<'b>>,
+    pub offset: Option<u64>,
 }

@@ -1,7 +1,8 @@
 // Statements whose loops are done in blocks of turns where that can be.
 
-ghost use Rattle.std.specs.Prelude.{◌≡◌, true, OnOk, length};
+ghost use Rattle.std.specs.Prelude.{◌≡◌, true, OnOk, slice_index};
 ghost use Rattle.kernel.specs.Forms.{IsForm};
+ghost use Rattle.kernel.specs.Offsets.{IsWithin};
 ghost use Rattle.kernel.specs.Walks.{CanDo, HasDone, list_meaning, loop_meaning, stmt_meaning, turn_meaning};
 
 use crate::apart::form_of;
@@ -25,11 +26,32 @@ fn is_long(bounds: Bounds) -> bool
     bounds.step == 1 && bounds.end >= FEWEST && bounds.first <= bounds.end - FEWEST
 }
 
+// Numbers of which no two are alike.
+fn stand_ins() -> [u64; 256] {
+    let mut numbers = [0; 256];
+    let mut n: u64 = 1;
+    'numbers: for i in 0..256 {
+        n = n.wrapping_mul(6_364_136_223_846_793_005).wrapping_add(1_442_695_040_888_963_407);
+        numbers[i] = n;
+    }
+    numbers
+}
+
+// Whether it looks as if a body at this level could be done in blocks: numbers stand in for the values of the loops around
+// and of the scalars, which are not known before the loop begins, so that sums of other names have other values.
+fn looks_apart(body: &[Stmt], level: usize) -> bool {
+    let numbers = stand_ins();
+    if level > numbers.len() {
+        return false;
+    }
+    form_of(body, &numbers[..level], &numbers, 0).is_some()
+}
+
 #[cycle(has)]
 fn is_blocked(s: &Stmt, level: usize) -> bool {
     match s {
         Stmt::Loop(bounds, body) => {
-            (is_long(*bounds) && form_of(body, level).is_some())
+            (is_long(*bounds) && looks_apart(body, level))
                 || has_blocks(body, level.saturating_add(1))
         }
         _ => false,
@@ -66,7 +88,8 @@ fn in_blocks(
     m: &mut Machine<'_>,
 ) -> Result<(), AllocError>
     requires step { bounds.step ≡ 1 }
-    requires form { IsForm (length m.old.loops.items) body.now form }
+    requires form { IsForm (slice_index m.old.scalars.value) m.old.loops.items body.now form }
+    requires within { IsWithin form.offset bounds.end }
     requires can { CanDo (loop_meaning bounds body.now) m.old }
     ensures { OnOk result (HasDone (loop_meaning bounds body.now) m.old m.new) }
 {
@@ -120,7 +143,7 @@ fn walk_one(alloc: Global, s: &Stmt, m: &mut Machine<'_>) -> Result<(), AllocErr
     if let Stmt::Loop(bounds, body) = s {
         let level = m.loops.len();
         if is_long(*bounds) {
-            if let Some(form) = form_of(body, level) {
+            if let Some(form) = form_of(body, &m.loops, &m.scalars, bounds.end) {
                 in_blocks(alloc, *bounds, form, body, m)?;
                 return Ok(());
             }

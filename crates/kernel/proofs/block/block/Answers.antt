@@ -2,6 +2,7 @@ use Rattle.std.proofs.Common.{◌-◌, ◌+◌, List, None, Some, slice_index, s
 use Rattle.lanes.specs.Apart.{in_block}
 use Rattle.kernel.specs.Forms.{IsCarriedOn}
 use Rattle.kernel.specs.Lanes.{begun_block, block_of}
+use Rattle.kernel.specs.Offsets.{places_of}
 use Rattle.kernel.specs.declared.turns.Lane.{Lane}
 use Rattle.kernel.specs.declared.turns.Turns.{Turns}
 use Rattle.kernel.proofs.BlockLanes.{begin_there, all_done}
@@ -20,11 +21,12 @@ do_body-requires-clause-there c =
       count = c.args.count;
       outer = c.args.outer;
       scalars = record { ref_ptr = c.args.scalars.ref_ptr; now = c.args.scalars.now };
+      offset = c.args.form.offset;
       some = c.requires.some;
       no_wrap = c.requires.no_wrap;
     } in
     begin_there at c.args.form.front.now c.new-lanes.result.items c.args.rows.now c.new-lanes.ensures.items
-    (front_there (in_block c.args.first c.args.count) c.args.outer.now c.args.form.front.now c.args.form.sum
+    (front_there (places_of c.args.form.offset) (in_block c.args.first c.args.count) c.args.outer.now c.args.form.front.now c.args.form.sum
     (begun_block c.args.scalars.now c.args.rows.now) c.requires.there)
 
 pub carry_on-requires-clause-plain : goal.carry_on-requires-clause-plain
@@ -39,6 +41,7 @@ carry_on-requires-clause-there c =
       count = c.args.count;
       outer = c.args.outer;
       scalars = record { ref_ptr = c.args.scalars.ref_ptr; now = c.args.scalars.now };
+      offset = c.args.form.offset;
       some = c.requires.some;
       no_wrap = c.requires.no_wrap;
     } in
@@ -54,6 +57,7 @@ returns c =
       count = c.args.count;
       outer = c.args.outer;
       scalars = record { ref_ptr = c.args.scalars.ref_ptr; now = c.args.scalars.now };
+      offset = c.args.form.offset;
       some = c.requires.some;
       no_wrap = c.requires.no_wrap;
     } in
@@ -61,12 +65,12 @@ returns c =
     let last = c.args.first + (c.args.count - 1) in
     let begun = begun_block c.args.scalars.now c.args.rows.now in
     elim c.match-form.branch [
-      | in-None w ↦ formed c.args.form.sum None (in_block c.args.first c.args.count) c.args.outer.now front
+      | in-None w ↦ formed c.args.form.sum None (places_of c.args.form.offset) (in_block c.args.first c.args.count) c.args.outer.now front
           (slice_index c.args.scalars.now) c.args.first c.args.count last begun _ c.match-form.scalars c.do_body.new.rows w.in-None.is
           w.scalars-is
           (all_done at front c.new-lanes.result.items c.do_body.new.lanes.items _ c.args.rows.now c.do_body.new.rows
           w.keep_last.new.scalars c.new-lanes.ensures.items c.in_ok-do_body.ensures.block w.deref.ensures.value w.keep_last.ensures)
-      | in-Some+in_ok-number-in-Some w ↦ formed c.args.form.sum (Some w.in-Some.sum) (in_block c.args.first c.args.count)
+      | in-Some+in_ok-number-in-Some w ↦ formed c.args.form.sum (Some w.in-Some.sum) (places_of c.args.form.offset) (in_block c.args.first c.args.count)
           c.args.outer.now front (slice_index c.args.scalars.now) c.args.first c.args.count last begun _ c.match-form.scalars
           c.do_body.new.rows w.in-Some.is w.scalars-is
           (sum_done at front w.in-Some.sum c.new-lanes.result.items c.do_body.new.lanes.items _ c.args.rows.now c.do_body.new.rows

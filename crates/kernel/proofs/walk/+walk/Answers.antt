@@ -1,4 +1,5 @@
-use Rattle.std.proofs.Common.{◌≡◌, ℕ, List, length, ◌+◌, ◌∙◌, arith, rules, sym, subst}
+use Rattle.std.proofs.Common.{ℕ, List, ◌+◌, ◌∙◌, rules, sym, subst}
+use Rattle.std.specs.Prelude.{slice_index}
 use Rattle.base.specs.declared.tree.Stmt.TheViews.{the_lemmas}
 use Rattle.base.specs.declared.tree.Stmt.{Stmt}
 use Rattle.kernel.specs.Forms.{IsForm}
@@ -71,10 +72,14 @@ walk_one-returns t c =
 
 pub walk_one-in_blocks-requires-clause-form : goal.walk_one-in_blocks-requires-clause-form
 walk_one-in_blocks-requires-clause-form t c =
-    let level : c.len-level.result ≡ length c.args.m.now.loops.items = omega (arith, c.len-level.ensures, c.args.m.now.loops.ok.0) in
-    subst (λ (n : ℕ). IsForm n c.deref-in-Some.result.now c.in-Some.form) level
-    (subst (λ (body : List Stmt). IsForm c.len-level.result body c.in-Some.form)
-    (c.deref.ensures.value ∙ sym c.deref-in-Some.ensures.value) c.in-Some.ensures)
+    let form = c.in-Some.form in
+    let numbers = c.deref-then-is_long-2.result.now in
+    let loops = c.deref-then-is_long.result.now in
+    let body = c.deref-in-Some.result.now in
+    subst (λ (xs : List ℕ). IsForm (slice_index xs) c.args.m.now.loops.items body form) c.deref-then-is_long-2.ensures
+    (subst (λ (ls : List ℕ). IsForm (slice_index numbers) ls body form) c.deref-then-is_long.ensures.value
+    (subst (λ (all : List Stmt). IsForm (slice_index numbers) loops all form)
+    (c.deref.ensures.value ∙ sym c.deref-in-Some.ensures.value) c.in-Some.ensures.form))
 
 pub walk_one-in_blocks-requires-clause-can : goal.walk_one-in_blocks-requires-clause-can
 walk_one-in_blocks-requires-clause-can t c =

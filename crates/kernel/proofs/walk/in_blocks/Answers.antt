@@ -1,4 +1,5 @@
-use Rattle.std.proofs.Common.{ℕ, length, ap, arith, refl, sym, subst}
+use Rattle.std.proofs.Common.{ℕ, List, ap, arith, refl, sym, subst}
+use Rattle.std.specs.Prelude.{length, slice_index}
 use Rattle.std.proofs.lemmas.List.{with_items_is}
 use Rattle.kernel.specs.Forms.{IsForm}
 use Rattle.kernel.proofs.WalkedLoops.{blocks_can, blocks_done}
@@ -6,7 +7,9 @@ use Rattle.kernel.proofs.walk.in_blocks.Goals as goal
 
 pub blocks-requires-clause-form : goal.blocks-requires-clause-form
 blocks-requires-clause-form c =
-    subst (λ (n : ℕ). IsForm n c.args.body.now c.args.form) (sym (ap length c.deref.ensures.value)) c.requires.form
+    subst (λ (xs : List ℕ). IsForm (slice_index xs) c.deref.result.now c.args.body.now c.args.form) (sym c.deref_mut.ensures.value)
+    (subst (λ (ls : List ℕ). IsForm (slice_index c.args.m.now.scalars.value) ls c.args.body.now c.args.form) (sym c.deref.ensures.value)
+    c.requires.form)
 
 pub blocks-requires-clause-turns : goal.blocks-requires-clause-turns
 blocks-requires-clause-turns c =
