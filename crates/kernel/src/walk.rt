@@ -31,7 +31,9 @@ fn stand_ins() -> [u64; 256] {
     let mut numbers = [0; 256];
     let mut n: u64 = 1;
     'numbers: for i in 0..256 {
-        n = n.wrapping_mul(6_364_136_223_846_793_005).wrapping_add(1_442_695_040_888_963_407);
+        n = n
+            .wrapping_mul(6_364_136_223_846_793_005)
+            .wrapping_add(1_442_695_040_888_963_407);
         numbers[i] = n;
     }
     numbers
