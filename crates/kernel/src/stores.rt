@@ -30,7 +30,7 @@ fn mark_run(marks: &mut [bool], at: usize, n: usize)
     }
 }
 
-/// The numbers of some turns, one at least, go into the cells of an array whose indices are the turns.
+/// Some numbers, one at least, go into the cells of an array from an index on.
 pub fn store_run(rows: &mut [KeptRow], array: ArrayId, first: u64, numbers: &[u64])
     requires some { 0 < length numbers.now }
     requires there { (k : ℕ) → k < length numbers.now → IsSome (cells_kept rows.old (record { array = array; index = first + k })) }

@@ -31,14 +31,18 @@ fn stand_ins() -> [u64; 256] {
     let mut numbers = [0; 256];
     let mut n: u64 = 1;
     'numbers: for i in 0..256 {
-        n = n.wrapping_mul(6_364_136_223_846_793_005).wrapping_add(1_442_695_040_888_963_407);
+        n = n
+            .wrapping_mul(6_364_136_223_846_793_005)
+            .wrapping_add(1_442_695_040_888_963_407);
         numbers[i] = n;
     }
     numbers
 }
 
 // Whether it looks as if a body at this level could be done in blocks: numbers stand in for the values of the loops around
-// and of the scalars, which are not known before the loop begins, so that sums of other names have other values.
+// and of the scalars, which are not known before the loop begins, so that sums of other names have other values. They
+// have a frame of their own, since `is_blocked` calls itself for the loops in a loop.
+#[inline(never)]
 fn looks_apart(body: &[Stmt], level: usize) -> bool {
     let numbers = stand_ins();
     if level > numbers.len() {
