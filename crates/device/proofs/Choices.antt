@@ -146,7 +146,7 @@ module _ (pl : Plan) (fill : ℕ → Fill) (n : ℕ) (cs : List ℕ) (history : 
     | Some e ↦ follow pl fill n (rest_of cs) (history ++ e ∷ []) (step pl fill s e)
   ]) at
 
-follow_stop : (pl : Plan) (fill : ℕ → Fill) (n : ℕ) (cs : List ℕ) (history : List Event) (s : State) →
+pub follow_stop : (pl : Plan) (fill : ℕ → Fill) (n : ℕ) (cs : List ℕ) (history : List Event) (s : State) →
     all_enabled pl s ≡ [] → follow pl fill n cs history (Some s) ≡ record { history = history; state = Some s }
 follow_stop pl fill zero cs history s none = refl
 follow_stop pl fill (suc n) cs history s none = ap (λ next. stopped (slice_get next (first_or_zero cs % length next))) none

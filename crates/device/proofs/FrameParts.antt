@@ -1,12 +1,9 @@
 -- Frames that are the same by value.
-use Rattle.std.proofs.Common.{◌≡◌, ◌+◌, ℕ, zero, suc, List, [], ◌∷◌, map, length, Option, Some, None, refl, sym, ap, ap₂, ◌∙◌, arith}
-use Rattle.std.specs.Prelude.{option_map, slice_get, slice_index, unwrap_or}
-use Rattle.std.proofs.lemmas.Option.{same_Some, slice_get-map, slice_get_within}
-use Rattle.std.proofs.lemmas.List.{length-map}
+use Rattle.std.proofs.Common.{◌≡◌, ℕ, List, map, Option, Some, None, refl, sym, ap, ◌∙◌}
+use Rattle.std.specs.Prelude.{option_map, slice_get, slice_index}
+use Rattle.std.proofs.lemmas.Option.{slice_get-map}
 use mathlib.Core.Path.{fun_ext}
 use Rattle.base.specs.declared.item.Cell.{Cell}
-use Rattle.base.specs.declared.item.ItemKind.{ItemKind}
-use Rattle.base.specs.declared.item.ItemKind.TheVariants as kind
 use Rattle.base.specs.declared.tree.Region.{Region}
 use Rattle.base.specs.Memory.{View}
 use Rattle.base.specs.Meaning.{run_region}
@@ -14,12 +11,6 @@ use Rattle.kernel.specs.declared.frames.Frame.{Frame}
 use Rattle.kernel.specs.declared.frames.Row.{Row}
 use Rattle.base.specs.Rows.{at_index}
 use Rattle.kernel.specs.Rows.{cells_of}
-use Rattle.present.specs.declared.Table.{Table}
-use Rattle.present.specs.Rows.{cell_at}
-use Rattle.present.specs.Table.{number_at}
-use Rattle.frames.proofs.RowViews.{past_end}
-use Rattle.frames.specs.Rows.{TakeNumbers, TakesNumbers}
-use Rattle.device.specs.Opening.{FillsRows, IsFilled}
 use Rattle.device.specs.Standing.{Issue, done_on, frame_parts, row_parts}
 
 -- the cells of rows by value

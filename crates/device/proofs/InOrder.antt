@@ -1,5 +1,5 @@
 -- A run by no choices is the run in program order.
-use Rattle.std.proofs.Common.{◌≡◌, ◌∙◌, ℕ, zero, suc, ◌+◌, ◌-◌, ◌*◌, ◌≤◌, Bool, true, false, List, [], ◌∷◌, ◌++◌, length, Option, Some, refl, sym, ap, subst, arith, length-append}
+use Rattle.std.proofs.Common.{◌≡◌, ◌∙◌, ℕ, suc, ◌+◌, ◌-◌, ◌*◌, ◌≤◌, Bool, true, false, List, [], ◌∷◌, length, Some, sym, ap, arith, length-append}
 use Rattle.std.proofs.lemmas.Option.{same_Some}
 use Rattle.base.specs.declared.item.Event.{Event}
 use Rattle.base.specs.declared.item.Event.TheVariants.{End}
@@ -13,7 +13,7 @@ use Rattle.headline.specs.Stepwise.{events_from, item_events, program_order}
 use Rattle.headline.proofs.ByFirst.{by_first}
 use Rattle.headline.proofs.ProgramChain.{end_state}
 use Rattle.headline.proofs.ProgramOrder.{program_order_is_right}
-use Rattle.device.specs.Choosing.{IsPlayed}
+use Rattle.device.specs.Choosing.{IsPlayed, most_events}
 use Rattle.device.specs.Run.{Run, fill_in, state_of}
 use Rattle.device.specs.Running.{IsReached}
 use Rattle.device.proofs.Choices.{follow_stop, nothing_after_the_end}
@@ -33,10 +33,10 @@ few_from i (w ∷ ws) =
 
 module _ (p : Program) (accepted : IsAccepted (plan p)) (input : List ℕ) (fill : ℕ → Fill)
     (numbers : AreNumbers input) where
-  events : ℕ
+  abbrev events : ℕ
   events = length (program_order (plan p))
 
-  most : ℕ
+  abbrev most : ℕ
   most = 3 * length (plan p).items + 1
 
   fits : events ≤ most
@@ -66,9 +66,9 @@ pub played_in_order : (choices : List ℕ) (old new : Run) → IsReached old →
     old.history ≡ [] → new.history ≡ program_order (plan new.program)
 played_in_order choices old new h played none begun =
     sym (ap (λ (x : Played). x.history) (played.goes.by_choices))
-    ∙ ap (λ cs. (follow (plan old.program) (fill_in old) _ cs old.history (Some (state_of old))).history) none
-    ∙ ap (λ es. (follow (plan old.program) (fill_in old) _ [] es (Some (state_of old))).history) begun
-    ∙ ap (λ s. (follow (plan old.program) (fill_in old) _ [] [] (Some s)).history) at_start
+    ∙ ap (λ cs. (follow (plan old.program) (fill_in old) (most_events old) cs old.history (Some (state_of old))).history) none
+    ∙ ap (λ es. (follow (plan old.program) (fill_in old) (most_events old) [] es (Some (state_of old))).history) begun
+    ∙ ap (λ s. (follow (plan old.program) (fill_in old) (most_events old) [] [] (Some s)).history) at_start
     ∙ ap (λ (x : Played). x.history) (in_order old.program h.accepted old.input (fill_in old) h.numbers)
     ∙ ap (λ p. program_order (plan p)) (sym played.goes.program)
   where

@@ -1,6 +1,7 @@
 -- An item that was opened may be closed, and its frame was issued.
-use Rattle.std.proofs.Common.{◌≡◌, ◌<◌, ℕ, true, false, length, map, List, Option, Some, sym, ap, ap₂, ◌∙◌, subst, arith}
+use Rattle.std.proofs.Common.{◌≡◌, ◌<◌, ℕ, true, false, length, map, List, Some, refl, sym, ap, ap₂, ◌∙◌, subst, arith}
 use Rattle.std.specs.Prelude.{◌==◌, if◌then◌else◌, option_map, slice_get}
+use Rattle.std.proofs.lemmas.Bool.{false≢true}
 use Rattle.std.proofs.lemmas.Bool.Decides.{nat_tests}
 use Rattle.std.proofs.lemmas.List.{length-map}
 use Rattle.std.proofs.lemmas.Option.{same_Some, slice_get-map, slice_get_within}
@@ -8,7 +9,7 @@ use Rattle.base.specs.declared.item.Event.TheVariants as event
 use Rattle.base.specs.declared.item.Item.{Item}
 use Rattle.base.specs.declared.tree.Program.{Program}
 use Rattle.base.specs.Items.{Work, plan}
-use Rattle.base.specs.Machine.{Condition, Opened, State, captured_by, enabled, is_open, with_condition, with_memories, worked_on}
+use Rattle.base.specs.Machine.{Condition, Untouched, Generated, Opened, Closed, Passed, State, captured_by, enabled, is_open, with_condition, with_memories, worked_on}
 use Rattle.base.proofs.Places.{get_set_same}
 use Rattle.kernel.specs.declared.frames.Frame.{Frame}
 use Rattle.device.specs.declared.standing.Standing.{Standing}
@@ -18,7 +19,7 @@ use Rattle.device.specs.Blank.{IsBlank}
 use Rattle.device.specs.Opening.{Issues}
 use Rattle.device.specs.Run.{Run, fill_in, state_of}
 use Rattle.device.specs.Running.{IsReached}
-use Rattle.device.specs.Standing.{Issue, frame_parts, issue_of}
+use Rattle.device.specs.Standing.{Issue, Keeps, frame_parts, issue_of}
 use Rattle.device.proofs.Blanks.{still_blank}
 use Rattle.device.proofs.Openings.{IsOpened, is_opened, on_work}
 use Rattle.device.proofs.Reaching.{IsNext, Next, reached_next}
@@ -76,3 +77,20 @@ module _ (it : Item) (given : Frame) (i : ℕ) (old new : Standing) (h : Issues 
   pub is_held : (filled f : Frame) → slice_get new.held.items i ≡ Some (held.Issued f) → frame_parts filled ≡ frame_parts f →
       slice_get (map issue_of new.held.items) i ≡ Some (Some (frame_parts filled))
   is_held filled f at e = issued_at ∙ ap (λ p. Some (Some p)) (sym (e ∙ kept_frame f at))
+
+-- it is no other
+pub never_other : (x : Held) (p : Issue) → issue_of x ≡ Some p → ((f : Frame) → x ≡ held.Issued f → ⊥) → ⊥
+never_other held.Nothing p e n = cc e
+never_other (held.Captured s) p e n = cc e
+never_other (held.Issued f) p e n = n f refl
+
+-- what is kept for an open item is no other
+pub open_is_issued : (i : ℕ) (w : Work) (input : List ℕ) (c : Condition) (x : Held) → is_open c ≡ true →
+    Keeps i w input c (Some x) → ((f : Frame) → x ≡ held.Issued f → ⊥) → ⊥
+open_is_issued i w input (Opened captured snapshot) held.Nothing o k n = k
+open_is_issued i w input (Opened captured snapshot) (held.Captured s) o k n = k
+open_is_issued i w input (Opened captured snapshot) (held.Issued f) o k n = n f refl
+open_is_issued i w input Untouched x o k n = false≢true o
+open_is_issued i w input (Generated captured) x o k n = false≢true o
+open_is_issued i w input Closed x o k n = false≢true o
+open_is_issued i w input Passed x o k n = false≢true o

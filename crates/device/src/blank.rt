@@ -61,11 +61,8 @@ fn fill_rows(blank: &mut [Row], rows: &[Row])
     requires { AreBlankRows (map row_parts rows.now) blank.old }
     ensures { map row_parts blank.new ≡ map row_parts rows.now }
 {
-    if let [row, rest @ ..] = rows {
-        if let [first, others @ ..] = blank {
-            fill_row(first, row);
-            fill_rows(others, rest);
-        }
+    'each: for (i, to) in blank.iter_mut().enumerate() {
+        fill_row(to, &rows[i]);
     }
 }
 

@@ -55,7 +55,7 @@ impl<'a> RunState<'a> {
         let _it = &self.image.items()[item as usize];
         let code = self.image.code(item as usize);
         let Held::Issued(frame) = &self.standing.held[item as usize] else {
-            return Err(RunFault::OutOfMemory);
+            unreachable!()
         };
         let Ok(done) = run(self.alloc, code, frame) else {
             return Err(RunFault::OutOfMemory);

@@ -239,16 +239,14 @@ fn tell_runs<W: Write>(alloc: Global, image: &Image<'_>, out: &mut W) -> io::Res
     told_run(by_choices(alloc, image), out)
 }
 
-fn lowered<'a>(alloc: Global, accepted: &'a Accepted<'a>) -> Result<Image<'a>, AllocError>
-{
+fn lowered<'a>(alloc: Global, accepted: &'a Accepted<'a>) -> Result<Image<'a>, AllocError> {
     match lower(alloc, accepted) {
         Ok(image) => Ok(image),
         Err(_) => lower(alloc, accepted),
     }
 }
 
-fn tell_accepted<W: Write>(alloc: Global, accepted: &Accepted<'_>, out: &mut W) -> io::Result<()>
-{
+fn tell_accepted<W: Write>(alloc: Global, accepted: &Accepted<'_>, out: &mut W) -> io::Result<()> {
     match lowered(alloc, accepted) {
         Ok(image) => tell_runs(alloc, &image, out),
         Err(_) => told_run(Err(RunFault::OutOfMemory), out),
@@ -264,16 +262,14 @@ fn checked<'a>(alloc: Global, outlined: &'a Outlined<'a>) -> Result<Accepted<'a>
     }
 }
 
-fn tell_outlined<W: Write>(alloc: Global, outlined: &Outlined<'_>, out: &mut W) -> io::Result<()>
-{
+fn tell_outlined<W: Write>(alloc: Global, outlined: &Outlined<'_>, out: &mut W) -> io::Result<()> {
     match checked(alloc, outlined) {
         Ok(accepted) => tell_accepted(alloc, &accepted, out),
         Err(fault) => told(Err(SourceFault::Check(fault)), out),
     }
 }
 
-fn read(alloc: Global) -> Result<Program, ReadFault>
-{
+fn read(alloc: Global) -> Result<Program, ReadFault> {
     match read_program(alloc, SOURCE.as_bytes()) {
         Ok(program) => Ok(program),
         Err(_) => read_program(alloc, SOURCE.as_bytes()),
@@ -289,8 +285,7 @@ fn listed<'a>(alloc: Global, program: &'a Program) -> Result<Outlined<'a>, Outli
     }
 }
 
-fn tell_program<W: Write>(alloc: Global, program: &Program, out: &mut W) -> io::Result<()>
-{
+fn tell_program<W: Write>(alloc: Global, program: &Program, out: &mut W) -> io::Result<()> {
     match listed(alloc, program) {
         Ok(outlined) => tell_outlined(alloc, &outlined, out),
         Err(fault) => told(Err(SourceFault::Outline(fault)), out),

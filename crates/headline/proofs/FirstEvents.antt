@@ -111,10 +111,10 @@ module _ (pl : Plan) (s : State) where
       all_of true true true d e = absurd (true≢false e)
 
       go : (o : Option Work) → slice_get pl.items j ≡ o → elim o [
-          | None ↦ false
-          | Some w ↦ not (is_wait w.kind) && ((w.deferred || (s.place == j)) &&
-              (is_waiting w.deferred (s.condition j) && is_ready pl s j))
-        ] ≡ false
+        | None ↦ false
+        | Some w ↦ not (is_wait w.kind) && ((w.deferred || (s.place == j)) &&
+            (is_waiting w.deferred (s.condition j) && is_ready pl s j))
+      ] ≡ false
       go None e = refl
       go (Some w) e = all_of (not (is_wait w.kind)) (w.deferred || (s.place == j)) (is_waiting w.deferred (s.condition j))
           (is_ready pl s j) (h w e)

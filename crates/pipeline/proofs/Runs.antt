@@ -98,4 +98,3 @@ both P Q (Err f) p q = tt
 
 pub accepted_too : (p q : Program) → q ≡ p → IsAccepted (plan q) → IsAccepted (plan p)
 accepted_too p q e h = subst (λ (r : Program). IsAccepted (plan r)) e h
-

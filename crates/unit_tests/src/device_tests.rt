@@ -162,18 +162,22 @@ fn stops_at(
     events: usize,
 ) -> Result<bool, Fail> {
     let mut run = RunState::new(alloc, image, &[], capacity).map_err(Fail::new)?;
-    Ok(run.play_choices(&[0, 0, 0, 0, 1, 1]) == Err(RunFault::DeviceFull)
-        && run.history().len() == events
-        && run.is_enabled(Event::Open(item)))
+    Ok(
+        run.play_choices(&[0, 0, 0, 0, 1, 1]) == Err(RunFault::DeviceFull)
+            && run.history().len() == events
+            && run.is_enabled(Event::Open(item)),
+    )
 }
 
 struct Sizes;
 
 impl Look for Sizes {
     fn look(&self, alloc: Global, image: &Image<'_>) -> Result<bool, Fail> {
-        Ok(stops_at(alloc, image, 0, 1, 3)?
-            && stops_at(alloc, image, 7, 1, 3)?
-            && stops_at(alloc, image, 15, 2, 5)?)
+        Ok(
+            stops_at(alloc, image, 0, 1, 3)?
+                && stops_at(alloc, image, 7, 1, 3)?
+                && stops_at(alloc, image, 15, 2, 5)?,
+        )
     }
 }
 

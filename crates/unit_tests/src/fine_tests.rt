@@ -1,6 +1,5 @@
 // A run of a source, action by action.
 
-
 use base::fault::RunFault;
 use base::item::{Cell, Event};
 use base::tree::{ArrayId, DeviceId};
@@ -107,8 +106,7 @@ fn is_full(run: &mut FineRun<'_>) -> bool {
         && !run.is_enabled(Event::Step(1))
 }
 
-fn look(alloc: Global, outlined: &Outlined<'_>) -> Result<bool, Fail>
-{
+fn look(alloc: Global, outlined: &Outlined<'_>) -> Result<bool, Fail> {
     let arrays = shown_of(alloc, outlined).map_err(Fail::new)?;
     let mut run = FineRun::new(alloc, outlined, &[], 2).map_err(Fail::new)?;
     let mut small = FineRun::new(alloc, outlined, &[], 1).map_err(Fail::new)?;

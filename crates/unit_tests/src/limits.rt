@@ -107,8 +107,7 @@ struct Depends;
 impl Many for Depends {
     fn text(&self, alloc: Global, count: usize) -> Result<String, AllocError> {
         let others = times(alloc, count.saturating_sub(1), ", A[0:1]")?;
-        format!(
-            in alloc;
+        format!(in alloc;
             "uint64_t A[1];\nint main(void) {{\n#pragma omp taskwait depend(in: A[0:1]{others})\n}}\n"
         )
     }
@@ -120,8 +119,7 @@ struct Terms;
 impl Many for Terms {
     fn text(&self, alloc: Global, count: usize) -> Result<String, AllocError> {
         let others = times(alloc, count.saturating_sub(1), "+0")?;
-        format!(
-            in alloc;
+        format!(in alloc;
             "uint64_t A[1];\nint main(void) {{\n#pragma omp taskwait depend(in: A[0{others}:1])\n}}\n"
         )
     }

@@ -19,14 +19,12 @@ pub trait Look {
     fn look(&self, alloc: Global, image: &Image<'_>) -> Result<bool, Fail>;
 }
 
-fn look_accepted<L: Look>(alloc: Global, accepted: &Accepted<'_>, by: &L) -> Result<bool, Fail>
-{
+fn look_accepted<L: Look>(alloc: Global, accepted: &Accepted<'_>, by: &L) -> Result<bool, Fail> {
     let image = lower(alloc, accepted)?;
     by.look(alloc, &image)
 }
 
-fn look_outlined<L: Look>(alloc: Global, outlined: &Outlined<'_>, by: &L) -> Result<bool, Fail>
-{
+fn look_outlined<L: Look>(alloc: Global, outlined: &Outlined<'_>, by: &L) -> Result<bool, Fail> {
     let accepted = check(alloc, outlined).map_err(Fail::new)?;
     look_accepted(alloc, &accepted, by)
 }

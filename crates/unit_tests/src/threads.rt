@@ -111,9 +111,7 @@ fn computes_two<R: Threads + Wait + Sync>(
     };
     let answer = run_source(rt, alloc, TWO_KERNELS, &[], workers, 16, &gate)?;
     // four items, each opened, computed and closed
-    Ok(answer.out.as_slice() == b"7\n13\n".as_slice()
-        && is(&gate.late, 0)
-        && is(&gate.passed, 12))
+    Ok(answer.out.as_slice() == b"7\n13\n".as_slice() && is(&gate.late, 0) && is(&gate.passed, 12))
 }
 
 #[test]

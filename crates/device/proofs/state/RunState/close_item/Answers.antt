@@ -1,4 +1,4 @@
-use Rattle.std.proofs.Common.{◌≡◌, ◌∙◌, Some, sym, ap, subst, arith}
+use Rattle.std.proofs.Common.{◌≡◌, ◌∙◌, true, false, Option, Some, sym, ap, subst, arith}
 use Rattle.std.specs.Prelude.{slice_get}
 use Rattle.std.proofs.lemmas.Option.{slice_get-get_or, slice_get_within}
 use Rattle.base.specs.Items.{plan}
@@ -7,7 +7,12 @@ use Rattle.base.specs.declared.item.Event.TheVariants as event
 use Rattle.device.specs.declared.standing.Held.{Held}
 use Rattle.device.specs.Closing.{left_in}
 use Rattle.device.specs.Jobs.{IsIssuedDone}
-use Rattle.device.specs.Standing.{done_on}
+use Rattle.base.specs.Machine.{is_open}
+use Rattle.device.specs.Run.{state_of}
+use Rattle.device.specs.Running.{run_of}
+use Rattle.device.specs.Standing.{Keeps, done_on}
+use Rattle.device.proofs.OpenedItems.{open_is_issued}
+use Rattle.device.proofs.Openings.{on_work}
 use Rattle.device.proofs.IssuedFrames.{held_issued, is_issued_done, of_item}
 use Rattle.device.proofs.MayClose.{close_facts, inside_close, runs}
 use Rattle.device.proofs.Reaching.{asked}
@@ -71,3 +76,18 @@ finish-requires c =
           (subst (λ r. IsKept (done_on r c.in-Issued.frame) (left_in d.scalars.value d.rows.items d.input.now d.printed.items)) c.in-Ok.ensures.region
           (subst (λ g. IsKept (done_on d.region.now g) (left_in d.scalars.value d.rows.items d.input.now d.printed.items)) c.in-Ok.ensures.frame d.is_meaning))));
     }
+
+pub unreachable-requires : goal.unreachable-requires
+unreachable-requires c =
+    let s = c.self.inside in
+    let f = close_facts s c.args.self.now c.args.item _ c.items.result.now c.index-items-item.result c.self.view_is c.self.invariant c.requires
+    c.items.ensures.shown c.index-items-item.is in
+    let at_i : slice_get s.standing.held.items c.args.item ≡ Some c.index.result.now =
+    slice_get-get_or s.standing.held.items c.args.item c.index.result.now f.item.inside ∙ ap (λ (x : Held). Some x) (sym c.index.ensures) in
+    let state = state_of (run_of s) in
+    let opened : is_open (state.condition c.args.item) ≡ true =
+    sym (on_work (plan s.image.now) c.args.item f.item.work false (λ v. is_open (state.condition c.args.item)) f.item.is)
+    ∙ asked s c.args.self.now (event.Close c.args.item) c.self.view_is c.requires in
+    open_is_issued c.args.item f.item.work state.input (state.condition c.args.item) c.index.result.now opened
+    (subst (λ (o : Option Held). Keeps c.args.item f.item.work state.input (state.condition c.args.item) o) at_i
+    (c.self.invariant.at.held c.args.item f.item.work f.item.is)) c.in_default.not-Issued

@@ -5,9 +5,9 @@ use Rattle.device.specs.declared.standing.Held.{Held}
 use Rattle.base.specs.declared.item.Event.TheVariants as event
 use Rattle.device.specs.Run.{IsOpenFault, is_over, opened, state_of}
 use Rattle.device.specs.Running.{IsRunning, run_of}
-use Rattle.device.specs.Standing.{Issue, frame_parts, issue_of, row_parts}
+use Rattle.device.specs.Standing.{frame_parts, issue_of}
 use Rattle.device.proofs.MayOpen.{facts, has_room, inside_open, is_full, open_fault, same_but, same_work, unchanged}
-use Rattle.device.proofs.OpenedItems.{is_for_kept, is_held, may_close, still_there}
+use Rattle.device.proofs.OpenedItems.{is_for_kept, is_held, kept_issue, may_close, never_other, still_there}
 use Rattle.device.proofs.Reaching.{goes_to}
 use Rattle.device.proofs.Tables.{own_table}
 use Rattle.device.proofs.state.RunState.open_with.Goals as goal
@@ -250,3 +250,16 @@ returns-in_default-blank-clause-room c =
     let own = own_table s.standing.devices c.self.invariant.at.alike it.device.number it.device.in_range in
     ap (λ r. is_over r c.args.item) (sym c.self.view_is) ∙ has_room (run_of s) s.standing c.args.item c.index-items-item.result c.self.invariant f.item own.0 own.1
     (λ e. c.in-Ok-open.ensures.room e own.0 own.1)
+
+pub unreachable-requires : goal.unreachable-requires
+unreachable-requires c =
+    let s = c.self.inside in
+    let f = facts s c.args.self.now c.args.item _ c.items.result.now c.index-items-item.result c.self.view_is c.self.invariant c.requires
+    c.items.ensures.shown c.index-items-item.is in
+    let issued = c.in-Ok-open.ensures.issued in
+    let inside = still_there c.index-items-item.result c.in-Ok.frame c.args.item s.standing c.open.new.self issued f.item.inside in
+    let at_i : slice_get c.open.new.self.held.items c.args.item ≡ Some c.index.result.now =
+    slice_get-get_or c.open.new.self.held.items c.args.item c.index.result.now inside ∙ ap (λ (x : Held). Some x) (sym c.index.ensures) in
+    never_other c.index.result.now (frame_parts issued.frame)
+    (kept_issue c.index-items-item.result c.in-Ok.frame c.args.item s.standing c.open.new.self issued f.item.inside c.index.result.now at_i)
+    c.in_default-index.not-Issued

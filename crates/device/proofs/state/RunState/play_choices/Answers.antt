@@ -19,7 +19,7 @@ returns-in_default-clause-played c =
     let most = c.most_events-most.ensures in
     let below = c.loop-turn-test.true in
     ends_here c.loop-turn.turn c.args.choices.now c.args.self.now c.loop-turn.self c.loop-turn.invariant
-    c.is_reached-2.ensures.reached (omega arith) (sym c.next_event.ensures ∙ c.in_default.is)
+    c.is_reached-in-loop-turn.ensures.reached (omega arith) (sym c.next_event.ensures ∙ c.in_default.is)
 
 pub take-requires : goal.take-requires
 take-requires c =
@@ -40,15 +40,15 @@ returns-clause-played c =
     let past = c.loop-turn-test.false in
     let x = c.loop-turn.auto in
     ends_at_most c.loop-turn.turn c.args.choices.now c.args.self.now c.loop-turn.self c.loop-turn.invariant
-    c.is_reached-3.ensures.reached (omega arith) (omega arith)
+    c.is_reached-2.ensures.reached (omega arith) (omega arith)
 
 pub returns-in_default-clause-shows : goal.returns-in_default-clause-shows
 returns-in_default-clause-shows c =
     let most = c.most_events-most.ensures in
     let below = c.loop-turn-test.true in
     let played = ends_here c.loop-turn.turn c.args.choices.now c.args.self.now c.loop-turn.self c.loop-turn.invariant
-    c.is_reached-2.ensures.reached (omega arith) (sym c.next_event.ensures ∙ c.in_default.is) in
-    shows_erased c.loop-turn.self c.is_reached-2.ensures.reached played.ended
+    c.is_reached-in-loop-turn.ensures.reached (omega arith) (sym c.next_event.ensures ∙ c.in_default.is) in
+    shows_erased c.loop-turn.self c.is_reached-in-loop-turn.ensures.reached played.ended
 
 pub returns-clause-shows : goal.returns-clause-shows
 returns-clause-shows c =
@@ -56,8 +56,8 @@ returns-clause-shows c =
     let past = c.loop-turn-test.false in
     let x = c.loop-turn.auto in
     let played = ends_at_most c.loop-turn.turn c.args.choices.now c.args.self.now c.loop-turn.self c.loop-turn.invariant
-    c.is_reached-3.ensures.reached (omega arith) (omega arith) in
-    shows_erased c.loop-turn.self c.is_reached-3.ensures.reached played.ended
+    c.is_reached-2.ensures.reached (omega arith) (omega arith) in
+    shows_erased c.loop-turn.self c.is_reached-2.ensures.reached played.ended
 
 pub returns-in_default-clause-in_order : goal.returns-in_default-clause-in_order
 returns-in_default-clause-in_order c none begun =
@@ -65,7 +65,7 @@ returns-in_default-clause-in_order c none begun =
     let below = c.loop-turn-test.true in
     played_in_order c.args.choices.now c.args.self.now c.loop-turn.self c.is_reached.ensures.reached
     (ends_here c.loop-turn.turn c.args.choices.now c.args.self.now c.loop-turn.self c.loop-turn.invariant
-    c.is_reached-2.ensures.reached (omega arith) (sym c.next_event.ensures ∙ c.in_default.is)) none begun
+    c.is_reached-in-loop-turn.ensures.reached (omega arith) (sym c.next_event.ensures ∙ c.in_default.is)) none begun
 
 pub returns-clause-in_order : goal.returns-clause-in_order
 returns-clause-in_order c none begun =
@@ -74,4 +74,4 @@ returns-clause-in_order c none begun =
     let x = c.loop-turn.auto in
     played_in_order c.args.choices.now c.args.self.now c.loop-turn.self c.is_reached.ensures.reached
     (ends_at_most c.loop-turn.turn c.args.choices.now c.args.self.now c.loop-turn.self c.loop-turn.invariant
-    c.is_reached-3.ensures.reached (omega arith) (omega arith)) none begun
+    c.is_reached-2.ensures.reached (omega arith) (omega arith)) none begun
