@@ -10,7 +10,7 @@ use std::test::Fail;
 const TURNS: [u64; 9] = [0, 1, 2, 63, 64, 511, 512, 513, 1100];
 
 // What a turn does on the arrays A and B and the scalar s, and the same on C, D and t.
-const BODIES: [(&str, &str); 25] = [
+const BODIES: [(&str, &str); 32] = [
     ("A[i] = B[i] * 3 + (i ^ 5);", "C[i] = D[i] * 3 + (i ^ 5);"),
     ("A[i] = A[i - 1] + B[i];", "C[i] = C[i - 1] + D[i];"),
     ("A[i] = A[i + 1] + B[i];", "C[i] = C[i + 1] + D[i];"),
@@ -63,6 +63,22 @@ const BODIES: [(&str, &str); 25] = [
     ("s = s + s;", "t = t + t;"),
     ("s = s + B[s % 1200];", "t = t + D[t % 1200];"),
     ("s = s | A[(i * 7) % 1200];", "t = t | C[(i * 7) % 1200];"),
+    ("A[i + 99] = B[i] * 3;", "C[i + 99] = D[i] * 3;"),
+    ("A[s % 50 + i] = B[i] + 1;", "C[t % 50 + i] = D[i] + 1;"),
+    (
+        "A[i + 7] = A[7 + i] + B[i]; B[7 + i] = A[i + 7] - i;",
+        "C[i + 7] = C[7 + i] + D[i]; D[7 + i] = C[i + 7] - i;",
+    ),
+    (
+        "A[i + 7] = B[i]; s = s + A[7 + i];",
+        "C[i + 7] = D[i]; t = t + C[7 + i];",
+    ),
+    ("A[i + 7] = A[i] + B[i];", "C[i + 7] = C[i] + D[i];"),
+    ("A[i + 7] = B[i]; B[i] = i;", "C[i + 7] = D[i]; D[i] = i;"),
+    (
+        "A[s % 50 + i] = B[i]; s = s ^ 1;",
+        "C[t % 50 + i] = D[i]; t = t ^ 1;",
+    ),
 ];
 
 const HEAD: &str = "\
@@ -178,5 +194,66 @@ print(A[598]);
 #[test]
 fn blocks_stand_among_other_statements(rt: HostRuntime) -> Result<(), Fail> {
     assert!(rt; look_at(rt.alloc(), AROUND, &Prints(b"5\n114\n34200\n34628\n"))?);
+    Ok(())
+}
+
+// A scalar that each turn makes of the one before, three times. A program in another language wrote the same numbers.
+const SCRAMBLED: &str = "\
+uint64_t A[600];
+int main(void) {
+#pragma omp target map(tofrom: A)
+{
+uint64_t s = 88172645463325252;
+for (uint64_t i = 0; i < 600; i += 1) {
+s = s ^ (s << 13); s = s ^ (s >> 7); s = s ^ (s << 17); A[i] = A[i] + (s >> 32);
+}
+}
+print(A[0]);
+print(A[300]);
+print(A[599]);
+}
+";
+
+#[test]
+fn a_scalar_goes_from_turn_to_turn(rt: HostRuntime) -> Result<(), Fail> {
+    assert!(rt;
+        look_at(
+            rt.alloc(),
+            SCRAMBLED,
+            &Prints(b"2036926837\n949248930\n319373591\n"),
+        )?
+    );
+    Ok(())
+}
+
+// Rows of matrices. A program in another language wrote the same numbers.
+const PRODUCT: &str = "\
+uint64_t X[4096];
+uint64_t Y[4096];
+uint64_t Z[4096];
+uint64_t t;
+int main(void) {
+for (uint64_t i = 0; i < 4096; i += 1) { X[i] = i * i + 1; Y[i] = 3 * i + 2; }
+#pragma omp target map(to: X, Y) map(tofrom: Z)
+for (uint64_t r = 0; r < 64; r += 1) {
+for (uint64_t k = 0; k < 64; k += 1) {
+for (uint64_t j = 0; j < 64; j += 1) { Z[r * 64 + j] = Z[r * 64 + j] + X[r * 64 + k] * Y[k * 64 + j]; }
+}
+}
+for (uint64_t i = 0; i < 4096; i += 1) { t = t * 31 + Z[i]; }
+print(Z[65]);
+print(t);
+}
+";
+
+#[test]
+fn rows_of_matrices_are_stored(rt: HostRuntime) -> Result<(), Fail> {
+    assert!(rt;
+        look_at(
+            rt.alloc(),
+            PRODUCT,
+            &Prints(b"4466613280\n5270181598917492736\n"),
+        )?
+    );
     Ok(())
 }
