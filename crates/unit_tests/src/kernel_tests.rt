@@ -133,7 +133,7 @@ struct Prints<'a>(&'a [u8]);
 
 impl Look for Prints<'_> {
     fn look(&self, alloc: Global, image: &Image<'_>) -> Result<bool, Fail> {
-        let answer = run_choices(alloc, image, &[], &[], 4000).map_err(Fail::new)?;
+        let answer = run_choices(alloc, image, &[], &[], 16_384).map_err(Fail::new)?;
         Ok(answer.out.as_slice() == self.0)
     }
 }
