@@ -20,6 +20,8 @@ pub mod Choices
 pub mod InOrder
 pub mod Blanks
 pub mod Answers
+pub mod Kept
+pub mod Outcomes
 pub mod Places
 pub mod SameBodies
 pub mod SameRuns

@@ -13,9 +13,9 @@ use Rattle.base.specs.Items.{Work, Plan}
 use Rattle.base.specs.Machine.{State, Opened, is_open, step}
 use Rattle.base.specs.Accepted.{is_host, is_target}
 use Rattle.kernel.specs.Kept.{IsKept, Kept}
-use Rattle.kernel.specs.declared.frames.KeptRow.{KeptRow}
 use Rattle.kernel.specs.Rows.{cells_stored}
 use Rattle.frames.specs.Views.{with_stored}
+use Rattle.device.specs.declared.left.Left.{Left}
 use Rattle.device.specs.declared.standing.Standing.{Standing}
 use Rattle.device.specs.Devices.{LeavesOn, OnTable}
 use Rattle.device.specs.Moves.{LeavesFrom}
@@ -23,9 +23,8 @@ use Rattle.device.specs.Opening.{IsOf}
 use Rattle.device.specs.Standing.{IsAt, fill_from, input_for}
 
 -- what a run left
-abbrev pub left_in : List ℕ → List KeptRow → List ℕ → List ℕ → Kept
-left_in scalars rows input printed =
-    record { scalars = slice_index scalars; stored = cells_stored rows; input = input; printed = printed }
+abbrev pub left_of : Left → Kept
+left_of l = record { scalars = slice_index l.scalars.now; stored = cells_stored l.rows.now; input = l.input.now; printed = l.printed.now }
 
 -- a host region's stores, scalars, input and output
 pub record HasDoneHost (k : Kept) (old new : Standing) : Type 0 where

@@ -4,62 +4,50 @@ ghost use Rattle.std.specs.Prelude.{◌≡◌, IsTrue, IfErr, OnErr, OnOk};
 ghost use Rattle.base.specs.Items.{plan};
 ghost use Rattle.base.specs.Machine.{enabled};
 ghost use Rattle.base.specs.declared.item.Event.TheVariants as event;
-ghost use Rattle.device.specs.Closing.{left_in};
+ghost use Rattle.device.specs.Closing.{left_of};
 ghost use Rattle.device.specs.Jobs.{IsCloseFault, IsIssuedDone, IsLeft};
 ghost use Rattle.device.specs.Run.{after, state_of};
 
+use crate::left::Left;
 use crate::standing::Held;
-use crate::state::{RunState, forget, note};
+use crate::state::{RunState, forget, note, or_out_of_memory};
 use base::fault::RunFault;
 use base::item::Event;
-use kernel::{Done, KeptRow, run};
+use kernel::{Done, run};
+use std::alloc::AllocError;
 
 impl<'a> RunState<'a> {
     // What the region of an open item left is stored, and the item is closed. The error comes for want of memory.
-    fn finish(
-        &mut self,
-        item: u32,
-        scalars: &[u64; 256],
-        rows: &[KeptRow],
-        input: &'a [u64],
-        printed: &[u64],
-    ) -> Result<(), RunFault>
-        requires { IsLeft self.old item (left_in scalars.now rows.now input.now printed.now) }
+    fn finish(&mut self, item: u32, left: &Left<'_, 'a>) -> Result<(), AllocError>
+        requires { IsLeft self.old item (left_of left.now) }
         ensures closed { OnOk result (self.new ≡ after self.old (event.Close item)) }
         ensures unchanged { OnErr result (self.new ≡ self.old) }
-        ensures memory { IfErr result (λ fault. fault ≡ RunFault.OutOfMemory) }
     {
         let it = &self.image.items()[item as usize];
         let _lengths = self.image.lengths();
         note(&mut self.history, Event::Close(item))?;
-        match self
-            .standing
-            .close(self.alloc, it, item, scalars, rows, input, printed)
-        {
+        match self.standing.close(self.alloc, it, item, left) {
             Ok(()) => Ok(()),
-            Err(_) => {
+            Err(error) => {
                 forget(&mut self.history);
-                Err(RunFault::OutOfMemory)
+                Err(error)
             }
         }
     }
 
     /// The region of an open item is run on the frame that was kept for it, and the item is closed. The error comes for want
     /// of memory.
-    pub(crate) fn close_item(&mut self, item: u32) -> Result<(), RunFault>
+    pub(crate) fn close_item(&mut self, item: u32) -> Result<(), AllocError>
         requires { IsTrue (enabled (plan self.old.program) (state_of self.old) (event.Close item)) }
         ensures closed { OnOk result (self.new ≡ after self.old (event.Close item)) }
         ensures unchanged { OnErr result (self.new ≡ self.old) }
-        ensures memory { IfErr result (λ fault. fault ≡ RunFault.OutOfMemory) }
     {
         let _it = &self.image.items()[item as usize];
         let code = self.image.code(item as usize);
         let Held::Issued(frame) = &self.standing.held[item as usize] else {
             unreachable!()
         };
-        let Ok(done) = run(self.alloc, code, frame) else {
-            return Err(RunFault::OutOfMemory);
-        };
+        let done = run(self.alloc, code, frame)?;
         let Done {
             region: _,
             frame: _,
@@ -68,7 +56,13 @@ impl<'a> RunState<'a> {
             input,
             printed,
         } = done;
-        self.finish(item, &scalars, &rows, input, &printed)
+        let left = Left {
+            scalars: &scalars,
+            rows: &rows,
+            input,
+            printed: &printed,
+        };
+        self.finish(item, &left)
     }
 
     /// Closes an item with what its region did on the frame that was issued for it. The error is `Stranger` where the
@@ -82,12 +76,12 @@ impl<'a> RunState<'a> {
         if !self.is_issued(done.region, done.frame) {
             return Err(RunFault::Stranger);
         }
-        self.finish(
-            done.frame.item,
-            &done.scalars,
-            &done.rows,
-            done.input,
-            &done.printed,
-        )
+        let left = Left {
+            scalars: &done.scalars,
+            rows: &done.rows,
+            input: done.input,
+            printed: &done.printed,
+        };
+        or_out_of_memory(self.finish(done.frame.item, &left))
     }
 }

@@ -8,10 +8,11 @@ ghost use Rattle.taskgraph.specs.Board.{allows};
 ghost use Rattle.frames.specs.Views.{AreCells};
 ghost use Rattle.kernel.specs.Rows.{cells_stored};
 ghost use Rattle.present.specs.Table.{AreSections, AreWithin};
-ghost use Rattle.device.specs.Closing.{FollowsClose, GoesOut, HasDoneHost, HasDoneKernel, HasLeft, left_in};
+ghost use Rattle.device.specs.Closing.{FollowsClose, GoesOut, HasDoneHost, HasDoneKernel, HasLeft, left_of};
 ghost use Rattle.device.specs.Devices.{AreKept};
 ghost use Rattle.device.specs.Standing.{Stays, issue_of};
 
+use crate::left::Left;
 use crate::standing::{Held, Standing};
 use base::item::{Item, ItemKind, MapItem};
 use base::tree::DeviceId;
@@ -21,28 +22,21 @@ use std::alloc::{AllocError, Global};
 
 impl<'a> Standing<'a> {
     // What a host region left is stored, and its numbers are printed.
-    fn leave_host(
-        &mut self,
-        alloc: Global,
-        scalars: &[u64; 256],
-        rows: &[KeptRow],
-        input: &'a [u64],
-        printed: &[u64],
-    ) -> Result<(), AllocError>
+    fn leave_host(&mut self, alloc: Global, left: &Left<'_, 'a>) -> Result<(), AllocError>
         requires few { length (lengths_of self.old.host) ≤ 2 ^ 32 }
-        requires cells { AreCells (lengths_of self.old.host) (cells_stored rows.now) }
-        ensures done { OnOk result (HasDoneHost (left_in scalars.now rows.now input.now printed.now) self.old self.new) }
+        requires cells { AreCells (lengths_of self.old.host) (left_of left.now).stored }
+        ensures done { OnOk result (HasDoneHost (left_of left.now) self.old self.new) }
         ensures unchanged { OnErr result (Stays self.old self.new) }
         ensures held { self.new.held ≡ self.old.held }
         ensures graph { self.new.graph ≡ self.old.graph }
         ensures ended { self.new.ended ≡ self.old.ended }
         ensures devices { self.new.devices ≡ self.old.devices }
     {
-        let scalars = Scalars::new(alloc, scalars)?;
-        self.output.append(alloc, printed)?;
-        store_host(&mut self.host, rows);
+        let scalars = Scalars::new(alloc, left.scalars)?;
+        self.output.append(alloc, left.printed)?;
+        store_host(&mut self.host, left.rows);
         self.scalars = scalars;
-        self.input = input;
+        self.input = left.input;
         Ok(())
     }
 
@@ -60,21 +54,13 @@ impl<'a> Standing<'a> {
     }
 
     // What an item left is stored, and its map items are left.
-    fn leave(
-        &mut self,
-        alloc: Global,
-        it: &Item,
-        scalars: &[u64; 256],
-        rows: &[KeptRow],
-        input: &'a [u64],
-        printed: &[u64],
-    ) -> Result<(), AllocError>
+    fn leave(&mut self, alloc: Global, it: &Item, left: &Left<'_, 'a>) -> Result<(), AllocError>
         requires few { length (lengths_of self.old.host) ≤ 2 ^ 32 }
-        requires cells { AreCells (lengths_of self.old.host) (cells_stored rows.now) }
+        requires cells { AreCells (lengths_of self.old.host) (left_of left.now).stored }
         requires sections { AreSections it.now.maps.items }
         requires within { AreWithin self.old.host it.now.maps.items }
-        requires goes { it.now.kind ≡ ItemKind.Target → GoesOut it.now.device.number (cells_stored rows.now) it.now.maps.items self.old }
-        ensures left { OnOk result (HasLeft it.now.kind it.now.device.number (left_in scalars.now rows.now input.now printed.now) it.now.maps.items self.old self.new) }
+        requires goes { it.now.kind ≡ ItemKind.Target → GoesOut it.now.device.number (left_of left.now).stored it.now.maps.items self.old }
+        ensures left { OnOk result (HasLeft it.now.kind it.now.device.number (left_of left.now) it.now.maps.items self.old self.new) }
         ensures unchanged { OnErr result (Stays self.old self.new) }
         ensures held { self.new.held ≡ self.old.held }
         ensures graph { self.new.graph ≡ self.old.graph }
@@ -82,9 +68,9 @@ impl<'a> Standing<'a> {
         ensures kept { AreKept self.old.devices self.new.devices }
     {
         match it.kind {
-            ItemKind::Host => self.leave_host(alloc, scalars, rows, input, printed),
+            ItemKind::Host => self.leave_host(alloc, left),
             ItemKind::Target => {
-                self.leave_kernel(it.device, rows, &it.maps);
+                self.leave_kernel(it.device, left.rows, &it.maps);
                 Ok(())
             }
             ItemKind::Begin => Ok(()),
@@ -102,26 +88,23 @@ impl<'a> Standing<'a> {
         alloc: Global,
         it: &Item,
         item: u32,
-        scalars: &[u64; 256],
-        rows: &[KeptRow],
-        input: &'a [u64],
-        printed: &[u64],
+        left: &Left<'_, 'a>,
     ) -> Result<(), AllocError>
         requires here { allows self.old.graph (event.Close item) ≡ true }
         requires inside { item < length self.old.held.items }
         requires going { self.old.ended ≡ false }
         requires few { length (lengths_of self.old.host) ≤ 2 ^ 32 }
-        requires cells { AreCells (lengths_of self.old.host) (cells_stored rows.now) }
+        requires cells { AreCells (lengths_of self.old.host) (left_of left.now).stored }
         requires sections { AreSections it.now.maps.items }
         requires within { AreWithin self.old.host it.now.maps.items }
-        requires goes { it.now.kind ≡ ItemKind.Target → GoesOut it.now.device.number (cells_stored rows.now) it.now.maps.items self.old }
-        ensures closed { OnOk result (FollowsClose self.old item it.now (left_in scalars.now rows.now input.now printed.now) self.new) }
+        requires goes { it.now.kind ≡ ItemKind.Target → GoesOut it.now.device.number (left_of left.now).stored it.now.maps.items self.old }
+        ensures closed { OnOk result (FollowsClose self.old item it.now (left_of left.now) self.new) }
         ensures unchanged { OnErr result (Stays self.old self.new) }
         ensures held { OnErr result (self.new.held ≡ self.old.held) }
         ensures issued { OnOk result (map issue_of self.new.held.items ≡ slice_set (map issue_of self.old.held.items) item None) }
         ensures kept { AreKept self.old.devices self.new.devices }
     {
-        self.leave(alloc, it, scalars, rows, input, printed)?;
+        self.leave(alloc, it, left)?;
         self.held[item as usize] = Held::Nothing;
         self.graph.closed(item as usize);
         Ok(())

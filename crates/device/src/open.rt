@@ -32,7 +32,9 @@ impl<'a> RunState<'a> {
         let Ok(blank) = blank_if(self.alloc, &frame, wanted) else {
             return Err(RunFault::OutOfMemory);
         };
-        note(&mut self.history, Event::Open(item))?;
+        let Ok(()) = note(&mut self.history, Event::Open(item)) else {
+            return Err(RunFault::OutOfMemory);
+        };
         match self.standing.open(it, item, frame) {
             Ok(()) => {
                 let Some(mut issued) = blank else {

@@ -1,6 +1,6 @@
 // The state of a run.
 
-ghost use Rattle.std.specs.Prelude.{◌≡◌, ◌++◌, ◌∷◌, [], true, IsTrue, IfErr, IfOk, OnOk, OnErr, None, length, map, option_map, replicate, List};
+ghost use Rattle.std.specs.Prelude.{◌≡◌, ◌++◌, ◌∷◌, [], true, IsTrue, IfErr, IfOk, is_ok, OnOk, OnErr, None, length, map, option_map, replicate, List};
 ghost use Rattle.base.specs.declared.item.Event.{Event};
 ghost use Rattle.base.specs.Arrays.{memory_of};
 ghost use Rattle.base.specs.Items.{plan};
@@ -55,15 +55,12 @@ impl<'a> RunState<'a> {
         image: &'a Image<'a>,
         input: &'a [u64],
         capacity: u64,
-    ) -> Result<RunState<'a>, RunFault>
+    ) -> Result<RunState<'a>, AllocError>
         ensures start { IfOk result (IsStart image.now input.now capacity) }
-        ensures memory { IfErr result (λ fault. fault ≡ RunFault.OutOfMemory) }
     {
         are_numbers(input);
         image.is_accepted();
-        let Ok(standing) = Standing::new(alloc, image, input, capacity) else {
-            return Err(RunFault::OutOfMemory);
-        };
+        let standing = Standing::new(alloc, image, input, capacity)?;
         Ok(RunState {
             alloc,
             image,
@@ -135,28 +132,26 @@ impl<'a> RunState<'a> {
     }
 
     /// The host generates the item at which it stands. The error comes for want of memory.
-    pub fn generate(&mut self, item: u32) -> Result<(), RunFault>
+    pub fn generate(&mut self, item: u32) -> Result<(), AllocError>
         requires { IsTrue (enabled (plan self.old.program) (state_of self.old) (event.Gen item)) }
         ensures generated { OnOk result (self.new ≡ after self.old (event.Gen item)) }
         ensures unchanged { OnErr result (self.new ≡ self.old) }
-        ensures memory { IfErr result (λ fault. fault ≡ RunFault.OutOfMemory) }
     {
         note(&mut self.history, Event::Gen(item))?;
         match self.standing.generate(self.alloc, item) {
             Ok(()) => Ok(()),
-            Err(_) => {
+            Err(error) => {
                 self.history.pop();
-                Err(RunFault::OutOfMemory)
+                Err(error)
             }
         }
     }
 
     /// The host passes the wait at which it stands. The error comes for want of memory.
-    pub fn wait(&mut self, item: u32) -> Result<(), RunFault>
+    pub fn wait(&mut self, item: u32) -> Result<(), AllocError>
         requires { IsTrue (enabled (plan self.old.program) (state_of self.old) (event.Wait item)) }
         ensures passed { OnOk result (self.new ≡ after self.old (event.Wait item)) }
         ensures unchanged { OnErr result (self.new ≡ self.old) }
-        ensures memory { IfErr result (λ fault. fault ≡ RunFault.OutOfMemory) }
     {
         note(&mut self.history, Event::Wait(item))?;
         self.standing.pass(item);
@@ -164,11 +159,10 @@ impl<'a> RunState<'a> {
     }
 
     /// The host comes to the end. The error comes for want of memory.
-    pub fn end(&mut self) -> Result<(), RunFault>
+    pub fn end(&mut self) -> Result<(), AllocError>
         requires { IsTrue (enabled (plan self.old.program) (state_of self.old) event.End) }
         ensures ended { OnOk result (self.new ≡ after self.old event.End) }
         ensures unchanged { OnErr result (self.new ≡ self.old) }
-        ensures memory { IfErr result (λ fault. fault ≡ RunFault.OutOfMemory) }
     {
         note(&mut self.history, Event::End)?;
         self.standing.end();
@@ -199,12 +193,20 @@ fn number_of(host: &Memory, cell: Cell) -> u64
 }
 
 // One more event in the history.
-pub(crate) fn note(history: &mut Vec<Event>, event: Event) -> Result<(), RunFault>
+pub(crate) fn note(history: &mut Vec<Event>, event: Event) -> Result<(), AllocError>
     ensures noted { OnOk result (history.new.items ≡ history.old.items ++ event ∷ []) }
     ensures unchanged { OnErr result (history.new.items ≡ history.old.items) }
-    ensures memory { IfErr result (λ fault. fault ≡ RunFault.OutOfMemory) }
 {
-    match history.push(event) {
+    history.push(event)?;
+    Ok(())
+}
+
+// The outcome of what fails for want of memory alone.
+pub(crate) fn or_out_of_memory(outcome: Result<(), AllocError>) -> Result<(), RunFault>
+    ensures same { is_ok result ≡ is_ok outcome }
+    ensures fault { IfErr result (λ fault. fault ≡ RunFault.OutOfMemory) }
+{
+    match outcome {
         Ok(()) => Ok(()),
         Err(_) => Err(RunFault::OutOfMemory),
     }

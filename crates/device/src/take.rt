@@ -7,7 +7,7 @@ ghost use Rattle.base.specs.declared.item.Event.TheVariants as event;
 ghost use Rattle.device.specs.Run.{HasOpened, IsOpenFault, is_over, state_of};
 ghost use Rattle.device.specs.Taking.{FitsIn, IsEventFault, Takes};
 
-use crate::state::RunState;
+use crate::state::{RunState, or_out_of_memory};
 use base::fault::RunFault;
 use base::item::Event;
 
@@ -38,12 +38,12 @@ impl<'a> RunState<'a> {
     {
         self.is_reached();
         match event {
-            Event::Gen(item) => self.generate(item),
+            Event::Gen(item) => or_out_of_memory(self.generate(item)),
             Event::Open(item) => self.open_item(item),
             Event::Step(_) => unreachable!(),
-            Event::Close(item) => self.close_item(item),
-            Event::Wait(item) => self.wait(item),
-            Event::End => self.end(),
+            Event::Close(item) => or_out_of_memory(self.close_item(item)),
+            Event::Wait(item) => or_out_of_memory(self.wait(item)),
+            Event::End => or_out_of_memory(self.end()),
         }
     }
 }

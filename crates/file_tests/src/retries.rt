@@ -41,7 +41,12 @@ fn next(state: &RunState<'_>) -> Result<Option<Event>, AllocError> {
     Ok(events.last().copied())
 }
 
-fn generated(state: &mut RunState<'_>, item: u32) -> Result<(), RunFault>
+// The outcome of what fails for want of memory alone.
+fn or_out_of_memory<T>(outcome: Result<T, AllocError>) -> Result<T, RunFault> {
+    outcome.map_err(|_| RunFault::OutOfMemory)
+}
+
+fn generated(state: &mut RunState<'_>, item: u32) -> Result<(), AllocError>
     requires { IsTrue (enabled (plan state.old.program) (state_of state.old) (event.Gen item)) }
 {
     match state.generate(item) {
@@ -78,13 +83,11 @@ fn done_whole(alloc: Global, state: &mut RunState<'_>, item: u32) -> Result<(), 
     requires { IsTrue (enabled (plan state.old.program) (state_of state.old) (event.Open item)) }
 {
     let job = opened(state, item)?;
-    match computed(alloc, &job) {
-        Ok(done) => closed(state, &done),
-        Err(_) => Err(RunFault::OutOfMemory),
-    }
+    let done = or_out_of_memory(computed(alloc, &job))?;
+    closed(state, &done)
 }
 
-fn passed(state: &mut RunState<'_>, item: u32) -> Result<(), RunFault>
+fn passed(state: &mut RunState<'_>, item: u32) -> Result<(), AllocError>
     requires { IsTrue (enabled (plan state.old.program) (state_of state.old) (event.Wait item)) }
 {
     match state.wait(item) {
@@ -93,7 +96,7 @@ fn passed(state: &mut RunState<'_>, item: u32) -> Result<(), RunFault>
     }
 }
 
-fn ended(state: &mut RunState<'_>) -> Result<(), RunFault>
+fn ended(state: &mut RunState<'_>) -> Result<(), AllocError>
     requires { IsTrue (enabled (plan state.old.program) (state_of state.old) event.End) }
 {
     match state.end() {
@@ -117,21 +120,20 @@ fn happen(alloc: Global, state: &mut RunState<'_>, next: Event) -> Result<(), Ru
         return Err(RunFault::OtherState);
     }
     match next {
-        Event::Gen(item) => generated(state, item),
+        Event::Gen(item) => or_out_of_memory(generated(state, item)),
         Event::Open(item) => done_whole(alloc, state, item),
         Event::Step(_) | Event::Close(_) => taken(state, next),
-        Event::Wait(item) => passed(state, item),
-        Event::End => ended(state),
+        Event::Wait(item) => or_out_of_memory(passed(state, item)),
+        Event::End => or_out_of_memory(ended(state)),
     }
 }
 
 // Event by event to the end.
 fn run_events(alloc: Global, state: &mut RunState<'_>) -> Result<(), RunFault> {
     for _ in 0..EVENTS {
-        match next(state) {
-            Err(_) => return Err(RunFault::OutOfMemory),
-            Ok(None) => return Ok(()),
-            Ok(Some(next)) => happen(alloc, state, next)?,
+        match or_out_of_memory(next(state))? {
+            None => return Ok(()),
+            Some(next) => happen(alloc, state, next)?,
         }
     }
     Ok(())
@@ -145,10 +147,10 @@ fn answered(alloc: Global, state: &RunState<'_>) -> Result<Answer, RunFault> {
         Ok(answer) => Ok(answer),
         Err(_) => state.answer(alloc),
     };
-    told.map_err(|_| RunFault::OutOfMemory)
+    or_out_of_memory(told)
 }
 
-fn started<'a>(alloc: Global, image: &'a Image<'a>) -> Result<RunState<'a>, RunFault> {
+fn started<'a>(alloc: Global, image: &'a Image<'a>) -> Result<RunState<'a>, AllocError> {
     match RunState::new(alloc, image, &INPUT, CAPACITY) {
         Ok(state) => Ok(state),
         Err(_) => RunState::new(alloc, image, &INPUT, CAPACITY),
@@ -156,7 +158,7 @@ fn started<'a>(alloc: Global, image: &'a Image<'a>) -> Result<RunState<'a>, RunF
 }
 
 fn by_events<'a>(alloc: Global, image: &'a Image<'a>) -> Result<Answer, RunFault> {
-    let mut state = started(alloc, image)?;
+    let mut state = or_out_of_memory(started(alloc, image))?;
     run_to_end(alloc, &mut state)
 }
 
@@ -167,7 +169,7 @@ fn run_to_end(alloc: Global, state: &mut RunState<'_>) -> Result<Answer, RunFaul
 
 // By choices, which go on from where the run stood.
 fn by_playing<'a>(alloc: Global, image: &'a Image<'a>) -> Result<Answer, RunFault> {
-    let mut state = started(alloc, image)?;
+    let mut state = or_out_of_memory(started(alloc, image))?;
     play_to_end(alloc, &mut state)
 }
 

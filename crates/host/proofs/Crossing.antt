@@ -22,7 +22,10 @@ use Rattle.outline.specs.contracts.Outlined as outlined
 use Rattle.outline.specs.contracts.Outlined.TheInside as outlined_inside
 use Rattle.kernel.specs.contracts.emit.Code as code
 use Rattle.lower.specs.contracts.image.Image as image
+use Rattle.kernel.proofs.frames.Frame.TheSendSync as frame
+use Rattle.device.specs.contracts.jobs.Job as job
 use Rattle.device.proofs.standing.Standing.TheSendSync as standing
+use Rattle.host.proofs.channel.Outbox.TheSendSync as outbox
 use Rattle.host.specs.contracts.board.Board as board
 use Rattle.host.specs.declared.origin.Origin.{Ghosts}
 use Rattle.host.proofs.board.Stop.TheSendSync as stop
@@ -102,13 +105,22 @@ state_inside_send a =
 pub state_send : (a : NamedLft) → IsSend (state.the_row a)
 state_send a = view_send _ _ _ _ _ (state_inside_send a)
 
+pub job_send : (a : NamedLft) → IsSend (job.the_row a)
+job_send a = search (code_sync, frame.the_send, crossing.crosses, sendable) depth 60 fits 20000
+
 board_field_send : (a : NamedLft) (T : RattleType) (g : Ghosts T.Denot) → IsSend (board.the_field a T g).row
 board_field_send a T g =
     struct_send (Declared.shape (board.the_type a T g)) (
       shr_send _ _ (image.the_row a) (image_sync a),
       (
         view_send _ _ _ _ _ (state_inside_send a),
-        (search (stop.the_send, crossing.crosses, sendable) depth 60 fits 20000, (search (crossing.crosses, sendable) depth 60 fits 20000, tt)),
+        (
+          search (stop.the_send, crossing.crosses, sendable) depth 60 fits 20000,
+          (
+            search (outbox.the_send, job_send, crossing.crosses, sendable) depth 60 fits 20000,
+            (search sendable, (search sendable, (search (crossing.crosses, sendable) depth 60 fits 20000, tt))),
+          ),
+        ),
       ),
     )
 

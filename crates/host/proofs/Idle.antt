@@ -275,3 +275,22 @@ target_turn p s items it alike is target on =
     let a = told_of items s.place f.work it (item_at p items s.place f.work alike f.is) is in
     at_work p s.place (λ w. w.deferred || is_target w.kind) true f.work f.is
     (or_right f.work.deferred (is_target f.work.kind) (ap is_target (sym a.1) ∙ target))
+
+-- whether an item is for workers, as the image has it
+pub handed_here : (p : Plan) (s : State) (items : List Item) (i : ℕ) (it : Item) →
+    map facts_of p.items ≡ map item_facts items → slice_get items i ≡ Some it → enabled p s (Close i) ≡ true →
+    is_for_workers p (Open i) ≡ (it.deferred || is_target it.kind)
+handed_here p s items i it alike is may =
+    let f = found p i _ may in
+    let a = told_of items i f.work it (item_at p items i f.work alike f.is) is in
+    at_work p i (λ w. w.deferred || is_target w.kind) (f.work.deferred || is_target f.work.kind) f.work f.is refl
+    ∙ ap₂ (λ (d : Bool) (k : ItemKind). d || is_target k) (sym a.0) (sym a.1)
+
+-- an item that may be closed is one of the image's
+pub closed_within : (p : Plan) (s : State) (items : List Item) (i : ℕ) → map facts_of p.items ≡ map item_facts items →
+    enabled p s (Close i) ≡ true → i < length items
+closed_within p s items i alike may =
+    let f = found p i _ may in
+    let l = slice_get_within p.items i f.work f.is in
+    let n = as_many p items alike in
+    omega (arith, l, n)

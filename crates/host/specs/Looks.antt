@@ -1,5 +1,5 @@
 -- What is found on the board, and done to it.
-use Rattle.std.specs.Prelude.{◌≡◌, ◌⊎◌, ℕ, true, false, Option, Some, None}
+use Rattle.std.specs.Prelude.{◌≡◌, ◌⊎◌, ◌<◌, ◌≤◌, ◌++◌, ◌∷◌, [], ℕ, List, true, false, Option, Some, None}
 use Rattle.base.specs.declared.item.Event.{Event}
 use Rattle.base.specs.declared.item.Event.TheVariants.{Open, Close}
 use Rattle.base.specs.declared.tree.Region.{Region}
@@ -12,6 +12,7 @@ use Rattle.device.specs.Running.{IsReached}
 use Rattle.device.specs.Taking.{Takes}
 use Rattle.taskgraph.specs.Board.{HasNoTask, IsNextTask}
 use Rattle.host.specs.Idle.{AreWorkersIdle, IsHostIdle, is_for_workers}
+use Rattle.host.specs.Sent.{open_count}
 use Rattle.host.specs.Stops.{IsLack, IsOver}
 use Rattle.host.specs.declared.board.Look.{Look}
 use Rattle.host.specs.declared.board.Look.TheVariants as look
@@ -26,13 +27,6 @@ IsLook before old look.Again after new = (before ≡ None) × (after ≡ None) �
 IsLook before old (look.Do job) after new =
     (before ≡ None) × (after ≡ None) × HasOpened job.frame.item old new × IsJob new job.frame.item job
 
--- what may be opened here is opened, unless the run stops
-abbrev pub IsOpeningOf : ℕ → Look → Type 0
-IsOpeningOf i look.Stop = Unit {0}
-IsOpeningOf i look.Wait = ⊥
-IsOpeningOf i look.Again = ⊥
-IsOpeningOf i (look.Do job) = job.frame.item ≡ i
-
 -- this event is done, unless the run stops
 abbrev pub IsEventOf : Event → Run → Look → Run → Type 0
 IsEventOf e old look.Stop new = Unit {0}
@@ -46,12 +40,40 @@ IsForWorker r i =
     IsNextTask (plan r.program) (state_of r) 0 i
     ⊎ (HasNoTask (plan r.program) (state_of r) 0 × ((state_of r).place ≡ i))
 
--- a worker opens that item, and waits only where no item that is for workers may be opened
-abbrev pub IsWorkerLook : Run → Look → Type 0
-IsWorkerLook r look.Stop = Unit {0}
-IsWorkerLook r look.Wait = AreWorkersIdle (plan r.program) (state_of r)
-IsWorkerLook r look.Again = ⊥
-IsWorkerLook r (look.Do job) = IsForWorker r job.frame.item
+-- Fewer than so many items for workers were open. The lowest that may be opened is opened, and its job is sent
+pub record HasHanded (workers : ℕ) (old : Run) (sent : Option (List ℕ)) (new : Run) (after : Option (List ℕ)) : Type 0 where
+  pub item : ℕ
+  pub before : List ℕ
+  pub room : open_count old < workers
+  pub lowest : IsForWorker old item
+  pub own : is_for_workers (plan old.program) (Open item) ≡ true
+  pub opened : HasOpened item old new
+  pub was_sent : sent ≡ Some before
+  pub is_sent : after ≡ Some (before ++ item ∷ [])
+
+-- nothing is handed to a worker as yet: as many items are open as there are workers, or none may be opened
+abbrev pub HasNoneToHand : ℕ → Run → Type 0
+HasNoneToHand workers r = (workers ≤ open_count r) ⊎ AreWorkersIdle (plan r.program) (state_of r)
+
+-- an item was opened whose job came back, and this is why the run stops
+abbrev pub IsJobBack : Run → Option Stop → Run → Type 0
+IsJobBack old after new = (after ≡ Some stop.Stranger) × ((i : ℕ) × HasOpened i old new)
+
+-- What is handed to a worker, by a cause to stop, if there is one, a state and what was sent, before and after: an item is
+-- opened and its job sent, or neither, unless the job comes back
+abbrev pub IsHanding : ℕ → Option Stop → Run → Option (List ℕ) → Look → Option Stop → Run → Option (List ℕ) → Type 0
+IsHanding workers before old sent look.Stop after new now =
+    IsOver after new × (now ≡ None)
+    × (((new ≡ old) × ((after ≡ before) ⊎ IsLack after)) ⊎ ((before ≡ None) × IsJobBack old after new))
+IsHanding workers before old sent look.Wait after new now =
+    (before ≡ None) × (after ≡ None) × (new ≡ old) × (now ≡ sent) × HasNoneToHand workers old
+IsHanding workers before old sent look.Again after new now =
+    (before ≡ None) × (after ≡ None) × HasHanded workers old sent new now
+IsHanding workers before old sent (look.Do job) after new now = ⊥
+
+-- there is no more to hand to a worker: the run is over, or there is none as yet
+abbrev pub HasNoMoreToHand : ℕ → Option Stop → Run → Type 0
+HasNoMoreToHand workers o r = IsOver o r ⊎ HasNoneToHand workers r
 
 -- the host does an event that is not for workers, and waits only where nothing may happen next but what is for them
 abbrev pub IsHostLook : Run → Look → Run → Type 0
@@ -59,10 +81,6 @@ IsHostLook old look.Stop new = Unit {0}
 IsHostLook old look.Wait new = IsHostIdle (plan old.program) (state_of old)
 IsHostLook old look.Again new = (e : Event) × ((is_for_workers (plan old.program) e ≡ false) × Takes old e new)
 IsHostLook old (look.Do job) new = is_for_workers (plan old.program) (Open job.frame.item) ≡ false
-
--- no worker is wanted: the run is over, or no item that is for workers may be opened
-abbrev pub WantsNoWorker : Option Stop → Run → Type 0
-WantsNoWorker o r = IsOver o r ⊎ AreWorkersIdle (plan r.program) (state_of r)
 
 -- the host is wanted: the run is over, or something may happen next that is not for workers
 abbrev pub WantsTheHost : Option Stop → Run → Type 0

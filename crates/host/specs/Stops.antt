@@ -1,6 +1,6 @@
 -- Why a run on threads stops.
-use Rattle.std.specs.Prelude.{◌≡◌, Option, Some, None}
-use Rattle.std.specs.Coded.{Coded-set, coded_bool, ×_prop, Unit-prop}
+use Rattle.std.specs.Prelude.{◌≡◌, ℕ, Option, Some, None}
+use Rattle.std.specs.Coded.{Coded-set, coded_bool, coded_ℕ, ×_prop, Unit-prop}
 use Rattle.base.specs.declared.fault.RunFault.{RunFault}
 use Rattle.base.specs.declared.fault.RunFault.TheVariants as fault
 use Rattle.base.specs.Items.{plan}
@@ -42,6 +42,16 @@ IsLack (Some (stop.DeviceFull item)) = Unit {0}
 IsLack (Some stop.Stranger) = ⊥
 IsLack (Some stop.ThreadNotStarted) = ⊥
 
+-- why a run stops where an item is not opened: its device has no room for it, or there is no memory
+abbrev pub lack_at : ℕ → RunFault → Stop
+lack_at item fault.DeviceFull = stop.DeviceFull item
+lack_at item fault.OutOfMemory = stop.OutOfMemory
+lack_at item fault.Absent = stop.OutOfMemory
+lack_at item fault.Stranger = stop.OutOfMemory
+lack_at item fault.ThreadNotStarted = stop.OutOfMemory
+lack_at item fault.OtherState = stop.OutOfMemory
+lack_at item fault.RangeRefused = stop.OutOfMemory
+
 -- a run that is stopped stays so, for the same cause and in the same state
 abbrev pub StaysStopped : Option Stop → Run → Option Stop → Run → Type 0
 StaysStopped None old o new = Unit {0}
@@ -51,6 +61,11 @@ StaysStopped (Some s) old o new = (o ≡ Some s) × (new ≡ old)
 abbrev pub IsOver : Option Stop → Run → Type 0
 IsOver None r = HasEnded (plan r.program) (state_of r)
 IsOver (Some s) r = Unit {0}
+
+-- in at most one way
+pub one_over : (o : Option Stop) (r : Run) → IsProp (IsOver o r)
+one_over None r = Coded-set coded_ℕ _ _
+one_over (Some s) r = Unit-prop
 
 abbrev pub fault_of : Stop → RunFault
 fault_of stop.OutOfMemory = fault.OutOfMemory

@@ -1,6 +1,6 @@
 // What stands behind the lock.
 
-ghost use Rattle.std.specs.Prelude.{◌≡◌, ◌≤◌, ◌&&◌, true, false, not, IsTrue, IfErr, IfNone, IfOk, IfSome, None, OnOk, length, slice_get};
+ghost use Rattle.std.specs.Prelude.{◌≡◌, ◌≤◌, ◌<◌, ◌||◌, ◌&&◌, [], true, false, not, IsTrue, IfErr, IfNone, IfOk, IfSome, None, Some, OnOk, length, slice_get};
 ghost use Rattle.base.specs.declared.item.Event.TheVariants as event;
 ghost use Rattle.base.specs.Accepted.{is_target};
 ghost use Rattle.base.specs.Items.{plan};
@@ -9,11 +9,13 @@ ghost use Rattle.base.specs.Machine.{enabled};
 ghost use Rattle.device.specs.Room.{IsAnswerWithin};
 ghost use Rattle.device.specs.Run.{state_of};
 ghost use Rattle.host.specs.Idle.{AreWorkersIdle, IsHostIdle, IsNoTargetHere, is_for_workers, turn_of};
-ghost use Rattle.host.specs.Looks.{IsClosing, IsEventOf, IsForWorker, IsHostLook, IsLook, IsOpeningOf, IsWorkerLook, WantsNoWorker, WantsTheHost};
+ghost use Rattle.host.specs.Looks.{HasNoMoreToHand, IsClosing, IsEventOf, IsForWorker, IsHanding, IsHostLook, IsLook, WantsTheHost};
 ghost use Rattle.host.specs.Origins.{IsFrom, IsOf, one_origin, one_program};
-ghost use Rattle.host.specs.Stops.{HasCause, IsEndFault, IsOver, IsPlain, StaysStopped, fault_of, first_stop, one_cause};
+ghost use Rattle.host.specs.Sent.{IsSent, one_sent, open_count};
+ghost use Rattle.host.specs.Stops.{HasCause, IsCause, IsEndFault, IsOver, IsPlain, StaysStopped, fault_of, first_stop, lack_at, one_cause};
 ghost use Rattle.host.specs.Threads.{IsThreadAnswer, IsThreadFault};
 
+use crate::channel::{Numbered, Outbox};
 use crate::origin::Origin;
 use base::fault::RunFault;
 use base::item::{Answer, Event, Item, ItemKind};
@@ -22,6 +24,11 @@ use kernel::Done;
 use lower::Image;
 use std::alloc::Global;
 use std::marker::PhantomData;
+use std::sync::Wait;
+
+impl Numbered for Job<'_> {
+    ghost number = { λ job. job.frame.item };
+}
 
 /// Why a run on threads stops before its end.
 #[derive(Drop)]
@@ -29,7 +36,7 @@ pub enum Stop {
     OutOfMemory,
     /// The opening of this item would create more cells than its device has room for.
     DeviceFull(u32),
-    /// What was computed is not what was asked for.
+    /// What was computed is not what was asked for, or a job came back that was sent.
     Stranger,
     ThreadNotStarted,
 }
@@ -43,21 +50,28 @@ pub enum Look<'a> {
     Wait,
     /// An event was done.
     Again,
-    /// An item was opened.
+    /// An item was opened for the one that looked.
     Do(Job<'a>),
 }
 
-/// A run and the first cause to stop it, after which no event is done. The state is of the run that the parameter names,
-/// and where an opening did not fit, it is that in which this opening may happen.
+/// A run, the first cause to stop it, after which no event is done, and the sending end of the jobs, as long as the run
+/// goes on. The state is of the run that the parameter names, and where an opening did not fit, it is that in which this
+/// opening may happen. What was ever sent is what was opened for workers.
 #[derive(Drop)]
 pub struct Board<'a, B: Origin> {
     image: &'a Image<'a>,
     state: RunState<'a>,
     stop: Option<Stop>,
+    jobs: Option<Outbox<Job<'a>>>,
+    // How many items for workers are open, and how many may be.
+    open_items: usize,
+    workers: usize,
     of: PhantomData<B>,
     ghost program: { IsOf image.now state } by { one_program image.now state },
     ghost origin: { IsFrom B.start state } by { one_origin B.start state },
     ghost cause: { HasCause state stop } by { one_cause state stop },
+    ghost sent: { IsSent state stop jobs } by { one_sent state stop jobs },
+    ghost count: { open_items ≡ open_count state },
 }
 
 // Whether the workers open and close an item where the host stands at it.
@@ -65,6 +79,18 @@ fn is_host_target(item: &Item) -> bool
     ensures { result ≡ not item.now.deferred && is_target item.now.kind }
 {
     !item.deferred && matches!(item.kind, ItemKind::Target)
+}
+
+// Whether the workers open and close an item.
+fn is_handed(item: &Item) -> bool
+    ensures { result ≡ item.now.deferred || is_target item.now.kind }
+{
+    item.deferred || matches!(item.kind, ItemKind::Target)
+}
+
+/// How many items are for workers.
+pub fn handed_count(items: &[Item]) -> usize {
+    items.iter().filter(|item| is_handed(item)).count()
 }
 
 // What the host does with the item at which it stands; nothing with one that the workers open and close.
@@ -96,6 +122,16 @@ fn answered(stop: Stop) -> RunFault
     }
 }
 
+// Why a run stops where an item is not opened.
+fn stop_at(item: u32, fault: RunFault) -> Stop
+    ensures { result ≡ lack_at item fault }
+{
+    match fault {
+        RunFault::DeviceFull => Stop::DeviceFull(item),
+        _ => Stop::OutOfMemory,
+    }
+}
+
 // What a run that was not stopped has come to.
 fn answer_of(alloc: Global, state: &RunState<'_>) -> Result<Answer, RunFault>
     ensures answer { IfOk result (IsThreadAnswer state.now.program state.now.input) }
@@ -114,30 +150,52 @@ fn answer_of(alloc: Global, state: &RunState<'_>) -> Result<Answer, RunFault>
 }
 
 impl<'a, B: Origin> Board<'a, B> {
-    /// The board of a run that goes on.
-    pub fn new(image: &'a Image<'a>, state: RunState<'a>) -> Self
+    /// The board of a run that has done nothing, with a sending end that has sent nothing, for so many workers.
+    pub fn new(
+        image: &'a Image<'a>,
+        state: RunState<'a>,
+        jobs: Outbox<Job<'a>>,
+        workers: usize,
+    ) -> Self
         requires program { IsOf image.now state }
         requires start { IsFrom B.start state }
-        ensures state { result.state ≡ state.entry }
-        ensures goes { result.stop ≡ None }
+        requires begins { (state.history ≡ []) × (jobs ≡ []) }
+        ensures state { (result.state ≡ state.entry) × (result.workers ≡ workers) }
+        ensures goes { (result.stop ≡ None) × (result.jobs ≡ Some []) }
     {
+        state.is_reached();
         Board {
             image,
             state,
             stop: None,
+            jobs: Some(jobs),
+            open_items: 0,
+            workers,
             of: PhantomData,
         }
     }
 
-    /// Stops the run. The first cause is kept.
+    // Stops the run for a cause that may lie in its state. The first cause is kept, and no more jobs are sent.
+    fn halt(&mut self, stop: Stop)
+        requires { IsCause self.old.state stop }
+        ensures first { self.new.stop ≡ first_stop self.old.stop stop }
+        ensures state { (self.new.state ≡ self.old.state) × (self.new.workers ≡ self.old.workers) }
+        ensures closed { self.new.jobs ≡ None }
+    {
+        drop(self.jobs.take());
+        if self.stop.is_none() {
+            self.stop = Some(stop);
+        }
+    }
+
+    /// Stops the run. The first cause is kept, and no more jobs are sent.
     pub fn stop(&mut self, stop: Stop)
         requires { IsPlain stop }
         ensures first { self.new.stop ≡ first_stop self.old.stop stop }
         ensures state { self.new.state ≡ self.old.state }
+        ensures closed { self.new.jobs ≡ None }
     {
-        if self.stop.is_none() {
-            self.stop = Some(stop);
-        }
+        self.halt(stop);
     }
 
     // Whether there is nothing more to do.
@@ -179,14 +237,6 @@ impl<'a, B: Origin> Board<'a, B> {
         }
     }
 
-    /// Whether a worker may open an item, in a run that is not over. Where it may not, none needs to be called.
-    pub fn calls_worker(&self) -> bool
-        ensures idle { result ≡ false → WantsNoWorker self.now.stop self.now.state }
-        ensures wanted { result ≡ true → WantsNoWorker self.now.stop self.now.state → ⊥ }
-    {
-        !self.is_over() && self.next_for_worker().is_some()
-    }
-
     /// Whether the host may do its next event, or the run is over. Where neither, it need not be called.
     pub fn calls_host(&self) -> bool
         ensures idle { result ≡ false → IsHostIdle (plan self.now.state.program) (state_of self.now.state) }
@@ -210,21 +260,18 @@ impl<'a, B: Origin> Board<'a, B> {
         }
     }
 
-    // Opens an item.
+    // Opens an item of the host.
     fn open(&mut self, item: u32) -> Look<'a>
-        requires goes { self.old.stop ≡ None }
+        requires goes { (self.old.stop ≡ None) × (is_for_workers (plan self.old.state.program) (event.Open item) ≡ false) }
         requires may { IsTrue (enabled (plan self.old.state.program) (state_of self.old.state) (event.Open item)) }
         ensures found { IsLook self.old.stop self.old.state result self.new.stop self.new.state }
-        ensures item { IsOpeningOf item result }
+        ensures item { IsEventOf (event.Open item) self.old.state result self.new.state }
     {
+        self.state.is_reached();
         match self.state.open(item) {
             Ok(job) => Look::Do(job),
-            Err(RunFault::DeviceFull) => {
-                self.stop = Some(Stop::DeviceFull(item));
-                Look::Stop
-            }
-            Err(_) => {
-                self.stop = Some(Stop::OutOfMemory);
+            Err(fault) => {
+                self.halt(stop_at(item, fault));
                 Look::Stop
             }
         }
@@ -232,7 +279,7 @@ impl<'a, B: Origin> Board<'a, B> {
 
     // Does an event of the host.
     fn happen(&mut self, event: Event) -> Look<'a>
-        requires goes { self.old.stop ≡ None }
+        requires goes { (self.old.stop ≡ None) × (is_for_workers (plan self.old.state.program) event ≡ false) }
         requires may { IsTrue (enabled (plan self.old.state.program) (state_of self.old.state) event) }
         ensures found { IsLook self.old.stop self.old.state result self.new.stop self.new.state }
         ensures event { IsEventOf event self.old.state result self.new.state }
@@ -240,28 +287,85 @@ impl<'a, B: Origin> Board<'a, B> {
         if let Event::Open(item) = event {
             return self.open(item);
         }
+        self.state.is_reached();
         match self.state.take(event) {
-            Ok(()) => Look::Again,
+            Ok(()) => {
+                if self.state.has_ended() {
+                    self.jobs = None;
+                }
+                Look::Again
+            }
             Err(_) => {
-                self.stop = Some(Stop::OutOfMemory);
+                self.halt(Stop::OutOfMemory);
                 Look::Stop
             }
         }
     }
 
-    /// A worker opens the lowest item that it may.
-    pub fn look_as_worker(&mut self) -> Look<'a>
-        ensures found { IsLook self.old.stop self.old.state result self.new.stop self.new.state }
-        ensures lowest { IsWorkerLook self.old.state result }
+    // Opens an item for a worker, and sends its job.
+    fn hand<R: Wait>(&mut self, rt: &R, item: u32) -> Look<'a>
+        requires goes { (self.old.stop ≡ None) × (open_count self.old.state < self.old.workers) }
+        requires next { IsForWorker self.old.state item × (is_for_workers (plan self.old.state.program) (event.Open item) ≡ true) }
+        requires may { IsTrue (enabled (plan self.old.state.program) (state_of self.old.state) (event.Open item)) }
+        ensures handed { IsHanding self.old.workers self.old.stop self.old.state self.old.jobs result self.new.stop self.new.state self.new.jobs }
+        ensures workers { self.new.workers ≡ self.old.workers }
+    {
+        self.state.is_reached();
+        let Some(jobs) = &mut self.jobs else {
+            return Look::Stop;
+        };
+        match self.state.open(item) {
+            Ok(job) => {
+                self.open_items += 1;
+                match jobs.send(rt, job) {
+                    Ok(()) => Look::Again,
+                    Err(_) => {
+                        self.jobs = None;
+                        self.stop = Some(Stop::Stranger);
+                        Look::Stop
+                    }
+                }
+            }
+            Err(fault) => {
+                self.halt(stop_at(item, fault));
+                Look::Stop
+            }
+        }
+    }
+
+    /// Opens the lowest item that a worker may, where fewer are open than there are workers, and sends its job.
+    pub fn hand_next<R: Wait>(&mut self, rt: &R) -> Look<'a>
+        ensures handed { IsHanding self.old.workers self.old.stop self.old.state self.old.jobs result self.new.stop self.new.state self.new.jobs }
+        ensures workers { self.new.workers ≡ self.old.workers }
         ensures stopped { StaysStopped self.old.stop self.old.state self.new.stop self.new.state }
     {
         if self.is_over() {
             return Look::Stop;
         }
+        if self.open_items >= self.workers {
+            return Look::Wait;
+        }
         match self.next_for_worker() {
             None => Look::Wait,
-            Some(item) => self.open(item),
+            Some(item) => self.hand(rt, item),
         }
+    }
+
+    /// Does so until there is no more to hand, and answers how many jobs were sent.
+    #[tactic(auto, using(crate::proofs::Stopping::stays, crate::proofs::Stopping::stays_on))]
+    pub fn hand_out<R: Wait>(&mut self, rt: &R) -> usize
+        ensures none { HasNoMoreToHand self.new.workers self.new.stop self.new.state }
+        ensures workers { self.new.workers ≡ self.old.workers }
+        ensures stopped { StaysStopped self.old.stop self.old.state self.new.stop self.new.state }
+    {
+        let mut sent: usize = 0;
+        for _ in rt.forever() {
+            if !matches!(self.hand_next(rt), Look::Again) {
+                return sent;
+            }
+            sent = sent.saturating_add(1);
+        }
+        unreachable!()
     }
 
     /// The host does its next event.
@@ -286,10 +390,15 @@ impl<'a, B: Origin> Board<'a, B> {
         if self.stop.is_some() {
             return;
         }
+        self.state.is_reached();
         match self.state.close(done) {
-            Ok(()) => {}
-            Err(RunFault::OutOfMemory) => self.stop = Some(Stop::OutOfMemory),
-            Err(_) => self.stop = Some(Stop::Stranger),
+            Ok(()) => {
+                if is_handed(&self.image.items()[done.frame.item as usize]) {
+                    self.open_items -= 1;
+                }
+            }
+            Err(RunFault::OutOfMemory) => self.halt(Stop::OutOfMemory),
+            Err(_) => self.halt(Stop::Stranger),
         }
     }
 
@@ -306,6 +415,9 @@ impl<'a, B: Origin> Board<'a, B> {
             image: _,
             state,
             stop,
+            jobs: _,
+            open_items: _,
+            workers: _,
             of: _,
         } = self;
         state.is_reached();

@@ -4,7 +4,8 @@ ghost use Rattle.std.specs.Prelude.{◌≡◌, ◌≤◌, IfErr, IfOk, Some};
 ghost use Rattle.device.specs.Room.{IsAnswerWithin};
 ghost use Rattle.host.specs.Threads.{IsThreadAnswer, IsThreadFault};
 
-use crate::board::Board;
+use crate::board::{Board, handed_count};
+use crate::channel::each_once;
 use crate::gate::Gate;
 use crate::origin::Origin;
 use crate::work::{Calls, work_on_threads};
@@ -36,8 +37,12 @@ fn run_from<'a, B: Origin + Send, R: Threads + Wait + Sync, G: Gate + Sync>(
         Err(_) => return Err(RunFault::OutOfMemory),
         Ok(state) => state,
     };
-    let board: Mutex<Board<'a, B>> = Mutex::new(Board::new(image, state));
-    work_on_threads(rt, alloc, &board, &Calls::new(), gate, workers);
+    let room = handed_count(image.items()).max(1);
+    let Ok((jobs, inboxes)) = each_once(alloc, room, workers) else {
+        return Err(RunFault::OutOfMemory);
+    };
+    let board: Mutex<Board<'a, B>> = Mutex::new(Board::new(image, state, jobs, workers));
+    work_on_threads(rt, alloc, &board, &Calls::new(), gate, inboxes);
     board.into_inner().answer(alloc)
 }
 

@@ -3,6 +3,7 @@
 ghost use Rattle.host.specs.Stops.{IsPlain};
 
 use crate::board::{Board, Look, Stop};
+use crate::channel::{Inbox, Received};
 use crate::gate::{Gate, Phase};
 use crate::origin::Origin;
 use device::Job;
@@ -10,13 +11,6 @@ use std::alloc::Global;
 use std::sync::{Condvar, Mutex, Wait};
 use std::thread;
 use std::thread::{Builder, Threads};
-
-/// Which items a thread opens.
-#[derive(Clone, Copy)]
-enum Role {
-    Host,
-    Worker,
-}
 
 /// What threads sleep on, each kind apart, so that a call does not wake one of the other kind.
 #[derive(Drop)]
@@ -33,10 +27,10 @@ impl Calls {
         }
     }
 
-    fn of(&self, role: Role) -> &Condvar {
-        match role {
-            Role::Host => &self.host,
-            Role::Worker => &self.workers,
+    // So many workers, if they sleep.
+    fn some(&self, workers: usize) {
+        for _ in 0..workers {
+            self.workers.notify_one();
         }
     }
 
@@ -46,34 +40,58 @@ impl Calls {
     }
 }
 
-// Looks at the board until there is a job, or nothing more to do.
+// Receives a job, and sleeps where there is none. The run is over where the sending end is gone: all are woken.
 //
-// A thread sleeps only where it looked, under the lock, and found nothing. Who leaves the lock while there is an item for
-// a worker calls one. So where workers sleep and there is such an item, one was called, or a thread that has not looked
-// since is at work and will: an item comes to be one for a worker by what the host does before it leaves the lock, or by
-// a closing, whose thread looks again. The host's event comes to be possible by a worker's closing, which calls the host.
-// Who stops the run, or finds it over, calls all.
+// A worker sleeps only where it found the channel empty under the lock, under which all is sent. Who sends a job calls a
+// worker, but for a worker that has closed an item: it receives one of the jobs itself, and calls one for each of the
+// others. So where a job waits and a worker sleeps, one was called, or one is at work and will look. In a chain of items
+// no thread is woken.
 fn next_job<'a, B: Origin, R: Wait>(
     rt: &R,
     board: &Mutex<Board<'a, B>>,
     calls: &Calls,
-    role: Role,
+    inbox: &mut Inbox<Job<'a>>,
+) -> Option<Job<'a>> {
+    match inbox.receive(rt) {
+        Received::Item(job) => return Some(job),
+        Received::Closed => {
+            calls.all();
+            return None;
+        }
+        Received::Nothing => {}
+    }
+    let mut guard = board.lock(rt);
+    for _ in rt.forever() {
+        match inbox.receive(rt) {
+            Received::Item(job) => return Some(job),
+            Received::Closed => {
+                calls.all();
+                return None;
+            }
+            Received::Nothing => guard = calls.workers.wait(rt, guard),
+        }
+    }
+    unreachable!()
+}
+
+// Does the host's events, until one opens an item of its own, or there is nothing more to do.
+//
+// The host's event comes to be possible by a closing, which calls the host. What comes to be for a worker by it is sent
+// before the host sleeps.
+fn next_of_host<'a, B: Origin, R: Wait>(
+    rt: &R,
+    board: &Mutex<Board<'a, B>>,
+    calls: &Calls,
 ) -> Option<Job<'a>> {
     let mut guard = board.lock(rt);
     for _ in rt.forever() {
-        let look = match role {
-            Role::Host => guard.look_as_host(),
-            Role::Worker => guard.look_as_worker(),
-        };
-        if matches!(look, Look::Wait | Look::Do(_)) && guard.calls_worker() {
-            calls.workers.notify_one();
-        }
-        match look {
+        calls.some(guard.hand_out(rt));
+        match guard.look_as_host() {
             Look::Stop => {
                 calls.all();
                 return None;
             }
-            Look::Wait => guard = calls.of(role).wait(rt, guard),
+            Look::Wait => guard = calls.host.wait(rt, guard),
             Look::Again => {}
             Look::Do(job) => return Some(job),
         }
@@ -89,7 +107,8 @@ fn stop_all<B: Origin, R: Wait>(rt: &R, board: &Mutex<Board<'_, B>>, calls: &Cal
     calls.all();
 }
 
-// Does one job, outside the lock, and closes its item.
+// Does one job, outside the lock, closes its item, and hands out what is ready then. So many of the jobs are left to who
+// did this one.
 fn do_job<'a, B: Origin, R: Wait, G: Gate>(
     rt: &R,
     alloc: Global,
@@ -97,6 +116,7 @@ fn do_job<'a, B: Origin, R: Wait, G: Gate>(
     calls: &Calls,
     gate: &G,
     job: Job<'a>,
+    left: usize,
 ) {
     let item = job.frame.item;
     gate.pass(item, Phase::Opened);
@@ -105,6 +125,7 @@ fn do_job<'a, B: Origin, R: Wait, G: Gate>(
             gate.pass(item, Phase::Computed);
             let mut guard = board.lock(rt);
             guard.close(&done);
+            calls.some(guard.hand_out(rt).saturating_sub(left));
             if guard.calls_host() {
                 calls.host.notify_one();
             }
@@ -115,46 +136,60 @@ fn do_job<'a, B: Origin, R: Wait, G: Gate>(
     }
 }
 
-// What a thread does, until the run is over.
+// What a worker does, until the run is over.
 fn work<'a, B: Origin, R: Wait, G: Gate>(
     rt: &R,
     alloc: Global,
     board: &Mutex<Board<'a, B>>,
     calls: &Calls,
     gate: &G,
-    role: Role,
+    mut inbox: Inbox<Job<'a>>,
 ) {
     for _ in rt.forever() {
-        let Some(job) = next_job(rt, board, calls, role) else {
+        let Some(job) = next_job(rt, board, calls, &mut inbox) else {
             return;
         };
-        do_job(rt, alloc, board, calls, gate, job);
+        do_job(rt, alloc, board, calls, gate, job, 1);
     }
 }
 
-/// Workers, and the calling thread as the host, until all have stopped. The threads that were started are joined.
+// What the host does, until the run is over.
+fn work_as_host<'a, B: Origin, R: Wait, G: Gate>(
+    rt: &R,
+    alloc: Global,
+    board: &Mutex<Board<'a, B>>,
+    calls: &Calls,
+    gate: &G,
+) {
+    for _ in rt.forever() {
+        let Some(job) = next_of_host(rt, board, calls) else {
+            return;
+        };
+        do_job(rt, alloc, board, calls, gate, job, 0);
+    }
+}
+
+/// Workers, one for each receiving end, and the calling thread as the host, until all have stopped. The threads that were
+/// started are joined.
 pub fn work_on_threads<'a, B: Origin + Send, R: Threads + Wait + Sync, G: Gate + Sync>(
     rt: &R,
     alloc: Global,
     board: &Mutex<Board<'a, B>>,
     calls: &Calls,
     gate: &G,
-    workers: usize,
+    inboxes: Vec<Inbox<Job<'a>>>,
 ) {
     thread::scope(thread::scope_env(), rt, move |scope| {
-        for worker in 0..workers {
+        for (worker, inbox) in inboxes.into_iter().enumerate() {
             if Builder::new()
                 .stack_size(gate.stack_size(worker))
-                .spawn_scoped(
-                    scope,
-                    move || work(rt, alloc, board, calls, gate, Role::Worker),
-                )
+                .spawn_scoped(scope, move || work(rt, alloc, board, calls, gate, inbox))
                 .is_err()
             {
                 stop_all(rt, board, calls, Stop::ThreadNotStarted);
                 break;
             }
         }
-        work(rt, alloc, board, calls, gate, Role::Host);
+        work_as_host(rt, alloc, board, calls, gate);
     });
 }

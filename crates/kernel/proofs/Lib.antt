@@ -2,6 +2,7 @@ pub mod Places
 pub mod Leads
 pub mod Lasts
 pub mod Operands
+pub mod Shifts
 pub mod ExprRuns
 pub mod Patches
 pub mod CodeBodies

@@ -164,6 +164,17 @@ fn body_apart(body: &[Stmt], some: &[Stmt], at: &Around<'_>, k: usize) -> bool
     stmt_apart(body, &some[..k], at, &some[k]) && body_apart(body, some, at, k + 1)
 }
 
+fn expr_total(e: &Expr) -> bool
+    ensures { result ≡ there.is_total e.now }
+{
+    match e {
+        Expr::Number(_) | Expr::Scalar(_) | Expr::LoopName(_) => true,
+        Expr::Cell(_, _, _) => false,
+        Expr::Unary(_, a) | Expr::Shift(_, a, _) | Expr::Divide(_, a, _) => expr_total(a),
+        Expr::Binary(_, a, b) | Expr::And(a, b) | Expr::Or(a, b) => expr_total(a) && expr_total(b),
+    }
+}
+
 fn expr_plain(e: &Expr) -> bool
     ensures { result ≡ there.is_plain e.now }
 {
@@ -172,7 +183,7 @@ fn expr_plain(e: &Expr) -> bool
         Expr::Cell(_, _, a) | Expr::Unary(_, a) | Expr::Shift(_, a, _) | Expr::Divide(_, a, _) =>
             expr_plain(a),
         Expr::Binary(_, a, b) => expr_plain(a) && expr_plain(b),
-        Expr::And(_, _) | Expr::Or(_, _) => false,
+        Expr::And(a, b) | Expr::Or(a, b) => expr_plain(a) && expr_total(b),
     }
 }
 
@@ -262,8 +273,8 @@ fn sum_of<'b>(body: &'b [Stmt], at: &Around<'_>) -> Option<Form<'b>>
     }
 }
 
-/// How the turns of a loop with this body and this end are done in blocks in these loops from these scalars, if they can
-/// be. A long body, or a deep expression, is not looked at.
+/// How the turns of a loop with this body and this end are done in blocks in these loops from these scalars, if they
+/// can be. A long body, or a deep expression, is not looked at.
 pub fn form_of<'b>(
     body: &'b [Stmt],
     outer: &[u64],

@@ -10,8 +10,8 @@ use crate::state::{of_both, of_division, of_one, of_shift};
 use crate::turns::Around;
 use base::tree::{BinaryOp, Expr, Stmt};
 
-// The value of an expression that no turn of a loop with this body changes, if it is one: it names no cell, no scalar that
-// the body assigns, and of the loops only those around.
+// The value of an expression that no turn of a loop with this body changes, if it is one: it names no cell, no scalar
+// that the body assigns, and of the loops only those around.
 fn fixed_value(body: &[Stmt], outer: &[u64], scalars: &[u64; 256], e: &Expr) -> Option<u64>
     ensures { result ≡ moved.fixed_value (assigned_in body.now) (slice_index scalars.now) outer.now e.now }
 {
@@ -113,8 +113,8 @@ fn added_to(body: &[Stmt], outer: &[u64], scalars: &[u64; 256], index: &Expr) ->
     None
 }
 
-/// What is added to the loop's value in the index at which a body stores first: none where that is no such sum, or where an
-/// index before the end of the loop wraps.
+/// What is added to the loop's value in the index at which a body stores first: none where that is no such sum, or where
+/// an index before the end of the loop wraps.
 pub fn offset_of(body: &[Stmt], outer: &[u64], scalars: &[u64; 256], end: u64) -> Option<u64>
     ensures { IsWithin result end }
 {

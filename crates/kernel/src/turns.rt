@@ -13,8 +13,8 @@ pub struct Lane {
     pub numbers: Vec<u64>,
 }
 
-/// What a loop begins with: the values of the loops around and the scalars. At the sum of the offset and its own value it
-/// stores, or at its own value alone.
+/// What a loop begins with: the values of the loops around and the scalars. It stores at the sum of the offset and its
+/// own value, or at its own value alone.
 #[derive(Clone, Copy)]
 pub struct Around<'a> {
     pub outer: &'a [u64],
@@ -53,8 +53,8 @@ pub struct Sum<'b> {
     pub added: &'b Expr,
 }
 
-/// How the turns of a loop are done in blocks: the statements that are done for all turns, the scalar that is carried on
-/// behind them, and what is added to a turn's value in the indices at which it stores.
+/// How the turns of a loop are done in blocks: the statements that are done for all turns, the scalar that is carried
+/// on behind them, and what is added to a turn's value in the indices at which it stores.
 #[derive(Clone, Copy)]
 pub struct Form<'b> {
     pub front: &'b [Stmt],

@@ -1,10 +1,10 @@
 // The value of an expression in each turn of a block.
 
 ghost use Rattle.std.specs.Prelude.{ℕ, ◌≡◌, ◌+◌, ◌<◌, true, Some, IfSome, IsSome, OnOk, length, slice_index};
-ghost use Rattle.base.specs.Value.{binary, on_both, value};
+ghost use Rattle.base.specs.Value.{and_of, binary, on_both, or_of, value};
 ghost use Rattle.kernel.specs.Lanes.{AreValues, HaveSize, IsRunFrom, cell_of, lane_scalars, names_of};
 ghost use Rattle.kernel.specs.Rows.{cells_kept};
-ghost use Rattle.lanes.specs.There.{is_plain};
+ghost use Rattle.lanes.specs.There.{is_plain, is_total};
 
 use crate::apart::is_turn;
 use crate::frames::KeptRow;
@@ -46,7 +46,14 @@ pub fn eval(alloc: Global, e: &Expr, b: &Reads<'_>, out: &mut [u64]) -> Result<(
             eval(alloc, a, b, out)?;
             numbers::divide(*op, out, *n);
         }
-        Expr::And(_, _) | Expr::Or(_, _) => unreachable!(),
+        Expr::And(a, c) => {
+            eval(alloc, a, b, out)?;
+            and_right(alloc, c, b, out)?;
+        }
+        Expr::Or(a, c) => {
+            eval(alloc, a, b, out)?;
+            or_right(alloc, c, b, out)?;
+        }
     }
     Ok(())
 }
@@ -100,6 +107,40 @@ fn right(
     let mut operand = vec![in alloc; 0; out.len()]?;
     eval(alloc, e, b, &mut operand)?;
     numbers::both(op, out, &operand);
+    Ok(())
+}
+
+// The right operand of `&&`, which has a value in each turn, after the left one.
+#[cycle(values)]
+#[tactic(auto, using(lanes::proofs::Totals::total_plain, lanes::proofs::Totals::total_there, lanes::proofs::Totals::and_right_is))]
+fn and_right(alloc: Global, e: &Expr, b: &Reads<'_>, out: &mut [u64]) -> Result<(), AllocError>
+    requires total { is_total e.now ≡ true }
+    requires turns { length out.old ≡ b.now.at.now.count }
+    requires lanes { HaveSize (length out.old) b.now.lanes.now }
+    ensures size { length out.new ≡ length out.old }
+    ensures values { OnOk result ((k : ℕ) → k < length out.new →
+        and_of (Some (slice_index out.old k)) (value e.now (names_of b.now k)) ≡ Some (slice_index out.new k)) }
+{
+    let mut operand = vec![in alloc; 0; out.len()]?;
+    eval(alloc, e, b, &mut operand)?;
+    numbers::and(out, &operand);
+    Ok(())
+}
+
+// The right operand of `||`, which has a value in each turn, after the left one.
+#[cycle(values)]
+#[tactic(auto, using(lanes::proofs::Totals::total_plain, lanes::proofs::Totals::total_there, lanes::proofs::Totals::or_right_is))]
+fn or_right(alloc: Global, e: &Expr, b: &Reads<'_>, out: &mut [u64]) -> Result<(), AllocError>
+    requires total { is_total e.now ≡ true }
+    requires turns { length out.old ≡ b.now.at.now.count }
+    requires lanes { HaveSize (length out.old) b.now.lanes.now }
+    ensures size { length out.new ≡ length out.old }
+    ensures values { OnOk result ((k : ℕ) → k < length out.new →
+        or_of (Some (slice_index out.old k)) (value e.now (names_of b.now k)) ≡ Some (slice_index out.new k)) }
+{
+    let mut operand = vec![in alloc; 0; out.len()]?;
+    eval(alloc, e, b, &mut operand)?;
+    numbers::or(out, &operand);
     Ok(())
 }
 

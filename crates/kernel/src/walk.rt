@@ -39,9 +39,9 @@ fn stand_ins() -> [u64; 256] {
     numbers
 }
 
-// Whether it looks as if a body at this level could be done in blocks: numbers stand in for the values of the loops around
-// and of the scalars, which are not known before the loop begins, so that sums of other names have other values. They
-// have a frame of their own, since `is_blocked` calls itself for the loops in a loop.
+// Whether it looks as if a body at this level could be done in blocks: numbers stand in for the values of the loops
+// around and of the scalars, which are not known before the loop begins, so that sums of other names have other values.
+// They have a frame of their own, since `is_blocked` calls itself for the loops in a loop.
 #[inline(never)]
 fn looks_apart(body: &[Stmt], level: usize) -> bool {
     let numbers = stand_ins();

@@ -14,3 +14,5 @@ pub mod Moved
 pub mod Along
 pub mod Keeping
 pub mod MovedShown
+pub mod Powers
+pub mod Totals

@@ -8,6 +8,19 @@ use Rattle.base.specs.declared.tree.Stmt.TheVariants.{Declare, Assign, Store, Pr
 use Rattle.base.specs.Value.{value}
 use Rattle.lanes.specs.Apart.{Places, Block, names_at, block_stmt}
 
+-- an expression that names no cell, so that it has a value whatever is there
+abbrev pub is_total : Expr → Bool
+is_total (Number n) = true
+is_total (Scalar x) = true
+is_total (LoopName l) = true
+is_total (Cell' a place p e) = false
+is_total (Unary' op p e) = is_total e
+is_total (Binary' op p e q f) = is_total e && is_total f
+is_total (And' p e q f) = is_total e && is_total f
+is_total (Or' p e q f) = is_total e && is_total f
+is_total (Shift' op p e n) = is_total e
+is_total (Divide' op p e n) = is_total e
+
 -- an expression whose operands all have a value, where it has one
 abbrev pub is_plain : Expr → Bool
 is_plain (Number n) = true
@@ -16,8 +29,8 @@ is_plain (LoopName l) = true
 is_plain (Cell' a place p e) = is_plain e
 is_plain (Unary' op p e) = is_plain e
 is_plain (Binary' op p e q f) = is_plain e && is_plain f
-is_plain (And' p e q f) = false
-is_plain (Or' p e q f) = false
+is_plain (And' p e q f) = is_plain e && is_total f
+is_plain (Or' p e q f) = is_plain e && is_total f
 is_plain (Shift' op p e n) = is_plain e
 is_plain (Divide' op p e n) = is_plain e
 

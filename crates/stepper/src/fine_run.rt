@@ -17,7 +17,7 @@ use base::item::{Cell, Event};
 use base::tree::{DeviceId, Program};
 use device::are_numbers;
 use outline::Outlined;
-use std::alloc::Global;
+use std::alloc::{AllocError, Global};
 use std::marker::Model;
 
 /// A run of a program that has no fault of range, accepted or not, action by action, between two of its events. A fault
@@ -55,15 +55,12 @@ impl<'p> FineRun<'p> {
         outlined: &'p Outlined<'p>,
         input: &'p [u64],
         capacity: u64,
-    ) -> Result<FineRun<'p>, RunFault>
+    ) -> Result<FineRun<'p>, AllocError>
         requires { HasNoRangeFault (plan outlined.now) }
         ensures start { IfOk result (IsNew outlined.now input.now capacity) }
-        ensures memory { IfErr result (λ fault. fault ≡ RunFault.OutOfMemory) }
     {
         are_numbers(input);
-        let Ok(standing) = Standing::new(alloc, outlined, input, capacity) else {
-            return Err(RunFault::OutOfMemory);
-        };
+        let standing = Standing::new(alloc, outlined, input, capacity)?;
         Ok(FineRun {
             alloc,
             outlined,

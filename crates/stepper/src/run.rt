@@ -72,7 +72,9 @@ pub fn run_fine<'p>(
     ensures fault { IfErr result (IsFineFault outlined.now input.now choices.now capacity) }
 {
     let arrays = shown_of(alloc, outlined)?;
-    let mut run = FineRun::new(alloc, outlined, input, capacity)?;
+    let Ok(mut run) = FineRun::new(alloc, outlined, input, capacity) else {
+        return Err(RunFault::OutOfMemory);
+    };
     while let Some(event) = run.next_event(choices) {
         run.has_come();
         run.take(event)?;

@@ -95,7 +95,7 @@ struct Captured;
 
 impl Look for Captured {
     fn look(&self, alloc: Global, image: &Image<'_>) -> Result<bool, Fail> {
-        let mut run = RunState::new(alloc, image, &[], 2).map_err(Fail::new)?;
+        let mut run = RunState::new(alloc, image, &[], 2)?;
         Ok(is_opened(&mut run) && is_closed(&mut run) && is_ended(&mut run))
     }
 }
@@ -142,7 +142,7 @@ struct Full;
 
 impl Look for Full {
     fn look(&self, alloc: Global, image: &Image<'_>) -> Result<bool, Fail> {
-        let mut run = RunState::new(alloc, image, &[], 8).map_err(Fail::new)?;
+        let mut run = RunState::new(alloc, image, &[], 8)?;
         Ok(is_full(&mut run) && is_unchanged(&run) && goes_on(&mut run))
     }
 }
@@ -161,7 +161,7 @@ fn stops_at(
     item: u32,
     events: usize,
 ) -> Result<bool, Fail> {
-    let mut run = RunState::new(alloc, image, &[], capacity).map_err(Fail::new)?;
+    let mut run = RunState::new(alloc, image, &[], capacity)?;
     Ok(
         run.play_choices(&[0, 0, 0, 0, 1, 1]) == Err(RunFault::DeviceFull)
             && run.history().len() == events
@@ -213,7 +213,7 @@ struct Kept;
 
 impl Look for Kept {
     fn look(&self, alloc: Global, image: &Image<'_>) -> Result<bool, Fail> {
-        let mut run = RunState::new(alloc, image, &[], 2).map_err(Fail::new)?;
+        let mut run = RunState::new(alloc, image, &[], 2)?;
         Ok(is_kept(&mut run) && is_updated(&mut run))
     }
 }
@@ -278,7 +278,7 @@ struct TwoDevices;
 // Each device has room for the whole array alone.
 impl Look for TwoDevices {
     fn look(&self, alloc: Global, image: &Image<'_>) -> Result<bool, Fail> {
-        let mut run = RunState::new(alloc, image, &[], 2).map_err(Fail::new)?;
+        let mut run = RunState::new(alloc, image, &[], 2)?;
         Ok(are_entered(&mut run) && are_apart(&mut run))
     }
 }

@@ -68,7 +68,7 @@ fn are_own<'a>(
 fn is_end<'a>(state: &mut RunState<'a>, done: &Done<'_, '_, 'a>, printed: &[u8]) -> bool {
     is_taken(state.close(done))
         && state.is_enabled(Event::End)
-        && is_taken(state.end())
+        && state.end().is_ok()
         && is_stranger(state.close(done))
         && state.output() == printed
 }
@@ -97,8 +97,8 @@ struct TwoRuns;
 impl Look for TwoRuns {
     fn look(&self, alloc: Global, image: &Image<'_>) -> Result<bool, Fail> {
         let inputs = ([5], [6]);
-        let mut left = RunState::new(alloc, image, &inputs.0, 4).map_err(Fail::new)?;
-        let mut right = RunState::new(alloc, image, &inputs.1, 4).map_err(Fail::new)?;
+        let mut left = RunState::new(alloc, image, &inputs.0, 4)?;
+        let mut right = RunState::new(alloc, image, &inputs.1, 4)?;
         Ok(are_apart(alloc, &mut left, &mut right))
     }
 }
@@ -128,7 +128,7 @@ impl Look for Played {
     fn look(&self, alloc: Global, image: &Image<'_>) -> Result<bool, Fail> {
         let input = [5];
         let turns = turns(alloc)?;
-        let mut state = RunState::new(alloc, image, &input, 4).map_err(Fail::new)?;
+        let mut state = RunState::new(alloc, image, &input, 4)?;
         Ok(are_played(&mut state, turns))
     }
 }

@@ -10,7 +10,7 @@ use Rattle.stepper.proofs.run.run_fine.Goals as goal
 
 pub loop-event-init : goal.loop-event-init
 loop-event-init c =
-    begins c.args.outlined.now c.args.input.now c.args.choices.now c.args.capacity c.in_ok-run.run' c.in_ok-run.ensures.start
+    begins c.args.outlined.now c.args.input.now c.args.choices.now c.args.capacity c.in-Ok.run' c.in-Ok.ensures.start
 
 -- what is next by the next choice
 next : (c : In-Some) → Some c.in-Some.event
@@ -39,12 +39,12 @@ returns-in_err-take-clause-fault c =
     (stops c.args.outlined.now c.args.input.now c.args.choices.now c.args.capacity c.loop-event.run c.loop-event.invariant
     c.in-Some.event (next at.In-Some) (c.has_come.ensures c.loop-event.invariant.going) c.in_ok-arrays.ensures.shown.fine f c.in_err-take.ensures.fault)
 
-pub returns-in-Ok-clause-answer : goal.returns-in-Ok-clause-answer
-returns-in-Ok-clause-answer c =
+pub returns-in-Ok-answer-clause-answer : goal.returns-in-Ok-answer-clause-answer
+returns-in-Ok-answer-clause-answer c =
     let p = c.args.outlined.now in
     let r = c.loop-event.run in
     let play = c.loop-event.invariant in
     answers p c.args.input.now c.args.choices.now c.args.capacity r play (c.has_come-2.ensures play.going)
-    (over p c.args.input.now c.args.choices.now c.args.capacity r play (sym c.in_default.is ∙ c.next_event.ensures))
-    c.deref.result.now c.in-Ok.answer c.in-Ok.ensures
+    (over p c.args.input.now c.args.choices.now c.args.capacity r play (sym c.in_default-next_event.is ∙ c.next_event.ensures))
+    c.deref.result.now c.in-Ok-answer.answer c.in-Ok-answer.ensures
     (subst (AreShown p) (sym c.deref.ensures.value) c.in_ok-arrays.ensures.shown)

@@ -2,15 +2,14 @@ use Rattle.std.proofs.Common.{◌≡◌, ◌∙◌, true, false, Option, Some, s
 use Rattle.std.specs.Prelude.{slice_get}
 use Rattle.std.proofs.lemmas.Option.{slice_get-get_or, slice_get_within}
 use Rattle.base.specs.Items.{plan}
-use Rattle.kernel.specs.Kept.{IsKept}
 use Rattle.base.specs.declared.item.Event.TheVariants as event
 use Rattle.device.specs.declared.standing.Held.{Held}
-use Rattle.device.specs.Closing.{left_in}
 use Rattle.device.specs.Jobs.{IsIssuedDone}
 use Rattle.base.specs.Machine.{is_open}
 use Rattle.device.specs.Run.{state_of}
 use Rattle.device.specs.Running.{run_of}
-use Rattle.device.specs.Standing.{Keeps, done_on}
+use Rattle.device.specs.Standing.{Keeps}
+use Rattle.device.proofs.Kept.{kept_alike}
 use Rattle.device.proofs.OpenedItems.{open_is_issued}
 use Rattle.device.proofs.Openings.{on_work}
 use Rattle.device.proofs.IssuedFrames.{held_issued, is_issued_done, of_item}
@@ -60,7 +59,7 @@ finish-requires c =
     let at_f = at_i ∙ ap (λ (x : Held). Some x) c.in-Issued.is in
     let of = c.code-code.ensures f.item.work f.item.is in
     let e = held_issued s.standing c.args.item c.in-Issued.frame at_f in
-    let d = c.in-Ok.done in
+    let d = c.in_ok-done.done in
     record {
       region = c.code-code.result.now;
       frame = c.in-Issued.frame;
@@ -70,11 +69,9 @@ finish-requires c =
           (is_issued_done s c.args.item it c.self.invariant f c.code-code.result.now c.in-Issued.frame of e
           (asked s c.args.self.now (event.Close c.args.item) c.self.view_is c.requires));
       kept =
-          subst (λ xs. IsKept (done_on c.code-code.result.now c.in-Issued.frame) (left_in xs c.deref-2.result.now d.input.now c.deref-3.result.now)) (sym c.deref.ensures)
-          (subst (λ xs. IsKept (done_on c.code-code.result.now c.in-Issued.frame) (left_in d.scalars.value xs d.input.now c.deref-3.result.now)) (sym c.deref-2.ensures.value)
-          (subst (λ xs. IsKept (done_on c.code-code.result.now c.in-Issued.frame) (left_in d.scalars.value d.rows.items d.input.now xs)) (sym c.deref-3.ensures.value)
-          (subst (λ r. IsKept (done_on r c.in-Issued.frame) (left_in d.scalars.value d.rows.items d.input.now d.printed.items)) c.in-Ok.ensures.region
-          (subst (λ g. IsKept (done_on d.region.now g) (left_in d.scalars.value d.rows.items d.input.now d.printed.items)) c.in-Ok.ensures.frame d.is_meaning))));
+          kept_alike d.region.now c.code-code.result.now d.frame.now c.in-Issued.frame d.scalars.value c.deref.result.now d.rows.items
+          c.deref-2.result.now d.input.now d.printed.items c.deref-3.result.now c.in_ok-done.ensures.region c.in_ok-done.ensures.frame
+          c.deref.ensures c.deref-2.ensures.value c.deref-3.ensures.value d.is_meaning;
     }
 
 pub unreachable-requires : goal.unreachable-requires

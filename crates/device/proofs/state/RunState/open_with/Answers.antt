@@ -97,7 +97,7 @@ invariant_of-self-in-Ok-open c =
       input = refl;
       capacity = refl;
       fresh = c.in-Ok-open.ensures.kept.fresh;
-      history = c.in_ok-note.ensures.noted;
+      history = c.in-Ok-note.ensures.noted;
     })
     c.in-Ok-open.ensures.kept
 
@@ -109,7 +109,7 @@ invariant_of-self-in-Err c =
     let same = c.in-Err.ensures.unchanged in
     let back = same_but (run_of (record s { standing = c.open.new.self; history = c.forget.new.history })) (run_of s) refl refl refl
     c.open.ensures.kept.fresh
-    (c.forget.ensures s.history.items (event.Open c.args.item) c.in_ok-note.ensures.noted)
+    (c.forget.ensures s.history.items (event.Open c.args.item) c.in-Ok-note.ensures.noted)
     (ap (λ z. map issue_of z.held.items) same.rest) in
     subst (λ r. IsRunning r c.open.new.self) (sym back) (unchanged (run_of s) c.index-items-item.result.device.number s.standing c.open.new.self c.self.invariant same)
 
@@ -124,7 +124,7 @@ returns-in-Ok-open-clause-opened c =
           same_but (run_of (record s { standing = c.open.new.self; history = c.note.new.history }))
           (opened (run_of s) c.args.item (frame_parts c.in-Ok-open.ensures.issued.frame)) refl refl refl
           c.in-Ok-open.ensures.kept.fresh
-          c.in_ok-note.ensures.noted c.in-Ok-open.ensures.issued.is
+          c.in-Ok-note.ensures.noted c.in-Ok-open.ensures.issued.is
           ∙ ap (λ r. opened r c.args.item (frame_parts c.in-Ok-open.ensures.issued.frame)) c.self.view_is;
     }
 
@@ -158,7 +158,7 @@ returns-clause-unchanged c =
     let same = c.in-Err.ensures.unchanged in
     let back = same_but (run_of (record s { standing = c.open.new.self; history = c.forget.new.history })) (run_of s) refl refl refl
     c.open.ensures.kept.fresh
-    (c.forget.ensures s.history.items (event.Open c.args.item) c.in_ok-note.ensures.noted)
+    (c.forget.ensures s.history.items (event.Open c.args.item) c.in-Ok-note.ensures.noted)
     (ap (λ z. map issue_of z.held.items) same.rest) in
     back ∙ c.self.view_is
 
@@ -174,7 +174,7 @@ job-requires-clause-open c =
       input = refl;
       capacity = refl;
       fresh = c.in-Ok-open.ensures.kept.fresh;
-      history = c.in_ok-note.ensures.noted;
+      history = c.in-Ok-note.ensures.noted;
     })
 
 pub index-requires : goal.index-requires
@@ -222,7 +222,7 @@ invariant_of-self-in_default-blank c =
       input = refl;
       capacity = refl;
       fresh = c.in-Ok-open.ensures.kept.fresh;
-      history = c.in_ok-note.ensures.noted;
+      history = c.in-Ok-note.ensures.noted;
     })
     c.in-Ok-open.ensures.kept
 
@@ -237,7 +237,7 @@ returns-in_default-blank-clause-opened c =
           same_but (run_of (record s { standing = c.open.new.self; history = c.note.new.history }))
           (opened (run_of s) c.args.item (frame_parts c.in-Ok-open.ensures.issued.frame)) refl refl refl
           c.in-Ok-open.ensures.kept.fresh
-          c.in_ok-note.ensures.noted c.in-Ok-open.ensures.issued.is
+          c.in-Ok-note.ensures.noted c.in-Ok-open.ensures.issued.is
           ∙ ap (λ r. opened r c.args.item (frame_parts c.in-Ok-open.ensures.issued.frame)) c.self.view_is;
     }
 

@@ -1,0 +1,193 @@
+// A bounded channel into which each item is sent once at most.
+
+ghost use Rattle.std.specs.Prelude.{◌≡◌, ◌<◌, ◌++◌, ◌∷◌, [], IfOk, OnOk, OnErr, replicate};
+ghost use Rattle.host.specs.Once.{IsGot, times};
+
+use crossbeam_channel::protocol::{Lesson, Outcome, Protocol, Split};
+use crossbeam_channel::{Pass, RuledReceiver, RuledSender, TryRecvError, bounded_with};
+use std::alloc::{AllocError, Global};
+use std::collections::LinkedList;
+use std::marker::Model;
+use std::sync::Wait;
+
+/// What has a number.
+pub trait Numbered {
+    ghost use Rattle.std.specs.Prelude.{ℕ};
+
+    ghost number: { Self → ℕ };
+}
+
+// What a pass knows: the one of the sending end the numbers of all that was ever sent, another one of what it received.
+// No value of it is made.
+pub struct Known {
+    pub sends: bool,
+    pub numbers: LinkedList<u64>,
+}
+
+// The rule.
+pub struct EachOnce;
+
+impl<T: Numbered> Protocol<T, Known> for EachOnce {
+    ghost use Rattle.std.specs.Prelude.{[]};
+    ghost use Rattle.host.specs.Once.{IsEachOnce, sender};
+
+    ghost holds = { IsEachOnce T.number };
+
+    ghost first = { sender [] };
+}
+
+// A send of an item that was not sent before.
+struct Sends;
+
+impl<T: Numbered> Outcome<T, Known> for Sends {
+    ghost use Rattle.std.specs.Prelude.{◌≡◌, ◌++◌, ◌∷◌, []};
+    ghost use Rattle.host.specs.Once.{sender};
+
+    ghost then = { λ v x w. w ≡ sender (v.numbers ++ T.number x ∷ []) };
+}
+
+impl<T> Lesson<T, Known> for Sends {
+    ghost use Rattle.std.specs.Prelude.{⊤};
+
+    ghost fact = { λ v items. ⊤ };
+}
+
+// A receipt of an item that this end did not receive before.
+struct Receives;
+
+impl<T: Numbered> Outcome<T, Known> for Receives {
+    ghost use Rattle.host.specs.Once.{IsReceipt};
+
+    ghost then = { IsReceipt T.number };
+}
+
+impl<T> Lesson<T, Known> for Receives {
+    ghost use Rattle.std.specs.Prelude.{⊤};
+
+    ghost fact = { λ v items. ⊤ };
+}
+
+// A pass for a receiving end.
+struct ForReceiving;
+
+impl Split<Known> for ForReceiving {
+    ghost use Rattle.std.specs.Prelude.{[]};
+    ghost use Rattle.host.specs.Once.{receiver};
+
+    ghost left = { λ v. v };
+
+    ghost right = { λ v. receiver [] };
+}
+
+/// The sending end. Contracts see it as the numbers of all that was ever sent.
+pub struct Outbox<T: Numbered + Drop> {
+    sender: RuledSender<T, Known, EachOnce>,
+    pass: Pass<T, Known>,
+}
+
+impl<T: Numbered + Drop> Model for Outbox<T> {
+    ghost use Rattle.std.specs.Prelude.{◌≡◌, ℕ, List, true};
+    ghost use Rattle.crossbeam_channel.specs.Claims as claims;
+    ghost use Rattle.crossbeam_channel.specs.Ends.{sends_on};
+
+    ghost Value = { List ℕ };
+
+    ghost view = { λ s. (claims.view s.pass).numbers };
+
+    ghost invariant = { λ s. claims.IsSeatAt (sends_on s.sender) s.pass × ((claims.view s.pass).sends ≡ true) };
+}
+
+impl<T: Numbered + Drop> Drop for Outbox<T> {
+    fn drop(self) {
+        let Outbox { sender: _, pass: _ } = self;
+    }
+}
+
+/// A receiving end. Contracts see it as the numbers of what it received.
+pub struct Inbox<T: Numbered + Drop> {
+    receiver: RuledReceiver<T, Known, EachOnce>,
+    pass: Pass<T, Known>,
+}
+
+impl<T: Numbered + Drop> Model for Inbox<T> {
+    ghost use Rattle.std.specs.Prelude.{◌≡◌, ℕ, List, false};
+    ghost use Rattle.crossbeam_channel.specs.Claims as claims;
+    ghost use Rattle.crossbeam_channel.specs.Ends.{receives_on};
+
+    ghost Value = { List ℕ };
+
+    ghost view = { λ s. (claims.view s.pass).numbers };
+
+    ghost invariant = { λ s. claims.IsSeatAt (receives_on s.receiver) s.pass × ((claims.view s.pass).sends ≡ false) };
+}
+
+impl<T: Numbered + Drop> Drop for Inbox<T> {
+    fn drop(self) {
+        let Inbox {
+            receiver: _,
+            pass: _,
+        } = self;
+    }
+}
+
+/// What is received.
+#[derive(Drop)]
+pub enum Received<T> {
+    Item(T),
+    /// At one moment the channel had nothing.
+    Nothing,
+    /// The sending end is gone, and the channel has nothing.
+    Closed,
+}
+
+impl<T: Numbered + Drop> Outbox<T> {
+    /// Sends what was not sent before. It comes back where the channel does not take it.
+    pub fn send<R: Wait>(&mut self, rt: &R, item: T) -> Result<(), T>
+        requires { times (T.number item) self.old ≡ 0 }
+        ensures sent { OnOk result (self.new ≡ self.old ++ T.number item ∷ []) }
+        ensures unchanged { OnErr result (self.new ≡ self.old) }
+    {
+        match self
+            .sender
+            .try_send_as::<Sends, R>(rt, &mut self.pass, item)
+        {
+            Ok(()) => Ok(()),
+            Err(error) => Err(error.into_inner()),
+        }
+    }
+}
+
+impl<T: Numbered + Drop> Inbox<T> {
+    /// Takes what is at the front. It was never received before.
+    pub fn receive<R: Wait>(&mut self, rt: &R) -> Received<T>
+        ensures { IsGot T.number self.old result self.new }
+    {
+        match self.receiver.try_recv_as::<Receives, R>(rt, &mut self.pass) {
+            Ok(item) => Received::Item(item),
+            Err(TryRecvError::Empty) => Received::Nothing,
+            Err(TryRecvError::Disconnected) => Received::Closed,
+        }
+    }
+}
+
+/// A channel with room for so many items, and so many receiving ends. The error comes for want of memory.
+pub fn each_once<T: Numbered + Drop>(
+    alloc: Global,
+    room: usize,
+    ends: usize,
+) -> Result<(Outbox<T>, Vec<Inbox<T>>), AllocError>
+    requires { 0 < room }
+    ensures sent { IfOk result (λ r. r.0 ≡ []) }
+    ensures ends { IfOk result (λ r. r.1.items ≡ replicate ends []) }
+{
+    let (sender, receiver, mut pass) = bounded_with::<T, Known, EachOnce, Global>(alloc, room)?;
+    let mut inboxes = Vec::new(alloc);
+    for _ in 0..ends {
+        let own = sender.another::<ForReceiving>(&mut pass);
+        inboxes.push(Inbox {
+            receiver: receiver.try_clone()?,
+            pass: own,
+        })?;
+    }
+    Ok((Outbox { sender, pass }, inboxes))
+}
