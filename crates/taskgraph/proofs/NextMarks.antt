@@ -57,3 +57,13 @@ none_to_end marks s n end None e is off j le lt = go (cases_lt j end)
     go : (j < end) ⊎ (end ≤ j) → is_marked marks j ≡ false
     go (inl less) = none_of (is_marked marks) s (end - s) (sym is) j le (omega arith)
     go (inr more) = past marks j (omega arith)
+
+-- where none is counted at all
+pub none_counted : (marks : List Bool) (counts : List ℕ) (len : ℕ) → AreCounted marks counts len → len ≡ 0 → (j : ℕ) →
+    is_marked marks j ≡ false
+none_counted marks counts len h none j = go (cases_lt j (length marks))
+  where
+    go : (j < length marks) ⊎ (length marks ≤ j) → is_marked marks j ≡ false
+    go (inl less) =
+        none_of (is_marked marks) 0 (length marks) (none_long _ (sym h.all ∙ none)) j (omega arith) (omega (arith, less))
+    go (inr more) = past marks j more

@@ -1,6 +1,7 @@
 -- Which task may be opened next.
-use Rattle.std.proofs.Common.{◌≡◌, ℕ, ◌<◌, Bool, true, false, List, Option, Some, None, length, refl, sym, ap, ◌∙◌}
+use Rattle.std.proofs.Common.{◌≡◌, ◌⊎◌, inl, inr, ℕ, ◌<◌, ◌≤◌, Bool, true, false, List, Option, Some, None, length, max, refl, sym, ap, ◌∙◌, arith}
 use Rattle.std.specs.Prelude.{IfNone, IfSome, slice_get}
+use Rattle.std.proofs.lemmas.Bool.{cases_lt}
 use Rattle.std.proofs.lemmas.Option.{slice_get_within}
 use Rattle.base.specs.Items.{Work, Plan}
 use Rattle.base.specs.Machine.{State, enabled, on_item}
@@ -10,26 +11,42 @@ use Rattle.taskgraph.specs.Marks.{IsNext, is_marked}
 use Rattle.taskgraph.specs.Waiting.{IsGraphWith}
 use Rattle.taskgraph.proofs.Choosable.{marked_task, task_marked}
 use Rattle.taskgraph.proofs.Laws.{on_same}
+use Rattle.taskgraph.proofs.Settled.{settled_below}
 
--- the next marked item is the next task
-pub next_marked : (b : Board) (starts ends counts : List ℕ) (first from : ℕ) (os rs : List Bool) (o : Option ℕ) →
-    IsGraphWith b starts ends counts first os rs → IsNext rs from o →
+-- none of those below the first that is left may be opened
+none_below : (b : Board) (starts ends counts : List ℕ) (first : ℕ) (os rs : List Bool) (j : ℕ) →
+    IsGraphWith b starts ends counts first os rs → j < first → IsTask (plan_in b) (state_in b) j → ⊥
+none_below b starts ends counts first os rs j g lt t =
+    let bad : false ≡ true = sym (settled_below b starts ends counts first j g.graph lt).0 ∙ t.1 in cc
+
+-- nor is one that is not marked
+none_unmarked : (b : Board) (starts ends counts : List ℕ) (first : ℕ) (os rs : List Bool) (j : ℕ) →
+    IsGraphWith b starts ends counts first os rs → is_marked rs j ≡ false → IsTask (plan_in b) (state_in b) j → ⊥
+none_unmarked b starts ends counts first os rs j g e t =
+    let bad : false ≡ true = sym e ∙ task_marked b starts ends counts first os rs j g t in cc
+
+-- the next marked item is the next task, which is sought from the first that is left on
+pub next_marked : (b : Board) (starts ends counts : List ℕ) (first from start : ℕ) (os rs : List Bool)
+    (o : Option ℕ) → IsGraphWith b starts ends counts first os rs → start ≡ max from first → IsNext rs start o →
     IfSome o (IsNextTask (plan_in b) (state_in b) from) × IfNone o (HasNoTask (plan_in b) (state_in b) from)
-next_marked b starts ends counts first from os rs None g h = (tt, λ j le t. none j t (h j le))
+next_marked b starts ends counts first from start os rs None g e h = (tt, λ j le t. go j le t (cases_lt j first))
   where
-    none : (j : ℕ) → IsTask (plan_in b) (state_in b) j → is_marked rs j ≡ false → ⊥
-    none j t e = let bad : false ≡ true = sym e ∙ task_marked b starts ends counts first os rs j g t in cc
-next_marked b starts ends counts first from os rs (Some i) g h = (
+    go : (j : ℕ) → from ≤ j → IsTask (plan_in b) (state_in b) j → (j < first) ⊎ (first ≤ j) → ⊥
+    go j le t (inl lt) = none_below b starts ends counts first os rs j g lt t
+    go j le t (inr past) = none_unmarked b starts ends counts first os rs j g (h j (omega (arith, e, le, past))) t
+next_marked b starts ends counts first from start os rs (Some i) g e h = (
   record {
-    from = h.0;
+    from = omega (arith, e, h.0);
     task = marked_task b starts ends counts first os rs i g h.1;
-    lowest = λ j le lt t. none j t (h.2 j le lt);
+    lowest = λ j le lt t. go j le lt t (cases_lt j first);
   },
   tt,
 )
   where
-    none : (j : ℕ) → IsTask (plan_in b) (state_in b) j → is_marked rs j ≡ false → ⊥
-    none j t e = let bad : false ≡ true = sym e ∙ task_marked b starts ends counts first os rs j g t in cc
+    go : (j : ℕ) → from ≤ j → j < i → IsTask (plan_in b) (state_in b) j → (j < first) ⊎ (first ≤ j) → ⊥
+    go j le lt t (inl less) = none_below b starts ends counts first os rs j g less t
+    go j le lt t (inr past) =
+        none_unmarked b starts ends counts first os rs j g (h.2 j (omega (arith, e, le, past)) lt) t
 
 -- ---- of which states this is said
 

@@ -533,7 +533,8 @@ impl Graph {
         ensures next { IfSome result (IsNextTask (plan_in self.now) (state_in self.now) from) }
         ensures none { IfNone result (HasNoTask (plan_in self.now) (state_in self.now) from) }
     {
-        self.ready_items.next(from)
+        // none lies below the first
+        self.ready_items.next(from.max(self.first))
     }
 
     /// How many items may be closed next.

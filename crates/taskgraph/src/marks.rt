@@ -6,7 +6,8 @@ ghost use Rattle.taskgraph.specs.Marks.{is_marked, those_from};
 use std::alloc::{AllocError, Global};
 use std::marker::Model;
 
-/// Items below a fixed number, each marked or not. A row of 256 items in which none is looked for takes one step.
+/// Items below a fixed number, each marked or not. A row of 256 items in which none is looked for takes one step, and all
+/// rows take one where none is marked.
 #[derive(Drop)]
 pub struct Marks {
     marks: Vec<bool>,
@@ -138,6 +139,9 @@ impl Marks {
     pub fn next(&self, from: usize) -> Option<usize>
         ensures { IsNext self.now from result }
     {
+        if self.len == 0 {
+            return None;
+        }
         if from >= self.marks.len() {
             return None;
         }

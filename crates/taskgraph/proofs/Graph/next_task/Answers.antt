@@ -10,11 +10,11 @@ returns-clause-next c =
     let g = c.self.inside in
     subst (λ (b : Board). IfSome c.next.result (IsNextTask (plan_in b) (state_in b) c.args.from)) c.self.view_is
     (next_marked (board_of g.tasks.items g.stages.items g.place) g.starts.items g.ends.items g.missing.items g.first c.args.from
-    g.open_items g.ready_items c.next.result c.self.invariant c.next.ensures).0
+    c.max.result g.open_items g.ready_items c.next.result c.self.invariant c.max.ensures c.next.ensures).0
 
 pub returns-clause-none : goal.returns-clause-none
 returns-clause-none c =
     let g = c.self.inside in
     subst (λ (b : Board). IfNone c.next.result (HasNoTask (plan_in b) (state_in b) c.args.from)) c.self.view_is
     (next_marked (board_of g.tasks.items g.stages.items g.place) g.starts.items g.ends.items g.missing.items g.first c.args.from
-    g.open_items g.ready_items c.next.result c.self.invariant c.next.ensures).1
+    c.max.result g.open_items g.ready_items c.next.result c.self.invariant c.max.ensures c.next.ensures).1

@@ -2,9 +2,15 @@ use Rattle.std.proofs.Common.{List, Bool, ◌+◌, ◌-◌, ◌*◌, ◌/◌, �
 use Rattle.std.specs.Prelude.{slice_get}
 use Rattle.std.proofs.lemmas.Grind.{get_or_default_zero}
 use Rattle.taskgraph.specs.Marks.{AreCounted, is_marked, those_from}
-use Rattle.taskgraph.proofs.NextMarks.{next_in, next_in_row, none_in_row, none_to_end}
+use Rattle.taskgraph.proofs.NextMarks.{next_in, next_in_row, none_counted, none_in_row, none_to_end}
 use Rattle.taskgraph.proofs.Rows.{to_end}
 use Rattle.taskgraph.proofs.marks.Marks.next.Goals as goal
+
+pub returns-then-self-eq0 : goal.returns-then-self-eq0
+returns-then-self-eq0 c j le =
+    let m = c.self.inside in
+    let h = subst (λ (l : List Bool). AreCounted l m.counts.items m.len) c.self.view_is c.self.invariant in
+    none_counted c.args.self.now m.counts.items m.len h (omega (arith, c.if-self-eq0.true)) j
 
 pub returns-then-is_some : goal.returns-then-is_some
 returns-then-is_some c =
