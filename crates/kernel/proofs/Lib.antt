@@ -28,7 +28,8 @@ pub mod Sums
 pub mod SumLanes
 pub mod Keeps
 pub mod BlockTurns
-pub mod LoadedRuns
+pub mod Joins
+mod LoadedRuns
 pub mod Codings
 pub mod Walking
 pub mod WalkedLoops
