@@ -1,3 +1,4 @@
+pub mod Branches
 pub mod Alike
 pub mod Rows
 pub mod Deltas
