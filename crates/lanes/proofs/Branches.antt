@@ -91,7 +91,7 @@ module _ (P : Stmt → Type 0) where
       of_stmt (Loop' b shape all) = step (Loop' b shape all) tt
       of_stmt (If' c shape all shape' all') = step (If' c shape all shape' all') (of_row _ all, of_row _ all')
 
-      of_row : (n : Count) (row : Row_of-Stmt n) → AllOf (items row)
+      pub of_row : (n : Count) (row : Row_of-Stmt n) → AllOf (items row)
       of_row n end_of-Stmt = tt
       of_row n (more_of-Stmt first rest) = (of_stmt first, of_row _ rest)
 

@@ -1,4 +1,5 @@
 pub mod Branches
+pub mod Choices
 pub mod Alike
 pub mod Rows
 pub mod Deltas
