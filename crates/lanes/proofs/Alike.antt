@@ -1,10 +1,9 @@
 -- Two states that look alike to a turn: it adds the same to both.
-use Rattle.std.proofs.Common.{◌≡◌, ℕ, ◌==◌, Bool, true, false, List, [], ◌∷◌, ◌++◌, Option, Some, None, refl, sym, ap, ap₂, ◌∙◌, if◌then◌else◌, append_assoc, append-nil}
+use Rattle.std.proofs.Common.{◌≡◌, ℕ, Bool, true, false, List, [], ◌∷◌, ◌++◌, Option, Some, None, refl, sym, ap, ap₂, ◌∙◌, if◌then◌else◌, append_assoc, append-nil}
 use Rattle.std.specs.Prelude.{not, ◌&&◌, ◌||◌, option_and_then, option_map, unwrap_or, slice_index}
 use Rattle.std.proofs.lemmas.Bool.{and_parts}
 use mathlib.Core.Former.{Count}
 use Rattle.base.specs.declared.item.Cell.{Cell}
-use Rattle.base.specs.declared.tree.ArrayId.{ArrayId}
 use Rattle.base.specs.declared.tree.Expr.{Expr}
 use Rattle.base.specs.declared.tree.Expr.TheVariants.{Number, Scalar, LoopName, Cell', Unary', Binary', And', Or', Shift', Divide'}
 use Rattle.base.specs.declared.tree.Source.{Source}

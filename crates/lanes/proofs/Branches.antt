@@ -1,6 +1,6 @@
 -- The statements of a branch, which stand in a row, as a list; and how a property of statements is shown that holds of a
 -- choice where it holds of the statements in its branches.
-use Rattle.std.proofs.Common.{◌≡◌, ℕ, Bool, List, [], ◌∷◌, Option, Some, None, refl, ap, ap₂, ◌∙◌}
+use Rattle.std.proofs.Common.{◌≡◌, ℕ, Bool, List, [], ◌∷◌, Option, Some, None, refl, ap}
 use Rattle.std.specs.Prelude.{◌&&◌, ◌||◌, option_and_then, option_map}
 use mathlib.Core.Former.{Count}
 use Rattle.base.specs.declared.tree.Expr.{Expr}
@@ -9,7 +9,7 @@ use Rattle.base.specs.declared.tree.Stmt.TheVariants.{Declare, Assign, Store, Pr
 use Rattle.base.specs.Memory.{View}
 use Rattle.base.specs.Meaning.{Run, run_stmt, run_row, run_list}
 use Rattle.lanes.specs.Apart.{Set, Places, stmt_apart, row_apart, body_apart, loose_after, assigned_by, row_assigned, assigned_in, Delta, apply, join, join_all, stmt_delta, row_delta, body_delta, Block, block_stmt, block_row, block_body}
-use Rattle.lanes.specs.There.{StmtThere, RowThere, BodyThere}
+use Rattle.lanes.specs.There.{RowThere, BodyThere}
 
 abbrev pub items : {n : Count} → Row_of-Stmt n → List Stmt
 items {n} row = items-the_row-Stmt n row

@@ -1,6 +1,6 @@
 -- A choice in some turns: the first branch in those in which the condition's number is not 0, then the second in the
 -- others.
-use Rattle.std.proofs.Common.{◌≡◌, ℕ, zero, suc, ◌==◌, Bool, true, false, Option, Some, None, refl, sym, ap, ap₂, ◌∙◌, if◌then◌else◌, eqb-true}
+use Rattle.std.proofs.Common.{◌≡◌, ℕ, zero, suc, Bool, true, false, Option, Some, None, refl, sym, ap, ap₂, ◌∙◌, if◌then◌else◌, eqb-true}
 use Rattle.std.specs.Prelude.{not, ◌&&◌, unwrap_or, IsSome}
 use Rattle.std.proofs.lemmas.Bool.{and_parts, false≢true}
 use Rattle.base.specs.Value.{is_zero}

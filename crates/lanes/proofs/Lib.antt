@@ -15,6 +15,7 @@ pub mod Fixed
 pub mod Moved
 pub mod Along
 pub mod Keeping
+pub mod ChoicesIn
 pub mod MovedShown
 pub mod Powers
 pub mod Totals

@@ -1,5 +1,5 @@
 -- A turn that assigns each of its scalars leaves them as it makes them, whatever they were.
-use Rattle.std.proofs.Common.{◌≡◌, ℕ, ◌==◌, Bool, true, false, List, [], ◌∷◌, Option, Some, None, refl, sym, ap, ◌∙◌, subst, if◌then◌else◌}
+use Rattle.std.proofs.Common.{◌≡◌, ℕ, ◌==◌, Bool, true, false, List, [], ◌∷◌, Option, Some, None, refl, sym, ◌∙◌, subst, if◌then◌else◌}
 use Rattle.std.specs.Prelude.{zero, suc, not, ◌&&◌, option_and_then, option_map}
 use Rattle.std.proofs.lemmas.Bool.{and_parts, false≢true}
 use mathlib.Core.Former.{Count}

@@ -12,7 +12,7 @@ use Rattle.base.specs.declared.tree.Stmt.TheVariants.{Declare, Assign, Store, Pr
 use Rattle.base.specs.Memory.{View, last_stored}
 use Rattle.base.specs.Value.{value}
 use Rattle.base.specs.Meaning.{Run, names_in, seen, stored, choose, run_stmt, run_row, run_list}
-use Rattle.lanes.specs.Apart.{Set, Kept, Places, NamesPlaces, HavePlaces, is_apart, stmt_apart, row_apart, loose_after, body_apart, Block, names_at, where_true, where_false, block_stmt, block_row, block_start, StandsFor, RunAlone}
+use Rattle.lanes.specs.Apart.{Set, Places, NamesPlaces, HavePlaces, is_apart, stmt_apart, row_apart, loose_after, body_apart, Block, names_at, where_true, where_false, block_stmt, block_row, block_start, RunAlone}
 use Rattle.lanes.specs.There.{HasValues, StmtThere, RowThere, BodyThere}
 use Rattle.lanes.proofs.Branches.{items, AllOf, OfBranches, of_body, run_items, apart_items, there_items}
 use Rattle.lanes.proofs.Choices.{has_condition}
