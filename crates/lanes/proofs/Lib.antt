@@ -16,6 +16,7 @@ pub mod Moved
 pub mod Along
 pub mod Keeping
 pub mod ChoicesIn
+pub mod ChoicesShown
 pub mod MovedShown
 pub mod Powers
 pub mod Totals
