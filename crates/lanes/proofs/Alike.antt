@@ -69,7 +69,8 @@ module _ (taken : Set) (view : View) where
       ∙ ap (λ zs. seen view zs c) (append_assoc tt' (y ∷ []) ys)
 
   -- the same in both leaves them alike, but for the scalars that are still loose
-  apply_alike : (loose still : Set) (at : ℕ → Type 0) (s t : Run) (d : Delta) → Alike loose at s t → Settles loose still d →
+  apply_alike : (loose still : Set) (at : ℕ → Type 0) (s t : Run) (d : Delta) → Alike loose at s t →
+      Settles loose still d →
       Alike still at (apply s d) (apply t d)
   apply_alike loose still at s t d h settles =
       record {
@@ -150,7 +151,8 @@ module _ (taken : Set) (view : View) where
         (stmt_delta first view (loops ++ v ∷ []) t) (stmt_settles view (loops ++ v ∷ []) loose t first)
         (stmt_within taken own view here pl loops before named v loose t first kt l.0)
       where
-        l : (stmt_apart taken own loose here first ≡ true) × (body_apart taken own (loose_after loose first) here rest ≡ true)
+        l : (stmt_apart taken own loose here first ≡ true)
+            × (body_apart taken own (loose_after loose first) here rest ≡ true)
         l =
             and_parts (stmt_apart taken own loose here first)
             (body_apart taken own (loose_after loose first) here rest) k
@@ -158,7 +160,8 @@ module _ (taken : Set) (view : View) where
         go : ((d : Delta) → Alike (loose_after loose first) at_turn (apply s d) (apply t d) →
             Kept own before (apply s d).scalars → Kept own before (apply t d).scalars →
             body_delta rest view (loops ++ v ∷ []) (apply s d) ≡ body_delta rest view (loops ++ v ∷ []) (apply t d)) →
-            (o : Option Delta) → AllSettle loose (loose_after loose first) o → AllWithin taken own view (pl.place v) o →
+            (o : Option Delta) → AllSettle loose (loose_after loose first) o →
+            AllWithin taken own view (pl.place v) o →
             join_all o (λ d. body_delta rest view (loops ++ v ∷ []) (apply s d))
             ≡ join_all o (λ d. body_delta rest view (loops ++ v ∷ []) (apply t d))
         go next None st w = refl
@@ -167,7 +170,8 @@ module _ (taken : Set) (view : View) where
             (next d (apply_alike loose (loose_after loose first) at_turn s t d h st)
             (λ x o. w.sets s.scalars x o ∙ ks x o) (λ x o. w.sets t.scalars x o ∙ kt x o))
 
-    row_same : (n : Count) (row : Row_of-Stmt n) → AllOf IsSame (items row) → (loose : Set) (s t : Run) → Alike loose at_turn s t →
+    row_same : (n : Count) (row : Row_of-Stmt n) → AllOf IsSame (items row) → (loose : Set) (s t : Run) →
+        Alike loose at_turn s t →
         Kept own before s.scalars → Kept own before t.scalars → row_apart taken own loose here row ≡ true →
         row_delta row view (loops ++ v ∷ []) s ≡ row_delta row view (loops ++ v ∷ []) t
     row_same n row each loose s t h ks kt k =

@@ -32,7 +32,8 @@ module _ (taken own : Set) (view : View) (here : Expr → Bool) (pl : Places) (l
   other v c h = ap (λ b. b && (c.index == pl.place v)) h
 
   -- a turn's expression has the turn's own value
-  pub lane_value : (inside : ℕ → Bool) → HavePlaces inside pl → (loose : Set) (b : Block) (lane : ℕ → Run) → StandsFor pl view b lane → Keeps lane → (v : ℕ) → inside v ≡ true → Kept own s.scalars (lane v).scalars →
+  pub lane_value : (inside : ℕ → Bool) → HavePlaces inside pl → (loose : Set) (b : Block) (lane : ℕ → Run) →
+      StandsFor pl view b lane → Keeps lane → (v : ℕ) → inside v ≡ true → Kept own s.scalars (lane v).scalars →
       (e : Expr) → is_apart taken loose here e ≡ true →
       value e (names_at b loops v) ≡ value e (names_in view (loops ++ v ∷ []) (lane v))
   lane_value inside places loose b lane h k v i kept e is =
@@ -154,7 +155,8 @@ module _ (taken own : Set) (view : View) (here : Expr → Bool) (pl : Places) (l
             now q = let e = places.forth c.index i in grind (arith, nat_tests)
 
         number : (v : ℕ) (i : inside v ≡ true) → numbers f b loops v ≡ (does v i).n
-        number v i = ap (λ o. unwrap_or o 0) (lane_value inside places loose b lane h k v i (kept v) f ok ∙ (does v i).is)
+        number v i =
+            ap (λ o. unwrap_or o 0) (lane_value inside places loose b lane h k v i (kept v) f ok ∙ (does v i).is)
 
         mark : (c : Cell) (q r : Bool) → (a.0 == c.array.0) ≡ q → inside (pl.turn_of c.index) ≡ r →
             (if q && r then Some (numbers f b loops (pl.turn_of c.index)) else b.stored c) ≡ last_stored (next (pl.turn_of c.index)).stores c
@@ -209,7 +211,8 @@ module _ (taken own : Set) (view : View) (here : Expr → Bool) (pl : Places) (l
   -- the block of a statement stands for the runs of the statement
   abbrev pub IsStanding : Stmt → Type 0
   IsStanding first =
-      (inside : ℕ → Bool) (places : HavePlaces inside pl) (loose : Set) (b : Block) (lane next : ℕ → Run) → Stands b lane →
+      (inside : ℕ → Bool) (places : HavePlaces inside pl) (loose : Set) (b : Block) (lane next : ℕ → Run) →
+      Stands b lane →
       stmt_apart taken own loose here first ≡ true →
       RunAlone inside (λ v. run_stmt first view (loops ++ v ∷ [])) lane next →
       Stands (block_stmt pl inside loops first b) next
@@ -229,14 +232,18 @@ module _ (taken own : Set) (view : View) (here : Expr → Bool) (pl : Places) (l
     abbrev pub after_first : ℕ → Run
     after_first v = stepped (inside v) (run_stmt first view (loops ++ v ∷ []) (lane v)) (lane v)
 
-    at : (v : ℕ) → inside v ≡ true → after_first v ≡ unwrap_or (run_stmt first view (loops ++ v ∷ []) (lane v)) (lane v)
+    at : (v : ℕ) → inside v ≡ true →
+        after_first v ≡ unwrap_or (run_stmt first view (loops ++ v ∷ []) (lane v)) (lane v)
     at v i = ap (λ q. stepped q (run_stmt first view (loops ++ v ∷ []) (lane v)) (lane v)) i
 
     parts : (v : ℕ) → inside v ≡ true →
-        (run_stmt first view (loops ++ v ∷ []) (lane v) ≡ Some (unwrap_or (run_stmt first view (loops ++ v ∷ []) (lane v)) (lane v)))
-        × (run_list rest view (loops ++ v ∷ []) (unwrap_or (run_stmt first view (loops ++ v ∷ []) (lane v)) (lane v)) ≡ Some (end v))
+        (run_stmt first view (loops ++ v ∷ []) (lane v)
+        ≡ Some (unwrap_or (run_stmt first view (loops ++ v ∷ []) (lane v)) (lane v)))
+        × (run_list rest view (loops ++ v ∷ []) (unwrap_or (run_stmt first view (loops ++ v ∷ []) (lane v)) (lane v))
+        ≡ Some (end v))
     parts v i =
-        then_parts (run_stmt first view (loops ++ v ∷ []) (lane v)) (run_list rest view (loops ++ v ∷ [])) (lane v) (end v)
+        then_parts (run_stmt first view (loops ++ v ∷ []) (lane v)) (run_list rest view (loops ++ v ∷ [])) (lane v)
+        (end v)
         (alone.there v i)
 
     pub first_alone : RunAlone inside (λ v. run_stmt first view (loops ++ v ∷ [])) lane after_first
@@ -265,8 +272,8 @@ module _ (taken own : Set) (view : View) (here : Expr → Bool) (pl : Places) (l
       same v true i = same_Some (lane v) (end v) (alone.there v i)
       same v false i = sym (alone.elsewhere v i)
 
-  all_stand : (body : List Stmt) → AllOf IsStanding body → (inside : ℕ → Bool) (places : HavePlaces inside pl) (loose : Set)
-      (b : Block) (lane end : ℕ → Run) → Stands b lane → body_apart taken own loose here body ≡ true →
+  all_stand : (body : List Stmt) → AllOf IsStanding body → (inside : ℕ → Bool) (places : HavePlaces inside pl)
+      (loose : Set) (b : Block) (lane end : ℕ → Run) → Stands b lane → body_apart taken own loose here body ≡ true →
       RunAlone inside (λ v. run_list body view (loops ++ v ∷ [])) lane end →
       Stands (block_body pl inside loops body b) end
   all_stand [] each inside places loose b lane end h ok alone = stand_still inside b lane end h alone
@@ -280,7 +287,8 @@ module _ (taken own : Set) (view : View) (here : Expr → Bool) (pl : Places) (l
       (rest_alone inside first rest lane end alone)
 
   -- a branch
-  row_stand : (n : Count) (row : Row_of-Stmt n) → AllOf IsStanding (items row) → (inside : ℕ → Bool) (places : HavePlaces inside pl)
+  row_stand : (n : Count) (row : Row_of-Stmt n) → AllOf IsStanding (items row) →
+      (inside : ℕ → Bool) (places : HavePlaces inside pl)
       (loose : Set) (b : Block) (lane end : ℕ → Run) → Stands b lane → row_apart taken own loose here row ≡ true →
       RunAlone inside (λ v. run_row row view (loops ++ v ∷ [])) lane end →
       Stands (block_row pl inside loops row b) end
@@ -293,8 +301,8 @@ module _ (taken own : Set) (view : View) (here : Expr → Bool) (pl : Places) (l
       }))
 
   -- a choice
-  module _ (c : Expr) {m n : Count} (all : Row_of-Stmt m) (all' : Row_of-Stmt n) (inside : ℕ → Bool) (places : HavePlaces inside pl)
-      (loose : Set) (b : Block) (lane next : ℕ → Run) (h : Stands b lane) (ok : is_apart taken loose here c ≡ true)
+  module _ (c : Expr) {m n : Count} (all : Row_of-Stmt m) (all' : Row_of-Stmt n) (inside : ℕ → Bool)
+      (places : HavePlaces inside pl) (loose : Set) (b : Block) (lane next : ℕ → Run) (h : Stands b lane) (ok : is_apart taken loose here c ≡ true)
       (there : (v : ℕ) → inside v ≡ true →
       choose (value c (names_in view (loops ++ v ∷ []) (lane v))) (run_row all view (loops ++ v ∷ []))
       (run_row all' view (loops ++ v ∷ [])) (lane v) ≡ Some (next v))
@@ -306,17 +314,20 @@ module _ (taken own : Set) (view : View) (here : Expr → Bool) (pl : Places) (l
     abbrev pub amid : ℕ → Run
     amid =
         between inside (numbers c b loops) (λ v. value c (names_in view (loops ++ v ∷ []) (lane v)))
-        (λ v. run_row all view (loops ++ v ∷ [])) (λ v. run_row all' view (loops ++ v ∷ [])) lane next number_is there elsewhere
+        (λ v. run_row all view (loops ++ v ∷ [])) (λ v. run_row all' view (loops ++ v ∷ []))
+        lane next number_is there elsewhere
 
     pub first_done : RunAlone (where_true inside c b loops) (λ v. run_row all view (loops ++ v ∷ [])) lane amid
     first_done =
         first_branch inside (numbers c b loops) (λ v. value c (names_in view (loops ++ v ∷ []) (lane v)))
-        (λ v. run_row all view (loops ++ v ∷ [])) (λ v. run_row all' view (loops ++ v ∷ [])) lane next number_is there elsewhere
+        (λ v. run_row all view (loops ++ v ∷ [])) (λ v. run_row all' view (loops ++ v ∷ []))
+        lane next number_is there elsewhere
 
     pub second_done : RunAlone (where_false inside c b loops) (λ v. run_row all' view (loops ++ v ∷ [])) amid next
     second_done =
         second_branch inside (numbers c b loops) (λ v. value c (names_in view (loops ++ v ∷ []) (lane v)))
-        (λ v. run_row all view (loops ++ v ∷ [])) (λ v. run_row all' view (loops ++ v ∷ [])) lane next number_is there elsewhere
+        (λ v. run_row all view (loops ++ v ∷ [])) (λ v. run_row all' view (loops ++ v ∷ []))
+        lane next number_is there elsewhere
 
     pub true_places : HavePlaces (where_true inside c b loops) pl
     true_places =
@@ -325,11 +336,14 @@ module _ (taken own : Set) (view : View) (here : Expr → Bool) (pl : Places) (l
 
     pub false_places : HavePlaces (where_false inside c b loops) pl
     false_places =
-        fewer_places pl inside (where_false inside c b loops) (λ v i. (and_parts (inside v) (is_zero (numbers c b loops v)) i).0) places
+        fewer_places pl inside (where_false inside c b loops)
+        (λ v i. (and_parts (inside v) (is_zero (numbers c b loops v)) i).0) places
 
-    choice_stands : AllOf IsStanding (items all) → AllOf IsStanding (items all') → row_apart taken own loose here all ≡ true →
+    choice_stands : AllOf IsStanding (items all) → AllOf IsStanding (items all') →
+        row_apart taken own loose here all ≡ true →
         row_apart taken own loose here all' ≡ true →
-        Stands (block_row pl (where_false inside c b loops) loops all' (block_row pl (where_true inside c b loops) loops all b)) next
+        Stands (block_row pl (where_false inside c b loops) loops all'
+        (block_row pl (where_true inside c b loops) loops all b)) next
     choice_stands each other p q =
         row_stand _ all' other (where_false inside c b loops) false_places loose
         (block_row pl (where_true inside c b loops) loops all b) amid next
@@ -338,21 +352,26 @@ module _ (taken own : Set) (view : View) (here : Expr → Bool) (pl : Places) (l
   one_stands : (first : Stmt) → OfBranches IsStanding first → IsStanding first
   one_stands (Declare x (Value e)) each inside places loose b lane next h ok alone =
       set_stands inside places loose b lane next h.is h.keeps h.kept alone.elsewhere x.0 e
-      (and_parts (own x.0) (is_apart taken loose here e) ok).0 (and_parts (own x.0) (is_apart taken loose here e) ok).1
-      (λ v i. assigned_by x.0 (value e (names_in view (loops ++ v ∷ []) (lane v))) (lane v) (next v) (alone.there v i))
+      (and_parts (own x.0) (is_apart taken loose here e) ok).0
+      (and_parts (own x.0) (is_apart taken loose here e) ok).1
+      (λ v i. assigned_by x.0 (value e (names_in view (loops ++ v ∷ []) (lane v))) (lane v) (next v)
+      (alone.there v i))
   one_stands (Declare x Read) each inside places loose b lane next h ok alone =
       absurd (false≢true (and_parts (own x.0) false ok).1)
   one_stands (Assign x (Value e)) each inside places loose b lane next h ok alone =
       set_stands inside places loose b lane next h.is h.keeps h.kept alone.elsewhere x.0 e
-      (and_parts (own x.0) (is_apart taken loose here e) ok).0 (and_parts (own x.0) (is_apart taken loose here e) ok).1
-      (λ v i. assigned_by x.0 (value e (names_in view (loops ++ v ∷ []) (lane v))) (lane v) (next v) (alone.there v i))
+      (and_parts (own x.0) (is_apart taken loose here e) ok).0
+      (and_parts (own x.0) (is_apart taken loose here e) ok).1
+      (λ v i. assigned_by x.0 (value e (names_in view (loops ++ v ∷ []) (lane v))) (lane v) (next v)
+      (alone.there v i))
   one_stands (Assign x Read) each inside places loose b lane next h ok alone =
       absurd (false≢true (and_parts (own x.0) false ok).1)
   one_stands (Store a place e (Value f)) each inside places loose b lane next h ok alone =
       let l = and_parts (taken a.0) (here e && is_apart taken loose here f) ok in
       let q = and_parts (here e) (is_apart taken loose here f) l.1 in
       store_stands inside places loose b lane next h.is h.keeps h.kept alone.elsewhere a f l.0 q.1
-      (λ v i. pushed_by (record { array = a; index = pl.place v }) (value f (names_in view (loops ++ v ∷ []) (lane v))) (lane v) (next v)
+      (λ v i. pushed_by (record { array = a; index = pl.place v })
+      (value f (names_in view (loops ++ v ∷ []) (lane v))) (lane v) (next v)
       (sym (ap (option_and_then (λ j. stored view (record { array = a; index = j })
       (option_map (λ n. (n, lane v)) (value f (names_in view (loops ++ v ∷ []) (lane v))))))
       (named v e (names_in view (loops ++ v ∷ []) (lane v)) refl (h.kept v) q.0)) ∙ alone.there v i))
@@ -379,7 +398,8 @@ module _ (taken own : Set) (view : View) (here : Expr → Bool) (pl : Places) (l
 pub by_assignments : ByAssignments
 by_assignments body view here at loops stored own inside s end named places ok alone =
     (all_stand stored own view here at loops s named body
-    (of_body (IsStanding stored own view here at loops s named) (one_stands stored own view here at loops s named) body)
+    (of_body (IsStanding stored own view here at loops s named)
+    (one_stands stored own view here at loops s named) body)
     inside places own (block_start view s) (λ v. s) end
     (record {
       is = record { scalars = λ v x. refl; cells = λ c. refl; stored = λ c. refl };

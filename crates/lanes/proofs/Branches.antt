@@ -19,7 +19,8 @@ pub and_then_same : {A B : Type 0} (f g : A → Option B) (o : Option A) → ((t
 and_then_same f g None h = refl
 and_then_same f g (Some t) h = h t
 
-pub join_all_same : (f g : Delta → Option Delta) (o : Option Delta) → ((d : Delta) → f d ≡ g d) → join_all o f ≡ join_all o g
+pub join_all_same : (f g : Delta → Option Delta) (o : Option Delta) → ((d : Delta) → f d ≡ g d) →
+    join_all o f ≡ join_all o g
 join_all_same f g o h = and_then_same _ _ o (λ d. ap (option_map (join d)) (h d))
 
 pub run_items : (n : Count) (row : Row_of-Stmt n) (view : View) (loops : List ℕ) (s : Run) →
@@ -33,7 +34,8 @@ pub apart_items : (n : Count) (row : Row_of-Stmt n) (stored own loose : Set) (he
     row_apart stored own loose here row ≡ body_apart stored own loose here (items row)
 apart_items n end_of-Stmt stored own loose here = refl
 apart_items n (more_of-Stmt first rest) stored own loose here =
-    ap (λ b. stmt_apart stored own loose here first && b) (apart_items _ rest stored own (loose_after loose first) here)
+    ap (λ b. stmt_apart stored own loose here first && b)
+    (apart_items _ rest stored own (loose_after loose first) here)
 
 pub assigned_items : (n : Count) (row : Row_of-Stmt n) (x : ℕ) → row_assigned row x ≡ assigned_in (items row) x
 assigned_items n end_of-Stmt x = refl

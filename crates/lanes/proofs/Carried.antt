@@ -62,7 +62,8 @@ neither false q h = (refl, h)
 neither true q h = absurd (false≢true (sym h))
 
 -- a scalar that a statement does not assign stays loose
-stays_loose : (loose : Set) (s : Stmt) (x : ℕ) → assigned_by s x ≡ false → loose x ≡ true → loose_after loose s x ≡ true
+stays_loose : (loose : Set) (s : Stmt) (x : ℕ) → assigned_by s x ≡ false → loose x ≡ true →
+    loose_after loose s x ≡ true
 stays_loose loose (Declare y v) x h l = ap₂ (λ p q. not p && q) h l
 stays_loose loose (Assign y v) x h l = ap₂ (λ p q. not p && q) h l
 stays_loose loose (Store a place e v) x h l = l
@@ -152,7 +153,8 @@ module _ (taken own : Set) (view : View) (here : Expr → Bool) (pl : Places) (l
       go next None is = refl
       go next (Some u) is = next u is
 
-  row_over : (n : Count) (row : Row_of-Stmt n) → AllOf IsOver (items row) → (loose : Set) (a : ℕ) (t : Run) → Kept own before t.scalars →
+  row_over : (n : Count) (row : Row_of-Stmt n) → AllOf IsOver (items row) → (loose : Set) (a : ℕ) (t : Run) →
+      Kept own before t.scalars →
       row_apart taken own loose here row ≡ true → row_assigned row x ≡ false → loose x ≡ true →
       run_row row view (loops ++ v ∷ []) (over x a t) ≡ option_map (over x a) (run_row row view (loops ++ v ∷ []) t)
   row_over n row each loose a t kept ok m l =
@@ -184,7 +186,8 @@ module _ (taken own : Set) (view : View) (here : Expr → Bool) (pl : Places) (l
       (row_apart taken own loose here all && row_apart taken own loose here all') ok in
       let q = and_parts (row_apart taken own loose here all) (row_apart taken own loose here all') k.1 in
       let n = neither (row_assigned all x) (row_assigned all' x) m in
-      choice_over a t (value c (names_in view (loops ++ v ∷ []) (over x a t))) (value c (names_in view (loops ++ v ∷ []) t))
+      choice_over a t (value c (names_in view (loops ++ v ∷ []) (over x a t)))
+      (value c (names_in view (loops ++ v ∷ []) t))
       (run_row all view (loops ++ v ∷ [])) (run_row all' view (loops ++ v ∷ [])) (value_over loose a t c kept l k.0)
       (row_over _ all each.0 loose a t kept q.0 n.0 l) (row_over _ all' each.1 loose a t kept q.1 n.1 l)
 

@@ -46,7 +46,8 @@ module _ (c : Expr) (all other : Vec Stmt Global) where
       ap₂ (λ p q. p || q) (assigned_items m first x ∙ ap (λ l. assigned_in l x) (first_items c all other))
       (assigned_items n second x ∙ ap (λ l. assigned_in l x) (second_items c all other))
 
-  pub assigns_If : (own : Set) → assigns_only own (If c all other) ≡ (all_assign own all.items && all_assign own other.items)
+  pub assigns_If : (own : Set) → assigns_only own (If c all other)
+      ≡ (all_assign own all.items && all_assign own other.items)
   assigns_If own =
       ap₂ (λ p q. p && q) (assigns_items own m first ∙ ap (all_assign own) (first_items c all other))
       (assigns_items own n second ∙ ap (all_assign own) (second_items c all other))
@@ -75,7 +76,8 @@ module _ (c : Expr) (all other : Vec Stmt Global) where
         ≡ block_body at (where_false inside c b loops) loops other.items
         (block_body at (where_true inside c b loops) loops all.items b)
     block_If =
-        block_items n second at (where_false inside c b loops) loops (block_row at (where_true inside c b loops) loops first b)
+        block_items n second at (where_false inside c b loops) loops
+        (block_row at (where_true inside c b loops) loops first b)
         ∙ ap₂ (λ l d. block_body at (where_false inside c b loops) loops l d) (second_items c all other) first_block
 
     -- what a choice needs
@@ -93,8 +95,10 @@ module _ (c : Expr) (all other : Vec Stmt Global) where
               subst (λ l. BodyThere at (where_true inside c b loops) loops l b) (first_items c all other)
               (items_there m first at (where_true inside c b loops) loops b h.1);
           second_there =
-              subst (λ l. BodyThere at (where_false inside c b loops) loops l (block_body at (where_true inside c b loops) loops all.items b))
+              subst (λ l. BodyThere at (where_false inside c b loops) loops l
+              (block_body at (where_true inside c b loops) loops all.items b))
               (second_items c all other)
               (subst (λ d. BodyThere at (where_false inside c b loops) loops (items second) d) first_block
-              (items_there n second at (where_false inside c b loops) loops (block_row at (where_true inside c b loops) loops first b) h.2));
+              (items_there n second at (where_false inside c b loops) loops
+              (block_row at (where_true inside c b loops) loops first b) h.2));
         }

@@ -70,13 +70,16 @@ module _ (taken own : Set) (view : View) where
         (loose : Set) (s : Run) → stmt_apart taken own loose here first ≡ true →
         run_stmt first view loops s ≡ option_map (apply s) (stmt_delta first view loops s)
 
-    all_are : (body : List Stmt) → AllOf IsDelta body → (loose : Set) (s : Run) → body_apart taken own loose here body ≡ true →
+    all_are : (body : List Stmt) → AllOf IsDelta body → (loose : Set) (s : Run) →
+        body_apart taken own loose here body ≡ true →
         run_list body view loops s ≡ option_map (apply s) (body_delta body view loops s)
     all_are [] each loose s h = ap Some (sym (apply_idle s))
     all_are (first ∷ rest) each loose s h =
-        let k = and_parts (stmt_apart taken own loose here first) (body_apart taken own (loose_after loose first) here rest) h in
+        let k = and_parts (stmt_apart taken own loose here first)
+        (body_apart taken own (loose_after loose first) here rest) h in
         ap (option_and_then (run_list rest view loops)) (each.0 loose s k.0)
-        ∙ rest_is s (run_list rest view loops) (λ d. body_delta rest view loops (apply s d)) (stmt_delta first view loops s)
+        ∙ rest_is s (run_list rest view loops) (λ d. body_delta rest view loops (apply s d))
+        (stmt_delta first view loops s)
         (λ d. all_are rest each.1 (loose_after loose first) (apply s d) k.1)
 
     row_is : (n : Count) (row : Row_of-Stmt n) → AllOf IsDelta (items row) → (loose : Set) (s : Run) →
@@ -243,9 +246,11 @@ module _ (taken own : Set) (view : View) where
         (body_apart taken own (loose_after loose first) here rest) h in
         all_then (pl.place v) (stmt_delta first view (loops ++ v ∷ []) s) (λ d. body_delta rest view (loops ++ v ∷ []) (apply s d))
         (each.0 loose s kept k.0)
-        (λ d w. all_within rest each.1 (loose_after loose first) (apply s d) (λ x o. w.sets s.scalars x o ∙ kept x o) k.1)
+        (λ d w. all_within rest each.1 (loose_after loose first) (apply s d)
+        (λ x o. w.sets s.scalars x o ∙ kept x o) k.1)
 
-    row_within : (n : Count) (row : Row_of-Stmt n) → AllOf IsWithin (items row) → (loose : Set) (s : Run) → Kept own before s.scalars →
+    row_within : (n : Count) (row : Row_of-Stmt n) → AllOf IsWithin (items row) → (loose : Set) (s : Run) →
+        Kept own before s.scalars →
         row_apart taken own loose here row ≡ true →
         AllWithin (pl.place v) (row_delta row view (loops ++ v ∷ []) s)
     row_within n row each loose s kept h =
@@ -281,7 +286,8 @@ module _ (taken own : Set) (view : View) where
         (row_delta all' view (loops ++ v ∷ []) s)
         (row_within _ all each.0 loose s kept l.0) (row_within _ all' each.1 loose s kept l.1)
 
-    pub stmt_within : (loose : Set) (s : Run) (first : Stmt) → Kept own before s.scalars → stmt_apart taken own loose here first ≡ true →
+    pub stmt_within : (loose : Set) (s : Run) (first : Stmt) → Kept own before s.scalars →
+        stmt_apart taken own loose here first ≡ true →
         AllWithin (pl.place v) (stmt_delta first view (loops ++ v ∷ []) s)
     stmt_within loose s first kept h = of_stmt IsWithin one_of first loose s kept h
 

@@ -77,7 +77,8 @@ module _ (own : Set) where
     abbrev IsKeeping : Stmt → Type 0
     IsKeeping first = assigns_only own first ≡ true → Keep (run_stmt first view loops)
 
-    all_keep : (body : List Stmt) → AllOf IsKeeping body → all_assign own body ≡ true → Keep (run_list body view loops)
+    all_keep : (body : List Stmt) → AllOf IsKeeping body → all_assign own body ≡ true →
+        Keep (run_list body view loops)
     all_keep [] each its s t h = λ x o. ap (λ (r : Run). r.scalars x) (sym (same_Some s t h))
     all_keep (first ∷ rest) each its s t h =
         let p = and_parts (assigns_only own first) (all_assign own rest) its in

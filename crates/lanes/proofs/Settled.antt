@@ -67,7 +67,8 @@ branch_settles : (loose : Set) (body : List Stmt) (o : Option Delta) → AllSett
 branch_settles loose body None h = tt
 branch_settles loose body (Some d) h = λ f g same x k. h f g same x (not_loose loose body x k)
 
-choice_settles : (loose still : Set) (o : Option ℕ) (d e : Option Delta) → AllSettle loose still d → AllSettle loose still e →
+choice_settles : (loose still : Set) (o : Option ℕ) (d e : Option Delta) → AllSettle loose still d →
+    AllSettle loose still e →
     AllSettle loose still (chosen_delta o d e)
 choice_settles loose still None d e h k = tt
 choice_settles loose still (Some zero) d e h k = k
@@ -84,13 +85,15 @@ then_settles loose mid still (Some d) f h k = go (f d) (k d)
 
 module _ (view : View) (loops : List ℕ) where
   abbrev IsSettled : Stmt → Type 0
-  IsSettled first = (loose : Set) (s : Run) → AllSettle loose (loose_after loose first) (stmt_delta first view loops s)
+  IsSettled first =
+      (loose : Set) (s : Run) → AllSettle loose (loose_after loose first) (stmt_delta first view loops s)
 
   all_settle : (body : List Stmt) → AllOf IsSettled body → (loose : Set) (s : Run) →
       AllSettle loose (loose_body loose body) (body_delta body view loops s)
   all_settle [] each loose s = λ f g h x k. h x k
   all_settle (first ∷ rest) each loose s =
-      then_settles loose (loose_after loose first) (loose_body (loose_after loose first) rest) (stmt_delta first view loops s)
+      then_settles loose (loose_after loose first) (loose_body (loose_after loose first) rest)
+      (stmt_delta first view loops s)
       (λ d. body_delta rest view loops (apply s d)) (each.0 loose s)
       (λ d. all_settle rest each.1 (loose_after loose first) (apply s d))
 
@@ -109,7 +112,8 @@ module _ (view : View) (loops : List ℕ) where
   one_settles (Block' shape all) each loose s = tt
   one_settles (Loop' b shape all) each loose s = tt
   one_settles (If' c shape all shape' all') each loose s =
-      choice_settles loose loose (value c (names_in view loops s)) (row_delta all view loops s) (row_delta all' view loops s)
+      choice_settles loose loose (value c (names_in view loops s)) (row_delta all view loops s)
+      (row_delta all' view loops s)
       (row_settles _ all each.0 loose s) (row_settles _ all' each.1 loose s)
 
   pub stmt_settles : (loose : Set) (s : Run) (first : Stmt) →

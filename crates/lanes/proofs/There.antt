@@ -24,23 +24,30 @@ is_there (Some m) n e = refl
 
 module _ (taken own : Set) (view : View) (here : Expr → Bool) (pl : Places) (loops : List ℕ) (s : Run)
     (named : NamesPlaces here pl own s.scalars loops) where
+  abbrev Standing : Block → (ℕ → Run) → Type 0
+  Standing b lane = Stands taken own view here pl loops s named b lane
+
   module _ (inside : ℕ → Bool) (places : HavePlaces inside pl) (loose : Set) (b : Block) (lane next : ℕ → Run)
-      (h : Stands taken own view here pl loops s named b lane) where
+      (h : Standing b lane) where
     assigned_there : (x : ℕ) (e : Expr) → is_apart taken loose here e ≡ true →
         ((v : ℕ) → inside v ≡ true → run_stmt (Assign (record { 0 = x }) (Value e)) view (loops ++ v ∷ []) (lane v) ≡ Some (next v)) →
         HasValues inside loops e b
     assigned_there x e ok does v i =
-        let p = assigned_by taken own view here pl loops s named x (value e (names_in view (loops ++ v ∷ []) (lane v))) (lane v) (next v) (does v i) in
+        let p = assigned_by taken own view here pl loops s named x
+        (value e (names_in view (loops ++ v ∷ []) (lane v))) (lane v) (next v) (does v i) in
         is_there (value e (names_at b loops v)) p.n
-        (lane_value taken own view here pl loops s named inside places loose b lane h.is h.keeps v i (h.kept v) e ok ∙ p.is)
+        (lane_value taken own view here pl loops s named inside places loose b lane h.is h.keeps v i
+        (h.kept v) e ok ∙ p.is)
 
     stored_there : (a : ArrayId) (f : Expr) → is_apart taken loose here f ≡ true →
         ((v : ℕ) → inside v ≡ true →
-        Pushed taken own view here pl loops s named (record { array = a; index = pl.place v }) (value f (names_in view (loops ++ v ∷ []) (lane v))) (lane v) (next v)) →
+        Pushed taken own view here pl loops s named (record { array = a; index = pl.place v })
+        (value f (names_in view (loops ++ v ∷ []) (lane v))) (lane v) (next v)) →
         HasValues inside loops f b × ((v : ℕ) → inside v ≡ true → IsSome (b.cells (record { array = a; index = pl.place v })))
     stored_there a f ok does = (
       λ v i. is_there (value f (names_at b loops v)) (does v i).n
-          (lane_value taken own view here pl loops s named inside places loose b lane h.is h.keeps v i (h.kept v) f ok ∙ (does v i).is),
+          (lane_value taken own view here pl loops s named inside places loose b lane h.is h.keeps v i
+          (h.kept v) f ok ∙ (does v i).is),
       λ v i.
           let c : Cell = record { array = a; index = pl.place v } in
           is_there (b.cells c) _ (h.is.cells c
@@ -54,19 +61,20 @@ module _ (taken own : Set) (view : View) (here : Expr → Bool) (pl : Places) (l
         HasValues inside loops c b
     condition_there c f g ok does v i =
         subst (λ o. IsSome o)
-        (sym (lane_value taken own view here pl loops s named inside places loose b lane h.is h.keeps v i (h.kept v) c ok))
+        (sym (lane_value taken own view here pl loops s named inside places loose b lane h.is h.keeps v i
+        (h.kept v) c ok))
         (has_condition (value c (names_in view (loops ++ v ∷ []) (lane v))) (f v) (g v) (lane v) (next v) (does v i))
 
   -- a statement that turns do has what it needs
   abbrev IsThere : Stmt → Type 0
   IsThere first =
       (inside : ℕ → Bool) (places : HavePlaces inside pl) (loose : Set) (b : Block) (lane next : ℕ → Run) →
-      Stands taken own view here pl loops s named b lane → stmt_apart taken own loose here first ≡ true →
+      Standing b lane → stmt_apart taken own loose here first ≡ true →
       RunAlone inside (λ v. run_stmt first view (loops ++ v ∷ [])) lane next →
       StmtThere pl inside loops first b
 
-  all_there : (body : List Stmt) → AllOf IsThere body → (inside : ℕ → Bool) (places : HavePlaces inside pl) (loose : Set)
-      (b : Block) (lane end : ℕ → Run) → Stands taken own view here pl loops s named b lane →
+  all_there : (body : List Stmt) → AllOf IsThere body → (inside : ℕ → Bool) (places : HavePlaces inside pl)
+      (loose : Set) (b : Block) (lane end : ℕ → Run) → Standing b lane →
       body_apart taken own loose here body ≡ true →
       RunAlone inside (λ v. run_list body view (loops ++ v ∷ [])) lane end →
       BodyThere pl inside loops body b
@@ -82,8 +90,9 @@ module _ (taken own : Set) (view : View) (here : Expr → Bool) (pl : Places) (l
             (rest_alone taken own view here pl loops s named inside first rest lane end alone),
       )
 
-  row_there : (n : Count) (row : Row_of-Stmt n) → AllOf IsThere (items row) → (inside : ℕ → Bool) (places : HavePlaces inside pl)
-      (loose : Set) (b : Block) (lane end : ℕ → Run) → Stands taken own view here pl loops s named b lane →
+  row_there : (n : Count) (row : Row_of-Stmt n) → AllOf IsThere (items row) →
+      (inside : ℕ → Bool) (places : HavePlaces inside pl)
+      (loose : Set) (b : Block) (lane end : ℕ → Run) → Standing b lane →
       row_apart taken own loose here row ≡ true →
       RunAlone inside (λ v. run_row row view (loops ++ v ∷ [])) lane end →
       RowThere pl inside loops row b
@@ -95,18 +104,20 @@ module _ (taken own : Set) (view : View) (here : Expr → Bool) (pl : Places) (l
         elsewhere = λ v i. alone.elsewhere v i;
       }))
 
-  module _ (c : Expr) {m n : Count} (all : Row_of-Stmt m) (all' : Row_of-Stmt n) (inside : ℕ → Bool) (places : HavePlaces inside pl)
-      (loose : Set) (b : Block) (lane next : ℕ → Run) (h : Stands taken own view here pl loops s named b lane)
+  module _ (c : Expr) {m n : Count} (all : Row_of-Stmt m) (all' : Row_of-Stmt n) (inside : ℕ → Bool)
+      (places : HavePlaces inside pl) (loose : Set) (b : Block) (lane next : ℕ → Run) (h : Standing b lane)
       (ok : is_apart taken loose here c ≡ true)
       (there : (v : ℕ) → inside v ≡ true →
       choose (value c (names_in view (loops ++ v ∷ []) (lane v))) (run_row all view (loops ++ v ∷ []))
       (run_row all' view (loops ++ v ∷ [])) (lane v) ≡ Some (next v))
       (elsewhere : (v : ℕ) → inside v ≡ false → next v ≡ lane v) where
-    choice_there : AllOf IsThere (items all) → AllOf IsThere (items all') → row_apart taken own loose here all ≡ true →
+    choice_there : AllOf IsThere (items all) → AllOf IsThere (items all') →
+        row_apart taken own loose here all ≡ true →
         row_apart taken own loose here all' ≡ true →
         HasValues inside loops c b
         × RowThere pl (where_true inside c b loops) loops all b
-        × RowThere pl (where_false inside c b loops) loops all' (block_row pl (where_true inside c b loops) loops all b)
+        × RowThere pl (where_false inside c b loops) loops all'
+        (block_row pl (where_true inside c b loops) loops all b)
     choice_there each other p q =
         let mid = amid taken own view here pl loops s named c all all' inside places loose b lane next h ok there elsewhere in
         let one = first_done taken own view here pl loops s named c all all' inside places loose b lane next h ok there elsewhere in
@@ -118,15 +129,18 @@ module _ (taken own : Set) (view : View) (here : Expr → Bool) (pl : Places) (l
           row_there _ all each (where_true inside c b loops) some loose b lane mid h p one,
           row_there _ all' other (where_false inside c b loops) rest loose
               (block_row pl (where_true inside c b loops) loops all b) mid next
-              (row_stands taken own view here pl loops s named _ all (where_true inside c b loops) some loose b lane mid h p one) q two,
+              (row_stands taken own view here pl loops s named _ all
+              (where_true inside c b loops) some loose b lane mid h p one) q two,
         )
 
   one_there : (first : Stmt) → OfBranches IsThere first → IsThere first
   one_there (Declare x (Value e)) each inside places loose b lane next h ok alone =
-      assigned_there inside places loose b lane next h x.0 e (and_parts (own x.0) (is_apart taken loose here e) ok).1 alone.there
+      assigned_there inside places loose b lane next h x.0 e
+      (and_parts (own x.0) (is_apart taken loose here e) ok).1 alone.there
   one_there (Declare x Read) each inside places loose b lane next h ok alone = tt
   one_there (Assign x (Value e)) each inside places loose b lane next h ok alone =
-      assigned_there inside places loose b lane next h x.0 e (and_parts (own x.0) (is_apart taken loose here e) ok).1 alone.there
+      assigned_there inside places loose b lane next h x.0 e
+      (and_parts (own x.0) (is_apart taken loose here e) ok).1 alone.there
   one_there (Assign x Read) each inside places loose b lane next h ok alone = tt
   one_there (Store a place e (Value f)) each inside places loose b lane next h ok alone =
       let l = and_parts (taken a.0) (here e && is_apart taken loose here f) ok in
