@@ -302,7 +302,8 @@ module _ (taken own : Set) (view : View) (here : Expr → Bool) (pl : Places) (l
 
   -- a choice
   module _ (c : Expr) {m n : Count} (all : Row_of-Stmt m) (all' : Row_of-Stmt n) (inside : ℕ → Bool)
-      (places : HavePlaces inside pl) (loose : Set) (b : Block) (lane next : ℕ → Run) (h : Stands b lane) (ok : is_apart taken loose here c ≡ true)
+      (places : HavePlaces inside pl) (loose : Set) (b : Block) (lane next : ℕ → Run) (h : Stands b lane)
+      (ok : is_apart taken loose here c ≡ true)
       (there : (v : ℕ) → inside v ≡ true →
       choose (value c (names_in view (loops ++ v ∷ []) (lane v))) (run_row all view (loops ++ v ∷ []))
       (run_row all' view (loops ++ v ∷ [])) (lane v) ≡ Some (next v))

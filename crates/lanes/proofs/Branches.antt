@@ -1,5 +1,5 @@
--- The statements of a branch, which stand in a row, as a list; and how a property of statements is shown that holds of a
--- choice where it holds of the statements in its branches.
+-- The statements of a branch, which stand in a row, as a list; and how a property of statements is shown that holds of
+-- a choice where it holds of the statements in its branches.
 use Rattle.std.proofs.Common.{◌≡◌, ℕ, Bool, List, [], ◌∷◌, Option, Some, None, refl, ap}
 use Rattle.std.specs.Prelude.{◌&&◌, ◌||◌, option_and_then, option_map}
 use mathlib.Core.Former.{Count}

@@ -86,8 +86,8 @@ loose_after loose (Loop' b shape all) y = loose y
 loose_after loose (If' c shape all shape' all') y = loose y
 
 abbrev mutual
-  -- whether a statement is such, stores in the stored arrays only by such index expressions, and assigns scalars of the
-  -- turn; of a choice, whether both branches are
+  -- whether a statement is such, stores in the stored arrays only by such index expressions, and assigns scalars of
+  -- the turn; of a choice, whether both branches are
   pub stmt_apart : Set → Set → Set → (Expr → Bool) → Stmt → Bool
   stmt_apart stored own loose here (Declare x v) = own x.0 && source_apart stored loose here v
   stmt_apart stored own loose here (Assign x v) = own x.0 && source_apart stored loose here v
@@ -245,8 +245,8 @@ abbrev pub where_false : (ℕ → Bool) → Expr → Block → List ℕ → ℕ 
 where_false inside c b loops v = inside v && is_zero (numbers c b loops v)
 
 abbrev mutual
-  -- an assignment, for all turns of a block; a choice is its first branch for some of them, and then its second for the
-  -- others
+  -- an assignment, for all turns of a block; a choice is its first branch for some of them, and then its second for
+  -- the others
   pub block_stmt : Places → (ℕ → Bool) → List ℕ → Stmt → Block → Block
   block_stmt at inside loops (Declare x (Value e)) b = set_lanes inside x.0 (numbers e b loops) b
   block_stmt at inside loops (Declare x Read) b = b
