@@ -19,4 +19,3 @@ pub mod ChoicesIn
 pub mod ChoicesShown
 pub mod MovedShown
 pub mod Powers
-pub mod Totals
