@@ -159,4 +159,6 @@ sum_is_turns f front x e c view here pl loops stored own first more s u named pl
         IsRun view (summed f x.0 (s.scalars x.0) (suc more) first
         (block_body pl (in_block first (suc more)) loops (ended front x e) (block_start view s))) (first + more) s u
     go r b None is k = absurd cc
-    go r b (Some d) is k = summed_run f front x e c view here pl loops stored own s named carries ok all loose free first more places d is u r b
+    go r b (Some d) is k =
+        summed_run f front x e c view here pl loops stored own s named carries ok all loose free first more places d is
+        u r b

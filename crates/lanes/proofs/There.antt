@@ -119,16 +119,16 @@ module _ (taken own : Set) (view : View) (here : Expr → Bool) (pl : Places) (l
         × RowThere pl (where_false inside c b loops) loops all'
         (block_row pl (where_true inside c b loops) loops all b)
     choice_there each other p q =
-        let mid = amid taken own view here pl loops s named c all all' inside places loose b lane next h ok there
-        elsewhere in
-        let one = first_done taken own view here pl loops s named c all all' inside places loose b lane next h ok there
-        elsewhere in
-        let two = second_done taken own view here pl loops s named c all all' inside places loose b lane next h ok there
-        elsewhere in
-        let some = true_places taken own view here pl loops s named c all all' inside places loose b lane next h ok there
-        elsewhere in
-        let rest = false_places taken own view here pl loops s named c all all' inside places loose b lane next h ok there
-        elsewhere in (
+        let mid = amid taken own view here pl loops s named c all all' inside places loose b lane next h ok
+        there elsewhere in
+        let one = first_done taken own view here pl loops s named c all all' inside places loose b lane next h ok
+        there elsewhere in
+        let two = second_done taken own view here pl loops s named c all all' inside places loose b lane next h ok
+        there elsewhere in
+        let some = true_places taken own view here pl loops s named c all all' inside places loose b lane next h ok
+        there elsewhere in
+        let rest = false_places taken own view here pl loops s named c all all' inside places loose b lane next h ok
+        there elsewhere in (
           condition_there inside places loose b lane next h c (λ v. run_row all view (loops ++ v ∷ []))
               (λ v. run_row all' view (loops ++ v ∷ [])) ok there,
           row_there _ all each (where_true inside c b loops) some loose b lane mid h p one,
