@@ -22,6 +22,7 @@ pub fn turns_apart()
 {}
 
 /// What such a body does assignment by assignment, each for all turns of a block, is what each turn does alone.
+/// A choice is its first branch for the turns in which its condition is not 0, and then its second for the others.
 pub fn by_assignments()
     ensures { ByAssignments }
 {}
