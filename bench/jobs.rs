@@ -1,11 +1,13 @@
-// How jobs may come to worker threads, on items that do nothing else: four ways, with Rust's threads, lock and channel.
+// How jobs may come to worker threads, on items that do nothing else: five ways, with Rust's threads, lock and channel.
 //
-// `board`: a worker that has closed an item opens the next one under the same lock, as `ompc` does. `channel`: the calling
-// thread alone opens items and sends their jobs through a bounded channel; a worker closes its item and wakes it. `looking`:
-// the same, but the calling thread looks again and again in place of sleeping. `sending`: a worker that closes an item opens
-// what that made ready, and sends it through the channel.
+// `board`: a worker that has closed an item opens the next one under the same lock, without a channel. `channel`: the
+// calling thread alone opens items and sends their jobs through a bounded channel; a worker closes its item and wakes it.
+// `looking`: the same, but the calling thread looks again and again in place of sleeping. `sending`: a worker that closes an
+// item opens what that made ready, sends it through the channel, and sleeps in the channel. `handing`, as `ompc` does: the
+// same, but it sends under the lock, sleeps on a condition variable of the lock, and wakes one worker less than it has sent
+// jobs.
 
-use std::sync::mpsc::{Receiver, sync_channel};
+use std::sync::mpsc::{Receiver, SyncSender, TryRecvError, sync_channel};
 use std::sync::{Arc, Condvar, Mutex};
 use std::thread;
 use std::time::Instant;
@@ -190,8 +192,66 @@ fn sending(count: usize, chain: bool, workers: usize, work: usize) -> f64 {
     on_threads(workers, worker, || {})
 }
 
+/// What the lock of `handing` holds: the items, and the sending end as long as not all are closed.
+struct Board {
+    items: Items,
+    sender: Option<SyncSender<usize>>,
+}
+
+impl Board {
+    /// Opens what may be opened, sends it, and answers how many were sent.
+    fn hand_out(&mut self, most: usize) -> usize {
+        let ready = self.items.open_all(most);
+        for item in &ready {
+            self.sender.as_ref().unwrap().send(*item).unwrap();
+        }
+        ready.len()
+    }
+}
+
+/// Receives an item, or sleeps until there may be one; none where the sending end is gone.
+fn receive(jobs: &Mutex<Receiver<usize>>, board: &Mutex<Board>, call: &Condvar) -> Option<usize> {
+    let mut held = None;
+    loop {
+        let received = jobs.lock().unwrap().try_recv();
+        match received {
+            Ok(item) => return Some(item),
+            Err(TryRecvError::Disconnected) => return None,
+            Err(TryRecvError::Empty) => {
+                held = Some(match held {
+                    None => board.lock().unwrap(),
+                    Some(guard) => call.wait(guard).unwrap(),
+                });
+            }
+        }
+    }
+}
+
+fn handing(count: usize, chain: bool, workers: usize, work: usize) -> f64 {
+    let (sender, jobs) = sync_channel(count);
+    let board = Board { items: Items::new(count, chain), sender: Some(sender) };
+    let state = Arc::new((Mutex::new(board), Condvar::new()));
+    let jobs = Mutex::new(jobs);
+    state.0.lock().unwrap().hand_out(workers);
+    let worker = move || {
+        while let Some(item) = receive(&jobs, &state.0, &state.1) {
+            std::hint::black_box(job(work, item));
+            let mut held = state.0.lock().unwrap();
+            held.items.closed += 1;
+            for _ in 1..held.hand_out(workers) {
+                state.1.notify_one();
+            }
+            if held.items.is_over() {
+                held.sender = None;
+                state.1.notify_all();
+            }
+        }
+    };
+    on_threads(workers, worker, || {})
+}
+
 fn main() {
-    let ways = [("board", board as fn(usize, bool, usize, usize) -> f64), ("channel", channel), ("looking", looking), ("sending", sending)];
+    let ways = [("board", board as fn(usize, bool, usize, usize) -> f64), ("channel", channel), ("looking", looking), ("sending", sending), ("handing", handing)];
     for (name, count, work) in [("60,000 small items", 60_000, 100), ("3,000 items of some 20 us", 3_000, 10_000)] {
         for chain in [true, false] {
             for workers in [1, 4, 16] {

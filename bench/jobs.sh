@@ -1,5 +1,5 @@
 #!/usr/bin/env bash
-# Four ways in which jobs may come to worker threads, beside one another (`bench/jobs.rs`, compiled with `rustc -O`).
+# Five ways in which jobs may come to worker threads, beside one another (`bench/jobs.rs`, compiled with `rustc -O`).
 set -eu
 here=$(dirname "$(realpath "$0")")
 folder=$(mktemp -d)

@@ -1,10 +1,10 @@
 -- Where the host, or a worker, finds nothing to do.
-use Rattle.std.proofs.Common.{◌≡◌, ℕ, ◌<◌, ◌≤◌, Bool, true, false, length, map, List, Option, Some, None, refl, sym, ap, ap₂, subst, ◌∙◌, arith}
+use Rattle.std.proofs.Common.{◌≡◌, ℕ, ◌<◌, ◌≤◌, Bool, true, false, get_or, length, map, List, Option, Some, None, refl, sym, ap, ap₂, subst, ◌∙◌, arith}
 use Rattle.std.specs.Prelude.{◌||◌, ◌&&◌, ◌==◌, not, slice_get, option_map, if◌then◌else◌}
 use Rattle.std.proofs.lemmas.Bool.{and_parts, eqb-true, not-true, or_right}
 use Rattle.std.proofs.lemmas.Bool.Decides.{nat_tests}
 use Rattle.std.proofs.lemmas.List.{length-map}
-use Rattle.std.proofs.lemmas.Option.{slice_get-map, slice_get_within}
+use Rattle.std.proofs.lemmas.Option.{slice_get-get_or, slice_get-map, slice_get_within}
 use Rattle.base.specs.declared.item.Event.{Event}
 use Rattle.base.specs.declared.item.Event.TheVariants.{Gen, Open, Step, Close, Wait, End}
 use Rattle.base.specs.declared.item.Item.{Item}
@@ -16,9 +16,10 @@ use Rattle.base.specs.Items.{Plan, Work, plan}
 use Rattle.base.specs.Machine.{State, enabled, is_wait, on_item, is_waiting, is_ready, deferred_closed}
 use Rattle.outline.specs.Regions.{entries_of}
 use Rattle.outline.specs.Shown.{all_shown, as_shown}
-use Rattle.device.specs.Run.{Run}
+use Rattle.device.specs.Run.{Run, state_of}
 use Rattle.device.proofs.Starts.{all_facts}
 use Rattle.taskgraph.specs.Board.{Facts, facts_of, item_facts}
+use Rattle.host.specs.Handing.{is_handed}
 use Rattle.host.specs.Idle.{is_for_workers, turn_of, turn_of_kind, IsHostIdle, IsNotEnabled, IsNoTargetHere}
 use Rattle.host.specs.Origins.{IsOf}
 
@@ -277,9 +278,9 @@ target_turn p s items it alike is target on =
     (or_right f.work.deferred (is_target f.work.kind) (ap is_target (sym a.1) ∙ target))
 
 -- whether an item is for workers, as the image has it
-pub handed_here : (p : Plan) (s : State) (items : List Item) (i : ℕ) (it : Item) →
+handed_here : (p : Plan) (s : State) (items : List Item) (i : ℕ) (it : Item) →
     map facts_of p.items ≡ map item_facts items → slice_get items i ≡ Some it → enabled p s (Close i) ≡ true →
-    is_for_workers p (Open i) ≡ (it.deferred || is_target it.kind)
+    is_for_workers p (Open i) ≡ is_handed it
 handed_here p s items i it alike is may =
     let f = found p i _ may in
     let a = told_of items i f.work it (item_at p items i f.work alike f.is) is in
@@ -287,10 +288,21 @@ handed_here p s items i it alike is may =
     ∙ ap₂ (λ (d : Bool) (k : ItemKind). d || is_target k) (sym a.0) (sym a.1)
 
 -- an item that may be closed is one of the image's
-pub closed_within : (p : Plan) (s : State) (items : List Item) (i : ℕ) → map facts_of p.items ≡ map item_facts items →
+closed_within : (p : Plan) (s : State) (items : List Item) (i : ℕ) → map facts_of p.items ≡ map item_facts items →
     enabled p s (Close i) ≡ true → i < length items
 closed_within p s items i alike may =
     let f = found p i _ may in
     let l = slice_get_within p.items i f.work f.is in
     let n = as_many p items alike in
     omega (arith, l, n)
+
+-- whether an item that may be closed is for workers, as the image has it at its place
+pub closed_own : (image : Program) (r : Run) (items : List Item) (i : ℕ) (it : Item) → IsOf image r →
+    all_shown (entries_of image) items ≡ as_shown (plan image).items →
+    enabled (plan r.program) (state_of r) (Close i) ≡ true → it ≡ get_or items i it →
+    is_for_workers (plan r.program) (Open i) ≡ is_handed it
+closed_own image r items i it of shown may is =
+    let alike = same_items image r items of shown in
+    let within = closed_within (plan r.program) (state_of r) items i alike may in
+    let there : slice_get items i ≡ Some it = slice_get-get_or items i it within ∙ ap (λ (x : Item). Some x) (sym is) in
+    handed_here (plan r.program) (state_of r) items i it alike there may

@@ -45,6 +45,7 @@ cause_of_fault r (stop.DeviceFull item) reached cause = record {
 }
 cause_of_fault r stop.Stranger reached cause = tt
 cause_of_fault r stop.ThreadNotStarted reached cause = tt
+cause_of_fault r stop.JobBack reached cause = tt
 
 -- a run that is stopped has the cause of its fault
 pub stopped : (r : Run) (o : Option Stop) (s : Stop) (f : RunFault) → IsReached r → HasCause r o → o ≡ Some s →
@@ -53,12 +54,13 @@ stopped r o s f reached cause is answered =
     subst (λ (x : RunFault). IsThreadFault r.program r.input r.capacity x) (sym answered)
     (cause_of_fault r s reached (subst (λ (x : Option Stop). HasCause r x) is cause))
 
--- a cause that does not lie in the state is one in any state
+-- a cause for which any thread may stop the run is one in any state
 pub plain_cause : (r : Run) (s : Stop) → IsPlain s → IsCause r s
 plain_cause r stop.OutOfMemory h = tt
 plain_cause r (stop.DeviceFull item) h = absurd h
-plain_cause r stop.Stranger h = tt
+plain_cause r stop.Stranger h = absurd h
 plain_cause r stop.ThreadNotStarted h = tt
+plain_cause r stop.JobBack h = absurd h
 
 -- where an item is not opened, the state has the cause in it, which is want of memory or of room
 pub open_cause : (r : Run) (i : ℕ) (f : RunFault) → enabled (plan r.program) (state_of r) (Open i) ≡ true →

@@ -1,11 +1,17 @@
--- Which items were handed to workers, and which of them are open.
-use Rattle.std.specs.Prelude.{ℕ, ◌&&◌, List, [], ◌∷◌, filter, flat_map, length, if◌then◌else◌}
+-- Which items are handed to workers, which were, and which of these are open.
+use Rattle.std.specs.Prelude.{ℕ, Bool, ◌&&◌, ◌||◌, List, [], ◌∷◌, filter, flat_map, length, if◌then◌else◌}
 use Rattle.std.specs.List.{range_with_len}
 use Rattle.base.specs.declared.item.Event.{Event}
 use Rattle.base.specs.declared.item.Event.TheVariants.{Gen, Open, Step, Close, Wait, End}
+use Rattle.base.specs.declared.item.Item.{Item}
+use Rattle.base.specs.Accepted.{is_target}
 use Rattle.base.specs.Items.{Plan}
 use Rattle.base.specs.Machine.{State, is_open}
 use Rattle.host.specs.Idle.{is_for_workers}
+
+-- the workers open and close this item
+abbrev pub is_handed : Item → Bool
+is_handed it = it.deferred || is_target it.kind
 
 -- the items for workers that are open, ascending
 abbrev pub open_for_workers : Plan → State → List ℕ

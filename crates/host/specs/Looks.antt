@@ -57,7 +57,7 @@ HasNoneToHand workers r = (workers ≤ open_count r) ⊎ AreWorkersIdle (plan r.
 
 -- an item was opened whose job came back, and this is why the run stops
 abbrev pub IsJobBack : Run → Option Stop → Run → Type 0
-IsJobBack old after new = (after ≡ Some stop.Stranger) × ((i : ℕ) × HasOpened i old new)
+IsJobBack old after new = (after ≡ Some stop.JobBack) × ((i : ℕ) × HasOpened i old new)
 
 -- What is handed to a worker, by a cause to stop, if there is one, a state and what was sent, before and after: an item is
 -- opened and its job sent, or neither, unless the job comes back
@@ -92,6 +92,7 @@ IsCloseCause r region frame stop.OutOfMemory = IsIssuedDone r region frame
 IsCloseCause r region frame (stop.DeviceFull item) = ⊥
 IsCloseCause r region frame stop.Stranger = IsIssuedDone r region frame → ⊥
 IsCloseCause r region frame stop.ThreadNotStarted = ⊥
+IsCloseCause r region frame stop.JobBack = ⊥
 
 -- the item of a frame is closed, unless the run was stopped or is stopped now
 abbrev pub IsClosing : Option Stop → Run → Region → Frame → Option Stop → Run → Type 0

@@ -16,18 +16,20 @@ IsCause r stop.OutOfMemory = Unit {0}
 IsCause r (stop.DeviceFull item) = IsFullAt r item
 IsCause r stop.Stranger = Unit {0}
 IsCause r stop.ThreadNotStarted = Unit {0}
+IsCause r stop.JobBack = Unit {0}
 
 -- the same, where the run is stopped
 abbrev pub HasCause : Run → Option Stop → Type 0
 HasCause r None = Unit {0}
 HasCause r (Some s) = IsCause r s
 
--- the cause does not lie in the state
+-- any thread may stop the run for this cause, which lies neither in the state nor in an item that was opened
 abbrev pub IsPlain : Stop → Type 0
 IsPlain stop.OutOfMemory = Unit {0}
 IsPlain (stop.DeviceFull item) = ⊥
-IsPlain stop.Stranger = Unit {0}
+IsPlain stop.Stranger = ⊥
 IsPlain stop.ThreadNotStarted = Unit {0}
+IsPlain stop.JobBack = ⊥
 
 -- the first of two causes
 abbrev pub first_stop : Option Stop → Stop → Option Stop
@@ -41,6 +43,7 @@ IsLack (Some stop.OutOfMemory) = Unit {0}
 IsLack (Some (stop.DeviceFull item)) = Unit {0}
 IsLack (Some stop.Stranger) = ⊥
 IsLack (Some stop.ThreadNotStarted) = ⊥
+IsLack (Some stop.JobBack) = ⊥
 
 -- why a run stops where an item is not opened: its device has no room for it, or there is no memory
 abbrev pub lack_at : ℕ → RunFault → Stop
@@ -72,6 +75,7 @@ fault_of stop.OutOfMemory = fault.OutOfMemory
 fault_of (stop.DeviceFull item) = fault.DeviceFull
 fault_of stop.Stranger = fault.Stranger
 fault_of stop.ThreadNotStarted = fault.ThreadNotStarted
+fault_of stop.JobBack = fault.OtherState
 
 -- there is at most one cause
 pub one_cause : (r : Run) (o : Option Stop) → IsProp (HasCause r o)
@@ -80,6 +84,7 @@ one_cause r (Some stop.OutOfMemory) = Unit-prop
 one_cause r (Some (stop.DeviceFull item)) = ×_prop (Coded-set coded_bool _ _) (Coded-set coded_bool _ _)
 one_cause r (Some stop.Stranger) = Unit-prop
 one_cause r (Some stop.ThreadNotStarted) = Unit-prop
+one_cause r (Some stop.JobBack) = Unit-prop
 
 -- why a run that was stopped for this cause, if it was, has no answer
 abbrev pub IsEndFault : Option Stop → Run → RunFault → Type 0

@@ -1,6 +1,6 @@
 // What stands behind the lock.
 
-ghost use Rattle.std.specs.Prelude.{◌≡◌, ◌≤◌, ◌<◌, ◌||◌, ◌&&◌, [], true, false, not, IsTrue, IfErr, IfNone, IfOk, IfSome, None, Some, OnOk, length, slice_get};
+ghost use Rattle.std.specs.Prelude.{◌≡◌, ◌≤◌, ◌<◌, ◌||◌, ◌&&◌, [], true, false, not, IsTrue, IfErr, IfNone, IfOk, IfSome, None, Some, OnOk, count_by, length, slice_get};
 ghost use Rattle.base.specs.declared.item.Event.TheVariants as event;
 ghost use Rattle.base.specs.Accepted.{is_target};
 ghost use Rattle.base.specs.Items.{plan};
@@ -8,6 +8,7 @@ ghost use Rattle.base.specs.Limits.{most_items};
 ghost use Rattle.base.specs.Machine.{enabled};
 ghost use Rattle.device.specs.Room.{IsAnswerWithin};
 ghost use Rattle.device.specs.Run.{state_of};
+ghost use Rattle.host.specs.Handing.{is_handed};
 ghost use Rattle.host.specs.Idle.{AreWorkersIdle, IsHostIdle, IsNoTargetHere, is_for_workers, turn_of};
 ghost use Rattle.host.specs.Looks.{HasNoMoreToHand, IsClosing, IsEventOf, IsForWorker, IsHanding, IsHostLook, IsLook, WantsTheHost};
 ghost use Rattle.host.specs.Origins.{IsFrom, IsOf, one_origin, one_program};
@@ -36,9 +37,11 @@ pub enum Stop {
     OutOfMemory,
     /// The opening of this item would create more cells than its device has room for.
     DeviceFull(u32),
-    /// What was computed is not what was asked for, or a job came back that was sent.
+    /// What was computed is not what was asked for.
     Stranger,
     ThreadNotStarted,
+    /// The channel did not take the job of an item that was opened.
+    JobBack,
 }
 
 /// What a look at the board says.
@@ -48,15 +51,16 @@ pub enum Look<'a> {
     Stop,
     /// There is nothing to do as yet.
     Wait,
-    /// An event was done.
+    /// An event was done, and there may be more to do.
     Again,
     /// An item was opened for the one that looked.
     Do(Job<'a>),
 }
 
-/// A run, the first cause to stop it, after which no event is done, and the sending end of the jobs, as long as the run
-/// goes on. The state is of the run that the parameter names, and where an opening did not fit, it is that in which this
-/// opening may happen. What was ever sent is what was opened for workers.
+/// A run; the first cause to stop it, after which no event is done; and, as long as the run goes on, the sending end
+/// of the jobs. The state is of the run that the parameter `B` names. Where an opening did not fit, it is the state
+/// in which that opening may happen. The jobs ever sent are those of the items that were opened for workers, in
+/// order.
 #[derive(Drop)]
 pub struct Board<'a, B: Origin> {
     image: &'a Image<'a>,
@@ -74,7 +78,7 @@ pub struct Board<'a, B: Origin> {
     ghost count: { open_items ≡ open_count state },
 }
 
-// Whether the workers open and close an item where the host stands at it.
+// Whether an item is a target for which the host waits: the workers open it where the host stands at it.
 fn is_host_target(item: &Item) -> bool
     ensures { result ≡ not item.now.deferred && is_target item.now.kind }
 {
@@ -83,17 +87,25 @@ fn is_host_target(item: &Item) -> bool
 
 // Whether the workers open and close an item.
 fn is_handed(item: &Item) -> bool
-    ensures { result ≡ item.now.deferred || is_target item.now.kind }
+    ensures { result ≡ is_handed item.now }
 {
     item.deferred || matches!(item.kind, ItemKind::Target)
 }
 
 /// How many items are for workers.
-pub fn handed_count(items: &[Item]) -> usize {
-    items.iter().filter(|item| is_handed(item)).count()
+pub fn handed_count(items: &[Item]) -> usize
+    ensures { result ≡ count_by is_handed items.now }
+{
+    let mut count = 0;
+    for item in items {
+        if is_handed(item) {
+            count += 1;
+        }
+    }
+    count
 }
 
-// What the host does with the item at which it stands; nothing with one that the workers open and close.
+// The event that the host does where it stands; none at a target, which the workers open and close.
 fn event_at(items: &[Item], place: usize) -> Option<Event>
     requires { length items.now ≤ most_items }
     ensures { result ≡ turn_of place (slice_get items.now place) }
@@ -119,6 +131,7 @@ fn answered(stop: Stop) -> RunFault
         Stop::DeviceFull(_) => RunFault::DeviceFull,
         Stop::Stranger => RunFault::Stranger,
         Stop::ThreadNotStarted => RunFault::ThreadNotStarted,
+        Stop::JobBack => RunFault::OtherState,
     }
 }
 
@@ -302,7 +315,8 @@ impl<'a, B: Origin> Board<'a, B> {
         }
     }
 
-    // Opens an item for a worker, and sends its job.
+    // Opens an item for a worker, and sends its job. Where the job comes back, the run stops at once: an item is open
+    // whose job was not sent.
     fn hand<R: Wait>(&mut self, rt: &R, item: u32) -> Look<'a>
         requires goes { (self.old.stop ≡ None) × (open_count self.old.state < self.old.workers) }
         requires next { IsForWorker self.old.state item × (is_for_workers (plan self.old.state.program) (event.Open item) ≡ true) }
@@ -321,7 +335,7 @@ impl<'a, B: Origin> Board<'a, B> {
                     Ok(()) => Look::Again,
                     Err(_) => {
                         self.jobs = None;
-                        self.stop = Some(Stop::Stranger);
+                        self.stop = Some(Stop::JobBack);
                         Look::Stop
                     }
                 }
@@ -333,7 +347,8 @@ impl<'a, B: Origin> Board<'a, B> {
         }
     }
 
-    /// Opens the lowest item that a worker may, where fewer are open than there are workers, and sends its job.
+    /// Opens the lowest item that workers may open, where fewer items of theirs are open than there are workers, and
+    /// sends its job.
     pub fn hand_next<R: Wait>(&mut self, rt: &R) -> Look<'a>
         ensures handed { IsHanding self.old.workers self.old.stop self.old.state self.old.jobs result self.new.stop self.new.state self.new.jobs }
         ensures workers { self.new.workers ≡ self.old.workers }
@@ -351,7 +366,8 @@ impl<'a, B: Origin> Board<'a, B> {
         }
     }
 
-    /// Does so until there is no more to hand, and answers how many jobs were sent.
+    /// Opens items for workers and sends their jobs, until none may be opened as yet or the run is over. The answer
+    /// is how many were sent.
     #[tactic(auto, using(crate::proofs::Stopping::stays, crate::proofs::Stopping::stays_on))]
     pub fn hand_out<R: Wait>(&mut self, rt: &R) -> usize
         ensures none { HasNoMoreToHand self.new.workers self.new.stop self.new.state }
@@ -383,7 +399,8 @@ impl<'a, B: Origin> Board<'a, B> {
         }
     }
 
-    /// Closes an item, unless the run was stopped.
+    /// Closes the item that was computed, unless the run was stopped. What was not asked for closes none, and stops
+    /// the run.
     pub fn close(&mut self, done: &Done<'_, '_, 'a>)
         ensures { IsClosing self.old.stop self.old.state done.now.region.now done.now.frame.now self.new.stop self.new.state }
     {
@@ -402,7 +419,8 @@ impl<'a, B: Origin> Board<'a, B> {
         }
     }
 
-    /// What the run has come to. `OtherState` is for a state that has not ended and was not stopped.
+    /// What the run has come to. `OtherState` is for a job that came back, and for a state that has not ended though
+    /// nothing stopped the run.
     pub fn answer(self, alloc: Global) -> Result<Answer, RunFault>
         ensures origin { IsFrom B.start self.entry.state }
         ensures answer { IfOk result (IsThreadAnswer self.entry.state.program self.entry.state.input) }

@@ -17,14 +17,14 @@ pub trait Numbered {
     ghost number: { Self → ℕ };
 }
 
-// What a pass knows: the one of the sending end the numbers of all that was ever sent, another one of what it received.
-// No value of it is made.
+// What is known at an end of the channel: at the sending end the numbers of all that was ever sent, at a receiving end
+// those of what it received. Each end has a `Pass` that keeps this for the contracts; no value of it is made.
 pub struct Known {
     pub sends: bool,
     pub numbers: LinkedList<u64>,
 }
 
-// The rule.
+// The rule: no number is sent twice, and what was sent was received, once, or is in the channel.
 pub struct EachOnce;
 
 impl<T: Numbered> Protocol<T, Known> for EachOnce {
@@ -36,7 +36,7 @@ impl<T: Numbered> Protocol<T, Known> for EachOnce {
     ghost first = { sender [] };
 }
 
-// A send of an item that was not sent before.
+// What a send does: the sending end knows one number more.
 struct Sends;
 
 impl<T: Numbered> Outcome<T, Known> for Sends {
@@ -52,7 +52,7 @@ impl<T> Lesson<T, Known> for Sends {
     ghost fact = { λ v items. ⊤ };
 }
 
-// A receipt of an item that this end did not receive before.
+// What a receipt does: the receiving end knows one number more, which it did not know before.
 struct Receives;
 
 impl<T: Numbered> Outcome<T, Known> for Receives {
@@ -67,7 +67,7 @@ impl<T> Lesson<T, Known> for Receives {
     ghost fact = { λ v items. ⊤ };
 }
 
-// A pass for a receiving end.
+// The sending end's pass, from which one for a receiving end is made that knows nothing yet.
 struct ForReceiving;
 
 impl Split<Known> for ForReceiving {
@@ -141,24 +141,21 @@ pub enum Received<T> {
 }
 
 impl<T: Numbered + Drop> Outbox<T> {
-    /// Sends what was not sent before. It comes back where the channel does not take it.
+    /// Sends an item whose number was not sent before. It comes back where the channel is full, or no receiving end
+    /// is left.
     pub fn send<R: Wait>(&mut self, rt: &R, item: T) -> Result<(), T>
         requires { times (T.number item) self.old ≡ 0 }
         ensures sent { OnOk result (self.new ≡ self.old ++ T.number item ∷ []) }
         ensures unchanged { OnErr result (self.new ≡ self.old) }
     {
-        match self
-            .sender
+        self.sender
             .try_send_as::<Sends, R>(rt, &mut self.pass, item)
-        {
-            Ok(()) => Ok(()),
-            Err(error) => Err(error.into_inner()),
-        }
+            .map_err(|error| error.into_inner())
     }
 }
 
 impl<T: Numbered + Drop> Inbox<T> {
-    /// Takes what is at the front. It was never received before.
+    /// Takes the item at the front, whose number this end did not receive before.
     pub fn receive<R: Wait>(&mut self, rt: &R) -> Received<T>
         ensures { IsGot T.number self.old result self.new }
     {
@@ -170,7 +167,7 @@ impl<T: Numbered + Drop> Inbox<T> {
     }
 }
 
-/// A channel with room for so many items, and so many receiving ends. The error comes for want of memory.
+/// A channel with room for `room` items, and `ends` receiving ends. The error comes for want of memory.
 pub fn each_once<T: Numbered + Drop>(
     alloc: Global,
     room: usize,

@@ -19,8 +19,8 @@ const STACK_SIZE: usize = 2 * 1024 * 1024;
 
 /// Where threads stop between the steps of an item, for tests. It is asked outside the lock.
 pub trait Gate {
-    /// How large the stack of a worker is, in bytes, by the worker's number from 0 on. A worker for whose stack there is no
-    /// room is not started.
+    /// How large the stack of a worker is, in bytes, by the worker's number from 0 on. A worker for whose stack there
+    /// is no room is not started.
     fn stack_size(&self, _worker: usize) -> usize {
         STACK_SIZE
     }

@@ -1,5 +1,5 @@
-//! A run on worker threads: one lock round the state of the run, a channel for the jobs, workers, and the calling thread as
-//! the host.
+//! A run on worker threads: one lock round the state of the run, a channel for the jobs, workers, and the calling
+//! thread as the host.
 #![tactic(auto)]
 
 pub use crate::gate::{Gate, OpenGate, Phase};

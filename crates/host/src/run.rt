@@ -18,7 +18,7 @@ use std::marker::Brand;
 use std::sync::{Mutex, Wait};
 use std::thread::Threads;
 
-// The run that the parameter names.
+// The run that the parameter `B` names. The channel has room for every job that there can be.
 fn run_from<'a, B: Origin + Send, R: Threads + Wait + Sync, G: Gate + Sync>(
     rt: &R,
     alloc: Global,
@@ -46,13 +46,14 @@ fn run_from<'a, B: Origin + Send, R: Threads + Wait + Sync, G: Gate + Sync>(
     board.into_inner().answer(alloc)
 }
 
-/// Runs an accepted program on this input by worker threads, on devices each with room for `capacity` cells. The calling
-/// thread is the host; targets and deferred items are for the workers. The answer has the values of the arrays that are
-/// marked current, and after none of its events are more than `capacity` cells of a device in use.
+/// Runs an accepted program on this input by worker threads, on devices each with room for `capacity` cells. The
+/// calling thread is the host; targets and deferred items are for the workers. The answer has the values of the
+/// arrays that are marked current, and after none of its events are more than `capacity` cells of a device in use.
 ///
-/// The first fault stops all threads, which are joined, and is answered: `DeviceFull` where an opening would create more
-/// cells than its device has room for, `OutOfMemory`, `ThreadNotStarted` where the runtime does not start a worker, or
-/// `Stranger`. `OtherState` is for a state that has not ended, though nothing stopped it.
+/// The first fault stops all threads, which are joined, and is answered: `DeviceFull` where an opening would create
+/// more cells than its device has room for, `OutOfMemory`, `ThreadNotStarted` where the runtime does not start a
+/// worker, `Stranger` where what was computed is not what was asked for, or `OtherState` where the channel gave a job
+/// back. `OtherState` is also for a state that has not ended, though nothing stopped the run.
 pub fn run_threads<R: Threads + Wait + Sync, G: Gate + Sync>(
     rt: &R,
     alloc: Global,

@@ -27,40 +27,36 @@ impl Calls {
         }
     }
 
-    // So many workers, if they sleep.
+    // Wakes so many workers, if as many sleep.
     fn some(&self, workers: usize) {
         for _ in 0..workers {
             self.workers.notify_one();
         }
     }
 
+    // Wakes all threads that sleep.
     fn all(&self) {
         self.workers.notify_all();
         self.host.notify_all();
     }
 }
 
-// Receives a job, and sleeps where there is none. The run is over where the sending end is gone: all are woken.
+// Receives a job, and sleeps where there is none. Where the sending end is gone and no job is left, the run is over:
+// all threads are woken.
 //
-// A worker sleeps only where it found the channel empty under the lock, under which all is sent. Who sends a job calls a
-// worker, but for a worker that has closed an item: it receives one of the jobs itself, and calls one for each of the
-// others. So where a job waits and a worker sleeps, one was called, or one is at work and will look. In a chain of items
-// no thread is woken.
+// A worker looks into the channel without the lock first. It sleeps only where it then finds nothing under the lock,
+// under which every job is sent. Whoever sends jobs wakes a worker for each, but for a worker that has closed an
+// item: this one will receive one of the jobs, and wakes a worker for each of the others. So where a job waits and a
+// worker sleeps, another one was woken or is at work, and will look before it sleeps. In a chain of items no worker
+// is woken.
 fn next_job<'a, B: Origin, R: Wait>(
     rt: &R,
     board: &Mutex<Board<'a, B>>,
     calls: &Calls,
     inbox: &mut Inbox<Job<'a>>,
 ) -> Option<Job<'a>> {
-    match inbox.receive(rt) {
-        Received::Item(job) => return Some(job),
-        Received::Closed => {
-            calls.all();
-            return None;
-        }
-        Received::Nothing => {}
-    }
-    let mut guard = board.lock(rt);
+    // The lock, from the second look on.
+    let mut held = None;
     for _ in rt.forever() {
         match inbox.receive(rt) {
             Received::Item(job) => return Some(job),
@@ -68,7 +64,12 @@ fn next_job<'a, B: Origin, R: Wait>(
                 calls.all();
                 return None;
             }
-            Received::Nothing => guard = calls.workers.wait(rt, guard),
+            Received::Nothing => {
+                held = Some(match held {
+                    None => board.lock(rt),
+                    Some(guard) => calls.workers.wait(rt, guard),
+                });
+            }
         }
     }
     unreachable!()
@@ -76,8 +77,8 @@ fn next_job<'a, B: Origin, R: Wait>(
 
 // Does the host's events, until one opens an item of its own, or there is nothing more to do.
 //
-// The host's event comes to be possible by a closing, which calls the host. What comes to be for a worker by it is sent
-// before the host sleeps.
+// Where the host's next event may not happen yet, a closing makes it possible, and who closes that item wakes the
+// host. Jobs that the host's events made ready are sent before the host sleeps.
 fn next_of_host<'a, B: Origin, R: Wait>(
     rt: &R,
     board: &Mutex<Board<'a, B>>,
@@ -107,8 +108,8 @@ fn stop_all<B: Origin, R: Wait>(rt: &R, board: &Mutex<Board<'_, B>>, calls: &Cal
     calls.all();
 }
 
-// Does one job, outside the lock, closes its item, and hands out what is ready then. So many of the jobs are left to who
-// did this one.
+// Does one job outside the lock, then closes its item and hands out what is ready. A worker is woken for each job
+// that is sent, but for `left` of them, which the thread itself comes to receive.
 fn do_job<'a, B: Origin, R: Wait, G: Gate>(
     rt: &R,
     alloc: Global,
@@ -169,8 +170,8 @@ fn work_as_host<'a, B: Origin, R: Wait, G: Gate>(
     }
 }
 
-/// Workers, one for each receiving end, and the calling thread as the host, until all have stopped. The threads that were
-/// started are joined.
+/// Workers, one for each receiving end, and the calling thread as the host, until all have stopped. The threads that
+/// were started are joined.
 pub fn work_on_threads<'a, B: Origin + Send, R: Threads + Wait + Sync, G: Gate + Sync>(
     rt: &R,
     alloc: Global,
