@@ -5,9 +5,7 @@ ghost use Rattle.base.specs.Value.{value};
 ghost use Rattle.kernel.specs.Machine.{names_of};
 ghost use Rattle.kernel.specs.States.{state};
 
-use crate::state::{
-    Machine, flag, load, loop_value, of_both, of_division, of_one, of_shift,
-};
+use crate::state::{Machine, flag, load, loop_value, of_both, of_division, of_one, of_shift};
 use base::item::Cell;
 use base::tree::Expr;
 

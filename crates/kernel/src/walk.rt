@@ -3,7 +3,7 @@
 ghost use Rattle.std.specs.Prelude.{◌≡◌, true, OnOk, slice_index};
 ghost use Rattle.kernel.specs.Forms.{IsForm};
 ghost use Rattle.kernel.specs.Offsets.{IsWithin};
-ghost use Rattle.kernel.specs.Walks.{CanDo, HasDone, choice_meaning, list_meaning, loop_meaning, stmt_meaning, turn_meaning};
+ghost use Rattle.kernel.specs.Walks.{CanDo, HasDone, list_meaning, loop_meaning, stmt_meaning, turn_meaning};
 
 use crate::apart::form_of;
 use crate::block::blocks;
@@ -12,7 +12,7 @@ use crate::emit::ops_of;
 use crate::follow::follow;
 use crate::state::{Machine, pop};
 use crate::turns::Form;
-use base::tree::{Bounds, Expr, Stmt};
+use base::tree::{Bounds, Stmt};
 use std::alloc::{AllocError, Global};
 use std::slice;
 
@@ -158,24 +158,6 @@ fn inside(alloc: Global, all: &[Stmt], m: &mut Machine<'_>) -> Result<(), AllocE
     by_code(alloc, all, m)
 }
 
-// The branch of a choice that its condition takes.
-#[cycle(walk)]
-fn in_branch(
-    alloc: Global,
-    c: &Expr,
-    first: &[Stmt],
-    second: &[Stmt],
-    m: &mut Machine<'_>,
-) -> Result<(), AllocError>
-    requires { CanDo (choice_meaning c.now first.now second.now) m.old }
-    ensures { OnOk result (HasDone (choice_meaning c.now first.now second.now) m.old m.new) }
-{
-    if value_of(c, m) == 0 {
-        return inside(alloc, second, m);
-    }
-    inside(alloc, first, m)
-}
-
 #[cycle(walk)]
 fn walk_one(alloc: Global, s: &Stmt, m: &mut Machine<'_>) -> Result<(), AllocError>
     requires { CanDo (stmt_meaning s.now) m.old }
@@ -199,7 +181,10 @@ fn walk_one(alloc: Global, s: &Stmt, m: &mut Machine<'_>) -> Result<(), AllocErr
     }
     if let Stmt::If(c, first, second) = s {
         if has_room(c) {
-            return in_branch(alloc, c, first, second, m);
+            if value_of(c, m) == 0 {
+                return inside(alloc, second, m);
+            }
+            return inside(alloc, first, m);
         }
     }
     by_code(alloc, slice::from_ref(s), m)?;
