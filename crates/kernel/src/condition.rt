@@ -50,20 +50,8 @@ pub fn value_of(e: &Expr, m: &Machine<'_>) -> u64
             let left = value_of(a, m);
             of_both(*op, left, value_of(b, m))
         }
-        Expr::And(a, b) => {
-            if value_of(a, m) == 0 {
-                0
-            } else {
-                flag(value_of(b, m) != 0)
-            }
-        }
-        Expr::Or(a, b) => {
-            if value_of(a, m) == 0 {
-                flag(value_of(b, m) != 0)
-            } else {
-                1
-            }
-        }
+        Expr::And(a, b) => flag(value_of(a, m) != 0 && value_of(b, m) != 0),
+        Expr::Or(a, b) => flag(value_of(a, m) != 0 || value_of(b, m) != 0),
         Expr::Shift(op, a, n) => of_shift(*op, value_of(a, m), *n),
         Expr::Divide(op, a, n) => of_division(*op, value_of(a, m), *n),
     }
