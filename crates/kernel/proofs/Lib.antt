@@ -33,3 +33,4 @@ mod LoadedRuns
 pub mod Codings
 pub mod Walking
 pub mod WalkedLoops
+pub mod WalkedChoices

@@ -21,7 +21,7 @@ row_is_list n (more_of-Stmt first rest) view loops s =
     ap (λ (f : Run → Option Run). option_and_then f (run_stmt first view loops s))
     (fun_ext (λ (t : Run). row_is_list _ rest view loops t))
 
-row_is : (row : (n : Count) × Row_of-Stmt n) (all : List Stmt) → items-the_row-Stmt row.0 row.1 ≡ all →
+pub row_is : (row : (n : Count) × Row_of-Stmt n) (all : List Stmt) → items-the_row-Stmt row.0 row.1 ≡ all →
     (view : View) (loops : List ℕ) (s : Run) → run_row row.1 view loops s ≡ run_list all view loops s
 row_is row all e view loops s = row_is_list row.0 row.1 view loops s ∙ ap (λ xs. run_list xs view loops s) e
 

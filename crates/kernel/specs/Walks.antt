@@ -1,9 +1,11 @@
 -- What a machine does that goes over the statements of a region.
 use Rattle.std.specs.Prelude.{ℕ, ◌≡◌, List, [], ◌∷◌, ◌++◌, Option, Some, IsSome}
 use Rattle.base.specs.declared.tree.Bounds.{Bounds}
+use Rattle.base.specs.declared.tree.Expr.{Expr}
 use Rattle.base.specs.declared.tree.Stmt.{Stmt}
 use Rattle.base.specs.Memory.{View}
-use Rattle.base.specs.Meaning.{Run, all_turns, run_list, run_stmt}
+use Rattle.base.specs.Meaning.{Run, all_turns, choose, names_in, run_list, run_stmt}
+use Rattle.base.specs.Value.{value}
 use Rattle.kernel.specs.Loops.{Stands, does}
 use Rattle.kernel.specs.declared.state.Machine.{Machine}
 
@@ -11,7 +13,7 @@ use Rattle.kernel.specs.declared.state.Machine.{Machine}
 abbrev pub Meaning : Type 0
 Meaning = View → List ℕ → Run → Option Run
 
--- of a statement, of statements, of a loop and of a turn of it
+-- of a statement, of statements, of a loop and of a turn of it, and of a choice
 abbrev pub stmt_meaning : Stmt → Meaning
 stmt_meaning s view loops = run_stmt s view loops
 
@@ -23,6 +25,10 @@ loop_meaning b body view loops = all_turns b (does view loops body)
 
 abbrev pub turn_meaning : ℕ → List Stmt → Meaning
 turn_meaning v body view loops = run_list body view (loops ++ v ∷ [])
+
+abbrev pub choice_meaning : Expr → List Stmt → List Stmt → Meaning
+choice_meaning c first second view loops s =
+    choose (value c (names_in view loops s)) (run_list first view loops) (run_list second view loops) s
 
 -- the machine stands where a run does
 pub record At (view : View) (s : Run) (m : Machine) : Type 0 where

@@ -10,6 +10,7 @@ pub use crate::state::{flag, loop_value, of_both, of_division, of_one, of_shift}
 
 mod apart;
 mod block;
+mod condition;
 mod emit;
 mod execute;
 mod follow;

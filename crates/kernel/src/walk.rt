@@ -7,6 +7,7 @@ ghost use Rattle.kernel.specs.Walks.{CanDo, HasDone, list_meaning, loop_meaning,
 
 use crate::apart::form_of;
 use crate::block::blocks;
+use crate::condition::{has_room, value_of};
 use crate::emit::ops_of;
 use crate::follow::follow;
 use crate::state::{Machine, pop};
@@ -41,7 +42,7 @@ fn stand_ins() -> [u64; 256] {
 
 // Whether it looks as if a body at this level could be done in blocks: numbers stand in for the values of the loops
 // around and of the scalars, which are not known before the loop begins, so that sums of other names have other values.
-// They have a frame of their own, since `is_blocked` calls itself for the loops in a loop.
+// They have a frame of their own, since `is_blocked` calls itself for what is nested.
 #[inline(never)]
 fn looks_apart(body: &[Stmt], level: usize) -> bool {
     let numbers = stand_ins();
@@ -58,11 +59,15 @@ fn is_blocked(s: &Stmt, level: usize) -> bool {
             (is_long(*bounds) && looks_apart(body, level))
                 || has_blocks(body, level.saturating_add(1))
         }
+        Stmt::Block(all) => has_blocks(all, level),
+        Stmt::If(c, first, second) => {
+            has_room(c) && (has_blocks(first, level) || has_blocks(second, level))
+        }
         _ => false,
     }
 }
 
-/// Whether there is a loop that is done in blocks, in a loop or alone.
+/// Whether there is a loop that is done in blocks, alone or in loops, braces and branches.
 #[cycle(has)]
 pub fn has_blocks(all: &[Stmt], level: usize) -> bool {
     for s in all {
@@ -73,7 +78,8 @@ pub fn has_blocks(all: &[Stmt], level: usize) -> bool {
     false
 }
 
-// Statements, one operation after another.
+// Statements, one operation after another. It has a frame of its own, as `in_blocks`, since `walk` calls itself.
+#[inline(never)]
 fn by_code(alloc: Global, all: &[Stmt], m: &mut Machine<'_>) -> Result<(), AllocError>
     requires { CanDo (list_meaning all.now) m.old }
     ensures { OnOk result (HasDone (list_meaning all.now) m.old m.new) }
@@ -84,6 +90,7 @@ fn by_code(alloc: Global, all: &[Stmt], m: &mut Machine<'_>) -> Result<(), Alloc
 }
 
 // A loop in blocks of turns.
+#[inline(never)]
 fn in_blocks(
     alloc: Global,
     bounds: Bounds,
@@ -139,6 +146,18 @@ fn in_turns(
     Ok(())
 }
 
+// The statements of braces or of a branch.
+#[cycle(walk)]
+fn inside(alloc: Global, all: &[Stmt], m: &mut Machine<'_>) -> Result<(), AllocError>
+    requires { CanDo (list_meaning all.now) m.old }
+    ensures { OnOk result (HasDone (list_meaning all.now) m.old m.new) }
+{
+    if all.is_empty() || has_blocks(all, m.loops.len()) {
+        return walk(alloc, all, m);
+    }
+    by_code(alloc, all, m)
+}
+
 #[cycle(walk)]
 fn walk_one(alloc: Global, s: &Stmt, m: &mut Machine<'_>) -> Result<(), AllocError>
     requires { CanDo (stmt_meaning s.now) m.old }
@@ -155,6 +174,17 @@ fn walk_one(alloc: Global, s: &Stmt, m: &mut Machine<'_>) -> Result<(), AllocErr
         if has_blocks(body, level.saturating_add(1)) {
             in_turns(alloc, *bounds, body, m)?;
             return Ok(());
+        }
+    }
+    if let Stmt::Block(all) = s {
+        return inside(alloc, all, m);
+    }
+    if let Stmt::If(c, first, second) = s {
+        if has_room(c) {
+            if value_of(c, m) == 0 {
+                return inside(alloc, second, m);
+            }
+            return inside(alloc, first, m);
         }
     }
     by_code(alloc, slice::from_ref(s), m)?;

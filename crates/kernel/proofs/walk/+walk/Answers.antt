@@ -1,11 +1,13 @@
-use Rattle.std.proofs.Common.{ℕ, List, ◌+◌, ◌∙◌, rules, sym, subst}
+use Rattle.std.proofs.Common.{ℕ, List, ◌+◌, ◌∙◌, refl, rules, sym, subst}
 use Rattle.std.specs.Prelude.{slice_index}
+use Rattle.std.proofs.lemmas.Result.{on_ok_weaker}
 use Rattle.base.specs.declared.tree.Stmt.TheViews.{the_lemmas}
 use Rattle.base.specs.declared.tree.Stmt.{Stmt}
 use Rattle.kernel.specs.Forms.{IsForm}
-use Rattle.kernel.specs.Walks.{list_meaning, loop_meaning, stmt_meaning, turn_meaning}
+use Rattle.kernel.specs.Walks.{HasDone, list_meaning, loop_meaning, stmt_meaning, turn_meaning}
 use Rattle.kernel.proofs.Walking.{next_can, next_done, all_done, from_on, this_first, none_left, turns_from, turn_first, no_turn}
 use Rattle.kernel.proofs.WalkedLoops.{loop_can, loop_done, alone_done}
+use Rattle.kernel.proofs.WalkedChoices.{block_can, block_done, choice_can, choice_done, first_can, first_done, second_can, second_done}
 use Rattle.kernel.proofs.walk.+walk.Goals as goal
 
 pub in_turns-in_turn-requires : goal.in_turns-in_turn-requires
@@ -89,3 +91,57 @@ pub walk_one-returns-in-Some : goal.walk_one-returns-in-Some
 walk_one-returns-in-Some t c =
     loop_done c.args.s.now c.in-Loop.bounds c.in-Loop.body _ c.args.m.now c.in-Loop.is c.deref-in-Some.ensures.value
     c.in_blocks.new.m c.in_ok-in_blocks.ensures
+
+pub walk_one-inside-requires : goal.walk_one-inside-requires
+walk_one-inside-requires t c = (
+  search (rules, the_lemmas),
+  block_can c.args.s.now c.in-Block.all _ c.args.m.now c.in-Block.is c.deref-in-Block.ensures.value c.requires,
+)
+
+pub walk_one-returns-in-Block : goal.walk_one-returns-in-Block
+walk_one-returns-in-Block t c =
+    on_ok_weaker c.inside.result
+    (block_done c.args.s.now c.in-Block.all _ c.args.m.now c.in-Block.is c.deref-in-Block.ensures.value c.inside.new.m)
+    c.inside.ensures
+
+pub walk_one-inside-requires-then-value_of-eq0 : goal.walk_one-inside-requires-then-value_of-eq0
+walk_one-inside-requires-then-value_of-eq0 t c =
+    let b = c.in-If in
+    let m = c.args.m.now in (
+      search (rules, the_lemmas),
+      second_can b.c b.first.items c.deref-then-value_of-eq0.result.now m c.value_of.result c.value_of.ensures c.if-value_of-eq0.true
+          (choice_can c.args.s.now b.c b.first b.second b.first.items _ m b.is refl c.deref-then-value_of-eq0.ensures.value c.requires),
+    )
+
+pub walk_one-returns-then-value_of-eq0 : goal.walk_one-returns-then-value_of-eq0
+walk_one-returns-then-value_of-eq0 t c =
+    let b = c.in-If in
+    let m = c.args.m.now in
+    let m' = c.inside-then-value_of-eq0.new.m in
+    let ys = c.deref-then-value_of-eq0.result.now in
+    on_ok_weaker c.inside-then-value_of-eq0.result
+    (λ (h : HasDone (list_meaning ys) m m').
+    choice_done c.args.s.now b.c b.first b.second b.first.items ys m b.is refl c.deref-then-value_of-eq0.ensures.value m'
+    (second_done b.c b.first.items ys m c.value_of.result c.value_of.ensures c.if-value_of-eq0.true m' h))
+    c.inside-then-value_of-eq0.ensures
+
+pub walk_one-inside-requires-then-has_room : goal.walk_one-inside-requires-then-has_room
+walk_one-inside-requires-then-has_room t c =
+    let b = c.in-If in
+    let m = c.args.m.now in (
+      search (rules, the_lemmas),
+      first_can b.c c.deref-then-has_room.result.now b.second.items m c.value_of.result c.value_of.ensures c.if-value_of-eq0.false
+          (choice_can c.args.s.now b.c b.first b.second _ b.second.items m b.is c.deref-then-has_room.ensures.value refl c.requires),
+    )
+
+pub walk_one-returns-then-has_room : goal.walk_one-returns-then-has_room
+walk_one-returns-then-has_room t c =
+    let b = c.in-If in
+    let m = c.args.m.now in
+    let m' = c.inside-then-has_room.new.m in
+    let xs = c.deref-then-has_room.result.now in
+    on_ok_weaker c.inside-then-has_room.result
+    (λ (h : HasDone (list_meaning xs) m m').
+    choice_done c.args.s.now b.c b.first b.second xs b.second.items m b.is c.deref-then-has_room.ensures.value refl m'
+    (first_done b.c xs b.second.items m c.value_of.result c.value_of.ensures c.if-value_of-eq0.false m' h))
+    c.inside-then-has_room.ensures

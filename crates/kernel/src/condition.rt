@@ -1,0 +1,58 @@
+// The value of a condition where the machine stands, without operations.
+
+ghost use Rattle.std.specs.Prelude.{◌≡◌, Some, IsSome};
+ghost use Rattle.base.specs.Value.{value};
+ghost use Rattle.kernel.specs.Machine.{names_of};
+ghost use Rattle.kernel.specs.States.{state};
+
+use crate::state::{Machine, flag, load, loop_value, of_both, of_division, of_one, of_shift};
+use base::item::Cell;
+use base::tree::Expr;
+
+/// The most that operators stand in one another: the stack of a worker has room for so many calls.
+const DEEPEST: usize = 256;
+
+fn is_shallow(e: &Expr, deepest: usize) -> bool {
+    if deepest == 0 {
+        return false;
+    }
+    match e {
+        Expr::Number(_) | Expr::Scalar(_) | Expr::LoopName(_) => true,
+        Expr::Cell(_, _, a) | Expr::Unary(_, a) | Expr::Shift(_, a, _) | Expr::Divide(_, a, _) =>
+            is_shallow(a, deepest - 1),
+        Expr::Binary(_, a, b) | Expr::And(a, b) | Expr::Or(a, b) => {
+            is_shallow(a, deepest - 1) && is_shallow(b, deepest - 1)
+        }
+    }
+}
+
+/// Whether a condition is not too deep for `value_of`, which calls itself for the operands.
+pub fn has_room(e: &Expr) -> bool {
+    is_shallow(e, DEEPEST)
+}
+
+/// The value of an expression. The right side of `&&` and `||` may have none where the left one decides.
+#[inline(never)]
+pub fn value_of(e: &Expr, m: &Machine<'_>) -> u64
+    requires { IsSome (value e.now (names_of (state 0 m.now))) }
+    ensures { value e.now (names_of (state 0 m.now)) ≡ Some result }
+{
+    match e {
+        Expr::Number(n) => *n,
+        Expr::Scalar(x) => m.scalars[x.0 as usize],
+        Expr::LoopName(level) => loop_value(&m.loops, *level),
+        Expr::Cell(array, _, index) => {
+            let (array, index) = (*array, value_of(index, m));
+            load(&m.rows, Cell { array, index })
+        }
+        Expr::Unary(op, a) => of_one(*op, value_of(a, m)),
+        Expr::Binary(op, a, b) => {
+            let left = value_of(a, m);
+            of_both(*op, left, value_of(b, m))
+        }
+        Expr::And(a, b) => flag(value_of(a, m) != 0 && value_of(b, m) != 0),
+        Expr::Or(a, b) => flag(value_of(a, m) != 0 || value_of(b, m) != 0),
+        Expr::Shift(op, a, n) => of_shift(*op, value_of(a, m), *n),
+        Expr::Divide(op, a, n) => of_division(*op, value_of(a, m), *n),
+    }
+}
