@@ -66,12 +66,12 @@ form_is_turns : (here : Expr → Bool) (at : Places) (body front : List Stmt) (s
 form_is_turns here at body front None outer view s t v more named places h e =
     subst (λ (xs : List Stmt). BodyThere at (in_block v (suc more)) outer xs (block_start view s)
     × IsRun view (block_body at (in_block v (suc more)) outer xs (block_start view s)) (v + more) s t) (sym h.0)
-    (block_is_turns body view here at outer (stored_in body) (assigned_in body) v more s t named places h.1.0 (none_loose body) e)
+    (block_is_turns body view here at outer (stored_in body) (assigned_in body) v more s t named places h.1 (none_loose body) e)
 form_is_turns here at body front (Some q) outer view s t v more named places h e =
     let all = ended front q.scalar q.added.now in
     let named_all = subst (λ (own : Set). NamesPlaces here at own s.scalars outer) (sum_own body front q h.has.last h.has.whole) named in
     sum_is_turns (binary q.op) front q.scalar q.added.now h.has.last view here at outer (stored_in all) (assigned_in all) v more s t
-    named_all places h.has.carries h.apart.0 (none_loose all) (once_loose front q.scalar q.added.now h.once)
+    named_all places h.has.carries h.apart (none_loose all) (once_loose front q.scalar q.added.now h.once)
     (sym (ap (λ (xs : List Stmt). turn (suc more) v 1 (does view outer xs) s) h.has.whole) ∙ e)
 
 -- the same turns, one more at least, from where the rows stand

@@ -58,12 +58,12 @@ sum_own body front q last whole = ap assigned_in whole ∙ assigned_same front q
 
 form_assigns : (here : Expr → Bool) (body front : List Stmt) (sum : Option Sum) → IsFormOf here body front sum →
     all_assign (assigned_in body) body ≡ true
-form_assigns here body front None h = apart_assigns _ (assigned_in body) (assigned_in body) here body h.1.0
+form_assigns here body front None h = apart_assigns _ (assigned_in body) (assigned_in body) here body h.1
 form_assigns here body front (Some q) h =
     let all = ended front q.scalar q.added.now in
     let own = assigned_in all in
     ap₂ all_assign (sum_own body front q h.has.last h.has.whole) h.has.whole
-    ∙ ended_assigns own front q.scalar q.added.now h.has.last (apart_assigns _ own own here all h.apart.0)
+    ∙ ended_assigns own front q.scalar q.added.now h.has.last (apart_assigns _ own own here all h.apart)
 
 pub form_keeps : (here : Expr → Bool) (body front : List Stmt) (sum : Option Sum) (outer : List ℕ) (view : View) →
     IsFormOf here body front sum → (n v : ℕ) (s t : Run) → turn n v 1 (does view outer body) s ≡ Some t →

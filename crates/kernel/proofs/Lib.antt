@@ -17,6 +17,7 @@ pub mod RegionRuns
 pub mod Advancing
 pub mod Runnables
 pub mod TrimmedScalars
+pub mod Agreements
 pub mod Gathers
 pub mod RunLoads
 pub mod Overs

@@ -11,7 +11,7 @@ use Rattle.base.specs.Memory.{Scalars}
 use Rattle.base.specs.Value.{binary, value}
 use Rattle.base.specs.Meaning.{set_scalar}
 use Rattle.lanes.specs.Apart.{Places, Block, block_body, block_stmt, names_at, numbers, set_lanes}
-use Rattle.lanes.specs.There.{BodyThere, HasValues, StmtThere, body_plain, is_plain, stmt_plain}
+use Rattle.lanes.specs.There.{BodyThere, HasValues, StmtThere}
 use Rattle.lanes.specs.Sums.{folded}
 use Rattle.lanes.proofs.Carried.{set_twice, set_own}
 use Rattle.kernel.specs.Forms.{IsCarriedOn, carried, with_sum}
@@ -36,24 +36,6 @@ there_parts pl inside loops [] last b h = (tt, h.0)
 there_parts pl inside loops (first ∷ rest) last b h =
     let r = there_parts pl inside loops rest last (block_stmt pl inside loops first b) h.1 in
     ((h.0, r.0), r.1)
-
-plain_parts : (front : List Stmt) (last : Stmt) → body_plain (front ++ last ∷ []) ≡ true →
-    (body_plain front ≡ true) × (stmt_plain last ≡ true)
-plain_parts [] last h = (refl, (and_parts (stmt_plain last) true h).0)
-plain_parts (first ∷ rest) last h =
-    let p = and_parts (stmt_plain first) (body_plain (rest ++ last ∷ [])) h in
-    let r = plain_parts rest last p.1 in
-    (ap₂ (λ a b. a && b) p.0 r.0, r.1)
-
-pub front_plain : (front : List Stmt) (sum : Option Sum) → body_plain (with_sum front sum) ≡ true → body_plain front ≡ true
-front_plain front None h = h
-front_plain front (Some s) h = (plain_parts front (Assign s.scalar (Value s.added.now)) h).0
-
-pub added_plain : (front : List Stmt) (sum : Option Sum) (s : Sum) → sum ≡ Some s → body_plain (with_sum front sum) ≡ true →
-    is_plain s.added.now ≡ true
-added_plain front sum s is h =
-    (plain_parts front (Assign s.scalar (Value s.added.now))
-    (subst (λ o. body_plain (with_sum front o) ≡ true) is h)).1
 
 pub front_there : (pl : Places) (inside : ℕ → Bool) (loops : List ℕ) (front : List Stmt) (sum : Option Sum) (b : Block) →
     BodyThere pl inside loops (with_sum front sum) b → BodyThere pl inside loops front b

@@ -9,7 +9,6 @@ use Rattle.base.specs.declared.tree.Source.TheVariants.{Value}
 use Rattle.base.specs.declared.tree.Stmt.{Stmt}
 use Rattle.base.specs.declared.tree.Stmt.TheVariants.{Assign}
 use Rattle.lanes.specs.Apart.{Set, is_apart, loose_after, loose_body, body_apart, stmt_apart}
-use Rattle.lanes.specs.There.{body_plain, is_plain, stmt_plain}
 use Rattle.lanes.specs.Sums.{ended}
 use Rattle.kernel.specs.Forms.{HasSum, IsCarriedBy, IsFormOf, IsSum, with_sum}
 use Rattle.kernel.specs.Loops.{assigned_in, loose_in, stored_by, stored_in}
@@ -46,13 +45,6 @@ more_apart taken own loose here (first ∷ rest) last h k =
     let p = and_parts (stmt_apart taken own loose here first) (body_apart taken own (loose_after loose first) here rest) h in
     ap₂ (λ a b. a && b) p.0 (more_apart taken own (loose_after loose first) here rest last p.1 k)
 
-pub more_plain : (front : List Stmt) (last : Stmt) → body_plain front ≡ true → stmt_plain last ≡ true →
-    body_plain (front ++ last ∷ []) ≡ true
-more_plain [] last h k = ap (λ b. b && true) k
-more_plain (first ∷ rest) last h k =
-    let p = and_parts (stmt_plain first) (body_plain rest) h in
-    ap₂ (λ a b. a && b) p.0 (more_plain rest last p.1 k)
-
 -- what is loose at the end of the statements before the last one
 front_loose : (body front : List Stmt) → loose_in body front ≡ loose_body (assigned_in body) front
 front_loose body front =
@@ -80,11 +72,10 @@ once_loose front x e once =
 
 -- what is looked at of a body
 pub is_sum : (here : Expr → Bool) (body front : List Stmt) (s : Sum) → HasSum body front s → assigned_in front s.scalar.0 ≡ false →
-    body_plain front ≡ true → is_plain s.added.now ≡ true →
     body_apart (stored_in body) (assigned_in body) (loose_in body []) here front ≡ true →
     is_apart (stored_in body) (loose_in body front) here s.added.now ≡ true → IsSum here body front s
-is_sum here body front s has once plain added first last =
-    record { has = has; apart = (apart, more_plain front (Assign s.scalar (Value s.added.now)) plain added); once = once }
+is_sum here body front s has once first last =
+    record { has = has; apart = apart; once = once }
   where
     taken : stored_in body ≡ stored_in (ended front s.scalar s.added.now)
     taken = ap stored_in has.whole ∙ stored_same front s.scalar s.added.now has.last
@@ -105,12 +96,6 @@ is_sum here body front s has once plain added first last =
     apart =
         ap₂ (λ t o. body_apart t o o here (ended front s.scalar s.added.now)) (sym taken) (sym own)
         ∙ more_apart (stored_in body) (assigned_in body) (assigned_in body) here front (Assign s.scalar (Value s.added.now)) front_apart last_apart
-
--- each operand of a form has a value
-pub form_plain : (here : Expr → Bool) (body front : List Stmt) (sum : Option Sum) → IsFormOf here body front sum →
-    body_plain (with_sum front sum) ≡ true
-form_plain here body front None h = ap body_plain h.0 ∙ h.1.1
-form_plain here body front (Some s) h = h.apart.1
 
 -- a body that ends with a statement that carries a scalar on
 pub has_sum : (body front : List Stmt) (last : Stmt) (s : Sum) → body ≡ front ++ last ∷ [] → IsCarriedBy last s → HasSum body front s

@@ -2,7 +2,7 @@
 use Rattle.std.specs.Prelude.{ℕ, ◌≡◌, ◌+◌, ◌-◌, ◌<◌, nat_le, nat_lt, ◌&&◌, if◌then◌else◌, Bool, List, [], ◌∷◌, ◌++◌, length, Some, slice_get, slice_index, option_and_then, Option}
 use Rattle.base.specs.declared.tree.ArrayId.{ArrayId}
 use Rattle.base.specs.declared.tree.Expr.{Expr}
-use Rattle.base.specs.Memory.{Scalars}
+use Rattle.base.specs.Memory.{Scalars, View}
 use Rattle.base.specs.Value.{Names, value}
 use Rattle.base.specs.Meaning.{set_scalar}
 use Rattle.lanes.specs.Apart.{Places, Block, in_block, numbers, set_lanes, store_lanes}
@@ -35,9 +35,22 @@ names_of b k =
 abbrev pub cell_of : ArrayId → Expr → Names → Option ℕ
 cell_of a index names = option_and_then (λ i. names.cells (record { array = a; index = i })) (value index names)
 
--- the numbers of an expression in the turns of a block
+-- a number is the one that is there, if one is
+pub record Agrees (o : Option ℕ) (n : ℕ) : Type 0 where
+  pub is : (x : ℕ) → o ≡ Some x → n ≡ x
+
+-- the numbers of an expression in those turns of a block in which it has a value
 abbrev pub AreValues : Expr → Reads → List ℕ → Type 0
-AreValues e b ys = (k : ℕ) → k < length ys → value e (names_of b k) ≡ Some (slice_index ys k)
+AreValues e b ys = (k : ℕ) → k < length ys → Agrees (value e (names_of b k)) (slice_index ys k)
+
+-- what stands at cells of an array, where they are there
+abbrev pub AreLoaded : View → ArrayId → (ℕ → ℕ) → List ℕ → Type 0
+AreLoaded view a index ys = (k : ℕ) → k < length ys → Agrees (view (record { array = a; index = index k })) (slice_index ys k)
+
+-- as many cells of an array from an index on
+pub record IsRun (view : View) (a : ArrayId) (first n : ℕ) (xs : List ℕ) : Type 0 where
+  pub size : length xs ≡ n
+  pub each : (k : ℕ) → k < n → Agrees (view (record { array = a; index = first + k })) (slice_index xs k)
 
 abbrev pub inside_of : Turns → ℕ → Bool
 inside_of at v = in_block at.first at.count v

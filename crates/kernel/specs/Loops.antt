@@ -6,7 +6,6 @@ use Rattle.base.specs.Memory.{View, last_stored}
 use Rattle.base.specs.Meaning.{Run, seen, turn, run_list}
 use Rattle.base.specs.declared.tree.Expr.{Expr}
 use Rattle.lanes.specs.Apart.{Set, body_apart}
-use Rattle.lanes.specs.There.{body_plain}
 use Rattle.kernel.specs.Rows.{cells_kept, cells_stored}
 use Rattle.kernel.specs.declared.frames.KeptRow.{KeptRow}
 
@@ -41,10 +40,9 @@ stored_in (first ∷ rest) a = stored_by first a || stored_in rest a
 abbrev pub loose_in : List Stmt → List Stmt → Set
 loose_in body before x = assigned_in body x && not (assigned_in before x)
 
--- the turns of a loop with this body, which store at index expressions of this set, are apart, and each operand has a value
+-- the turns of a loop with this body, which store at index expressions of this set, are apart
 abbrev pub AreApart : (Expr → Bool) → List Stmt → Type 0
-AreApart here body =
-    (body_apart (stored_in body) (assigned_in body) (assigned_in body) here body ≡ true) × (body_plain body ≡ true)
+AreApart here body = body_apart (stored_in body) (assigned_in body) (assigned_in body) here body ≡ true
 
 -- what a turn does
 abbrev pub does : View → List ℕ → List Stmt → ℕ → Run → Option Run

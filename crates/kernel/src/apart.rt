@@ -5,7 +5,6 @@ ghost use Rattle.kernel.specs.Forms.{HasSum, IsCarriedBy, IsForm, IsSum};
 ghost use Rattle.kernel.specs.Loops.{AreApart, assigned_by, assigned_in, loose_in, stored_by, stored_in};
 ghost use Rattle.kernel.specs.Offsets.{IsWithin, here_in};
 ghost use Rattle.lanes.specs.Apart as lanes;
-ghost use Rattle.lanes.specs.There as there;
 
 use crate::moved::{is_here, offset_of};
 use crate::turns::{Around, Form, Sum};
@@ -164,54 +163,11 @@ fn body_apart(body: &[Stmt], some: &[Stmt], at: &Around<'_>, k: usize) -> bool
     stmt_apart(body, &some[..k], at, &some[k]) && body_apart(body, some, at, k + 1)
 }
 
-fn expr_total(e: &Expr) -> bool
-    ensures { result ≡ there.is_total e.now }
-{
-    match e {
-        Expr::Number(_) | Expr::Scalar(_) | Expr::LoopName(_) => true,
-        Expr::Cell(_, _, _) => false,
-        Expr::Unary(_, a) | Expr::Shift(_, a, _) | Expr::Divide(_, a, _) => expr_total(a),
-        Expr::Binary(_, a, b) | Expr::And(a, b) | Expr::Or(a, b) => expr_total(a) && expr_total(b),
-    }
-}
-
-fn expr_plain(e: &Expr) -> bool
-    ensures { result ≡ there.is_plain e.now }
-{
-    match e {
-        Expr::Number(_) | Expr::Scalar(_) | Expr::LoopName(_) => true,
-        Expr::Cell(_, _, a) | Expr::Unary(_, a) | Expr::Shift(_, a, _) | Expr::Divide(_, a, _) =>
-            expr_plain(a),
-        Expr::Binary(_, a, b) => expr_plain(a) && expr_plain(b),
-        Expr::And(a, b) | Expr::Or(a, b) => expr_plain(a) && expr_total(b),
-    }
-}
-
-fn stmt_plain(s: &Stmt) -> bool
-    ensures { result ≡ there.stmt_plain s.now }
-{
-    match s {
-        Stmt::Declare(_, Source::Value(e)) => expr_plain(e),
-        Stmt::Assign(_, Source::Value(e)) => expr_plain(e),
-        Stmt::Store(_, _, _, Source::Value(e)) => expr_plain(e),
-        _ => false,
-    }
-}
-
-fn body_plain(all: &[Stmt]) -> bool
-    ensures { result ≡ there.body_plain all.now }
-{
-    match all {
-        [] => true,
-        [first, rest @ ..] => stmt_plain(first) && body_plain(rest),
-    }
-}
-
 // Whether the turns of a loop with this body are apart.
 fn are_apart(body: &[Stmt], at: &Around<'_>) -> bool
     ensures { result ≡ true → AreApart (here_in body.now at.now) body.now }
 {
-    body_plain(body) && body_apart(body, body, at, 0)
+    body_apart(body, body, at, 0)
 }
 
 // The scalar that a statement makes of itself.
@@ -238,12 +194,6 @@ fn are_apart_but(body: &[Stmt], front: &[Stmt], at: &Around<'_>, sum: Sum<'_>) -
     ensures { result ≡ true → IsSum (here_in body.now at.now) body.now front.now sum.entry }
 {
     if is_assigned(front, sum.scalar) {
-        return false;
-    }
-    if !body_plain(front) {
-        return false;
-    }
-    if !expr_plain(sum.added) {
         return false;
     }
     if !body_apart(body, front, at, 0) {

@@ -9,7 +9,7 @@ ghost use Rattle.kernel.specs.Loops.{Begins, Ends};
 ghost use Rattle.kernel.specs.Offsets.{IsWithin, places_of};
 ghost use Rattle.kernel.specs.Rows.{cells_kept};
 ghost use Rattle.lanes.specs.Apart.{block_body, block_stmt, in_block, names_at};
-ghost use Rattle.lanes.specs.There.{BodyThere, HasValues, StmtThere, body_plain, is_plain, stmt_plain};
+ghost use Rattle.lanes.specs.There.{BodyThere, HasValues, StmtThere};
 
 use crate::frames::KeptRow;
 use crate::stores::store_run;
@@ -20,6 +20,7 @@ use lanes::numbers::fold;
 use std::alloc::{AllocError, Global};
 
 // The numbers of an expression in the turns of a block.
+#[tactic(auto, using(crate::proofs::Agreements::agrees_there, crate::proofs::BlockLanes::names_same))]
 fn values(
     alloc: Global,
     e: &Expr,
@@ -27,7 +28,6 @@ fn values(
     lanes: &[Lane],
     rows: &[KeptRow],
 ) -> Result<Vec<u64>, AllocError>
-    requires plain { is_plain e.now ≡ true }
     requires lanes { HaveSize at.now.count lanes.now }
     requires there { HasValues (inside_of at.now) at.now.outer.now e.now (block_of at.now lanes.now rows.now) }
     ensures size { IfOk result (λ ys. length ys.items ≡ at.now.count) }
@@ -49,7 +49,6 @@ fn assign(
     lanes: &mut Vec<Lane>,
     rows: &[KeptRow],
 ) -> Result<(), AllocError>
-    requires plain { is_plain e.now ≡ true }
     requires lanes { HaveSize at.now.count lanes.old.items }
     requires there { HasValues (inside_of at.now) at.now.outer.now e.now (block_of at.now lanes.old.items rows.now) }
     ensures lanes { OnOk result (HaveSize at.now.count lanes.new.items) }
@@ -70,7 +69,6 @@ fn put(
     lanes: &[Lane],
     rows: &mut [KeptRow],
 ) -> Result<(), AllocError>
-    requires plain { is_plain e.now ≡ true }
     requires lanes { HaveSize at.now.count lanes.now }
     requires there { HasValues (inside_of at.now) at.now.outer.now e.now (block_of at.now lanes.now rows.old) }
     requires cells { (v : ℕ) → inside_of at.now v ≡ true → IsSome (cells_kept rows.old (record { array = array; index = (places_of at.now.offset).place v })) }
@@ -83,7 +81,7 @@ fn put(
     Ok(())
 }
 
-// A statement, for all turns of a block.
+// A statement, for all turns of a block. One that no block has does nothing.
 fn do_stmt(
     alloc: Global,
     s: &Stmt,
@@ -91,7 +89,6 @@ fn do_stmt(
     lanes: &mut Vec<Lane>,
     rows: &mut [KeptRow],
 ) -> Result<(), AllocError>
-    requires plain { stmt_plain s.now ≡ true }
     requires lanes { HaveSize at.now.count lanes.old.items }
     requires there { StmtThere (places_of at.now.offset) (inside_of at.now) at.now.outer.now s.now (block_of at.now lanes.old.items rows.old) }
     ensures lanes { OnOk result (HaveSize at.now.count lanes.new.items) }
@@ -102,7 +99,7 @@ fn do_stmt(
         Stmt::Declare(x, Source::Value(e)) => assign(alloc, *x, e, at, lanes, rows),
         Stmt::Assign(x, Source::Value(e)) => assign(alloc, *x, e, at, lanes, rows),
         Stmt::Store(array, _, _, Source::Value(e)) => put(alloc, *array, e, at, lanes, rows),
-        _ => unreachable!(),
+        _ => Ok(()),
     }
 }
 
@@ -114,7 +111,6 @@ fn do_body(
     lanes: &mut Vec<Lane>,
     rows: &mut [KeptRow],
 ) -> Result<(), AllocError>
-    requires plain { body_plain body.now ≡ true }
     requires lanes { HaveSize at.now.count lanes.old.items }
     requires there { BodyThere (places_of at.now.offset) (inside_of at.now) at.now.outer.now body.now (block_of at.now lanes.old.items rows.old) }
     ensures lanes { OnOk result (HaveSize at.now.count lanes.new.items) }
@@ -154,7 +150,6 @@ fn carry_on(
     lanes: &[Lane],
     rows: &[KeptRow],
 ) -> Result<u64, AllocError>
-    requires plain { is_plain sum.added.now ≡ true }
     requires lanes { HaveSize at.now.count lanes.now }
     requires there { HasValues (inside_of at.now) at.now.outer.now sum.added.now (block_of at.now lanes.now rows.now) }
     ensures { IfOk result (IsCarriedOn at.now.first at.now.count at.now.outer.now at.now.scalars.now (block_of at.now lanes.now rows.now) sum.entry) }
@@ -175,7 +170,6 @@ fn block(
 ) -> Result<(), AllocError>
     requires some { 0 < count }
     requires no_wrap { IsWithin form.offset (first + count) }
-    requires plain { body_plain (statements form) ≡ true }
     requires there { BodyThere (places_of form.offset) (in_block first count) outer.now (statements form) (begun_block scalars.old rows.old) }
     ensures { OnOk result (IsBlock (form_block form.entry outer.now first count (slice_index scalars.old) (begun_block scalars.old rows.old)) (first + (count - 1)) scalars.new rows.new) }
 {

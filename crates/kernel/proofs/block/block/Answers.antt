@@ -6,12 +6,9 @@ use Rattle.kernel.specs.Offsets.{places_of}
 use Rattle.kernel.specs.declared.turns.Lane.{Lane}
 use Rattle.kernel.specs.declared.turns.Turns.{Turns}
 use Rattle.kernel.proofs.BlockLanes.{begin_there, all_done}
-use Rattle.kernel.proofs.SumLanes.{added_at, added_plain, formed, front_plain, front_there, sum_done}
+use Rattle.kernel.proofs.SumLanes.{added_at, formed, front_there, sum_done}
 use Rattle.kernel.proofs.block.block.Goals as goal
 use Rattle.kernel.proofs.block.block.Goals.{in-None, in-Some+in_ok-number-in-Some}
-
-pub do_body-requires-clause-plain : goal.do_body-requires-clause-plain
-do_body-requires-clause-plain c = front_plain c.args.form.front.now c.args.form.sum c.requires.plain
 
 pub do_body-requires-clause-there : goal.do_body-requires-clause-there
 do_body-requires-clause-there c =
@@ -28,10 +25,6 @@ do_body-requires-clause-there c =
     begin_there at c.args.form.front.now c.new-lanes.result.items c.args.rows.now c.new-lanes.ensures.items
     (front_there (places_of c.args.form.offset) (in_block c.args.first c.args.count) c.args.outer.now c.args.form.front.now c.args.form.sum
     (begun_block c.args.scalars.now c.args.rows.now) c.requires.there)
-
-pub carry_on-requires-clause-plain : goal.carry_on-requires-clause-plain
-carry_on-requires-clause-plain c =
-    added_plain c.args.form.front.now c.args.form.sum c.in-Some.sum c.in-Some.is c.requires.plain
 
 pub carry_on-requires-clause-there : goal.carry_on-requires-clause-there
 carry_on-requires-clause-there c =
