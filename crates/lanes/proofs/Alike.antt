@@ -1,21 +1,23 @@
 -- Two states that look alike to a turn: it adds the same to both.
-use Rattle.std.proofs.Common.{◌≡◌, ℕ, ◌==◌, Bool, true, false, List, [], ◌∷◌, ◌++◌, Option, Some, None, refl, sym, ap, ap₂, ◌∙◌, if◌then◌else◌, append-nil}
+use Rattle.std.proofs.Common.{◌≡◌, ℕ, Bool, true, false, List, [], ◌∷◌, ◌++◌, Option, Some, None, refl, sym, ap, ap₂, ◌∙◌, if◌then◌else◌, append_assoc, append-nil}
 use Rattle.std.specs.Prelude.{not, ◌&&◌, ◌||◌, option_and_then, option_map, unwrap_or, slice_index}
 use Rattle.std.proofs.lemmas.Bool.{and_parts}
+use mathlib.Core.Former.{Count}
 use Rattle.base.specs.declared.item.Cell.{Cell}
-use Rattle.base.specs.declared.tree.ArrayId.{ArrayId}
 use Rattle.base.specs.declared.tree.Expr.{Expr}
 use Rattle.base.specs.declared.tree.Expr.TheVariants.{Number, Scalar, LoopName, Cell', Unary', Binary', And', Or', Shift', Divide'}
 use Rattle.base.specs.declared.tree.Source.{Source}
 use Rattle.base.specs.declared.tree.Source.TheVariants.{Value, Read}
-use Rattle.base.specs.declared.tree.Stmt.{Stmt}
+use Rattle.base.specs.declared.tree.Stmt.{Stmt, Row_of-Stmt}
 use Rattle.base.specs.declared.tree.Stmt.TheVariants.{Declare, Assign, Store, Print, Block', Loop', If'}
 use Rattle.base.specs.Memory.{View, Scalars, Stores, same_cell, last_stored}
 use Rattle.base.specs.Value.{Names, value, on_one, on_both, and_of, or_of, unary, binary, shifted, divided}
 use Rattle.base.specs.Meaning.{Run, names_in, seen}
 use Rattle.regions.proofs.StatementsDone.{last_push}
-use Rattle.lanes.proofs.Deltas.{set_kept}
-use Rattle.lanes.specs.Apart.{Set, Kept, Places, NamesPlaces, is_apart, source_apart, stmt_apart, loose_after, body_apart, Delta, apply, join, own_value, setting, storing, store_delta, stmt_delta, join_all, body_delta}
+use Rattle.lanes.proofs.Branches.{items, AllOf, OfBranches, of_body, apart_items, delta_items}
+use Rattle.lanes.proofs.Deltas.{AllWithin, stmt_within}
+use Rattle.lanes.proofs.Settled.{Settles, AllSettle, stmt_settles}
+use Rattle.lanes.specs.Apart.{Set, Kept, Places, NamesPlaces, is_apart, source_apart, stmt_apart, row_apart, loose_after, body_apart, Delta, apply, join, own_value, setting, store_delta, chosen_delta, stmt_delta, row_delta, join_all, body_delta}
 
 not_is : (b : Bool) → not b ≡ true → b ≡ false
 not_is true h = sym h
@@ -55,6 +57,26 @@ module _ (taken : Set) (view : View) where
       go : (b : Bool) → look (if b then Some n else last_stored st d) ≡ look (if b then Some n else last_stored tt' d)
       go true = refl
       go false = h
+
+  -- so do more stores
+  seen_after : (st tt' ys : Stores) (c : Cell) → seen view st c ≡ seen view tt' c →
+      seen view (st ++ ys) c ≡ seen view (tt' ++ ys) c
+  seen_after st tt' [] c h =
+      ap (λ zs. seen view zs c) (append-nil st) ∙ h ∙ sym (ap (λ zs. seen view zs c) (append-nil tt'))
+  seen_after st tt' (y ∷ ys) c h =
+      ap (λ zs. seen view zs c) (sym (append_assoc st (y ∷ []) ys))
+      ∙ seen_after (st ++ y ∷ []) (tt' ++ y ∷ []) ys c (push_same st tt' y.0 c y.1 h)
+      ∙ ap (λ zs. seen view zs c) (append_assoc tt' (y ∷ []) ys)
+
+  -- the same in both leaves them alike, but for the scalars that are still loose
+  apply_alike : (loose still : Set) (at : ℕ → Type 0) (s t : Run) (d : Delta) → Alike loose at s t → Settles loose still d →
+      Alike still at (apply s d) (apply t d)
+  apply_alike loose still at s t d h settles =
+      record {
+        scalars = λ x o. settles s.scalars t.scalars (λ y k. h.scalars y k) x o;
+        others = λ c o. seen_after s.stores t.stores d.stores c (h.others c o);
+        mine = λ c o. seen_after s.stores t.stores d.stores c (h.mine c o);
+      }
 
   module _ (here : Expr → Bool) (pl : Places) (loops : List ℕ) (own : Set) (before : Scalars)
       (named : NamesPlaces here pl own before loops) (v : ℕ) where
@@ -111,106 +133,76 @@ module _ (taken : Set) (view : View) where
     source_same loose s t h kept (Value e) k = value_same loose s t h kept e k
     source_same loose s t h kept Read k = refl
 
-    -- a scalar that is set in both is loose no more
-    set_alike : (loose : Set) (s t : Run) (x n : ℕ) → Alike loose at_turn s t →
-        Alike (λ y. not (x == y) && loose y) at_turn (apply s (setting x n)) (apply t (setting x n))
-    set_alike loose s t x n h =
-        record {
-          scalars = λ y k. go y (x == y) k;
-          others = λ c k. plain s.stores t.stores c (h.others c k);
-          mine = λ c k. plain s.stores t.stores c (h.mine c k);
-        }
+    -- a statement adds the same to both
+    abbrev IsSame : Stmt → Type 0
+    IsSame first =
+        (loose : Set) (s t : Run) → Alike loose at_turn s t → Kept own before s.scalars → Kept own before t.scalars →
+        stmt_apart taken own loose here first ≡ true →
+        stmt_delta first view (loops ++ v ∷ []) s ≡ stmt_delta first view (loops ++ v ∷ []) t
+
+    all_same : (body : List Stmt) → AllOf IsSame body → (loose : Set) (s t : Run) → Alike loose at_turn s t →
+        Kept own before s.scalars → Kept own before t.scalars → body_apart taken own loose here body ≡ true →
+        body_delta body view (loops ++ v ∷ []) s ≡ body_delta body view (loops ++ v ∷ []) t
+    all_same [] each loose s t h ks kt k = refl
+    all_same (first ∷ rest) each loose s t h ks kt k =
+        ap (λ o. join_all o (λ d. body_delta rest view (loops ++ v ∷ []) (apply s d))) (each.0 loose s t h ks kt l.0)
+        ∙ go (λ d a ku kw. all_same rest each.1 (loose_after loose first) (apply s d) (apply t d) a ku kw l.1)
+        (stmt_delta first view (loops ++ v ∷ []) t) (stmt_settles view (loops ++ v ∷ []) loose t first)
+        (stmt_within taken own view here pl loops before named v loose t first kt l.0)
       where
-        go : (y : ℕ) (b : Bool) → (not b && loose y) ≡ false →
-            (if b then n else s.scalars y) ≡ (if b then n else t.scalars y)
-        go y true k = refl
-        go y false k = h.scalars y k
+        l : (stmt_apart taken own loose here first ≡ true) × (body_apart taken own (loose_after loose first) here rest ≡ true)
+        l =
+            and_parts (stmt_apart taken own loose here first)
+            (body_apart taken own (loose_after loose first) here rest) k
 
-        plain : (xs ys : Stores) (c : Cell) → seen view xs c ≡ seen view ys c →
-            seen view (xs ++ []) c ≡ seen view (ys ++ []) c
-        plain xs ys c e =
-            ap (λ zs. seen view zs c) (append-nil xs) ∙ e ∙ sym (ap (λ zs. seen view zs c) (append-nil ys))
+        go : ((d : Delta) → Alike (loose_after loose first) at_turn (apply s d) (apply t d) →
+            Kept own before (apply s d).scalars → Kept own before (apply t d).scalars →
+            body_delta rest view (loops ++ v ∷ []) (apply s d) ≡ body_delta rest view (loops ++ v ∷ []) (apply t d)) →
+            (o : Option Delta) → AllSettle loose (loose_after loose first) o → AllWithin taken own view (pl.place v) o →
+            join_all o (λ d. body_delta rest view (loops ++ v ∷ []) (apply s d))
+            ≡ join_all o (λ d. body_delta rest view (loops ++ v ∷ []) (apply t d))
+        go next None st w = refl
+        go next (Some d) st w =
+            ap (option_map (join d))
+            (next d (apply_alike loose (loose_after loose first) at_turn s t d h st)
+            (λ x o. w.sets s.scalars x o ∙ ks x o) (λ x o. w.sets t.scalars x o ∙ kt x o))
 
-    store_alike : (loose : Set) (s t : Run) (c : Cell) (n : ℕ) → Alike loose at_turn s t →
-        Alike loose at_turn (apply s (storing c n)) (apply t (storing c n))
-    store_alike loose s t c n h =
-        record {
-          scalars = h.scalars;
-          others = λ d k. push_same s.stores t.stores c d n (h.others d k);
-          mine = λ d k. push_same s.stores t.stores c d n (h.mine d k);
-        }
+    row_same : (n : Count) (row : Row_of-Stmt n) → AllOf IsSame (items row) → (loose : Set) (s t : Run) → Alike loose at_turn s t →
+        Kept own before s.scalars → Kept own before t.scalars → row_apart taken own loose here row ≡ true →
+        row_delta row view (loops ++ v ∷ []) s ≡ row_delta row view (loops ++ v ∷ []) t
+    row_same n row each loose s t h ks kt k =
+        delta_items n row view (loops ++ v ∷ []) s
+        ∙ all_same (items row) each loose s t h ks kt (sym (apart_items n row taken own loose here) ∙ k)
+        ∙ sym (delta_items n row view (loops ++ v ∷ []) t)
 
-    -- what comes after an assignment of a scalar, and after a store
-    abbrev Next : Type 0
-    Next = Run → Option Delta
-
-    after_set : (s t : Run) (x : ℕ) (f : Next) (o p : Option ℕ) → o ≡ p →
-        ((n : ℕ) → f (apply s (setting x n)) ≡ f (apply t (setting x n))) →
-        join_all (option_map (setting x) o) (λ d. f (apply s d)) ≡ join_all (option_map (setting x) p) (λ d. f (apply t d))
-    after_set s t x f o p is h = ap (λ q. join_all (option_map (setting x) q) (λ d. f (apply s d))) is ∙ go p
-      where
-        go : (p : Option ℕ) →
-            join_all (option_map (setting x) p) (λ d. f (apply s d)) ≡ join_all (option_map (setting x) p) (λ d. f (apply t d))
-        go None = refl
-        go (Some n) = ap (option_map (join (setting x n))) (h n)
-
-    abbrev stored_by : ArrayId → Option ℕ → Option ℕ → Option Delta
-    stored_by a oi ov = option_and_then (λ i. store_delta view (record { array = a; index = i }) ov) oi
-
-    after_store : (s t : Run) (a : ArrayId) (f : Next) (oi pi ov pv : Option ℕ) → oi ≡ pi → ov ≡ pv →
-        ((c : Cell) (n : ℕ) → f (apply s (storing c n)) ≡ f (apply t (storing c n))) →
-        join_all (stored_by a oi ov) (λ d. f (apply s d)) ≡ join_all (stored_by a pi pv) (λ d. f (apply t d))
-    after_store s t a f oi pi ov pv i_is v_is h =
-        ap₂ (λ x y. join_all (stored_by a x y) (λ d. f (apply s d))) i_is v_is ∙ go pi pv
-      where
-        there_is : (c : Cell) (n : ℕ) (there : Option ℕ) →
-            join_all (option_map (λ old. storing c n) there) (λ d. f (apply s d))
-            ≡ join_all (option_map (λ old. storing c n) there) (λ d. f (apply t d))
-        there_is c n None = refl
-        there_is c n (Some old) = ap (option_map (join (storing c n))) (h c n)
-
-        go : (pi pv : Option ℕ) →
-            join_all (stored_by a pi pv) (λ d. f (apply s d)) ≡ join_all (stored_by a pi pv) (λ d. f (apply t d))
-        go None pv = refl
-        go (Some i) None = refl
-        go (Some i) (Some n) =
-            there_is (record { array = a; index = i }) n (view (record { array = a; index = i }))
+    one_same : (first : Stmt) → OfBranches IsSame first → IsSame first
+    one_same (Declare x w) each loose s t h ks kt k =
+        let l = and_parts (own x.0) (source_apart taken loose here w) k in
+        ap (option_map (setting x.0)) (source_same loose s t h kt w l.1)
+    one_same (Assign x w) each loose s t h ks kt k =
+        let l = and_parts (own x.0) (source_apart taken loose here w) k in
+        ap (option_map (setting x.0)) (source_same loose s t h kt w l.1)
+    one_same (Store a place e w) each loose s t h ks kt k =
+        let l = and_parts (taken a.0) (here e && source_apart taken loose here w) k in
+        let q = and_parts (here e) (source_apart taken loose here w) l.1 in
+        ap₂ (λ oi ov. option_and_then (λ i. store_delta view (record { array = a; index = i }) ov) oi)
+        (named v e (names_in view (loops ++ v ∷ []) s) refl ks q.0
+        ∙ sym (named v e (names_in view (loops ++ v ∷ []) t) refl kt q.0))
+        (source_same loose s t h kt w q.1)
+    one_same (Print e) each loose s t h ks kt k = refl
+    one_same (Block' shape all) each loose s t h ks kt k = refl
+    one_same (Loop' b shape all) each loose s t h ks kt k = refl
+    one_same (If' c shape all shape' all') each loose s t h ks kt k =
+        let l = and_parts (is_apart taken loose here c)
+        (row_apart taken own loose here all && row_apart taken own loose here all') k in
+        let q = and_parts (row_apart taken own loose here all) (row_apart taken own loose here all') l.1 in
+        ap (λ o. chosen_delta o (row_delta all view (loops ++ v ∷ []) s) (row_delta all' view (loops ++ v ∷ []) s))
+        (value_same loose s t h kt c l.0)
+        ∙ ap₂ (λ d e. chosen_delta (value c (names_in view (loops ++ v ∷ []) t)) d e)
+        (row_same _ all each.0 loose s t h ks kt q.0) (row_same _ all' each.1 loose s t h ks kt q.1)
 
     pub body_same : (loose : Set) (s t : Run) → Alike loose at_turn s t →
         Kept own before s.scalars → Kept own before t.scalars → (body : List Stmt) →
         body_apart taken own loose here body ≡ true →
         body_delta body view (loops ++ v ∷ []) s ≡ body_delta body view (loops ++ v ∷ []) t
-    body_same loose s t h ks kt [] k = refl
-    body_same loose s t h ks kt (first ∷ rest) k =
-        let l = and_parts (stmt_apart taken own loose here first)
-        (body_apart taken own (loose_after loose first) here rest) k in
-        go first l.0 (λ u w a ku kw. body_same (loose_after loose first) u w a ku kw rest l.1)
-      where
-        go : (first : Stmt) → stmt_apart taken own loose here first ≡ true →
-            ((u w : Run) → Alike (loose_after loose first) at_turn u w →
-            Kept own before u.scalars → Kept own before w.scalars →
-            body_delta rest view (loops ++ v ∷ []) u ≡ body_delta rest view (loops ++ v ∷ []) w) →
-            join_all (stmt_delta first view (loops ++ v ∷ []) s) (λ d. body_delta rest view (loops ++ v ∷ []) (apply s d))
-            ≡ join_all (stmt_delta first view (loops ++ v ∷ []) t) (λ d. body_delta rest view (loops ++ v ∷ []) (apply t d))
-        go (Declare x w) k next =
-            let l = and_parts (own x.0) (source_apart taken loose here w) k in
-            after_set s t x.0 (body_delta rest view (loops ++ v ∷ [])) _ _ (source_same loose s t h kt w l.1)
-            (λ n. next (apply s (setting x.0 n)) (apply t (setting x.0 n)) (set_alike loose s t x.0 n h)
-            (set_kept own before s.scalars x.0 n l.0 ks) (set_kept own before t.scalars x.0 n l.0 kt))
-        go (Assign x w) k next =
-            let l = and_parts (own x.0) (source_apart taken loose here w) k in
-            after_set s t x.0 (body_delta rest view (loops ++ v ∷ [])) _ _ (source_same loose s t h kt w l.1)
-            (λ n. next (apply s (setting x.0 n)) (apply t (setting x.0 n)) (set_alike loose s t x.0 n h)
-            (set_kept own before s.scalars x.0 n l.0 ks) (set_kept own before t.scalars x.0 n l.0 kt))
-        go (Store a place e w) k next =
-            let l = and_parts (taken a.0) (here e && source_apart taken loose here w) k in
-            let q = and_parts (here e) (source_apart taken loose here w) l.1 in
-            after_store s t a (body_delta rest view (loops ++ v ∷ [])) _ _ _ _
-            (named v e (names_in view (loops ++ v ∷ []) s) refl ks q.0
-            ∙ sym (named v e (names_in view (loops ++ v ∷ []) t) refl kt q.0))
-            (source_same loose s t h kt w q.1)
-            (λ c n. next (apply s (storing c n)) (apply t (storing c n)) (store_alike loose s t c n h) ks kt)
-        go (Print e) k next = refl
-        go (Block' shape all) k next = refl
-        go (Loop' b shape all) k next = refl
-        go (If' c shape all shape' all') k next = refl
+    body_same loose s t h ks kt body k = all_same body (of_body IsSame one_same body) loose s t h ks kt k

@@ -1,25 +1,29 @@
 -- A block of turns, assignment by assignment.
-use Rattle.std.proofs.Common.{◌≡◌, ℕ, ◌==◌, Bool, true, false, List, [], ◌∷◌, ◌++◌, Option, Some, None, refl, sym, ap, ap₂, ◌∙◌, arith, if◌then◌else◌, eqb-true}
-use Rattle.std.specs.Prelude.{◌&&◌, option_and_then, option_map, unwrap_or}
+use Rattle.std.proofs.Common.{◌≡◌, ℕ, ◌==◌, Bool, true, false, List, [], ◌∷◌, ◌++◌, Option, Some, None, refl, sym, ap, ap₂, ◌∙◌, arith, subst, if◌then◌else◌, eqb-true}
+use Rattle.std.specs.Prelude.{not, ◌&&◌, option_and_then, option_map, unwrap_or}
 use Rattle.std.proofs.lemmas.Bool.{and_parts, false≢true}
 use Rattle.std.proofs.lemmas.Bool.Decides.{nat_tests}
 use Rattle.std.proofs.lemmas.Option.{same_Some}
+use mathlib.Core.Former.{Count}
+use mathlib.Core.Path.{fun_ext}
 use Rattle.base.specs.declared.item.Cell.{Cell}
 use Rattle.base.specs.declared.tree.ArrayId.{ArrayId}
 use Rattle.base.specs.declared.tree.Expr.{Expr}
 use Rattle.base.specs.declared.tree.Source.TheVariants.{Value, Read}
-use Rattle.base.specs.declared.tree.Stmt.{Stmt}
+use Rattle.base.specs.declared.tree.Stmt.{Stmt, Row_of-Stmt}
 use Rattle.base.specs.declared.tree.Stmt.TheVariants.{Declare, Assign, Store, Print, Block', Loop', If'}
 use Rattle.base.specs.Memory.{View, same_cell, last_stored}
-use Rattle.base.specs.Value.{value}
-use Rattle.base.specs.Meaning.{Run, names_in, seen, set_scalar, assigned, stored, run_stmt, run_list}
+use Rattle.base.specs.Value.{value, is_zero}
+use Rattle.base.specs.Meaning.{Run, names_in, seen, set_scalar, assigned, stored, choose, run_stmt, run_row, run_list}
 use Rattle.regions.proofs.StatementsDone.{last_push}
-use Rattle.lanes.specs.Apart.{Set, Kept, Places, NamesPlaces, HavePlaces, is_apart, stmt_apart, loose_after, body_apart, Block, names_at, numbers, set_lanes, store_lanes, block_stmt, block_body, block_start, StandsFor, RunAlone, ByAssignments}
+use Rattle.lanes.specs.Apart.{Set, Kept, Places, NamesPlaces, HavePlaces, is_apart, stmt_apart, row_apart, loose_after, body_apart, Block, names_at, numbers, set_lanes, store_lanes, where_true, where_false, block_stmt, block_row, block_body, block_start, StandsFor, RunAlone, ByAssignments}
+use Rattle.lanes.proofs.Branches.{items, AllOf, OfBranches, of_stmt, of_row, of_body, run_items, apart_items, block_items}
+use Rattle.lanes.proofs.Choices.{fewer_places, between, first_branch, second_branch}
 use Rattle.lanes.proofs.Deltas.{set_kept}
 use Rattle.lanes.proofs.Alike.{value_alike}
 
-module _ (taken own : Set) (view : View) (here : Expr → Bool) (pl : Places) (loops : List ℕ) (inside : ℕ → Bool) (s : Run)
-    (named : NamesPlaces here pl own s.scalars loops) (places : HavePlaces inside pl) where
+module _ (taken own : Set) (view : View) (here : Expr → Bool) (pl : Places) (loops : List ℕ) (s : Run)
+    (named : NamesPlaces here pl own s.scalars loops) where
   -- each turn sees the others' cells as at the beginning
   abbrev pub Keeps : (ℕ → Run) → Type 0
   Keeps lane = (v : ℕ) (c : Cell) → (taken c.array.0 && (c.index == pl.place v)) ≡ false → seen view (lane v).stores c ≡ seen view s.stores c
@@ -28,10 +32,10 @@ module _ (taken own : Set) (view : View) (here : Expr → Bool) (pl : Places) (l
   other v c h = ap (λ b. b && (c.index == pl.place v)) h
 
   -- a turn's expression has the turn's own value
-  pub lane_value : (loose : Set) (b : Block) (lane : ℕ → Run) → StandsFor pl view b lane → Keeps lane → (v : ℕ) → inside v ≡ true → Kept own s.scalars (lane v).scalars →
+  pub lane_value : (inside : ℕ → Bool) → HavePlaces inside pl → (loose : Set) (b : Block) (lane : ℕ → Run) → StandsFor pl view b lane → Keeps lane → (v : ℕ) → inside v ≡ true → Kept own s.scalars (lane v).scalars →
       (e : Expr) → is_apart taken loose here e ≡ true →
       value e (names_at b loops v) ≡ value e (names_in view (loops ++ v ∷ []) (lane v))
-  lane_value loose b lane h k v i kept e is =
+  lane_value inside places loose b lane h k v i kept e is =
       value_alike taken view here pl loops own s.scalars named v loose (names_at b loops v) (names_in view (loops ++ v ∷ []) (lane v))
       (record {
         scalars = λ x o. h.scalars v x;
@@ -80,7 +84,8 @@ module _ (taken own : Set) (view : View) (here : Expr → Bool) (pl : Places) (l
     pub keeps : Keeps lane
     pub kept : (v : ℕ) → Kept own s.scalars (lane v).scalars
 
-  module _ (loose : Set) (b : Block) (lane next : ℕ → Run) (h : StandsFor pl view b lane) (k : Keeps lane)
+  module _ (inside : ℕ → Bool) (places : HavePlaces inside pl)
+      (loose : Set) (b : Block) (lane next : ℕ → Run) (h : StandsFor pl view b lane) (k : Keeps lane)
       (kept : (v : ℕ) → Kept own s.scalars (lane v).scalars) (out : (v : ℕ) → inside v ≡ false → next v ≡ lane v) where
     set_stands : (x : ℕ) (e : Expr) → own x ≡ true → is_apart taken loose here e ≡ true →
         ((v : ℕ) → inside v ≡ true → Assigned x (value e (names_in view (loops ++ v ∷ []) (lane v))) (lane v) (next v)) →
@@ -112,7 +117,7 @@ module _ (taken own : Set) (view : View) (here : Expr → Bool) (pl : Places) (l
         scalar v y true f =
             let d = does v f in
             ap (λ n. set_scalar x n (b.scalars v) y)
-            (ap (λ o. unwrap_or o 0) (lane_value loose b lane h k v f (kept v) e ok ∙ d.is))
+            (ap (λ o. unwrap_or o 0) (lane_value inside places loose b lane h k v f (kept v) e ok ∙ d.is))
             ∙ ap (λ old. if x == y then d.n else old) (h.scalars v y)
             ∙ sym (ap (λ (r : Run). r.scalars y) d.becomes)
         scalar v y false f = h.scalars v y ∙ sym (ap (λ (r : Run). r.scalars y) (out v f))
@@ -149,7 +154,7 @@ module _ (taken own : Set) (view : View) (here : Expr → Bool) (pl : Places) (l
             now q = let e = places.forth c.index i in grind (arith, nat_tests)
 
         number : (v : ℕ) (i : inside v ≡ true) → numbers f b loops v ≡ (does v i).n
-        number v i = ap (λ o. unwrap_or o 0) (lane_value loose b lane h k v i (kept v) f ok ∙ (does v i).is)
+        number v i = ap (λ o. unwrap_or o 0) (lane_value inside places loose b lane h k v i (kept v) f ok ∙ (does v i).is)
 
         mark : (c : Cell) (q r : Bool) → (a.0 == c.array.0) ≡ q → inside (pl.turn_of c.index) ≡ r →
             (if q && r then Some (numbers f b loops (pl.turn_of c.index)) else b.stored c) ≡ last_stored (next (pl.turn_of c.index)).stores c
@@ -201,31 +206,13 @@ module _ (taken own : Set) (view : View) (here : Expr → Bool) (pl : Places) (l
                 let l : taken c.array.0 ≡ true = ap taken (sym (eqb-true a.0 c.array.0 p.0)) ∙ its in
                 absurd (false≢true (sym o ∙ ap₂ (λ x y. x && y) l j))
 
-    pub stmt_stands : (first : Stmt) → stmt_apart taken own loose here first ≡ true →
-        ((v : ℕ) → inside v ≡ true → run_stmt first view (loops ++ v ∷ []) (lane v) ≡ Some (next v)) →
-        Stands (block_stmt pl inside loops first b) next
-    stmt_stands (Declare x (Value e)) ok does =
-        set_stands x.0 e (and_parts (own x.0) (is_apart taken loose here e) ok).0 (and_parts (own x.0) (is_apart taken loose here e) ok).1
-        (λ v i. assigned_by x.0 (value e (names_in view (loops ++ v ∷ []) (lane v))) (lane v) (next v) (does v i))
-    stmt_stands (Declare x Read) ok does = absurd (false≢true (and_parts (own x.0) false ok).1)
-    stmt_stands (Assign x (Value e)) ok does =
-        set_stands x.0 e (and_parts (own x.0) (is_apart taken loose here e) ok).0 (and_parts (own x.0) (is_apart taken loose here e) ok).1
-        (λ v i. assigned_by x.0 (value e (names_in view (loops ++ v ∷ []) (lane v))) (lane v) (next v) (does v i))
-    stmt_stands (Assign x Read) ok does = absurd (false≢true (and_parts (own x.0) false ok).1)
-    stmt_stands (Store a place e (Value f)) ok does =
-        let l = and_parts (taken a.0) (here e && is_apart taken loose here f) ok in
-        let q = and_parts (here e) (is_apart taken loose here f) l.1 in
-        store_stands a f l.0 q.1
-        (λ v i. pushed_by (record { array = a; index = pl.place v }) (value f (names_in view (loops ++ v ∷ []) (lane v))) (lane v) (next v)
-        (sym (ap (option_and_then (λ j. stored view (record { array = a; index = j })
-        (option_map (λ n. (n, lane v)) (value f (names_in view (loops ++ v ∷ []) (lane v))))))
-        (named v e (names_in view (loops ++ v ∷ []) (lane v)) refl (kept v) q.0)) ∙ does v i))
-    stmt_stands (Store a place e Read) ok does =
-        absurd (false≢true (and_parts (here e) false (and_parts (taken a.0) (here e && false) ok).1).1)
-    stmt_stands (Print e) ok does = absurd (false≢true ok)
-    stmt_stands (Block' shape all) ok does = absurd (false≢true ok)
-    stmt_stands (Loop' c shape all) ok does = absurd (false≢true ok)
-    stmt_stands (If' c shape all shape' all') ok does = absurd (false≢true ok)
+  -- the block of a statement stands for the runs of the statement
+  abbrev pub IsStanding : Stmt → Type 0
+  IsStanding first =
+      (inside : ℕ → Bool) (places : HavePlaces inside pl) (loose : Set) (b : Block) (lane next : ℕ → Run) → Stands b lane →
+      stmt_apart taken own loose here first ≡ true →
+      RunAlone inside (λ v. run_stmt first view (loops ++ v ∷ [])) lane next →
+      Stands (block_stmt pl inside loops first b) next
 
   -- where a statement leads, and what comes after it
   pub then_parts : (o : Option Run) (f : Run → Option Run) (d end : Run) → option_and_then f o ≡ Some end →
@@ -236,50 +223,166 @@ module _ (taken own : Set) (view : View) (here : Expr → Bool) (pl : Places) (l
   abbrev pub stepped : Bool → Option Run → Run → Run
   stepped q o d = if q then unwrap_or o d else d
 
-  body_stands : (loose : Set) (body : List Stmt) (b : Block) (lane end : ℕ → Run) → Stands b lane →
-      body_apart taken own loose here body ≡ true →
-      RunAlone inside (λ v. run_list body view (loops ++ v ∷ [])) lane end →
-      StandsFor pl view (block_body pl inside loops body b) end
-  body_stands loose [] b lane end h ok alone =
-      record {
-        scalars = λ v x. h.is.scalars v x ∙ ap (λ (r : Run). r.scalars x) (same v (inside v) refl);
-        cells = λ c. h.is.cells c ∙ ap (λ (r : Run). seen view r.stores c) (same (pl.turn_of c.index) (inside (pl.turn_of c.index)) refl);
-        stored = λ c. h.is.stored c ∙ ap (λ (r : Run). last_stored r.stores c) (same (pl.turn_of c.index) (inside (pl.turn_of c.index)) refl);
-      }
+  -- some turns, each of which does a statement and then others
+  module _ (inside : ℕ → Bool) (first : Stmt) (rest : List Stmt) (lane end : ℕ → Run)
+      (alone : RunAlone inside (λ v. run_list (first ∷ rest) view (loops ++ v ∷ [])) lane end) where
+    abbrev pub after_first : ℕ → Run
+    after_first v = stepped (inside v) (run_stmt first view (loops ++ v ∷ []) (lane v)) (lane v)
+
+    at : (v : ℕ) → inside v ≡ true → after_first v ≡ unwrap_or (run_stmt first view (loops ++ v ∷ []) (lane v)) (lane v)
+    at v i = ap (λ q. stepped q (run_stmt first view (loops ++ v ∷ []) (lane v)) (lane v)) i
+
+    parts : (v : ℕ) → inside v ≡ true →
+        (run_stmt first view (loops ++ v ∷ []) (lane v) ≡ Some (unwrap_or (run_stmt first view (loops ++ v ∷ []) (lane v)) (lane v)))
+        × (run_list rest view (loops ++ v ∷ []) (unwrap_or (run_stmt first view (loops ++ v ∷ []) (lane v)) (lane v)) ≡ Some (end v))
+    parts v i =
+        then_parts (run_stmt first view (loops ++ v ∷ []) (lane v)) (run_list rest view (loops ++ v ∷ [])) (lane v) (end v)
+        (alone.there v i)
+
+    pub first_alone : RunAlone inside (λ v. run_stmt first view (loops ++ v ∷ [])) lane after_first
+    first_alone =
+        record {
+          there = λ v i. (parts v i).0 ∙ ap Some (sym (at v i));
+          elsewhere = λ v i. ap (λ q. stepped q (run_stmt first view (loops ++ v ∷ []) (lane v)) (lane v)) i;
+        }
+
+    pub rest_alone : RunAlone inside (λ v. run_list rest view (loops ++ v ∷ [])) after_first end
+    rest_alone =
+        record {
+          there = λ v i. ap (run_list rest view (loops ++ v ∷ [])) (at v i) ∙ (parts v i).1;
+          elsewhere =
+              λ v i. alone.elsewhere v i
+              ∙ sym (ap (λ q. stepped q (run_stmt first view (loops ++ v ∷ []) (lane v)) (lane v)) i);
+        }
+
+  -- turns that do nothing
+  stand_still : (inside : ℕ → Bool) (b : Block) (lane end : ℕ → Run) → Stands b lane →
+      RunAlone inside (λ v. run_list [] view (loops ++ v ∷ [])) lane end → Stands b end
+  stand_still inside b lane end h alone =
+      subst (λ (l : ℕ → Run). Stands b l) (fun_ext (λ (v : ℕ). same v (inside v) refl)) h
     where
       same : (v : ℕ) (q : Bool) → inside v ≡ q → lane v ≡ end v
       same v true i = same_Some (lane v) (end v) (alone.there v i)
       same v false i = sym (alone.elsewhere v i)
-  body_stands loose (first ∷ rest) b lane end h ok alone =
+
+  all_stand : (body : List Stmt) → AllOf IsStanding body → (inside : ℕ → Bool) (places : HavePlaces inside pl) (loose : Set)
+      (b : Block) (lane end : ℕ → Run) → Stands b lane → body_apart taken own loose here body ≡ true →
+      RunAlone inside (λ v. run_list body view (loops ++ v ∷ [])) lane end →
+      Stands (block_body pl inside loops body b) end
+  all_stand [] each inside places loose b lane end h ok alone = stand_still inside b lane end h alone
+  all_stand (first ∷ rest) each inside places loose b lane end h ok alone =
       let l = and_parts (stmt_apart taken own loose here first)
       (body_apart taken own (loose_after loose first) here rest) ok in
-      body_stands (loose_after loose first) rest (block_stmt pl inside loops first b) next end
-      (stmt_stands loose b lane next h.is h.keeps h.kept (λ v i. ap (λ q. stepped q (does v) (lane v)) i) first l.0
-      (λ v i. (parts v i).0 ∙ ap Some (sym (at v i)))) l.1
+      all_stand rest each.1 inside places (loose_after loose first) (block_stmt pl inside loops first b)
+      (after_first inside first rest lane end alone) end
+      (each.0 inside places loose b lane (after_first inside first rest lane end alone) h l.0
+      (first_alone inside first rest lane end alone)) l.1
+      (rest_alone inside first rest lane end alone)
+
+  -- a branch
+  row_stand : (n : Count) (row : Row_of-Stmt n) → AllOf IsStanding (items row) → (inside : ℕ → Bool) (places : HavePlaces inside pl)
+      (loose : Set) (b : Block) (lane end : ℕ → Run) → Stands b lane → row_apart taken own loose here row ≡ true →
+      RunAlone inside (λ v. run_row row view (loops ++ v ∷ [])) lane end →
+      Stands (block_row pl inside loops row b) end
+  row_stand n row each inside places loose b lane end h ok alone =
+      subst (λ (c : Block). Stands c end) (sym (block_items n row pl inside loops b))
+      (all_stand (items row) each inside places loose b lane end h (sym (apart_items n row taken own loose here) ∙ ok)
       (record {
-        there = λ v i. ap (run_list rest view (loops ++ v ∷ [])) (at v i) ∙ (parts v i).1;
-        elsewhere = λ v i. alone.elsewhere v i ∙ sym (ap (λ q. stepped q (does v) (lane v)) i);
-      })
-    where
-      does : ℕ → Option Run
-      does v = run_stmt first view (loops ++ v ∷ []) (lane v)
+        there = λ v i. sym (run_items n row view (loops ++ v ∷ []) (lane v)) ∙ alone.there v i;
+        elsewhere = λ v i. alone.elsewhere v i;
+      }))
 
-      next : ℕ → Run
-      next v = stepped (inside v) (does v) (lane v)
+  -- a choice
+  module _ (c : Expr) {m n : Count} (all : Row_of-Stmt m) (all' : Row_of-Stmt n) (inside : ℕ → Bool) (places : HavePlaces inside pl)
+      (loose : Set) (b : Block) (lane next : ℕ → Run) (h : Stands b lane) (ok : is_apart taken loose here c ≡ true)
+      (there : (v : ℕ) → inside v ≡ true →
+      choose (value c (names_in view (loops ++ v ∷ []) (lane v))) (run_row all view (loops ++ v ∷ []))
+      (run_row all' view (loops ++ v ∷ [])) (lane v) ≡ Some (next v))
+      (elsewhere : (v : ℕ) → inside v ≡ false → next v ≡ lane v) where
+    pub number_is : (v : ℕ) → inside v ≡ true →
+        numbers c b loops v ≡ unwrap_or (value c (names_in view (loops ++ v ∷ []) (lane v))) 0
+    number_is v i = ap (λ o. unwrap_or o 0) (lane_value inside places loose b lane h.is h.keeps v i (h.kept v) c ok)
 
-      at : (v : ℕ) → inside v ≡ true → next v ≡ unwrap_or (does v) (lane v)
-      at v i = ap (λ q. stepped q (does v) (lane v)) i
+    abbrev pub amid : ℕ → Run
+    amid =
+        between inside (numbers c b loops) (λ v. value c (names_in view (loops ++ v ∷ []) (lane v)))
+        (λ v. run_row all view (loops ++ v ∷ [])) (λ v. run_row all' view (loops ++ v ∷ [])) lane next number_is there elsewhere
 
-      parts : (v : ℕ) → inside v ≡ true →
-          (does v ≡ Some (unwrap_or (does v) (lane v)))
-          × (run_list rest view (loops ++ v ∷ []) (unwrap_or (does v) (lane v)) ≡ Some (end v))
-      parts v i = then_parts (does v) (run_list rest view (loops ++ v ∷ [])) (lane v) (end v) (alone.there v i)
+    pub first_done : RunAlone (where_true inside c b loops) (λ v. run_row all view (loops ++ v ∷ [])) lane amid
+    first_done =
+        first_branch inside (numbers c b loops) (λ v. value c (names_in view (loops ++ v ∷ []) (lane v)))
+        (λ v. run_row all view (loops ++ v ∷ [])) (λ v. run_row all' view (loops ++ v ∷ [])) lane next number_is there elsewhere
+
+    pub second_done : RunAlone (where_false inside c b loops) (λ v. run_row all' view (loops ++ v ∷ [])) amid next
+    second_done =
+        second_branch inside (numbers c b loops) (λ v. value c (names_in view (loops ++ v ∷ []) (lane v)))
+        (λ v. run_row all view (loops ++ v ∷ [])) (λ v. run_row all' view (loops ++ v ∷ [])) lane next number_is there elsewhere
+
+    pub true_places : HavePlaces (where_true inside c b loops) pl
+    true_places =
+        fewer_places pl inside (where_true inside c b loops)
+        (λ v i. (and_parts (inside v) (not (is_zero (numbers c b loops v))) i).0) places
+
+    pub false_places : HavePlaces (where_false inside c b loops) pl
+    false_places =
+        fewer_places pl inside (where_false inside c b loops) (λ v i. (and_parts (inside v) (is_zero (numbers c b loops v)) i).0) places
+
+    choice_stands : AllOf IsStanding (items all) → AllOf IsStanding (items all') → row_apart taken own loose here all ≡ true →
+        row_apart taken own loose here all' ≡ true →
+        Stands (block_row pl (where_false inside c b loops) loops all' (block_row pl (where_true inside c b loops) loops all b)) next
+    choice_stands each other p q =
+        row_stand _ all' other (where_false inside c b loops) false_places loose
+        (block_row pl (where_true inside c b loops) loops all b) amid next
+        (row_stand _ all each (where_true inside c b loops) true_places loose b lane amid h p first_done) q second_done
+
+  one_stands : (first : Stmt) → OfBranches IsStanding first → IsStanding first
+  one_stands (Declare x (Value e)) each inside places loose b lane next h ok alone =
+      set_stands inside places loose b lane next h.is h.keeps h.kept alone.elsewhere x.0 e
+      (and_parts (own x.0) (is_apart taken loose here e) ok).0 (and_parts (own x.0) (is_apart taken loose here e) ok).1
+      (λ v i. assigned_by x.0 (value e (names_in view (loops ++ v ∷ []) (lane v))) (lane v) (next v) (alone.there v i))
+  one_stands (Declare x Read) each inside places loose b lane next h ok alone =
+      absurd (false≢true (and_parts (own x.0) false ok).1)
+  one_stands (Assign x (Value e)) each inside places loose b lane next h ok alone =
+      set_stands inside places loose b lane next h.is h.keeps h.kept alone.elsewhere x.0 e
+      (and_parts (own x.0) (is_apart taken loose here e) ok).0 (and_parts (own x.0) (is_apart taken loose here e) ok).1
+      (λ v i. assigned_by x.0 (value e (names_in view (loops ++ v ∷ []) (lane v))) (lane v) (next v) (alone.there v i))
+  one_stands (Assign x Read) each inside places loose b lane next h ok alone =
+      absurd (false≢true (and_parts (own x.0) false ok).1)
+  one_stands (Store a place e (Value f)) each inside places loose b lane next h ok alone =
+      let l = and_parts (taken a.0) (here e && is_apart taken loose here f) ok in
+      let q = and_parts (here e) (is_apart taken loose here f) l.1 in
+      store_stands inside places loose b lane next h.is h.keeps h.kept alone.elsewhere a f l.0 q.1
+      (λ v i. pushed_by (record { array = a; index = pl.place v }) (value f (names_in view (loops ++ v ∷ []) (lane v))) (lane v) (next v)
+      (sym (ap (option_and_then (λ j. stored view (record { array = a; index = j })
+      (option_map (λ n. (n, lane v)) (value f (names_in view (loops ++ v ∷ []) (lane v))))))
+      (named v e (names_in view (loops ++ v ∷ []) (lane v)) refl (h.kept v) q.0)) ∙ alone.there v i))
+  one_stands (Store a place e Read) each inside places loose b lane next h ok alone =
+      absurd (false≢true (and_parts (here e) false (and_parts (taken a.0) (here e && false) ok).1).1)
+  one_stands (Print e) each inside places loose b lane next h ok alone = absurd (false≢true ok)
+  one_stands (Block' shape all) each inside places loose b lane next h ok alone = absurd (false≢true ok)
+  one_stands (Loop' c shape all) each inside places loose b lane next h ok alone = absurd (false≢true ok)
+  one_stands (If' c shape all shape' all') each inside places loose b lane next h ok alone =
+      let k = and_parts (is_apart taken loose here c)
+      (row_apart taken own loose here all && row_apart taken own loose here all') ok in
+      let l = and_parts (row_apart taken own loose here all) (row_apart taken own loose here all') k.1 in
+      choice_stands c all all' inside places loose b lane next h k.0 alone.there alone.elsewhere each.0 each.1 l.0 l.1
+
+  pub stmt_stands : (first : Stmt) → IsStanding first
+  stmt_stands first = of_stmt IsStanding one_stands first
+
+  pub row_stands : (n : Count) (row : Row_of-Stmt n) → (inside : ℕ → Bool) (places : HavePlaces inside pl)
+      (loose : Set) (b : Block) (lane end : ℕ → Run) → Stands b lane → row_apart taken own loose here row ≡ true →
+      RunAlone inside (λ v. run_row row view (loops ++ v ∷ [])) lane end →
+      Stands (block_row pl inside loops row b) end
+  row_stands n row = row_stand n row (of_row IsStanding one_stands n row)
 
 pub by_assignments : ByAssignments
 by_assignments body view here at loops stored own inside s end named places ok alone =
-    body_stands stored own view here at loops inside s named places own body (block_start view s) (λ v. s) end
+    (all_stand stored own view here at loops s named body
+    (of_body (IsStanding stored own view here at loops s named) (one_stands stored own view here at loops s named) body)
+    inside places own (block_start view s) (λ v. s) end
     (record {
       is = record { scalars = λ v x. refl; cells = λ c. refl; stored = λ c. refl };
       keeps = λ v c o. refl;
       kept = λ v x o. refl;
-    }) ok alone
+    }) ok alone).is

@@ -1,20 +1,22 @@
 -- A turn that carries a scalar on, beside the turn that assigns it what is added.
 use Rattle.std.proofs.Common.{◌≡◌, ℕ, ◌==◌, Bool, true, false, List, [], ◌∷◌, ◌++◌, Option, Some, None, refl, sym, ap, ap₂, ◌∙◌, if◌then◌else◌, eqb-true, arith}
-use Rattle.std.specs.Prelude.{not, ◌&&◌, option_and_then, option_map}
+use Rattle.std.specs.Prelude.{zero, suc, not, ◌&&◌, ◌||◌, option_and_then, option_map}
 use Rattle.std.proofs.lemmas.Bool.{and_parts, false≢true}
 use Rattle.std.proofs.lemmas.Bool.Decides.{nat_tests}
+use mathlib.Core.Former.{Count}
 use mathlib.Core.Path.{fun_ext}
 use Rattle.base.specs.declared.tree.ArrayId.{ArrayId}
 use Rattle.base.specs.declared.tree.ScalarId.{ScalarId}
 use Rattle.base.specs.declared.tree.Expr.{Expr}
 use Rattle.base.specs.declared.tree.Source.TheVariants.{Value, Read}
-use Rattle.base.specs.declared.tree.Stmt.{Stmt}
+use Rattle.base.specs.declared.tree.Stmt.{Stmt, Row_of-Stmt}
 use Rattle.base.specs.declared.tree.Stmt.TheVariants.{Declare, Assign, Store, Print, Block', Loop', If'}
 use Rattle.base.specs.Memory.{View, Scalars}
 use Rattle.base.specs.Value.{on_both, value}
-use Rattle.base.specs.Meaning.{Run, names_in, set_scalar, assigned, stored, run_stmt, run_list}
-use Rattle.lanes.specs.Apart.{Set, Kept, Places, NamesPlaces, is_apart, stmt_apart, loose_after, loose_body, body_apart}
+use Rattle.base.specs.Meaning.{Run, names_in, set_scalar, assigned, stored, choose, run_stmt, run_row, run_list}
+use Rattle.lanes.specs.Apart.{Set, Kept, Places, NamesPlaces, is_apart, stmt_apart, row_apart, loose_after, loose_body, body_apart, assigned_by, row_assigned, assigned_in}
 use Rattle.lanes.specs.Sums.{CarriesOn, ended}
+use Rattle.lanes.proofs.Branches.{items, AllOf, OfBranches, of_body, run_items, apart_items, assigned_items}
 use Rattle.lanes.proofs.Deltas.{set_kept, stmt_kept, body_kept}
 use Rattle.lanes.proofs.Alike.{Alike, value_same}
 
@@ -55,23 +57,19 @@ set_apart x y a n f h = fun_ext (λ (z : ℕ). go z (y == z) (x == z) refl refl)
     go z false true i j = refl
     go z false false i j = refl
 
--- what is loose after statements was loose before, and is not assigned by them
-was_loose : (loose : Set) (s : Stmt) (x : ℕ) → loose_after loose s x ≡ true → loose x ≡ true
-was_loose loose (Declare y v) x h = (and_parts (not (y.0 == x)) (loose x) h).1
-was_loose loose (Assign y v) x h = (and_parts (not (y.0 == x)) (loose x) h).1
-was_loose loose (Store a place e v) x h = h
-was_loose loose (Print e) x h = h
-was_loose loose (Block' shape all) x h = h
-was_loose loose (Loop' b shape all) x h = h
-was_loose loose (If' c shape all shape' all') x h = h
+neither : (p q : Bool) → (p || q) ≡ false → (p ≡ false) × (q ≡ false)
+neither false q h = (refl, h)
+neither true q h = absurd (false≢true (sym h))
 
-still_loose : (loose : Set) (body : List Stmt) (x : ℕ) → loose_body loose body x ≡ true → loose x ≡ true
-still_loose loose [] x h = h
-still_loose loose (s ∷ rest) x h = was_loose loose s x (still_loose (loose_after loose s) rest x h)
-
-not_it : (p q : Bool) → (not p && q) ≡ true → p ≡ false
-not_it true q h = absurd (false≢true h)
-not_it false q h = refl
+-- a scalar that a statement does not assign stays loose
+stays_loose : (loose : Set) (s : Stmt) (x : ℕ) → assigned_by s x ≡ false → loose x ≡ true → loose_after loose s x ≡ true
+stays_loose loose (Declare y v) x h l = ap₂ (λ p q. not p && q) h l
+stays_loose loose (Assign y v) x h l = ap₂ (λ p q. not p && q) h l
+stays_loose loose (Store a place e v) x h l = l
+stays_loose loose (Print e) x h l = l
+stays_loose loose (Block' shape all) x h l = l
+stays_loose loose (Loop' b shape all) x h l = l
+stays_loose loose (If' c shape all shape' all') x h l = l
 
 module _ (taken own : Set) (view : View) (here : Expr → Bool) (pl : Places) (loops : List ℕ) (before : Scalars)
     (named : NamesPlaces here pl own before loops) (v x : ℕ) (its : own x ≡ true) where
@@ -108,48 +106,43 @@ module _ (taken own : Set) (view : View) (here : Expr → Bool) (pl : Places) (l
       go (Some old) = refl
 
   assigned_over : (loose : Set) (a : ℕ) (t : Run) (y : ScalarId) (e : Expr) → Kept own before t.scalars → (own y.0 && is_apart taken loose here e) ≡ true →
-      (not (y.0 == x) && loose x) ≡ true →
+      (y.0 == x) ≡ false → loose x ≡ true →
       assigned y.0 (option_map (λ n. (n, over x a t)) (value e (names_in view (loops ++ v ∷ []) (over x a t))))
       ≡ option_map (over x a) (assigned y.0 (option_map (λ n. (n, t)) (value e (names_in view (loops ++ v ∷ []) t))))
-  assigned_over loose a t y e kept ok m =
+  assigned_over loose a t y e kept ok m l =
       ap (λ o. assigned y.0 (option_map (λ n. (n, over x a t)) o))
-      (value_over loose a t e kept (and_parts (not (y.0 == x)) (loose x) m).1 (and_parts (own y.0) (is_apart taken loose here e) ok).1)
-      ∙ set_over a t y.0 (value e (names_in view (loops ++ v ∷ []) t)) (not_it (y.0 == x) (loose x) m)
+      (value_over loose a t e kept l (and_parts (own y.0) (is_apart taken loose here e) ok).1)
+      ∙ set_over a t y.0 (value e (names_in view (loops ++ v ∷ []) t)) m
 
-  -- a statement that leaves the scalar loose does the same, whatever its number is
-  stmt_over : (loose : Set) (a : ℕ) (t : Run) (first : Stmt) → Kept own before t.scalars → stmt_apart taken own loose here first ≡ true →
-      loose_after loose first x ≡ true →
+  choice_over : (a : ℕ) (t : Run) (o p : Option ℕ) (f g : Run → Option Run) → o ≡ p →
+      f (over x a t) ≡ option_map (over x a) (f t) → g (over x a t) ≡ option_map (over x a) (g t) →
+      choose o f g (over x a t) ≡ option_map (over x a) (choose p f g t)
+  choice_over a t o p f g e h k = ap (λ q. choose q f g (over x a t)) e ∙ go p
+    where
+      go : (p : Option ℕ) → choose p f g (over x a t) ≡ option_map (over x a) (choose p f g t)
+      go None = refl
+      go (Some zero) = k
+      go (Some (suc n)) = h
+
+  -- a statement that does not assign the scalar does the same, whatever its number is
+  abbrev IsOver : Stmt → Type 0
+  IsOver first =
+      (loose : Set) (a : ℕ) (t : Run) → Kept own before t.scalars → stmt_apart taken own loose here first ≡ true →
+      assigned_by first x ≡ false → loose x ≡ true →
       run_stmt first view (loops ++ v ∷ []) (over x a t) ≡ option_map (over x a) (run_stmt first view (loops ++ v ∷ []) t)
-  stmt_over loose a t (Declare y (Value e)) kept ok m = assigned_over loose a t y e kept ok m
-  stmt_over loose a t (Declare y Read) kept ok m = absurd (false≢true (and_parts (own y.0) false ok).1)
-  stmt_over loose a t (Assign y (Value e)) kept ok m = assigned_over loose a t y e kept ok m
-  stmt_over loose a t (Assign y Read) kept ok m = absurd (false≢true (and_parts (own y.0) false ok).1)
-  stmt_over loose a t (Store r place e (Value g)) kept ok m =
-      let k = and_parts (taken r.0) (here e && is_apart taken loose here g) ok in
-      let l = and_parts (here e) (is_apart taken loose here g) k.1 in
-      ap₂ (λ oi ov. option_and_then (λ i. stored view (record { array = r; index = i }) (option_map (λ n. (n, over x a t)) ov)) oi)
-      (named v e (names_in view (loops ++ v ∷ []) (over x a t)) refl (set_kept own before t.scalars x a its kept) l.0
-      ∙ sym (named v e (names_in view (loops ++ v ∷ []) t) refl kept l.0))
-      (value_over loose a t g kept m l.1)
-      ∙ store_over a t r (value e (names_in view (loops ++ v ∷ []) t)) (value g (names_in view (loops ++ v ∷ []) t))
-  stmt_over loose a t (Store r place e Read) kept ok m =
-      absurd (false≢true (and_parts (here e) false (and_parts (taken r.0) (here e && false) ok).1).1)
-  stmt_over loose a t (Print e) kept ok m = absurd (false≢true ok)
-  stmt_over loose a t (Block' shape all) kept ok m = absurd (false≢true ok)
-  stmt_over loose a t (Loop' b shape all) kept ok m = absurd (false≢true ok)
-  stmt_over loose a t (If' c shape all shape' all') kept ok m = absurd (false≢true ok)
 
-  front_over : (loose : Set) (a : ℕ) (t : Run) (front : List Stmt) → Kept own before t.scalars → body_apart taken own loose here front ≡ true →
-      loose_body loose front x ≡ true →
+  all_over : (front : List Stmt) → AllOf IsOver front → (loose : Set) (a : ℕ) (t : Run) → Kept own before t.scalars →
+      body_apart taken own loose here front ≡ true → assigned_in front x ≡ false → loose x ≡ true →
       run_list front view (loops ++ v ∷ []) (over x a t) ≡ option_map (over x a) (run_list front view (loops ++ v ∷ []) t)
-  front_over loose a t [] kept ok m = refl
-  front_over loose a t (first ∷ rest) kept ok m =
+  all_over [] each loose a t kept ok m l = refl
+  all_over (first ∷ rest) each loose a t kept ok m l =
       let k = and_parts (stmt_apart taken own loose here first)
       (body_apart taken own (loose_after loose first) here rest) ok in
-      ap (option_and_then (run_list rest view (loops ++ v ∷ [])))
-      (stmt_over loose a t first kept k.0 (still_loose (loose_after loose first) rest x m))
-      ∙ go (λ u is. front_over (loose_after loose first) a u rest
-      (stmt_kept taken own view here pl loops before named v loose t u first kept k.0 is) k.1 m)
+      let n = neither (assigned_by first x) (assigned_in rest x) m in
+      ap (option_and_then (run_list rest view (loops ++ v ∷ []))) (each.0 loose a t kept k.0 n.0 l)
+      ∙ go (λ u is. all_over rest each.1 (loose_after loose first) a u
+      (stmt_kept taken own view here pl loops before named v loose t u first kept k.0 is) k.1 n.1
+      (stays_loose loose first x n.0 l))
       (run_stmt first view (loops ++ v ∷ []) t) refl
     where
       go : ((u : Run) → run_stmt first view (loops ++ v ∷ []) t ≡ Some u → run_list rest view (loops ++ v ∷ []) (over x a u) ≡ option_map (over x a) (run_list rest view (loops ++ v ∷ []) u)) →
@@ -158,6 +151,47 @@ module _ (taken own : Set) (view : View) (here : Expr → Bool) (pl : Places) (l
           ≡ option_map (over x a) (option_and_then (run_list rest view (loops ++ v ∷ [])) o)
       go next None is = refl
       go next (Some u) is = next u is
+
+  row_over : (n : Count) (row : Row_of-Stmt n) → AllOf IsOver (items row) → (loose : Set) (a : ℕ) (t : Run) → Kept own before t.scalars →
+      row_apart taken own loose here row ≡ true → row_assigned row x ≡ false → loose x ≡ true →
+      run_row row view (loops ++ v ∷ []) (over x a t) ≡ option_map (over x a) (run_row row view (loops ++ v ∷ []) t)
+  row_over n row each loose a t kept ok m l =
+      run_items n row view (loops ++ v ∷ []) (over x a t)
+      ∙ all_over (items row) each loose a t kept (sym (apart_items n row taken own loose here) ∙ ok)
+      (sym (assigned_items n row x) ∙ m) l
+      ∙ ap (option_map (over x a)) (sym (run_items n row view (loops ++ v ∷ []) t))
+
+  one_over : (first : Stmt) → OfBranches IsOver first → IsOver first
+  one_over (Declare y (Value e)) each loose a t kept ok m l = assigned_over loose a t y e kept ok m l
+  one_over (Declare y Read) each loose a t kept ok m l = absurd (false≢true (and_parts (own y.0) false ok).1)
+  one_over (Assign y (Value e)) each loose a t kept ok m l = assigned_over loose a t y e kept ok m l
+  one_over (Assign y Read) each loose a t kept ok m l = absurd (false≢true (and_parts (own y.0) false ok).1)
+  one_over (Store r place e (Value g)) each loose a t kept ok m l =
+      let k = and_parts (taken r.0) (here e && is_apart taken loose here g) ok in
+      let q = and_parts (here e) (is_apart taken loose here g) k.1 in
+      ap₂ (λ oi ov. option_and_then (λ i. stored view (record { array = r; index = i }) (option_map (λ n. (n, over x a t)) ov)) oi)
+      (named v e (names_in view (loops ++ v ∷ []) (over x a t)) refl (set_kept own before t.scalars x a its kept) q.0
+      ∙ sym (named v e (names_in view (loops ++ v ∷ []) t) refl kept q.0))
+      (value_over loose a t g kept l q.1)
+      ∙ store_over a t r (value e (names_in view (loops ++ v ∷ []) t)) (value g (names_in view (loops ++ v ∷ []) t))
+  one_over (Store r place e Read) each loose a t kept ok m l =
+      absurd (false≢true (and_parts (here e) false (and_parts (taken r.0) (here e && false) ok).1).1)
+  one_over (Print e) each loose a t kept ok m l = absurd (false≢true ok)
+  one_over (Block' shape all) each loose a t kept ok m l = absurd (false≢true ok)
+  one_over (Loop' b shape all) each loose a t kept ok m l = absurd (false≢true ok)
+  one_over (If' c shape all shape' all') each loose a t kept ok m l =
+      let k = and_parts (is_apart taken loose here c)
+      (row_apart taken own loose here all && row_apart taken own loose here all') ok in
+      let q = and_parts (row_apart taken own loose here all) (row_apart taken own loose here all') k.1 in
+      let n = neither (row_assigned all x) (row_assigned all' x) m in
+      choice_over a t (value c (names_in view (loops ++ v ∷ []) (over x a t))) (value c (names_in view (loops ++ v ∷ []) t))
+      (run_row all view (loops ++ v ∷ [])) (run_row all' view (loops ++ v ∷ [])) (value_over loose a t c kept l k.0)
+      (row_over _ all each.0 loose a t kept q.0 n.0 l) (row_over _ all' each.1 loose a t kept q.1 n.1 l)
+
+  front_over : (loose : Set) (a : ℕ) (t : Run) (front : List Stmt) → Kept own before t.scalars → body_apart taken own loose here front ≡ true →
+      assigned_in front x ≡ false → loose x ≡ true →
+      run_list front view (loops ++ v ∷ []) (over x a t) ≡ option_map (over x a) (run_list front view (loops ++ v ∷ []) t)
+  front_over loose a t front kept ok m l = all_over front (of_body IsOver one_over front) loose a t kept ok m l
 
 and_done : (o : Option Run) → option_and_then (λ s. Some s) o ≡ o
 and_done None = refl
@@ -190,13 +224,13 @@ apart_ended taken own loose here (first ∷ rest) last h =
 pub turn_over : (taken own : Set) (view : View) (here : Expr → Bool) (pl : Places) (loops : List ℕ) (before : Scalars)
     (named : NamesPlaces here pl own before loops) (v : ℕ) (f : ℕ → ℕ → ℕ) (front : List Stmt) (x : ScalarId) (e c : Expr) →
     CarriesOn f x e c → body_apart taken own own here (ended front x e) ≡ true → loose_body own front x.0 ≡ true →
-    (a : ℕ) (t : Run) → Kept own before t.scalars →
+    assigned_in front x.0 ≡ false → (a : ℕ) (t : Run) → Kept own before t.scalars →
     run_list (ended front x c) view (loops ++ v ∷ []) (over x.0 a t)
     ≡ option_map (λ u. over x.0 (f a (u.scalars x.0)) u) (run_list (ended front x e) view (loops ++ v ∷ []) t)
-turn_over taken own view here pl loops before named v f front x e c carries ok loose a t kept =
+turn_over taken own view here pl loops before named v f front x e c carries ok loose free a t kept =
     run_ended front (Assign x (Value c)) view (loops ++ v ∷ []) (over x.0 a t)
     ∙ ap (option_and_then (run_stmt (Assign x (Value c)) view (loops ++ v ∷ [])))
-    (front_over taken own view here pl loops before named v x.0 its own a t front kept parts.0 loose)
+    (front_over taken own view here pl loops before named v x.0 its own a t front kept parts.0 free its)
     ∙ go (run_list front view (loops ++ v ∷ []) t) refl
     ∙ sym (ap (option_map (λ u. over x.0 (f a (u.scalars x.0)) u)) (run_ended front (Assign x (Value e)) view (loops ++ v ∷ []) t))
   where

@@ -1,6 +1,7 @@
 -- What a turn adds: its run is that, and it lies in the turn's own cells and scalars.
 use Rattle.std.proofs.Common.{◌≡◌, ℕ, ◌==◌, Bool, true, false, List, [], ◌∷◌, ◌++◌, length, Option, Some, None, refl, sym, ap, ap₂, ◌∙◌, arith, subst, if◌then◌else◌, eqb-true, append_assoc, append-nil}
-use Rattle.std.specs.Prelude.{◌&&◌, option_and_then, option_map, slice_index}
+use Rattle.std.specs.Prelude.{zero, suc, ◌&&◌, option_and_then, option_map, slice_index}
+use mathlib.Core.Former.{Count}
 use Rattle.std.proofs.lemmas.Bool.{and_parts, false≢true}
 use Rattle.std.proofs.lemmas.Bool.Decides.{nat_tests}
 use Rattle.std.proofs.lemmas.Option.{same_Some}
@@ -9,12 +10,13 @@ use Rattle.base.specs.declared.tree.Expr.{Expr}
 use Rattle.base.specs.declared.tree.Expr.TheVariants.{Number, Scalar, LoopName, Cell', Unary', Binary', And', Or', Shift', Divide'}
 use Rattle.base.specs.declared.tree.ArrayId.{ArrayId}
 use Rattle.base.specs.declared.tree.Source.TheVariants.{Value, Read}
-use Rattle.base.specs.declared.tree.Stmt.{Stmt}
+use Rattle.base.specs.declared.tree.Stmt.{Stmt, Row_of-Stmt}
 use Rattle.base.specs.declared.tree.Stmt.TheVariants.{Declare, Assign, Store, Print, Block', Loop', If'}
 use Rattle.base.specs.Memory.{View, Scalars, Stores, same_cell, last_stored}
 use Rattle.base.specs.Value.{Names, value}
-use Rattle.base.specs.Meaning.{Run, names_in, set_scalar, assigned, stored, run_stmt, run_list}
-use Rattle.lanes.specs.Apart.{Set, Kept, Places, NamesPlaces, HavePlaces, own_value_places, is_turn, source_apart, stmt_apart, loose_after, body_apart, Delta, apply, idle, join, own_value, setting, storing, store_delta, stmt_delta, join_all, body_delta}
+use Rattle.base.specs.Meaning.{Run, names_in, set_scalar, assigned, stored, choose, run_stmt, run_row, run_list}
+use Rattle.lanes.specs.Apart.{Set, Kept, Places, NamesPlaces, HavePlaces, own_value_places, is_turn, is_apart, source_apart, stmt_apart, row_apart, loose_after, body_apart, Delta, apply, idle, join, own_value, setting, storing, store_delta, chosen_delta, stmt_delta, row_delta, join_all, body_delta}
+use Rattle.lanes.proofs.Branches.{items, AllOf, OfBranches, of_stmt, of_body, run_items, apart_items, delta_items}
 
 pub apply_idle : (s : Run) → apply s idle ≡ s
 apply_idle s = ap (λ (xs : Stores). record s { stores = xs }) (append-nil s.stores)
@@ -46,38 +48,75 @@ store_is view s a None ov = refl
 store_is view s a (Some i) None = refl
 store_is view s a (Some i) (Some n) = store_there s (record { array = a; index = i }) n (view (record { array = a; index = i }))
 
-module _ (taken own : Set) (view : View) where
-  stmt_is : (loose : Set) (here : Expr → Bool) (loops : List ℕ) (s : Run) (first : Stmt) →
-      stmt_apart taken own loose here first ≡ true →
-      run_stmt first view loops s ≡ option_map (apply s) (stmt_delta first view loops s)
-  stmt_is loose here loops s (Declare x (Value e)) h = set_is s x.0 (value e (names_in view loops s))
-  stmt_is loose here loops s (Declare x Read) h = absurd (false≢true (and_parts (own x.0) false h).1)
-  stmt_is loose here loops s (Assign x (Value e)) h = set_is s x.0 (value e (names_in view loops s))
-  stmt_is loose here loops s (Assign x Read) h = absurd (false≢true (and_parts (own x.0) false h).1)
-  stmt_is loose here loops s (Store a place e (Value f)) h =
-      store_is view s a (value e (names_in view loops s)) (value f (names_in view loops s))
-  stmt_is loose here loops s (Store a place e Read) h =
-      absurd (false≢true (and_parts (here e) false (and_parts (taken a.0) (here e && false) h).1).1)
-  stmt_is loose here loops s (Print e) h = absurd (false≢true h)
-  stmt_is loose here loops s (Block' shape all) h = absurd (false≢true h)
-  stmt_is loose here loops s (Loop' b shape all) h = absurd (false≢true h)
-  stmt_is loose here loops s (If' c shape all shape' all') h = absurd (false≢true h)
+-- the deltas of a choice
+choice_is : (s : Run) (o : Option ℕ) (f g : Run → Option Run) (d e : Option Delta) →
+    f s ≡ option_map (apply s) d → g s ≡ option_map (apply s) e →
+    choose o f g s ≡ option_map (apply s) (chosen_delta o d e)
+choice_is s None f g d e h k = refl
+choice_is s (Some zero) f g d e h k = k
+choice_is s (Some (suc n)) f g d e h k = h
 
+module _ (taken own : Set) (view : View) where
   rest_is : (s : Run) (f : Run → Option Run) (g : Delta → Option Delta) (o : Option Delta) →
       ((d : Delta) → f (apply s d) ≡ option_map (apply (apply s d)) (g d)) →
       option_and_then f (option_map (apply s) o) ≡ option_map (apply s) (join_all o g)
   rest_is s f g None h = refl
   rest_is s f g (Some d) h = h d ∙ apply_all s d (g d)
 
+  module _ (here : Expr → Bool) (loops : List ℕ) where
+    -- the run of a statement is its delta
+    abbrev IsDelta : Stmt → Type 0
+    IsDelta first =
+        (loose : Set) (s : Run) → stmt_apart taken own loose here first ≡ true →
+        run_stmt first view loops s ≡ option_map (apply s) (stmt_delta first view loops s)
+
+    all_are : (body : List Stmt) → AllOf IsDelta body → (loose : Set) (s : Run) → body_apart taken own loose here body ≡ true →
+        run_list body view loops s ≡ option_map (apply s) (body_delta body view loops s)
+    all_are [] each loose s h = ap Some (sym (apply_idle s))
+    all_are (first ∷ rest) each loose s h =
+        let k = and_parts (stmt_apart taken own loose here first) (body_apart taken own (loose_after loose first) here rest) h in
+        ap (option_and_then (run_list rest view loops)) (each.0 loose s k.0)
+        ∙ rest_is s (run_list rest view loops) (λ d. body_delta rest view loops (apply s d)) (stmt_delta first view loops s)
+        (λ d. all_are rest each.1 (loose_after loose first) (apply s d) k.1)
+
+    row_is : (n : Count) (row : Row_of-Stmt n) → AllOf IsDelta (items row) → (loose : Set) (s : Run) →
+        row_apart taken own loose here row ≡ true →
+        run_row row view loops s ≡ option_map (apply s) (row_delta row view loops s)
+    row_is n row each loose s h =
+        run_items n row view loops s
+        ∙ all_are (items row) each loose s (sym (apart_items n row taken own loose here) ∙ h)
+        ∙ ap (option_map (apply s)) (sym (delta_items n row view loops s))
+
+    one_is : (first : Stmt) → OfBranches IsDelta first → IsDelta first
+    one_is (Declare x (Value e)) each loose s h = set_is s x.0 (value e (names_in view loops s))
+    one_is (Declare x Read) each loose s h = absurd (false≢true (and_parts (own x.0) false h).1)
+    one_is (Assign x (Value e)) each loose s h = set_is s x.0 (value e (names_in view loops s))
+    one_is (Assign x Read) each loose s h = absurd (false≢true (and_parts (own x.0) false h).1)
+    one_is (Store a place e (Value f)) each loose s h =
+        store_is view s a (value e (names_in view loops s)) (value f (names_in view loops s))
+    one_is (Store a place e Read) each loose s h =
+        absurd (false≢true (and_parts (here e) false (and_parts (taken a.0) (here e && false) h).1).1)
+    one_is (Print e) each loose s h = absurd (false≢true h)
+    one_is (Block' shape all) each loose s h = absurd (false≢true h)
+    one_is (Loop' b shape all) each loose s h = absurd (false≢true h)
+    one_is (If' c shape all shape' all') each loose s h =
+        let k = and_parts (is_apart taken loose here c)
+        (row_apart taken own loose here all && row_apart taken own loose here all') h in
+        let l = and_parts (row_apart taken own loose here all) (row_apart taken own loose here all') k.1 in
+        choice_is s (value c (names_in view loops s)) (run_row all view loops) (run_row all' view loops)
+        (row_delta all view loops s) (row_delta all' view loops s)
+        (row_is _ all each.0 loose s l.0) (row_is _ all' each.1 loose s l.1)
+
+  stmt_is : (loose : Set) (here : Expr → Bool) (loops : List ℕ) (s : Run) (first : Stmt) →
+      stmt_apart taken own loose here first ≡ true →
+      run_stmt first view loops s ≡ option_map (apply s) (stmt_delta first view loops s)
+  stmt_is loose here loops s first h = of_stmt (IsDelta here loops) (one_is here loops) first loose s h
+
   pub body_is : (loose : Set) (here : Expr → Bool) (loops : List ℕ) (s : Run) (body : List Stmt) →
       body_apart taken own loose here body ≡ true →
       run_list body view loops s ≡ option_map (apply s) (body_delta body view loops s)
-  body_is loose here loops s [] h = ap Some (sym (apply_idle s))
-  body_is loose here loops s (first ∷ rest) h =
-      let k = and_parts (stmt_apart taken own loose here first) (body_apart taken own (loose_after loose first) here rest) h in
-      ap (option_and_then (run_list rest view loops)) (stmt_is loose here loops s first k.0)
-      ∙ rest_is s (run_list rest view loops) (λ d. body_delta rest view loops (apply s d)) (stmt_delta first view loops s)
-      (λ d. body_is (loose_after loose first) here loops (apply s d) rest k.1)
+  body_is loose here loops s body h =
+      all_are here loops body (of_body (IsDelta here loops) (one_is here loops) body) loose s h
 
 -- later stores that leave a cell alone
 pub last_over : (xs ys : Stores) (c : Cell) → last_stored ys c ≡ None → last_stored (xs ++ ys) c ≡ last_stored xs c
@@ -189,34 +228,67 @@ module _ (taken own : Set) (view : View) where
 
   module _ (here : Expr → Bool) (pl : Places) (loops : List ℕ) (before : Scalars)
       (named : NamesPlaces here pl own before loops) (v : ℕ) where
-    stmt_within : (loose : Set) (s : Run) (first : Stmt) → Kept own before s.scalars → stmt_apart taken own loose here first ≡ true →
+    -- what a statement adds is that of the turn
+    abbrev IsWithin : Stmt → Type 0
+    IsWithin first =
+        (loose : Set) (s : Run) → Kept own before s.scalars → stmt_apart taken own loose here first ≡ true →
         AllWithin (pl.place v) (stmt_delta first view (loops ++ v ∷ []) s)
-    stmt_within loose s (Declare x w) kept h =
+
+    all_within : (body : List Stmt) → AllOf IsWithin body → (loose : Set) (s : Run) → Kept own before s.scalars →
+        body_apart taken own loose here body ≡ true →
+        AllWithin (pl.place v) (body_delta body view (loops ++ v ∷ []) s)
+    all_within [] each loose s kept h = idle_within (pl.place v)
+    all_within (first ∷ rest) each loose s kept h =
+        let k = and_parts (stmt_apart taken own loose here first)
+        (body_apart taken own (loose_after loose first) here rest) h in
+        all_then (pl.place v) (stmt_delta first view (loops ++ v ∷ []) s) (λ d. body_delta rest view (loops ++ v ∷ []) (apply s d))
+        (each.0 loose s kept k.0)
+        (λ d w. all_within rest each.1 (loose_after loose first) (apply s d) (λ x o. w.sets s.scalars x o ∙ kept x o) k.1)
+
+    row_within : (n : Count) (row : Row_of-Stmt n) → AllOf IsWithin (items row) → (loose : Set) (s : Run) → Kept own before s.scalars →
+        row_apart taken own loose here row ≡ true →
+        AllWithin (pl.place v) (row_delta row view (loops ++ v ∷ []) s)
+    row_within n row each loose s kept h =
+        subst (λ o. AllWithin (pl.place v) o) (sym (delta_items n row view (loops ++ v ∷ []) s))
+        (all_within (items row) each loose s kept (sym (apart_items n row taken own loose here) ∙ h))
+
+    choice_within : (o : Option ℕ) (d e : Option Delta) → AllWithin (pl.place v) d → AllWithin (pl.place v) e →
+        AllWithin (pl.place v) (chosen_delta o d e)
+    choice_within None d e h k = tt
+    choice_within (Some zero) d e h k = k
+    choice_within (Some (suc n)) d e h k = h
+
+    one_of : (first : Stmt) → OfBranches IsWithin first → IsWithin first
+    one_of (Declare x w) each loose s kept h =
         set_within (pl.place v) x.0 (own_value w view (loops ++ v ∷ []) s)
         (and_parts (own x.0) (source_apart taken loose here w) h).0
-    stmt_within loose s (Assign x w) kept h =
+    one_of (Assign x w) each loose s kept h =
         set_within (pl.place v) x.0 (own_value w view (loops ++ v ∷ []) s)
         (and_parts (own x.0) (source_apart taken loose here w) h).0
-    stmt_within loose s (Store a place e w) kept h =
+    one_of (Store a place e w) each loose s kept h =
         let k = and_parts (taken a.0) (here e && source_apart taken loose here w) h in
         let l = and_parts (here e) (source_apart taken loose here w) k.1 in
         store_within (pl.place v) a (value e (names_in view (loops ++ v ∷ []) s)) (own_value w view (loops ++ v ∷ []) s) k.0
         (named v e (names_in view (loops ++ v ∷ []) s) refl kept l.0)
-    stmt_within loose s (Print e) kept h = tt
-    stmt_within loose s (Block' shape all) kept h = tt
-    stmt_within loose s (Loop' b shape all) kept h = tt
-    stmt_within loose s (If' c shape all shape' all') kept h = tt
+    one_of (Print e) each loose s kept h = tt
+    one_of (Block' shape all) each loose s kept h = tt
+    one_of (Loop' b shape all) each loose s kept h = tt
+    one_of (If' c shape all shape' all') each loose s kept h =
+        let k = and_parts (is_apart taken loose here c)
+        (row_apart taken own loose here all && row_apart taken own loose here all') h in
+        let l = and_parts (row_apart taken own loose here all) (row_apart taken own loose here all') k.1 in
+        choice_within (value c (names_in view (loops ++ v ∷ []) s)) (row_delta all view (loops ++ v ∷ []) s)
+        (row_delta all' view (loops ++ v ∷ []) s)
+        (row_within _ all each.0 loose s kept l.0) (row_within _ all' each.1 loose s kept l.1)
+
+    pub stmt_within : (loose : Set) (s : Run) (first : Stmt) → Kept own before s.scalars → stmt_apart taken own loose here first ≡ true →
+        AllWithin (pl.place v) (stmt_delta first view (loops ++ v ∷ []) s)
+    stmt_within loose s first kept h = of_stmt IsWithin one_of first loose s kept h
 
     pub body_within : (loose : Set) (s : Run) (body : List Stmt) → Kept own before s.scalars →
         body_apart taken own loose here body ≡ true →
         AllWithin (pl.place v) (body_delta body view (loops ++ v ∷ []) s)
-    body_within loose s [] kept h = idle_within (pl.place v)
-    body_within loose s (first ∷ rest) kept h =
-        let k = and_parts (stmt_apart taken own loose here first)
-        (body_apart taken own (loose_after loose first) here rest) h in
-        all_then (pl.place v) (stmt_delta first view (loops ++ v ∷ []) s) (λ d. body_delta rest view (loops ++ v ∷ []) (apply s d))
-        (stmt_within loose s first kept k.0)
-        (λ d w. body_within (loose_after loose first) (apply s d) rest (λ x o. w.sets s.scalars x o ∙ kept x o) k.1)
+    body_within loose s body kept h = all_within body (of_body IsWithin one_of body) loose s kept h
 
     -- a turn leaves the scalars that it does not assign
     run_kept : (s u : Run) (o : Option Delta) → AllWithin (pl.place v) o → Kept own before s.scalars →

@@ -3,33 +3,44 @@ use Rattle.std.proofs.Common.{◌≡◌, ℕ, zero, suc, ◌+◌, Bool, true, fa
 use Rattle.std.specs.Prelude.{◌&&◌, option_and_then, option_map}
 use Rattle.std.proofs.lemmas.Bool.{and_parts, false≢true}
 use Rattle.std.proofs.lemmas.Option.{same_Some}
+use mathlib.Core.Former.{Count}
 use Rattle.base.specs.declared.item.Cell.{Cell}
 use Rattle.base.specs.declared.tree.ArrayId.{ArrayId}
 use Rattle.base.specs.declared.tree.Source.TheVariants.{Value, Read}
-use Rattle.base.specs.declared.tree.Stmt.{Stmt}
+use Rattle.base.specs.declared.tree.Stmt.{Stmt, Row_of-Stmt, end_of-Stmt, more_of-Stmt}
 use Rattle.base.specs.declared.tree.Stmt.TheVariants.{Declare, Assign, Store, Print, Block', Loop', If'}
 use Rattle.base.specs.Memory.{View}
 use Rattle.base.specs.Value.{value}
-use Rattle.base.specs.Meaning.{Run, names_in, set_scalar, assigned, stored, turn, run_stmt, run_list}
+use Rattle.base.specs.Meaning.{Run, names_in, set_scalar, assigned, stored, choose, turn, run_stmt, run_row, run_list}
 use Rattle.lanes.specs.Apart.{Set, Kept}
+use Rattle.lanes.proofs.Branches.{items, AllOf, OfBranches, of_body, run_items}
 use Rattle.lanes.proofs.Deltas.{set_kept}
 
--- an assignment, of one of these scalars where it is of a scalar
-abbrev pub assigns_only : Set → Stmt → Bool
-assigns_only own (Declare x (Value e)) = own x.0
-assigns_only own (Declare x Read) = false
-assigns_only own (Assign x (Value e)) = own x.0
-assigns_only own (Assign x Read) = false
-assigns_only own (Store a place e (Value f)) = true
-assigns_only own (Store a place e Read) = false
-assigns_only own (Print e) = false
-assigns_only own (Block' shape all) = false
-assigns_only own (Loop' b shape all) = false
-assigns_only own (If' c shape all shape' all') = false
+abbrev mutual
+  -- an assignment, of one of these scalars where it is of a scalar, or a choice of such
+  pub assigns_only : Set → Stmt → Bool
+  assigns_only own (Declare x (Value e)) = own x.0
+  assigns_only own (Declare x Read) = false
+  assigns_only own (Assign x (Value e)) = own x.0
+  assigns_only own (Assign x Read) = false
+  assigns_only own (Store a place e (Value f)) = true
+  assigns_only own (Store a place e Read) = false
+  assigns_only own (Print e) = false
+  assigns_only own (Block' shape all) = false
+  assigns_only own (Loop' b shape all) = false
+  assigns_only own (If' c shape all shape' all') = row_assigns own all && row_assigns own all'
+
+  pub row_assigns : {m : _} → Set → Row_of-Stmt m → Bool
+  row_assigns own end_of-Stmt = true
+  row_assigns own (more_of-Stmt first rest) = assigns_only own first && row_assigns own rest
 
 abbrev pub all_assign : Set → List Stmt → Bool
 all_assign own [] = true
 all_assign own (first ∷ rest) = assigns_only own first && all_assign own rest
+
+pub assigns_items : (own : Set) (n : Count) (row : Row_of-Stmt n) → row_assigns own row ≡ all_assign own (items row)
+assigns_items own n end_of-Stmt = refl
+assigns_items own n (more_of-Stmt first rest) = ap (λ b. assigns_only own first && b) (assigns_items own _ rest)
 
 module _ (own : Set) where
   abbrev pub Keep : (Run → Option Run) → Type 0
@@ -55,19 +66,6 @@ module _ (own : Set) where
       go c (Some old) h =
           λ y o. ap (λ (r : Run). r.scalars y) (sym (same_Some (record s { stores = s.stores ++ (c, n) ∷ [] }) t h))
 
-  stmt_keeps : (view : View) (loops : List ℕ) (first : Stmt) → assigns_only own first ≡ true → Keep (run_stmt first view loops)
-  stmt_keeps view loops (Declare x (Value e)) its s t h = assigned_keeps x.0 (value e (names_in view loops s)) its s t h
-  stmt_keeps view loops (Declare x Read) its s t h = absurd (false≢true its)
-  stmt_keeps view loops (Assign x (Value e)) its s t h = assigned_keeps x.0 (value e (names_in view loops s)) its s t h
-  stmt_keeps view loops (Assign x Read) its s t h = absurd (false≢true its)
-  stmt_keeps view loops (Store a place e (Value f)) its s t h =
-      stored_keeps view a (value e (names_in view loops s)) (value f (names_in view loops s)) s t h
-  stmt_keeps view loops (Store a place e Read) its s t h = absurd (false≢true its)
-  stmt_keeps view loops (Print e) its s t h = absurd (false≢true its)
-  stmt_keeps view loops (Block' shape all) its s t h = absurd (false≢true its)
-  stmt_keeps view loops (Loop' b shape all) its s t h = absurd (false≢true its)
-  stmt_keeps view loops (If' c shape all shape' all') its s t h = absurd (false≢true its)
-
   then_keeps : (f g : Run → Option Run) → Keep f → Keep g → Keep (λ s. option_and_then g (f s))
   then_keeps f g h k s t e = go (f s) refl e
     where
@@ -75,13 +73,47 @@ module _ (own : Set) where
       go None is e = absurd cc
       go (Some u) is e = λ x o. k u t e x o ∙ h s u is x o
 
+  module _ (view : View) (loops : List ℕ) where
+    abbrev IsKeeping : Stmt → Type 0
+    IsKeeping first = assigns_only own first ≡ true → Keep (run_stmt first view loops)
+
+    all_keep : (body : List Stmt) → AllOf IsKeeping body → all_assign own body ≡ true → Keep (run_list body view loops)
+    all_keep [] each its s t h = λ x o. ap (λ (r : Run). r.scalars x) (sym (same_Some s t h))
+    all_keep (first ∷ rest) each its s t h =
+        let p = and_parts (assigns_only own first) (all_assign own rest) its in
+        then_keeps (run_stmt first view loops) (run_list rest view loops) (each.0 p.0)
+        (λ u w e. all_keep rest each.1 p.1 u w e) s t h
+
+    row_keeps : (n : Count) (row : Row_of-Stmt n) → AllOf IsKeeping (items row) → row_assigns own row ≡ true →
+        Keep (run_row row view loops)
+    row_keeps n row each its s t h =
+        all_keep (items row) each (sym (assigns_items own n row) ∙ its) s t (sym (run_items n row view loops s) ∙ h)
+
+    choice_keeps : (o : Option ℕ) (f g : Run → Option Run) → Keep f → Keep g → Keep (choose o f g)
+    choice_keeps None f g h k s t e = absurd cc
+    choice_keeps (Some zero) f g h k s t e = k s t e
+    choice_keeps (Some (suc n)) f g h k s t e = h s t e
+
+    one_keeps : (first : Stmt) → OfBranches IsKeeping first → IsKeeping first
+    one_keeps (Declare x (Value e)) each its s t h = assigned_keeps x.0 (value e (names_in view loops s)) its s t h
+    one_keeps (Declare x Read) each its s t h = absurd (false≢true its)
+    one_keeps (Assign x (Value e)) each its s t h = assigned_keeps x.0 (value e (names_in view loops s)) its s t h
+    one_keeps (Assign x Read) each its s t h = absurd (false≢true its)
+    one_keeps (Store a place e (Value f)) each its s t h =
+        stored_keeps view a (value e (names_in view loops s)) (value f (names_in view loops s)) s t h
+    one_keeps (Store a place e Read) each its s t h = absurd (false≢true its)
+    one_keeps (Print e) each its s t h = absurd (false≢true its)
+    one_keeps (Block' shape all) each its s t h = absurd (false≢true its)
+    one_keeps (Loop' b shape all) each its s t h = absurd (false≢true its)
+    one_keeps (If' c shape all shape' all') each its s t h =
+        let p = and_parts (row_assigns own all) (row_assigns own all') its in
+        choice_keeps (value c (names_in view loops s)) (run_row all view loops) (run_row all' view loops)
+        (row_keeps _ all each.0 p.0) (row_keeps _ all' each.1 p.1) s t h
+
   pub body_keeps : (view : View) (loops : List ℕ) (body : List Stmt) → all_assign own body ≡ true →
       Keep (run_list body view loops)
-  body_keeps view loops [] its s t h = λ x o. ap (λ (r : Run). r.scalars x) (sym (same_Some s t h))
-  body_keeps view loops (first ∷ rest) its s t h =
-      let p = and_parts (assigns_only own first) (all_assign own rest) its in
-      then_keeps (run_stmt first view loops) (run_list rest view loops) (stmt_keeps view loops first p.0)
-      (λ u w e. body_keeps view loops rest p.1 u w e) s t h
+  body_keeps view loops body its =
+      all_keep view loops body (of_body (IsKeeping view loops) (one_keeps view loops) body) its
 
   pub turns_keep : (step : ℕ) (f : ℕ → Run → Option Run) → ((v : ℕ) → Keep (f v)) → (n v : ℕ) → Keep (turn n v step f)
   turns_keep step f h zero v s t e = λ x o. ap (λ (r : Run). r.scalars x) (sym (same_Some s t e))

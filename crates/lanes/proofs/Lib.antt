@@ -1,3 +1,5 @@
+pub mod Branches
+pub mod Choices
 pub mod Alike
 pub mod Rows
 pub mod Deltas
@@ -13,6 +15,7 @@ pub mod Fixed
 pub mod Moved
 pub mod Along
 pub mod Keeping
+pub mod ChoicesIn
 pub mod MovedShown
 pub mod Powers
 pub mod Totals

@@ -8,7 +8,7 @@ use Rattle.base.specs.declared.tree.Expr.{Expr}
 use Rattle.base.specs.declared.tree.Stmt.{Stmt}
 use Rattle.base.specs.Memory.{View, Scalars, last_stored}
 use Rattle.base.specs.Meaning.{Run, seen, turn, run_list, set_scalar}
-use Rattle.lanes.specs.Apart.{Set, Places, NamesPlaces, OwnPlaces, HavePlaces, body_apart, loose_body, Delta, apply, idle, body_delta, all_deltas, in_block, Block, block_body, block_start}
+use Rattle.lanes.specs.Apart.{Set, Places, NamesPlaces, OwnPlaces, HavePlaces, body_apart, assigned_in, loose_body, Delta, apply, idle, body_delta, all_deltas, in_block, Block, block_body, block_start}
 use Rattle.lanes.specs.Turned.{IsRun}
 use Rattle.lanes.specs.Sums.{CarriesOn, folded, ended, summed, SumIsTurns}
 use Rattle.lanes.proofs.Deltas.{Within, AllWithin, body_within}
@@ -29,7 +29,8 @@ folded_same f p q (suc n) a w h =
 module _ (f : ℕ → ℕ → ℕ) (front : List Stmt) (x : ScalarId) (e c : Expr) (view : View)
     (here : Expr → Bool) (pl : Places) (loops : List ℕ) (taken own : Set) (s : Run) (named : NamesPlaces here pl own s.scalars loops)
     (carries : CarriesOn f x e c) (ok : body_apart taken own own here (ended front x e) ≡ true)
-    (all : (y : ℕ) → loose_body own (ended front x e) y ≡ false) (loose : loose_body own front x.0 ≡ true) where
+    (all : (y : ℕ) → loose_body own (ended front x e) y ≡ false) (loose : loose_body own front x.0 ≡ true)
+    (free : assigned_in front x.0 ≡ false) where
   abbrev plain : ℕ → Run → Option Run
   plain v = run_list (ended front x e) view (loops ++ v ∷ [])
 
@@ -69,7 +70,7 @@ module _ (f : ℕ → ℕ → ℕ) (front : List Stmt) (x : ScalarId) (e c : Exp
         let does : plain w t ≡ Some (apply t d) =
         at_turn taken own view pl here loops (ended front x e) 1 s named (omega arith) ok w t back h ∙ ap (option_map (apply t)) is in
         let there : carried w (over x.0 a t) ≡ Some (over x.0 (f a ((apply t d).scalars x.0)) (apply t d)) =
-        turn_over taken own view here pl loops s.scalars named w f front x e c carries ok loose a t (λ y o. h.scalars y o)
+        turn_over taken own view here pl loops s.scalars named w f front x e c carries ok loose free a t (λ y o. h.scalars y o)
         ∙ ap (option_map (λ (r : Run). over x.0 (f a (r.scalars x.0)) r)) does in
         let rest = sym (ap (λ o. elim o as (λ q. Option Run) [ None ↦ None | Some r ↦ turn n (w + 1) 1 carried r ]) there) ∙ k in
         let r = again (f a ((apply t d).scalars x.0)) (goes_ahead taken own view pl w 1 t s d (omega arith) back h within) rest in
@@ -93,7 +94,7 @@ module _ (f : ℕ → ℕ → ℕ) (front : List Stmt) (x : ScalarId) (e c : Exp
           let does : plain w t ≡ None =
           at_turn taken own view pl here loops (ended front x e) 1 s named (omega arith) ok w t p.0 h ∙ ap (option_map (apply t)) is in
           let there : carried w (over x.0 a t) ≡ None =
-          turn_over taken own view here pl loops s.scalars named w f front x e c carries ok loose a t (λ y o. h.scalars y o)
+          turn_over taken own view here pl loops s.scalars named w f front x e c carries ok loose free a t (λ y o. h.scalars y o)
           ∙ ap (option_map (λ (r : Run). over x.0 (f a (r.scalars x.0)) r)) does in
           absurd (none_left u (sym (ap (λ o. elim o as (λ q. Option Run) [ None ↦ None | Some r ↦ turn n (w + 1) 1 carried r ]) there) ∙ k))
 
@@ -135,8 +136,8 @@ module _ (f : ℕ → ℕ → ℕ) (front : List Stmt) (x : ScalarId) (e c : Exp
         last_of q = last_stored q.stores
 
 pub sum_is_turns : SumIsTurns
-sum_is_turns f front x e c view here pl loops stored own first more s u named places carries ok all loose h =
-    let r = sums f front x e c view here pl loops stored own s named carries ok all loose (suc more) first (s.scalars x.0) s u
+sum_is_turns f front x e c view here pl loops stored own first more s u named places carries ok all loose free h =
+    let r = sums f front x e c view here pl loops stored own s named carries ok all loose free (suc more) first (s.scalars x.0) s u
     (places_of pl (in_block first (suc more)) places (suc more) first (λ v i. i))
     (record { scalars = λ y k. refl; others = λ k o. refl; mine = λ k o. refl })
     (ap (turn (suc more) first 1 (λ v. run_list (ended front x c) view (loops ++ v ∷ []))) (over_own x.0 s) ∙ h) in
@@ -147,11 +148,11 @@ sum_is_turns f front x e c view here pl loops stored own first more s u named pl
           (places_of pl (in_block first (suc more)) places (suc more) first (λ v i. i)) ok) ∙ r.turns),
     )
   where
-    go : (r : Sums f front x e c view here pl loops stored own s named carries ok all loose (suc more) first (s.scalars x.0) s u) →
+    go : (r : Sums f front x e c view here pl loops stored own s named carries ok all loose free (suc more) first (s.scalars x.0) s u) →
         IsRun view (block_body pl (in_block first (suc more)) loops (ended front x e) (block_start view s)) (first + more) s r.mid →
         (o : Option Delta) → all_deltas (suc more) first 1 (λ v. body_delta (ended front x e) view (loops ++ v ∷ []) s) ≡ o →
         option_map (apply s) o ≡ Some r.mid →
         IsRun view (summed f x.0 (s.scalars x.0) (suc more) first
         (block_body pl (in_block first (suc more)) loops (ended front x e) (block_start view s))) (first + more) s u
     go r b None is k = absurd cc
-    go r b (Some d) is k = summed_run f front x e c view here pl loops stored own s named carries ok all loose first more places d is u r b
+    go r b (Some d) is k = summed_run f front x e c view here pl loops stored own s named carries ok all loose free first more places d is u r b

@@ -5,10 +5,10 @@ use Rattle.base.specs.declared.tree.Expr.{Expr}
 use Rattle.base.specs.declared.tree.Expr.TheVariants.{Number, Scalar, LoopName, Cell', Unary', Binary', And', Or', Shift', Divide'}
 use Rattle.base.specs.declared.tree.Source.{Source}
 use Rattle.base.specs.declared.tree.Source.TheVariants.{Value, Read}
-use Rattle.base.specs.declared.tree.Stmt.{Stmt}
+use Rattle.base.specs.declared.tree.Stmt.{Stmt, Row_of-Stmt, end_of-Stmt, more_of-Stmt}
 use Rattle.base.specs.declared.tree.Stmt.TheVariants.{Declare, Assign, Store, Print, Block', Loop', If'}
 use Rattle.base.specs.Memory.{View, Scalars, Stores, last_stored}
-use Rattle.base.specs.Value.{Names, value}
+use Rattle.base.specs.Value.{Names, value, is_zero}
 use Rattle.base.specs.Meaning.{Run, names_in, seen, set_scalar, turn, run_list}
 
 -- a set of arrays or of scalars, by their numbers
@@ -75,18 +75,7 @@ abbrev pub source_apart : Set → Set → (Expr → Bool) → Source → Bool
 source_apart stored loose here (Value e) = is_apart stored loose here e
 source_apart stored loose here Read = false
 
--- whether a statement is such, stores in the stored arrays only by such index expressions, and assigns scalars of the turn
-abbrev pub stmt_apart : Set → Set → Set → (Expr → Bool) → Stmt → Bool
-stmt_apart stored own loose here (Declare x v) = own x.0 && source_apart stored loose here v
-stmt_apart stored own loose here (Assign x v) = own x.0 && source_apart stored loose here v
-stmt_apart stored own loose here (Store a place e v) =
-    stored a.0 && (here e && source_apart stored loose here v)
-stmt_apart stored own loose here (Print e) = false
-stmt_apart stored own loose here (Block' shape all) = false
-stmt_apart stored own loose here (Loop' b shape all) = false
-stmt_apart stored own loose here (If' c shape all shape' all') = false
-
--- the scalars of the turn that are not yet assigned after a statement
+-- the scalars of the turn that are not yet assigned after a statement; a choice assigns none of them for certain
 abbrev pub loose_after : Set → Stmt → Set
 loose_after loose (Declare x v) y = not (x.0 == y) && loose y
 loose_after loose (Assign x v) y = not (x.0 == y) && loose y
@@ -96,10 +85,48 @@ loose_after loose (Block' shape all) y = loose y
 loose_after loose (Loop' b shape all) y = loose y
 loose_after loose (If' c shape all shape' all') y = loose y
 
+abbrev mutual
+  -- whether a statement is such, stores in the stored arrays only by such index expressions, and assigns scalars of the
+  -- turn; of a choice, whether both branches are
+  pub stmt_apart : Set → Set → Set → (Expr → Bool) → Stmt → Bool
+  stmt_apart stored own loose here (Declare x v) = own x.0 && source_apart stored loose here v
+  stmt_apart stored own loose here (Assign x v) = own x.0 && source_apart stored loose here v
+  stmt_apart stored own loose here (Store a place e v) =
+      stored a.0 && (here e && source_apart stored loose here v)
+  stmt_apart stored own loose here (Print e) = false
+  stmt_apart stored own loose here (Block' shape all) = false
+  stmt_apart stored own loose here (Loop' b shape all) = false
+  stmt_apart stored own loose here (If' c shape all shape' all') =
+      is_apart stored loose here c && (row_apart stored own loose here all && row_apart stored own loose here all')
+
+  pub row_apart : {m : _} → Set → Set → Set → (Expr → Bool) → Row_of-Stmt m → Bool
+  row_apart stored own loose here end_of-Stmt = true
+  row_apart stored own loose here (more_of-Stmt first rest) =
+      stmt_apart stored own loose here first && row_apart stored own (loose_after loose first) here rest
+
 abbrev pub body_apart : Set → Set → Set → (Expr → Bool) → List Stmt → Bool
 body_apart stored own loose here [] = true
 body_apart stored own loose here (first ∷ rest) =
     stmt_apart stored own loose here first && body_apart stored own (loose_after loose first) here rest
+
+abbrev mutual
+  -- the scalars that a statement assigns, in the branches of its choices too
+  pub assigned_by : Stmt → Set
+  assigned_by (Declare y v) x = y.0 == x
+  assigned_by (Assign y v) x = y.0 == x
+  assigned_by (Store a place e v) x = false
+  assigned_by (Print e) x = false
+  assigned_by (Block' shape all) x = false
+  assigned_by (Loop' b shape all) x = false
+  assigned_by (If' c shape all shape' all') x = row_assigned all x || row_assigned all' x
+
+  pub row_assigned : {m : _} → Row_of-Stmt m → Set
+  row_assigned end_of-Stmt x = false
+  row_assigned (more_of-Stmt first rest) x = assigned_by first x || row_assigned rest x
+
+abbrev pub assigned_in : List Stmt → Set
+assigned_in [] x = false
+assigned_in (first ∷ rest) x = assigned_by first x || assigned_in rest x
 
 -- what a run adds: its stores in order, and what becomes of the scalars
 pub record Delta : Type 0 where
@@ -130,21 +157,34 @@ storing c n = record { stores = (c, n) ∷ []; set = λ f. f }
 abbrev pub store_delta : View → Cell → Option ℕ → Option Delta
 store_delta view c o = option_and_then (λ n. option_map (λ old. storing c n) (view c)) o
 
--- what an assignment adds
-abbrev pub stmt_delta : Stmt → View → List ℕ → Run → Option Delta
-stmt_delta (Declare x v) view loops s = option_map (setting x.0) (own_value v view loops s)
-stmt_delta (Assign x v) view loops s = option_map (setting x.0) (own_value v view loops s)
-stmt_delta (Store a place e v) view loops s =
-    option_and_then (λ i. store_delta view (record { array = a; index = i }) (own_value v view loops s))
-    (value e (names_in view loops s))
-stmt_delta (Print e) view loops s = None
-stmt_delta (Block' shape all) view loops s = None
-stmt_delta (Loop' b shape all) view loops s = None
-stmt_delta (If' c shape all shape' all') view loops s = None
-
 -- one delta, and what comes after it
 abbrev pub join_all : Option Delta → (Delta → Option Delta) → Option Delta
 join_all o f = option_and_then (λ d. option_map (join d) (f d)) o
+
+-- the first of two at a number that is not 0, and else the second
+abbrev pub chosen_delta : Option ℕ → Option Delta → Option Delta → Option Delta
+chosen_delta None first second = None
+chosen_delta (Some zero) first second = second
+chosen_delta (Some (suc n)) first second = first
+
+abbrev mutual
+  -- what an assignment adds, or one of the branches of a choice
+  pub stmt_delta : Stmt → View → List ℕ → Run → Option Delta
+  stmt_delta (Declare x v) view loops s = option_map (setting x.0) (own_value v view loops s)
+  stmt_delta (Assign x v) view loops s = option_map (setting x.0) (own_value v view loops s)
+  stmt_delta (Store a place e v) view loops s =
+      option_and_then (λ i. store_delta view (record { array = a; index = i }) (own_value v view loops s))
+      (value e (names_in view loops s))
+  stmt_delta (Print e) view loops s = None
+  stmt_delta (Block' shape all) view loops s = None
+  stmt_delta (Loop' b shape all) view loops s = None
+  stmt_delta (If' c shape all shape' all') view loops s =
+      chosen_delta (value c (names_in view loops s)) (row_delta all view loops s) (row_delta all' view loops s)
+
+  pub row_delta : {m : _} → Row_of-Stmt m → View → List ℕ → Run → Option Delta
+  row_delta end_of-Stmt view loops s = Some idle
+  row_delta (more_of-Stmt first rest) view loops s =
+      join_all (stmt_delta first view loops s) (λ d. row_delta rest view loops (apply s d))
 
 abbrev pub body_delta : List Stmt → View → List ℕ → Run → Option Delta
 body_delta [] view loops s = Some idle
@@ -197,18 +237,33 @@ abbrev pub store_lanes : Places → (ℕ → Bool) → ℕ → (ℕ → ℕ) →
 store_lanes at inside a n b =
     record b { cells = with_lanes at inside a n b.cells; stored = with_lanes at inside a n b.stored }
 
--- an assignment, for all turns of a block
-abbrev pub block_stmt : Places → (ℕ → Bool) → List ℕ → Stmt → Block → Block
-block_stmt at inside loops (Declare x (Value e)) b = set_lanes inside x.0 (numbers e b loops) b
-block_stmt at inside loops (Declare x Read) b = b
-block_stmt at inside loops (Assign x (Value e)) b = set_lanes inside x.0 (numbers e b loops) b
-block_stmt at inside loops (Assign x Read) b = b
-block_stmt at inside loops (Store a place e (Value f)) b = store_lanes at inside a.0 (numbers f b loops) b
-block_stmt at inside loops (Store a place e Read) b = b
-block_stmt at inside loops (Print e) b = b
-block_stmt at inside loops (Block' shape all) b = b
-block_stmt at inside loops (Loop' c shape all) b = b
-block_stmt at inside loops (If' c shape all shape' all') b = b
+-- of some turns of a block those in which the number of a condition is not 0, and those in which it is
+abbrev pub where_true : (ℕ → Bool) → Expr → Block → List ℕ → ℕ → Bool
+where_true inside c b loops v = inside v && not (is_zero (numbers c b loops v))
+
+abbrev pub where_false : (ℕ → Bool) → Expr → Block → List ℕ → ℕ → Bool
+where_false inside c b loops v = inside v && is_zero (numbers c b loops v)
+
+abbrev mutual
+  -- an assignment, for all turns of a block; a choice is its first branch for some of them, and then its second for the
+  -- others
+  pub block_stmt : Places → (ℕ → Bool) → List ℕ → Stmt → Block → Block
+  block_stmt at inside loops (Declare x (Value e)) b = set_lanes inside x.0 (numbers e b loops) b
+  block_stmt at inside loops (Declare x Read) b = b
+  block_stmt at inside loops (Assign x (Value e)) b = set_lanes inside x.0 (numbers e b loops) b
+  block_stmt at inside loops (Assign x Read) b = b
+  block_stmt at inside loops (Store a place e (Value f)) b = store_lanes at inside a.0 (numbers f b loops) b
+  block_stmt at inside loops (Store a place e Read) b = b
+  block_stmt at inside loops (Print e) b = b
+  block_stmt at inside loops (Block' shape all) b = b
+  block_stmt at inside loops (Loop' c shape all) b = b
+  block_stmt at inside loops (If' c shape all shape' all') b =
+      block_row at (where_false inside c b loops) loops all' (block_row at (where_true inside c b loops) loops all b)
+
+  pub block_row : {m : _} → Places → (ℕ → Bool) → List ℕ → Row_of-Stmt m → Block → Block
+  block_row at inside loops end_of-Stmt b = b
+  block_row at inside loops (more_of-Stmt first rest) b =
+      block_row at inside loops rest (block_stmt at inside loops first b)
 
 -- each assignment in turn, for all turns of a block
 abbrev pub block_body : Places → (ℕ → Bool) → List ℕ → List Stmt → Block → Block

@@ -9,7 +9,7 @@ use Rattle.base.specs.declared.tree.Stmt.TheVariants.{Assign}
 use Rattle.base.specs.Memory.{View}
 use Rattle.base.specs.Value.{Names, on_both, value}
 use Rattle.base.specs.Meaning.{Run, turn, run_list, set_scalar}
-use Rattle.lanes.specs.Apart.{Set, Places, NamesPlaces, HavePlaces, body_apart, loose_body, in_block, Block, block_body, block_start}
+use Rattle.lanes.specs.Apart.{Set, Places, NamesPlaces, HavePlaces, body_apart, assigned_in, loose_body, in_block, Block, block_body, block_start}
 use Rattle.lanes.specs.There.{BodyThere}
 use Rattle.lanes.specs.Turned.{IsRun}
 
@@ -40,6 +40,7 @@ SumIsTurns =
     NamesPlaces here at own s.scalars loops → HavePlaces (in_block first (suc more)) at →
     CarriesOn f x e c → body_apart stored own own here (ended front x e) ≡ true →
     ((y : ℕ) → loose_body own (ended front x e) y ≡ false) → loose_body own front x.0 ≡ true →
+    assigned_in front x.0 ≡ false →
     turn (suc more) first 1 (λ v. run_list (ended front x c) view (loops ++ v ∷ [])) s ≡ Some u →
     BodyThere at (in_block first (suc more)) loops (ended front x e) (block_start view s)
     × IsRun view
