@@ -25,9 +25,9 @@ at_place first cells i v h = go (nat_le first i) refl
         record {
           is =
               λ x k. let inside = slice_get_within cells (i - first) x k in
-                  let same : ◌≡◌ {A = Option ℕ} (Some (slice_index cells (i - first))) (Some x) =
-                  sym (slice_get-get_or cells (i - first) 0 inside) ∙ k in
-                  h (leb-true first i e) inside ∙ cc;
+              let same : ◌≡◌ {A = Option ℕ} (Some (slice_index cells (i - first))) (Some x) =
+              sym (slice_get-get_or cells (i - first) 0 inside) ∙ k in
+              h (leb-true first i e) inside ∙ cc;
         }
 
 pub one_more : (first : ℕ) (cells xs ys : List ℕ) (n v : ℕ) → n < length ys → Gathered first cells xs ys n →

@@ -23,7 +23,15 @@ pub mod RunLoads
 pub mod Overs
 pub mod Runs
 pub mod Offsets
+pub mod MaskRows
+pub mod Parts
+pub mod SomeStores
+pub mod NoTurns
 pub mod BlockLanes
+pub mod Narrower
+pub mod Bodies
+pub mod Anys
+pub mod ChoiceRows
 pub mod Looseness
 pub mod Sums
 pub mod SumLanes

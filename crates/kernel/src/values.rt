@@ -133,8 +133,8 @@ fn or_right(alloc: Global, e: &Expr, b: &Reads<'_>, out: &mut [u64]) -> Result<(
     Ok(())
 }
 
-// A scalar in each turn.
-fn scalar(lanes: &[Lane], before: &[u64; 256], x: ScalarId, out: &mut [u64])
+/// A scalar in each turn.
+pub fn scalar(lanes: &[Lane], before: &[u64; 256], x: ScalarId, out: &mut [u64])
     requires { HaveSize (length out.old) lanes.now }
     ensures size { length out.new ≡ length out.old }
     ensures values { (k : ℕ) → k < length out.old → slice_index out.new k ≡ lane_scalars lanes.now (slice_index before.now) k x.0 }
