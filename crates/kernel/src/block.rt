@@ -20,7 +20,6 @@ use lanes::numbers::fold;
 use std::alloc::{AllocError, Global};
 
 // The numbers of an expression in the turns of a block.
-#[tactic(auto, using(crate::proofs::Agreements::agrees_there, crate::proofs::BlockLanes::names_same))]
 fn values(
     alloc: Global,
     e: &Expr,
