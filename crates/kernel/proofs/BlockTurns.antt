@@ -8,7 +8,7 @@ use Rattle.std.specs.Prelude.{slice_index}
 use Rattle.base.specs.Memory.{View, Scalars}
 use Rattle.base.specs.Value.{binary}
 use Rattle.base.specs.Meaning.{Run, turn}
-use Rattle.lanes.specs.Apart.{Set, Kept, Places, NamesPlaces, HavePlaces, in_block, Block, block_body, block_start}
+use Rattle.lanes.specs.Apart.{Set, assigned_in, Kept, Places, NamesPlaces, HavePlaces, in_block, Block, block_body, block_start}
 use Rattle.lanes.specs.There.{BodyThere}
 use Rattle.lanes.specs.Turned.{IsRun}
 use Rattle.lanes.proofs.Blocks.{block_is_turns}
@@ -17,7 +17,7 @@ use Rattle.lanes.proofs.Sums.{sum_is_turns}
 use Rattle.kernel.specs.Forms.{IsForm, IsFormOf, carried, form_block, statements, with_sum}
 use Rattle.kernel.specs.Lanes.{begun_block, IsBlock}
 use Rattle.kernel.specs.Offsets.{IsWithin, here_of, places_of}
-use Rattle.kernel.specs.Loops.{assigned_in, stored_in, does, Stands, Begins, Ends}
+use Rattle.kernel.specs.Loops.{stored_in, does, Stands, Begins, Ends}
 use Rattle.kernel.specs.declared.frames.KeptRow.{KeptRow}
 use Rattle.kernel.specs.declared.turns.Form.{Form}
 use Rattle.kernel.specs.declared.turns.Sum.{Sum}
@@ -66,12 +66,12 @@ form_is_turns : (here : Expr → Bool) (at : Places) (body front : List Stmt) (s
 form_is_turns here at body front None outer view s t v more named places h e =
     subst (λ (xs : List Stmt). BodyThere at (in_block v (suc more)) outer xs (block_start view s)
     × IsRun view (block_body at (in_block v (suc more)) outer xs (block_start view s)) (v + more) s t) (sym h.0)
-    (block_is_turns body view here at outer (stored_in body) (assigned_in body) v more s t named places h.1.0 (none_loose body) e)
+    (block_is_turns body view here at outer (stored_in body) (assigned_in body) v more s t named places h.1.apart (none_loose body h.1.settled) e)
 form_is_turns here at body front (Some q) outer view s t v more named places h e =
     let all = ended front q.scalar q.added.now in
     let named_all = subst (λ (own : Set). NamesPlaces here at own s.scalars outer) (sum_own body front q h.has.last h.has.whole) named in
     sum_is_turns (binary q.op) front q.scalar q.added.now h.has.last view here at outer (stored_in all) (assigned_in all) v more s t
-    named_all places h.has.carries h.apart.0 (none_loose all) (once_loose front q.scalar q.added.now h.once)
+    named_all places h.has.carries h.apart.apart (none_loose all h.apart.settled) (once_loose front q.scalar q.added.now h.once) h.once
     (sym (ap (λ (xs : List Stmt). turn (suc more) v 1 (does view outer xs) s) h.has.whole) ∙ e)
 
 -- the same turns, one more at least, from where the rows stand

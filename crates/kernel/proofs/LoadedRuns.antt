@@ -1,18 +1,19 @@
 -- Cells whose indices are the turns of a block.
-use Rattle.std.proofs.Common.{◌≡◌, ℕ, ◌+◌, ◌-◌, ◌<◌, ◌≤◌, true, false, List, length, drop, Option, Some, None, refl, sym, ap, ◌∙◌, arith, subst}
-use Rattle.std.specs.Prelude.{nat_le, slice_get, slice_index, slice_range, IsSome, option_and_then}
+use Rattle.std.proofs.Common.{◌≡◌, ℕ, ◌+◌, ◌-◌, ◌<◌, ◌≤◌, true, false, List, length, drop, Option, Some, None, refl, sym, ap, ◌∙◌, arith, subst, length-take, length-drop}
+use Rattle.std.specs.Prelude.{nat_le, slice_get, slice_index, slice_range, option_and_then}
 use Rattle.std.proofs.lemmas.Bool.Decides.{nat_tests}
 use Rattle.std.proofs.lemmas.List.{get_or-take, get_or-drop}
-use Rattle.std.proofs.lemmas.Option.{slice_get-get_or}
+use Rattle.std.proofs.lemmas.Option.{slice_get-get_or, slice_get_within}
 use Rattle.base.specs.declared.tree.ArrayId.{ArrayId}
 use Rattle.base.specs.declared.tree.Expr.{Expr}
 use Rattle.base.specs.Rows.{at_index}
 use Rattle.lanes.specs.Apart.{is_turn}
 use Rattle.lanes.proofs.Deltas.{turn_value}
 use Rattle.kernel.specs.Rows.{cells_kept}
-use Rattle.kernel.specs.Lanes.{cell_of, names_of}
+use Rattle.kernel.specs.Lanes.{Agrees, IsRun, cell_of, names_of}
 use Rattle.kernel.specs.declared.frames.KeptRow.{KeptRow}
 use Rattle.kernel.specs.declared.turns.Reads.{Reads}
+use Rattle.kernel.proofs.Agreements.{agrees_same}
 use Rattle.kernel.proofs.Runs.{HasRun}
 
 from_below : (from first k : ℕ) → from ≤ first → nat_le from (first + k) ≡ true
@@ -46,6 +47,17 @@ turn_cell a e b k h =
     ap (option_and_then (λ i. cells_kept b.rows.now (record { array = a; index = i })))
     (turn_value b.at.now.outer.now (b.at.now.first + k) e (names_of b k) refl h)
 
-pub turn_there : (a : ArrayId) (e : Expr) (b : Reads) (k : ℕ) → is_turn (length b.at.now.outer.now) e ≡ true →
-    IsSome (cell_of a e (names_of b k)) → IsSome (cells_kept b.rows.now (record { array = a; index = b.at.now.first + k }))
-turn_there a e b k h there = subst (λ (o : Option ℕ). IsSome o) (turn_cell a e b k h) there
+pub turn_agrees : (a : ArrayId) (e : Expr) (b : Reads) (k y : ℕ) → is_turn (length b.at.now.outer.now) e ≡ true →
+    Agrees (cells_kept b.rows.now (record { array = a; index = b.at.now.first + k })) y → Agrees (cell_of a e (names_of b k)) y
+turn_agrees a e b k y h there = subst (λ (o : Option ℕ). Agrees o y) (sym (turn_cell a e b k h)) there
+
+-- the cells of a part of a row
+pub part_is_run : (rows : List KeptRow) (a : ArrayId) (first n : ℕ) (r : KeptRow) → slice_get rows a.0 ≡ Some r → r.first ≤ first →
+    first - r.first + n ≤ length r.cells.items →
+    IsRun (cells_kept rows) a first n (slice_range r.cells.items (first - r.first) (first - r.first + n))
+part_is_run rows a first n r is low fits =
+    let has : HasRun rows a.0 first n r = record { within = slice_get_within rows a.0 r is; is = is; from = low; fits = fits } in
+    record {
+      size = simp (length-take, length-drop) (omega arith);
+      each = λ k lt. agrees_same _ _ _ (loaded_run rows a first n r has k lt) refl;
+    }

@@ -11,7 +11,7 @@ use Rattle.base.specs.Memory.{Scalars}
 use Rattle.base.specs.Value.{binary, value}
 use Rattle.base.specs.Meaning.{set_scalar}
 use Rattle.lanes.specs.Apart.{Places, Block, block_body, block_stmt, names_at, numbers, set_lanes}
-use Rattle.lanes.specs.There.{BodyThere, HasValues, StmtThere, body_plain, is_plain, stmt_plain}
+use Rattle.lanes.specs.There.{BodyThere, HasValues, StmtThere}
 use Rattle.lanes.specs.Sums.{folded}
 use Rattle.lanes.proofs.Carried.{set_twice, set_own}
 use Rattle.kernel.specs.Forms.{IsCarriedOn, carried, with_sum}
@@ -21,8 +21,8 @@ use Rattle.kernel.specs.declared.frames.KeptRow.{KeptRow}
 use Rattle.kernel.specs.declared.turns.Lane.{Lane}
 use Rattle.kernel.specs.declared.turns.Sum.{Sum}
 use Rattle.kernel.specs.declared.turns.Turns.{Turns}
-use Rattle.kernel.proofs.BlockLanes.{all_done, none_assigned}
-use Rattle.kernel.proofs.Offsets.{place_in}
+use Rattle.kernel.proofs.BlockLanes.{all_done, inside_at, none_assigned}
+use Rattle.kernel.proofs.Parts.{takes_all}
 
 body_more : (pl : Places) (inside : ℕ → Bool) (loops : List ℕ) (front : List Stmt) (last : Stmt) (b : Block) →
     block_body pl inside loops (front ++ last ∷ []) b ≡ block_stmt pl inside loops last (block_body pl inside loops front b)
@@ -36,24 +36,6 @@ there_parts pl inside loops [] last b h = (tt, h.0)
 there_parts pl inside loops (first ∷ rest) last b h =
     let r = there_parts pl inside loops rest last (block_stmt pl inside loops first b) h.1 in
     ((h.0, r.0), r.1)
-
-plain_parts : (front : List Stmt) (last : Stmt) → body_plain (front ++ last ∷ []) ≡ true →
-    (body_plain front ≡ true) × (stmt_plain last ≡ true)
-plain_parts [] last h = (refl, (and_parts (stmt_plain last) true h).0)
-plain_parts (first ∷ rest) last h =
-    let p = and_parts (stmt_plain first) (body_plain (rest ++ last ∷ [])) h in
-    let r = plain_parts rest last p.1 in
-    (ap₂ (λ a b. a && b) p.0 r.0, r.1)
-
-pub front_plain : (front : List Stmt) (sum : Option Sum) → body_plain (with_sum front sum) ≡ true → body_plain front ≡ true
-front_plain front None h = h
-front_plain front (Some s) h = (plain_parts front (Assign s.scalar (Value s.added.now)) h).0
-
-pub added_plain : (front : List Stmt) (sum : Option Sum) (s : Sum) → sum ≡ Some s → body_plain (with_sum front sum) ≡ true →
-    is_plain s.added.now ≡ true
-added_plain front sum s is h =
-    (plain_parts front (Assign s.scalar (Value s.added.now))
-    (subst (λ o. body_plain (with_sum front o) ≡ true) is h)).1
 
 pub front_there : (pl : Places) (inside : ℕ → Bool) (loops : List ℕ) (front : List Stmt) (sum : Option Sum) (b : Block) →
     BodyThere pl inside loops (with_sum front sum) b → BodyThere pl inside loops front b
@@ -84,7 +66,7 @@ folded_along f p q (suc n) a w v h =
         ap p i ∙ h (suc k) (omega (arith, lt)) ∙ sym (ap q j)
 
 -- a block in which a scalar is assigned last, with the number that is carried on in its place
-module _ (at : Turns) (b : Block) (x : ScalarId) (e : Expr) (f : ℕ → ℕ → ℕ) (a : ℕ) (ys : List ℕ) (size : length ys ≡ at.count)
+module _ (at : Turns) (all : at.mask ≡ None) (b : Block) (x : ScalarId) (e : Expr) (f : ℕ → ℕ → ℕ) (a : ℕ) (ys : List ℕ) (size : length ys ≡ at.count)
     (given : (k : ℕ) → k < at.count → value e (names_at b at.outer.now (at.first + k)) ≡ Some (slice_index ys k)) where
   abbrev assigned : Block
   assigned = set_lanes (inside_of at) x.0 (numbers e b at.outer.now) b
@@ -93,7 +75,7 @@ module _ (at : Turns) (b : Block) (x : ScalarId) (e : Expr) (f : ℕ → ℕ →
       assigned.scalars (at.first + k) ≡ set_scalar x.0 (slice_index ys k) (b.scalars (at.first + k))
   set_there k lt =
       ap (λ q. if q then set_scalar x.0 (numbers e b at.outer.now (at.first + k)) (b.scalars (at.first + k)) else b.scalars (at.first + k))
-      (place_in at.first at.count k lt)
+      (inside_at at k lt (takes_all at k all))
       ∙ ap (λ o. set_scalar x.0 (unwrap_or o 0) (b.scalars (at.first + k))) (given k lt)
 
   pub sum_is : folded f (λ w. assigned.scalars w x.0) a at.count at.first ≡ folded f (slice_index ys) a (length ys) 0
@@ -106,14 +88,14 @@ module _ (at : Turns) (b : Block) (x : ScalarId) (e : Expr) (f : ℕ → ℕ →
       none k = omega arith
 
 -- after the last statement, and the sum
-pub sum_done : (at : Turns) (front : List Stmt) (s : Sum) (lanes lanes' slice : List Lane) (rows rows' : List KeptRow)
+pub sum_done : (at : Turns) (all : at.mask ≡ None) (front : List Stmt) (s : Sum) (lanes lanes' slice : List Lane) (rows rows' : List KeptRow)
     (scalars scalars' : List ℕ) (n : ℕ) → lanes ≡ [] →
     block_of at lanes' rows' ≡ block_body (places_of at.offset) (inside_of at) at.outer.now front (block_of at lanes rows) → slice ≡ lanes' →
     slice_index scalars ≡ lane_scalars slice (slice_index at.scalars.now) (at.count - 1) →
     IsCarriedOn at.first at.count at.outer.now at.scalars.now (block_of at lanes' rows') s n → slice_index scalars' ≡ set_scalar s.scalar.0 n (slice_index scalars) →
     IsBlock (carried (Some s) (slice_index at.scalars.now) at.first at.count
     (block_body (places_of at.offset) (inside_of at) at.outer.now (with_sum front (Some s)) (begun_block at.scalars.now rows))) (at.first + (at.count - 1)) scalars' rows'
-sum_done at front s lanes lanes' slice rows rows' scalars scalars' n none is same last sum took =
+sum_done at all front s lanes lanes' slice rows rows' scalars scalars' n none is same last sum took =
     subst (λ (c : Block). IsBlock (carried (Some s) (slice_index at.scalars.now) at.first at.count c) (at.first + (at.count - 1)) scalars' rows')
     (sym (body_more (places_of at.offset) (inside_of at) at.outer.now front (Assign s.scalar (Value s.added.now)) (begun_block at.scalars.now rows)))
     (record {
@@ -121,7 +103,7 @@ sum_done at front s lanes lanes' slice rows rows' scalars scalars' n none is sam
           took
           ∙ ap₂ (λ m (g : Scalars). set_scalar s.scalar.0 m g) (sum.is ∙ sym number) d.scalars
           ∙ sym (set_twice s.scalar.0 (slice_index sum.numbers (at.count - 1)) total (b.scalars (at.first + (at.count - 1))))
-          ∙ sym (ap (λ (g : Scalars). set_scalar s.scalar.0 total g) (set_there at b s.scalar s.added.now (binary s.op) before sum.numbers sum.size here (at.count - 1) below));
+          ∙ sym (ap (λ (g : Scalars). set_scalar s.scalar.0 total g) (set_there at all b s.scalar s.added.now (binary s.op) before sum.numbers sum.size here (at.count - 1) below));
       cells = d.cells;
       stored = d.stored;
     })
@@ -143,10 +125,10 @@ sum_done at front s lanes lanes' slice rows rows' scalars scalars' n none is sam
     before = slice_index at.scalars.now s.scalar.0
 
     total : ℕ
-    total = folded (binary s.op) (λ w. (assigned at b s.scalar s.added.now (binary s.op) before sum.numbers sum.size here).scalars w s.scalar.0) before at.count at.first
+    total = folded (binary s.op) (λ w. (assigned at all b s.scalar s.added.now (binary s.op) before sum.numbers sum.size here).scalars w s.scalar.0) before at.count at.first
 
     number : total ≡ folded (binary s.op) (slice_index sum.numbers) before (length sum.numbers) 0
-    number = sum_is at b s.scalar s.added.now (binary s.op) before sum.numbers sum.size here
+    number = sum_is at all b s.scalar s.added.now (binary s.op) before sum.numbers sum.size here
 
     below : at.count - 1 < at.count
     below = let some = at.some in omega arith

@@ -1,21 +1,20 @@
 -- A body whose last statement carries a scalar on.
 use Rattle.std.proofs.Common.{◌≡◌, ℕ, Bool, true, false, List, [], ◌∷◌, ◌++◌, Option, Some, None, refl, sym, ap, ap₂, ◌∙◌}
 use Rattle.std.specs.Prelude.{not, ◌&&◌, ◌||◌}
-use Rattle.std.proofs.lemmas.Bool.{and_parts}
+use Rattle.std.proofs.lemmas.Bool.{and_parts, false≢true}
 use mathlib.Core.Path.{fun_ext}
 use Rattle.base.specs.declared.tree.ScalarId.{ScalarId}
 use Rattle.base.specs.declared.tree.Expr.{Expr}
 use Rattle.base.specs.declared.tree.Source.TheVariants.{Value}
 use Rattle.base.specs.declared.tree.Stmt.{Stmt}
-use Rattle.base.specs.declared.tree.Stmt.TheVariants.{Assign}
-use Rattle.lanes.specs.Apart.{Set, is_apart, loose_after, loose_body, body_apart, stmt_apart}
-use Rattle.lanes.specs.There.{body_plain, is_plain, stmt_plain}
+use Rattle.base.specs.declared.tree.Stmt.TheVariants.{Declare, Assign, Store, Print, Block', Loop', If'}
+use Rattle.lanes.specs.Apart.{Set, assigned_by, assigned_in, is_apart, loose_after, loose_body, body_apart, stmt_apart}
 use Rattle.lanes.specs.Sums.{ended}
 use Rattle.kernel.specs.Forms.{HasSum, IsCarriedBy, IsFormOf, IsSum, with_sum}
-use Rattle.kernel.specs.Loops.{assigned_in, loose_in, stored_by, stored_in}
+use Rattle.kernel.specs.Loops.{AreApartFor, AreSettled, certain_by, certain_in, loose_in, stored_by, stored_in}
 use Rattle.kernel.specs.declared.turns.Sum.{Sum}
 use Rattle.lanes.proofs.Carried.{same_is}
-use Rattle.kernel.proofs.Looseness.{in_more, loose_is, all_loose}
+use Rattle.kernel.proofs.Looseness.{in_more, certain_more, loose_is, all_loose}
 
 stored_more : (before : List Stmt) (s : Stmt) (a : ℕ) → stored_in (before ++ s ∷ []) a ≡ (stored_in before a || stored_by s a)
 stored_more [] s a = go (stored_by s a)
@@ -46,17 +45,15 @@ more_apart taken own loose here (first ∷ rest) last h k =
     let p = and_parts (stmt_apart taken own loose here first) (body_apart taken own (loose_after loose first) here rest) h in
     ap₂ (λ a b. a && b) p.0 (more_apart taken own (loose_after loose first) here rest last p.1 k)
 
-pub more_plain : (front : List Stmt) (last : Stmt) → body_plain front ≡ true → stmt_plain last ≡ true →
-    body_plain (front ++ last ∷ []) ≡ true
-more_plain [] last h k = ap (λ b. b && true) k
-more_plain (first ∷ rest) last h k =
-    let p = and_parts (stmt_plain first) (body_plain rest) h in
-    ap₂ (λ a b. a && b) p.0 (more_plain rest last p.1 k)
+-- so it is with those that are assigned for certain
+certain_same : (front : List Stmt) (x : ScalarId) (e c : Expr) → certain_in (ended front x c) ≡ certain_in (ended front x e)
+certain_same front x e c =
+    fun_ext (λ (y : ℕ). certain_more front (Assign x (Value c)) y ∙ sym (certain_more front (Assign x (Value e)) y))
 
 -- what is loose at the end of the statements before the last one
 front_loose : (body front : List Stmt) → loose_in body front ≡ loose_body (assigned_in body) front
 front_loose body front =
-    fun_ext (λ (x : ℕ). go (assigned_in body x) (assigned_in front x) ∙ sym (loose_is front (assigned_in body) x))
+    fun_ext (λ (x : ℕ). go (assigned_in body x) (certain_in front x) ∙ sym (loose_is front (assigned_in body) x))
   where
     go : (p q : Bool) → (p && not q) ≡ (not q && p)
     go true true = refl
@@ -72,25 +69,51 @@ last_assigned front x e =
     go true = refl
     go false = refl
 
+-- what is not assigned is not assigned for certain
+not_certain : (body : List Stmt) (x : ℕ) → assigned_in body x ≡ false → certain_in body x ≡ false
+not_certain [] x h = refl
+not_certain (s ∷ rest) x h =
+    let l = neither (assigned_by s x) (assigned_in rest x) h in
+    ap₂ (λ p q. p || q) (one s l.0) (not_certain rest x l.1)
+  where
+    neither : (p q : Bool) → (p || q) ≡ false → (p ≡ false) × (q ≡ false)
+    neither true q h = absurd (false≢true (sym h))
+    neither false q h = (refl, h)
+
+    one : (s : Stmt) → assigned_by s x ≡ false → certain_by s x ≡ false
+    one (Declare y v) h = h
+    one (Assign y v) h = h
+    one (Store a place e v) h = refl
+    one (Print e) h = refl
+    one (Block' shape all) h = refl
+    one (Loop' b shape all) h = refl
+    one (If' c shape all shape' all') h = refl
+
 -- the scalar is loose until it is carried on
 pub once_loose : (front : List Stmt) (x : ScalarId) (e : Expr) → assigned_in front x.0 ≡ false →
     loose_body (assigned_in (ended front x e)) front x.0 ≡ true
 once_loose front x e once =
-    loose_is front (assigned_in (ended front x e)) x.0 ∙ ap₂ (λ p q. not p && q) once (last_assigned front x e)
+    loose_is front (assigned_in (ended front x e)) x.0
+    ∙ ap₂ (λ p q. not p && q) (not_certain front x.0 once) (last_assigned front x e)
 
 -- what is looked at of a body
 pub is_sum : (here : Expr → Bool) (body front : List Stmt) (s : Sum) → HasSum body front s → assigned_in front s.scalar.0 ≡ false →
-    body_plain front ≡ true → is_plain s.added.now ≡ true →
-    body_apart (stored_in body) (assigned_in body) (loose_in body []) here front ≡ true →
+    AreSettled body body → AreApartFor here body (loose_in body []) front →
     is_apart (stored_in body) (loose_in body front) here s.added.now ≡ true → IsSum here body front s
-is_sum here body front s has once plain added first last =
-    record { has = has; apart = (apart, more_plain front (Assign s.scalar (Value s.added.now)) plain added); once = once }
+is_sum here body front s has once settled first last =
+    record { has = has; apart = record { apart = apart; settled = left }; once = once }
   where
     taken : stored_in body ≡ stored_in (ended front s.scalar s.added.now)
     taken = ap stored_in has.whole ∙ stored_same front s.scalar s.added.now has.last
 
     own : assigned_in body ≡ assigned_in (ended front s.scalar s.added.now)
     own = ap assigned_in has.whole ∙ assigned_same front s.scalar s.added.now has.last
+
+    certain : certain_in body ≡ certain_in (ended front s.scalar s.added.now)
+    certain = ap certain_in has.whole ∙ certain_same front s.scalar s.added.now has.last
+
+    left : AreSettled (ended front s.scalar s.added.now) (ended front s.scalar s.added.now)
+    left x h = ap (λ (q : Set). q x) (sym certain) ∙ settled x (ap (λ (q : Set). q x) own ∙ h)
 
     front_apart : body_apart (stored_in body) (assigned_in body) (assigned_in body) here front ≡ true
     front_apart = ap (λ loose. body_apart (stored_in body) (assigned_in body) loose here front) (sym (all_loose body)) ∙ first
@@ -105,12 +128,6 @@ is_sum here body front s has once plain added first last =
     apart =
         ap₂ (λ t o. body_apart t o o here (ended front s.scalar s.added.now)) (sym taken) (sym own)
         ∙ more_apart (stored_in body) (assigned_in body) (assigned_in body) here front (Assign s.scalar (Value s.added.now)) front_apart last_apart
-
--- each operand of a form has a value
-pub form_plain : (here : Expr → Bool) (body front : List Stmt) (sum : Option Sum) → IsFormOf here body front sum →
-    body_plain (with_sum front sum) ≡ true
-form_plain here body front None h = ap body_plain h.0 ∙ h.1.1
-form_plain here body front (Some s) h = h.apart.1
 
 -- a body that ends with a statement that carries a scalar on
 pub has_sum : (body front : List Stmt) (last : Stmt) (s : Sum) → body ≡ front ++ last ∷ [] → IsCarriedBy last s → HasSum body front s

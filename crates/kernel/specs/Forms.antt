@@ -6,9 +6,9 @@ use Rattle.base.specs.declared.tree.Stmt.{Stmt}
 use Rattle.base.specs.declared.tree.Stmt.TheVariants.{Assign}
 use Rattle.base.specs.Memory.{Scalars}
 use Rattle.base.specs.Value.{binary, value}
-use Rattle.lanes.specs.Apart.{Block, block_body, in_block, names_at}
+use Rattle.lanes.specs.Apart.{Block, assigned_in, block_body, in_block, names_at}
 use Rattle.lanes.specs.Sums.{CarriesOn, ended, folded, summed}
-use Rattle.kernel.specs.Loops.{AreApart, assigned_in}
+use Rattle.kernel.specs.Loops.{AreApart}
 use Rattle.kernel.specs.Offsets.{here_of, places_of}
 use Rattle.kernel.specs.declared.turns.Form.{Form}
 use Rattle.kernel.specs.declared.turns.Sum.{Sum}

@@ -1,11 +1,11 @@
 -- A block of turns in the machine.
-use Rattle.std.specs.Prelude.{ℕ, ◌≡◌, ◌+◌, ◌-◌, ◌<◌, nat_le, nat_lt, ◌&&◌, if◌then◌else◌, Bool, List, [], ◌∷◌, ◌++◌, length, Some, slice_get, slice_index, option_and_then, Option}
+use Rattle.std.specs.Prelude.{ℕ, ◌≡◌, ◌+◌, ◌-◌, ◌<◌, nat_le, nat_lt, ◌&&◌, if◌then◌else◌, Bool, true, false, List, [], ◌∷◌, ◌++◌, length, Some, None, slice_get, slice_index, slice_index_or, option_and_then, Option}
 use Rattle.base.specs.declared.tree.ArrayId.{ArrayId}
 use Rattle.base.specs.declared.tree.Expr.{Expr}
-use Rattle.base.specs.Memory.{Scalars}
+use Rattle.base.specs.Memory.{Scalars, View}
 use Rattle.base.specs.Value.{Names, value}
 use Rattle.base.specs.Meaning.{set_scalar}
-use Rattle.lanes.specs.Apart.{Places, Block, in_block, numbers, set_lanes, store_lanes}
+use Rattle.lanes.specs.Apart.{Places, Block, in_block, names_at, numbers, own_value_places, set_lanes, store_lanes, with_lanes}
 use Rattle.kernel.specs.Rows.{cells_kept, cells_stored}
 use Rattle.kernel.specs.declared.frames.KeptRow.{KeptRow}
 use Rattle.kernel.specs.declared.turns.Lane.{Lane}
@@ -35,14 +35,40 @@ names_of b k =
 abbrev pub cell_of : ArrayId → Expr → Names → Option ℕ
 cell_of a index names = option_and_then (λ i. names.cells (record { array = a; index = i })) (value index names)
 
--- the numbers of an expression in the turns of a block
+-- a number is the one that is there, if one is
+pub record Agrees (o : Option ℕ) (n : ℕ) : Type 0 where
+  pub is : (x : ℕ) → o ≡ Some x → n ≡ x
+
+-- the numbers of an expression in those turns of a block in which it has a value
 abbrev pub AreValues : Expr → Reads → List ℕ → Type 0
-AreValues e b ys = (k : ℕ) → k < length ys → value e (names_of b k) ≡ Some (slice_index ys k)
+AreValues e b ys = (k : ℕ) → k < length ys → Agrees (value e (names_of b k)) (slice_index ys k)
 
+-- what stands at cells of an array, where they are there
+abbrev pub AreLoaded : View → ArrayId → (ℕ → ℕ) → List ℕ → Type 0
+AreLoaded view a index ys = (k : ℕ) → k < length ys → Agrees (view (record { array = a; index = index k })) (slice_index ys k)
+
+-- as many cells of an array from an index on
+pub record IsRun (view : View) (a : ArrayId) (first n : ℕ) (xs : List ℕ) : Type 0 where
+  pub size : length xs ≡ n
+  pub each : (k : ℕ) → k < n → Agrees (view (record { array = a; index = first + k })) (slice_index xs k)
+
+-- whether a turn takes part, by its place in the block
+abbrev pub takes_part : Turns → ℕ → Bool
+takes_part at k = elim at.mask [ None ↦ true | Some m ↦ slice_index_or m.now k false ]
+
+-- the turns of the block that take part
 abbrev pub inside_of : Turns → ℕ → Bool
-inside_of at v = in_block at.first at.count v
+inside_of at v = takes_part at (v - at.first) && in_block at.first at.count v
 
--- where a block of turns stands
+-- the turns of the block that a mask has
+abbrev pub masked : Turns → List Bool → ℕ → Bool
+masked at mask v = slice_index_or mask (v - at.first) false && in_block at.first at.count v
+
+-- as many turns, from this one on, of which a mask says which take part
+abbrev pub some_of : (ℕ → Bool) → ℕ → ℕ → ℕ → Bool
+some_of part first n v = part (v - first) && in_block first n v
+
+-- where a block of turns stands; each turn of it has its scalars, whether it takes part or not
 abbrev pub block_of : Turns → List Lane → List KeptRow → Block
 block_of at lanes rows =
     record {
@@ -52,6 +78,22 @@ block_of at lanes rows =
       cells = cells_kept rows;
       stored = cells_stored rows;
     }
+
+-- the numbers of an expression in the turns that take part, by their place
+abbrev pub AreNumbersOf : Turns → Expr → Block → List ℕ → Type 0
+AreNumbersOf at e b ys =
+    (k : ℕ) → k < at.count → takes_part at k ≡ true → value e (names_at b at.outer.now (at.first + k)) ≡ Some (slice_index ys k)
+
+-- the numbers of a scalar when the turns that take part assigned it
+abbrev pub AreAssigned : Turns → ℕ → Expr → List Lane → Block → List ℕ → Type 0
+AreAssigned at x e lanes b ys =
+    (k : ℕ) → k < at.count → slice_index ys k
+    ≡ (if takes_part at k then numbers e b at.outer.now (at.first + k) else lane_scalars lanes (slice_index at.scalars.now) k x)
+
+-- a mask of the turns of a block that has these
+pub record IsPart (at : Turns) (mask : List Bool) (inside : ℕ → Bool) : Type 0 where
+  pub size : length mask ≡ at.count
+  pub is : masked at mask ≡ inside
 
 -- before its first statement
 abbrev pub begun_block : List ℕ → List KeptRow → Block
@@ -63,12 +105,16 @@ pub record IsBlock (b : Block) (last : ℕ) (numbers : List ℕ) (rows : List Ke
   pub cells : cells_kept rows ≡ b.cells
   pub stored : cells_stored rows ≡ b.stored
 
--- a scalar that all turns of a block assign, and cells that they store
+-- a scalar that turns of a block assign, and cells that they store
 abbrev pub assigned_lanes : (ℕ → Bool) → List ℕ → ℕ → Expr → Block → Block
 assigned_lanes inside loops x e b = set_lanes inside x (numbers e b loops) b
 
 abbrev pub stored_lanes : Places → (ℕ → Bool) → List ℕ → ℕ → Expr → Block → Block
 stored_lanes at inside loops a e b = store_lanes at inside a (numbers e b loops) b
+
+-- of numbers that go into cells of an array from an index on, those whose place takes part are there
+abbrev pub IsStoredIn : (ℕ → Bool) → ℕ → ℕ → ℕ → (ℕ → ℕ) → View → View → Type 0
+IsStoredIn part first n a f old new = new ≡ with_lanes own_value_places (some_of part first n) a (λ i. f (i - first)) old
 
 -- from a place on, as many elements of a list became what f makes of their number
 pub record Over (A : Type 0) (f : ℕ → A) (at n : ℕ) (xs ys : List A) : Type 0 where

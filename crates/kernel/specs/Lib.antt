@@ -4,6 +4,7 @@ pub mod Codes
 pub mod Kept
 pub mod States
 pub mod Lanes
+pub mod Masks
 pub mod Walks
 pub mod Loops
 pub mod Offsets

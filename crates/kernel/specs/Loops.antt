@@ -1,50 +1,71 @@
 -- A loop whose turns are done in blocks.
 use Rattle.std.specs.Prelude.{ℕ, ◌≡◌, ◌-◌, ◌==◌, Bool, true, false, not, ◌&&◌, ◌||◌, List, [], ◌∷◌, ◌++◌, Option, Some, IsSome, slice_index}
-use Rattle.base.specs.declared.tree.Stmt.{Stmt}
+use Rattle.base.specs.declared.tree.Stmt.{Stmt, Row_of-Stmt, end_of-Stmt, more_of-Stmt}
 use Rattle.base.specs.declared.tree.Stmt.TheVariants.{Declare, Assign, Store, Print, Block', Loop', If'}
 use Rattle.base.specs.Memory.{View, last_stored}
 use Rattle.base.specs.Meaning.{Run, seen, turn, run_list}
 use Rattle.base.specs.declared.tree.Expr.{Expr}
-use Rattle.lanes.specs.Apart.{Set, body_apart}
-use Rattle.lanes.specs.There.{body_plain}
+use Rattle.lanes.specs.Apart.{Set, assigned_by, assigned_in, body_apart, stmt_apart}
 use Rattle.kernel.specs.Rows.{cells_kept, cells_stored}
 use Rattle.kernel.specs.declared.frames.KeptRow.{KeptRow}
 
--- the scalars that statements assign, and the arrays that they store, outside their blocks, loops and choices
-abbrev pub assigned_by : Stmt → Set
-assigned_by (Declare y v) x = y.0 == x
-assigned_by (Assign y v) x = y.0 == x
-assigned_by (Store a place e v) x = false
-assigned_by (Print e) x = false
-assigned_by (Block' shape all) x = false
-assigned_by (Loop' b shape all) x = false
-assigned_by (If' c shape all shape' all') x = false
+abbrev mutual
+  -- the arrays that a statement stores, in the branches of its choices too
+  pub stored_by : Stmt → Set
+  stored_by (Declare y v) a = false
+  stored_by (Assign y v) a = false
+  stored_by (Store b place e v) a = b.0 == a
+  stored_by (Print e) a = false
+  stored_by (Block' shape all) a = false
+  stored_by (Loop' b shape all) a = false
+  stored_by (If' c shape all shape' all') a = row_stored all a || row_stored all' a
 
-abbrev pub assigned_in : List Stmt → Set
-assigned_in [] x = false
-assigned_in (first ∷ rest) x = assigned_by first x || assigned_in rest x
-
-abbrev pub stored_by : Stmt → Set
-stored_by (Declare y v) a = false
-stored_by (Assign y v) a = false
-stored_by (Store b place e v) a = b.0 == a
-stored_by (Print e) a = false
-stored_by (Block' shape all) a = false
-stored_by (Loop' b shape all) a = false
-stored_by (If' c shape all shape' all') a = false
+  pub row_stored : {m : _} → Row_of-Stmt m → Set
+  row_stored end_of-Stmt a = false
+  row_stored (more_of-Stmt first rest) a = stored_by first a || row_stored rest a
 
 abbrev pub stored_in : List Stmt → Set
 stored_in [] a = false
 stored_in (first ∷ rest) a = stored_by first a || stored_in rest a
 
--- the scalars of a body that the statements before do not assign
-abbrev pub loose_in : List Stmt → List Stmt → Set
-loose_in body before x = assigned_in body x && not (assigned_in before x)
+-- the scalars that statements assign for certain, and not in the branches of a choice alone
+abbrev pub certain_by : Stmt → Set
+certain_by (Declare y v) x = y.0 == x
+certain_by (Assign y v) x = y.0 == x
+certain_by (Store a place e v) x = false
+certain_by (Print e) x = false
+certain_by (Block' shape all) x = false
+certain_by (Loop' b shape all) x = false
+certain_by (If' c shape all shape' all') x = false
 
--- the turns of a loop with this body, which store at index expressions of this set, are apart, and each operand has a value
-abbrev pub AreApart : (Expr → Bool) → List Stmt → Type 0
-AreApart here body =
-    (body_apart (stored_in body) (assigned_in body) (assigned_in body) here body ≡ true) × (body_plain body ≡ true)
+abbrev pub certain_in : List Stmt → Set
+certain_in [] x = false
+certain_in (first ∷ rest) x = certain_by first x || certain_in rest x
+
+-- the scalars of a body that the statements before do not assign for certain
+abbrev pub loose_in : List Stmt → List Stmt → Set
+loose_in body before x = assigned_in body x && not (certain_in before x)
+
+-- a statement of a body, or each of some statements, is such as turns that are apart have, where these scalars are loose
+abbrev pub IsApartFor : (Expr → Bool) → List Stmt → Set → Stmt → Type 0
+IsApartFor here body loose s = stmt_apart (stored_in body) (assigned_in body) loose here s ≡ true
+
+abbrev pub AreApartFor : (Expr → Bool) → List Stmt → Set → List Stmt → Type 0
+AreApartFor here body loose some = body_apart (stored_in body) (assigned_in body) loose here some ≡ true
+
+-- each scalar that a statement assigns is assigned for certain by a body
+abbrev pub IsSettled : List Stmt → Stmt → Type 0
+IsSettled body s = (x : ℕ) → assigned_by s x ≡ true → certain_in body x ≡ true
+
+-- each scalar that some statements assign is assigned for certain by a body
+abbrev pub AreSettled : List Stmt → List Stmt → Type 0
+AreSettled body some = (x : ℕ) → assigned_in some x ≡ true → certain_in body x ≡ true
+
+-- the turns of a loop with this body, which store at index expressions of this set, are apart, and the last one leaves the
+-- scalars
+pub record AreApart (here : Expr → Bool) (body : List Stmt) : Type 0 where
+  pub apart : AreApartFor here body (assigned_in body) body
+  pub settled : AreSettled body body
 
 -- what a turn does
 abbrev pub does : View → List ℕ → List Stmt → ℕ → Run → Option Run

@@ -3,9 +3,8 @@ use Rattle.std.specs.Prelude.{ℕ, ◌+◌, ◌≤◌, ◌^◌, Bool, List, Opti
 use Rattle.base.specs.declared.tree.Expr.{Expr}
 use Rattle.base.specs.declared.tree.Stmt.{Stmt}
 use Rattle.base.specs.Memory.{Scalars}
-use Rattle.lanes.specs.Apart.{Set, Places, is_turn, own_value_places}
+use Rattle.lanes.specs.Apart.{Set, Places, assigned_in, is_turn, own_value_places}
 use Rattle.lanes.specs.Moved.{is_moved, moved_places}
-use Rattle.kernel.specs.Loops.{assigned_in}
 use Rattle.kernel.specs.declared.turns.Around.{Around}
 
 -- where the turns have their cells

@@ -2,16 +2,15 @@
 
 ghost use Rattle.std.specs.Prelude.{◌≡◌, ◌≤◌, ◌∷◌, [], true, drop, length, slice_index, take, IfSome};
 ghost use Rattle.kernel.specs.Forms.{HasSum, IsCarriedBy, IsForm, IsSum};
-ghost use Rattle.kernel.specs.Loops.{AreApart, assigned_by, assigned_in, loose_in, stored_by, stored_in};
+ghost use Rattle.kernel.specs.Loops.{AreApart, AreApartFor, AreSettled, IsApartFor, IsSettled, certain_by, certain_in, loose_in, stored_by, stored_in};
 ghost use Rattle.kernel.specs.Offsets.{IsWithin, here_in};
 ghost use Rattle.lanes.specs.Apart as lanes;
-ghost use Rattle.lanes.specs.There as there;
 
 use crate::moved::{is_here, offset_of};
 use crate::turns::{Around, Form, Sum};
 use base::tree::{ArrayId, Expr, ScalarId, Source, Stmt};
 
-/// The most statements of a body that is looked at.
+/// The most statements of a body that is looked at, those in the branches of its choices among them.
 const MOST: usize = 32;
 
 /// The most that operators of its expressions stand in one another: the stack of a worker has room for so many calls.
@@ -38,26 +37,59 @@ fn source_shallow(v: &Source) -> bool {
     }
 }
 
-fn stmt_shallow(s: &Stmt) -> bool {
+// Whether a statement is an assignment without deep expressions, or a choice of such, and no more statements than are left.
+#[cycle(shallow)]
+fn stmt_shallow(s: &Stmt, left: &mut usize) -> bool {
+    if *left == 0 {
+        return false;
+    }
+    *left -= 1;
     match s {
         Stmt::Declare(_, v) | Stmt::Assign(_, v) => source_shallow(v),
         Stmt::Store(_, _, e, v) => is_shallow(e, DEEPEST) && source_shallow(v),
+        Stmt::If(c, first, second) => {
+            is_shallow(c, DEEPEST) && are_shallow(first, left) && are_shallow(second, left)
+        }
         _ => false,
     }
 }
 
-// Whether all are assignments without deep expressions.
-fn are_shallow(all: &[Stmt]) -> bool {
+#[cycle(shallow)]
+fn are_shallow(all: &[Stmt], left: &mut usize) -> bool {
     for s in all {
-        if !stmt_shallow(s) {
+        if !stmt_shallow(s, left) {
             return false;
         }
     }
     true
 }
 
+#[cycle(assigned)]
 fn is_assigned_by(s: &Stmt, x: ScalarId) -> bool
-    ensures { result ≡ assigned_by s.now x.0 }
+    ensures { result ≡ lanes.assigned_by s.now x.0 }
+{
+    match s {
+        Stmt::Declare(y, _) | Stmt::Assign(y, _) => y.0 == x.0,
+        Stmt::If(_, first, second) => is_assigned(first, x) | is_assigned(second, x),
+        _ => false,
+    }
+}
+
+/// Whether statements assign a scalar, in the branches of their choices too.
+#[cycle(assigned)]
+pub fn is_assigned(all: &[Stmt], x: ScalarId) -> bool
+    ensures { result ≡ lanes.assigned_in all.now x.0 }
+{
+    for s in all {
+        if is_assigned_by(s, x) {
+            return true;
+        }
+    }
+    false
+}
+
+fn is_certain_by(s: &Stmt, x: ScalarId) -> bool
+    ensures { result ≡ certain_by s.now x.0 }
 {
     match s {
         Stmt::Declare(y, _) | Stmt::Assign(y, _) => y.0 == x.0,
@@ -65,39 +97,68 @@ fn is_assigned_by(s: &Stmt, x: ScalarId) -> bool
     }
 }
 
-/// Whether statements assign a scalar.
-pub fn is_assigned(all: &[Stmt], x: ScalarId) -> bool
-    ensures { result ≡ assigned_in all.now x.0 }
+// Whether statements assign a scalar for certain, and not in the branches of a choice alone.
+fn is_certain(all: &[Stmt], x: ScalarId) -> bool
+    ensures { result ≡ certain_in all.now x.0 }
 {
     match all {
         [] => false,
-        [first, rest @ ..] => is_assigned_by(first, x) || is_assigned(rest, x),
+        [first, rest @ ..] => is_certain_by(first, x) || is_certain(rest, x),
     }
 }
 
+#[cycle(settled)]
+fn is_settled(s: &Stmt, body: &[Stmt]) -> bool
+    ensures { result ≡ true → IsSettled body.now s.now }
+{
+    match s {
+        Stmt::Declare(x, _) | Stmt::Assign(x, _) => is_certain(body, *x),
+        Stmt::If(_, first, second) => are_settled(first, body) & are_settled(second, body),
+        _ => true,
+    }
+}
+
+// Whether each scalar that some statements assign is assigned for certain by a body.
+#[cycle(settled)]
+fn are_settled(some: &[Stmt], body: &[Stmt]) -> bool
+    ensures { result ≡ true → AreSettled body.now some.now }
+{
+    for s in some {
+        if !is_settled(s, body) {
+            return false;
+        }
+    }
+    true
+}
+
+#[cycle(stored)]
 fn is_stored_by(s: &Stmt, array: ArrayId) -> bool
     ensures { result ≡ stored_by s.now array.0 }
 {
     match s {
         Stmt::Store(other, _, _, _) => other.0 == array.0,
+        Stmt::If(_, first, second) => is_stored(first, array) | is_stored(second, array),
         _ => false,
     }
 }
 
+#[cycle(stored)]
 fn is_stored(all: &[Stmt], array: ArrayId) -> bool
     ensures { result ≡ stored_in all.now array.0 }
 {
-    match all {
-        [] => false,
-        [first, rest @ ..] => is_stored_by(first, array) || is_stored(rest, array),
+    for s in all {
+        if is_stored_by(s, array) {
+            return true;
+        }
     }
+    false
 }
 
-// A scalar of the turn that no statement before assigns.
+// A scalar of the turn that no statement before assigns for certain.
 fn is_loose(body: &[Stmt], before: &[Stmt], x: ScalarId) -> bool
     ensures { result ≡ loose_in body.now before.now x.0 }
 {
-    is_assigned(body, x) && !is_assigned(before, x)
+    is_assigned(body, x) && !is_certain(before, x)
 }
 
 /// Whether an expression is the value of the loop at a level alone.
@@ -138,8 +199,10 @@ fn source_apart(body: &[Stmt], before: &[Stmt], at: &Around<'_>, v: &Source) -> 
     }
 }
 
-fn stmt_apart(body: &[Stmt], before: &[Stmt], at: &Around<'_>, s: &Stmt) -> bool
-    ensures { result ≡ lanes.stmt_apart (stored_in body.now) (assigned_in body.now) (loose_in body.now before.now) (here_in body.now at.now) s.now }
+// The scalars that a branch of a choice assigns count as loose in it: they are so at the end.
+#[cycle(apart)]
+fn stmt_apart(s: &Stmt, body: &[Stmt], before: &[Stmt], at: &Around<'_>) -> bool
+    ensures { result ≡ true → IsApartFor (here_in body.now at.now) body.now (loose_in body.now before.now) s.now }
 {
     match s {
         Stmt::Declare(x, v) | Stmt::Assign(x, v) => is_assigned(body, *x)
@@ -148,70 +211,50 @@ fn stmt_apart(body: &[Stmt], before: &[Stmt], at: &Around<'_>, s: &Stmt) -> bool
             is_stored(body, *array)
                 && (is_here(body, at, index) && source_apart(body, before, at, v))
         }
+        Stmt::If(c, first, second) => {
+            expr_apart(body, before, at, c)
+                & branch_apart(first, body, before, at)
+                & branch_apart(second, body, before, at)
+        }
         _ => false,
     }
 }
 
+#[cycle(apart)]
+fn branch_apart(all: &[Stmt], body: &[Stmt], before: &[Stmt], at: &Around<'_>) -> bool
+    ensures { result ≡ true → AreApartFor (here_in body.now at.now) body.now (loose_in body.now before.now) all.now }
+{
+    for s in all {
+        if !stmt_apart(s, body, before, at) {
+            return false;
+        }
+    }
+    true
+}
+
 // Of some statements of a body those from a place on.
-#[tactic(auto, using(crate::proofs::Looseness::one_apart, crate::proofs::Looseness::none_apart))]
+#[tactic(auto, using(crate::proofs::Looseness::none_apart))]
 fn body_apart(body: &[Stmt], some: &[Stmt], at: &Around<'_>, k: usize) -> bool
     requires { k ≤ length some.now }
-    ensures { result ≡ lanes.body_apart (stored_in body.now) (assigned_in body.now) (loose_in body.now (take k some.now)) (here_in body.now at.now) (drop k some.now) }
+    ensures { result ≡ true → AreApartFor (here_in body.now at.now) body.now (loose_in body.now (take k some.now)) (drop k some.now) }
 {
     if k == some.len() {
         return true;
     }
-    stmt_apart(body, &some[..k], at, &some[k]) && body_apart(body, some, at, k + 1)
-}
-
-fn expr_total(e: &Expr) -> bool
-    ensures { result ≡ there.is_total e.now }
-{
-    match e {
-        Expr::Number(_) | Expr::Scalar(_) | Expr::LoopName(_) => true,
-        Expr::Cell(_, _, _) => false,
-        Expr::Unary(_, a) | Expr::Shift(_, a, _) | Expr::Divide(_, a, _) => expr_total(a),
-        Expr::Binary(_, a, b) | Expr::And(a, b) | Expr::Or(a, b) => expr_total(a) && expr_total(b),
+    if !stmt_apart(&some[k], body, &some[..k], at) {
+        return false;
     }
-}
-
-fn expr_plain(e: &Expr) -> bool
-    ensures { result ≡ there.is_plain e.now }
-{
-    match e {
-        Expr::Number(_) | Expr::Scalar(_) | Expr::LoopName(_) => true,
-        Expr::Cell(_, _, a) | Expr::Unary(_, a) | Expr::Shift(_, a, _) | Expr::Divide(_, a, _) =>
-            expr_plain(a),
-        Expr::Binary(_, a, b) => expr_plain(a) && expr_plain(b),
-        Expr::And(a, b) | Expr::Or(a, b) => expr_plain(a) && expr_total(b),
-    }
-}
-
-fn stmt_plain(s: &Stmt) -> bool
-    ensures { result ≡ there.stmt_plain s.now }
-{
-    match s {
-        Stmt::Declare(_, Source::Value(e)) => expr_plain(e),
-        Stmt::Assign(_, Source::Value(e)) => expr_plain(e),
-        Stmt::Store(_, _, _, Source::Value(e)) => expr_plain(e),
-        _ => false,
-    }
-}
-
-fn body_plain(all: &[Stmt]) -> bool
-    ensures { result ≡ there.body_plain all.now }
-{
-    match all {
-        [] => true,
-        [first, rest @ ..] => stmt_plain(first) && body_plain(rest),
-    }
+    body_apart(body, some, at, k + 1)
 }
 
 // Whether the turns of a loop with this body are apart.
 fn are_apart(body: &[Stmt], at: &Around<'_>) -> bool
     ensures { result ≡ true → AreApart (here_in body.now at.now) body.now }
 {
-    body_plain(body) && body_apart(body, body, at, 0)
+    if !are_settled(body, body) {
+        return false;
+    }
+    body_apart(body, body, at, 0)
 }
 
 // The scalar that a statement makes of itself.
@@ -240,10 +283,7 @@ fn are_apart_but(body: &[Stmt], front: &[Stmt], at: &Around<'_>, sum: Sum<'_>) -
     if is_assigned(front, sum.scalar) {
         return false;
     }
-    if !body_plain(front) {
-        return false;
-    }
-    if !expr_plain(sum.added) {
+    if !are_settled(body, body) {
         return false;
     }
     if !body_apart(body, front, at, 0) {
@@ -284,7 +324,8 @@ pub fn form_of<'b>(
     ensures form { IfSome result (IsForm (slice_index scalars.now) outer.now body.now) }
     ensures within { IfSome result (λ form. IsWithin form.offset end) }
 {
-    if body.len() > MOST || !are_shallow(body) {
+    let mut left = MOST;
+    if !are_shallow(body, &mut left) {
         return None;
     }
     let offset = offset_of(body, outer, scalars, end);

@@ -15,6 +15,7 @@ mod emit;
 mod execute;
 mod follow;
 mod frames;
+mod masks;
 mod moved;
 mod op;
 mod runnable;

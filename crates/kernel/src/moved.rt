@@ -1,8 +1,8 @@
 // Indices that are the loop's value and a number that no turn changes, as those along a row of a matrix.
 
 ghost use Rattle.std.specs.Prelude.{◌≡◌, slice_index};
-ghost use Rattle.kernel.specs.Loops.{assigned_in};
 ghost use Rattle.kernel.specs.Offsets.{IsWithin, here_in};
+ghost use Rattle.lanes.specs.Apart.{assigned_in};
 ghost use Rattle.lanes.specs.Moved as moved;
 
 use crate::apart::{is_assigned, is_turn};
@@ -89,10 +89,23 @@ pub fn is_here(body: &[Stmt], at: &Around<'_>, e: &Expr) -> bool
     }
 }
 
-// The index at which the first of some statements that is a store does so.
+#[cycle(first)]
+fn stored_by(s: &Stmt) -> Option<&Expr> {
+    match s {
+        Stmt::Store(_, _, index, _) => Some(index),
+        Stmt::If(_, first, second) => match first_stored(first) {
+            Some(index) => Some(index),
+            None => first_stored(second),
+        },
+        _ => None,
+    }
+}
+
+// The index at which the first of some statements that is a store does so, or a store in a branch of a choice.
+#[cycle(first)]
 fn first_stored(all: &[Stmt]) -> Option<&Expr> {
     for s in all {
-        if let Stmt::Store(_, _, index, _) = s {
+        if let Some(index) = stored_by(s) {
             return Some(index);
         }
     }

@@ -1,6 +1,7 @@
 // What a block of turns of a loop reads.
 
-ghost use Rattle.std.specs.Prelude.{◌<◌, ◌+◌};
+ghost use Rattle.std.specs.Prelude.{◌≡◌, ◌<◌, ◌+◌, length};
+ghost use Rattle.std.specs.Option.{ForSome};
 ghost use Rattle.kernel.specs.Offsets.{IsWithin};
 
 use crate::frames::KeptRow;
@@ -22,24 +23,26 @@ pub struct Around<'a> {
     pub offset: Option<u64>,
 }
 
-/// A block of turns: the first, how many there are, the values of the loops around, the scalars before the block, and
-/// what is added to a turn's value in the indices at which it stores.
+/// A block of turns: the first, how many there are, the values of the loops around, the scalars before the block, what is
+/// added to a turn's value in the indices at which it stores, and which turns take part, if not all of them do.
 #[derive(Clone, Copy)]
-pub struct Turns<'a> {
+pub struct Turns<'a, 'm> {
     pub first: u64,
     pub count: usize,
     pub outer: &'a [u64],
     pub scalars: &'a [u64; 256],
     pub offset: Option<u64>,
+    pub mask: Option<&'m [bool]>,
     ghost some: { 0 < count },
     ghost no_wrap: { IsWithin offset (first + count) },
+    ghost each: { ForSome mask (λ m. length m.now ≡ count) },
 }
 
 /// What the expressions of a block of turns read: beside the turns the scalars that they have assigned, the last first,
 /// and the cells.
 #[derive(Clone, Copy)]
 pub struct Reads<'a> {
-    pub at: &'a Turns<'a>,
+    pub at: &'a Turns<'a, 'a>,
     pub lanes: &'a [Lane],
     pub rows: &'a [KeptRow],
 }

@@ -1,27 +1,24 @@
 // The value of an expression in each turn of a block.
 
-ghost use Rattle.std.specs.Prelude.{ℕ, ◌≡◌, ◌+◌, ◌<◌, true, Some, IfSome, IsSome, OnOk, length, slice_index};
+ghost use Rattle.std.specs.Prelude.{ℕ, ◌≡◌, ◌+◌, ◌<◌, ◌≤◌, ◌^◌, Some, IfSome, OnOk, length, slice_index};
+ghost use Rattle.base.specs.Rows.{at_index};
 ghost use Rattle.base.specs.Value.{and_of, binary, on_both, or_of, value};
-ghost use Rattle.kernel.specs.Lanes.{AreValues, HaveSize, IsRunFrom, cell_of, lane_scalars, names_of};
+ghost use Rattle.kernel.specs.Lanes.{Agrees, AreLoaded, AreValues, HaveSize, IsRun, IsRunFrom, cell_of, lane_scalars, names_of};
 ghost use Rattle.kernel.specs.Rows.{cells_kept};
-ghost use Rattle.lanes.specs.There.{is_plain, is_total};
 
 use crate::apart::is_turn;
 use crate::frames::KeptRow;
-use crate::state::load;
 use crate::turns::{Lane, Reads};
-use base::item::Cell;
 use base::tree::{ArrayId, BinaryOp, Expr, ScalarId};
 use lanes::numbers;
 use std::alloc::{AllocError, Global};
 
-/// The value of an expression in each turn of a block. The error comes for want of memory.
+/// The value of an expression in each turn of a block in which it has one, and in the others some number. The error comes
+/// for want of memory.
 #[cycle(values)]
 pub fn eval(alloc: Global, e: &Expr, b: &Reads<'_>, out: &mut [u64]) -> Result<(), AllocError>
-    requires plain { is_plain e.now ≡ true }
     requires turns { length out.old ≡ b.now.at.now.count }
     requires lanes { HaveSize (length out.old) b.now.lanes.now }
-    requires there { (k : ℕ) → k < length out.old → IsSome (value e.now (names_of b.now k)) }
     ensures size { length out.new ≡ length out.old }
     ensures values { OnOk result (AreValues e.now b.now out.new) }
 {
@@ -67,15 +64,13 @@ fn cells(
     b: &Reads<'_>,
     out: &mut [u64],
 ) -> Result<(), AllocError>
-    requires plain { is_plain index.now ≡ true }
     requires turns { length out.old ≡ b.now.at.now.count }
     requires lanes { HaveSize (length out.old) b.now.lanes.now }
-    requires there { (k : ℕ) → k < length out.old → IsSome (cell_of array index.now (names_of b.now k)) }
     ensures size { length out.new ≡ length out.old }
-    ensures values { OnOk result ((k : ℕ) → k < length out.new → cell_of array index.now (names_of b.now k) ≡ Some (slice_index out.new k)) }
+    ensures values { OnOk result ((k : ℕ) → k < length out.new → Agrees (cell_of array index.now (names_of b.now k)) (slice_index out.new k)) }
 {
     if is_turn(b.at.outer.len(), index) {
-        load_run(b.rows, array, b.at.first, out);
+        load_turns(b.rows, array, b.at.first, out);
         return Ok(());
     }
     eval(alloc, index, b, out)?;
@@ -92,13 +87,11 @@ fn right(
     b: &Reads<'_>,
     out: &mut [u64],
 ) -> Result<(), AllocError>
-    requires plain { is_plain e.now ≡ true }
     requires turns { length out.old ≡ b.now.at.now.count }
     requires lanes { HaveSize (length out.old) b.now.lanes.now }
-    requires there { (k : ℕ) → k < length out.old → IsSome (value e.now (names_of b.now k)) }
     ensures size { length out.new ≡ length out.old }
     ensures values { OnOk result ((k : ℕ) → k < length out.new →
-        on_both (binary op) (Some (slice_index out.old k)) (value e.now (names_of b.now k)) ≡ Some (slice_index out.new k)) }
+        Agrees (on_both (binary op) (Some (slice_index out.old k)) (value e.now (names_of b.now k))) (slice_index out.new k)) }
 {
     if let Expr::Number(n) = e {
         numbers::with_number(op, out, *n);
@@ -110,16 +103,14 @@ fn right(
     Ok(())
 }
 
-// The right operand of `&&`, which has a value in each turn, after the left one.
+// The right operand of `&&` after the left one: it has a value in each turn in which it counts.
 #[cycle(values)]
-#[tactic(auto, using(lanes::proofs::Totals::total_plain, lanes::proofs::Totals::total_there, lanes::proofs::Totals::and_right_is))]
 fn and_right(alloc: Global, e: &Expr, b: &Reads<'_>, out: &mut [u64]) -> Result<(), AllocError>
-    requires total { is_total e.now ≡ true }
     requires turns { length out.old ≡ b.now.at.now.count }
     requires lanes { HaveSize (length out.old) b.now.lanes.now }
     ensures size { length out.new ≡ length out.old }
     ensures values { OnOk result ((k : ℕ) → k < length out.new →
-        and_of (Some (slice_index out.old k)) (value e.now (names_of b.now k)) ≡ Some (slice_index out.new k)) }
+        Agrees (and_of (Some (slice_index out.old k)) (value e.now (names_of b.now k))) (slice_index out.new k)) }
 {
     let mut operand = vec![in alloc; 0; out.len()]?;
     eval(alloc, e, b, &mut operand)?;
@@ -127,16 +118,14 @@ fn and_right(alloc: Global, e: &Expr, b: &Reads<'_>, out: &mut [u64]) -> Result<
     Ok(())
 }
 
-// The right operand of `||`, which has a value in each turn, after the left one.
+// The right operand of `||` after the left one: it has a value in each turn in which it counts.
 #[cycle(values)]
-#[tactic(auto, using(lanes::proofs::Totals::total_plain, lanes::proofs::Totals::total_there, lanes::proofs::Totals::or_right_is))]
 fn or_right(alloc: Global, e: &Expr, b: &Reads<'_>, out: &mut [u64]) -> Result<(), AllocError>
-    requires total { is_total e.now ≡ true }
     requires turns { length out.old ≡ b.now.at.now.count }
     requires lanes { HaveSize (length out.old) b.now.lanes.now }
     ensures size { length out.new ≡ length out.old }
     ensures values { OnOk result ((k : ℕ) → k < length out.new →
-        or_of (Some (slice_index out.old k)) (value e.now (names_of b.now k)) ≡ Some (slice_index out.new k)) }
+        Agrees (or_of (Some (slice_index out.old k)) (value e.now (names_of b.now k))) (slice_index out.new k)) }
 {
     let mut operand = vec![in alloc; 0; out.len()]?;
     eval(alloc, e, b, &mut operand)?;
@@ -144,8 +133,8 @@ fn or_right(alloc: Global, e: &Expr, b: &Reads<'_>, out: &mut [u64]) -> Result<(
     Ok(())
 }
 
-// A scalar in each turn.
-fn scalar(lanes: &[Lane], before: &[u64; 256], x: ScalarId, out: &mut [u64])
+/// A scalar in each turn.
+pub fn scalar(lanes: &[Lane], before: &[u64; 256], x: ScalarId, out: &mut [u64])
     requires { HaveSize (length out.old) lanes.now }
     ensures size { length out.new ≡ length out.old }
     ensures values { (k : ℕ) → k < length out.old → slice_index out.new k ≡ lane_scalars lanes.now (slice_index before.now) k x.0 }
@@ -191,42 +180,70 @@ fn first_of_run(row: &[u64]) -> Option<u64>
     if follows { Some(first) } else { None }
 }
 
-// What stands at the cells with these indices, all of which are there: at once, where they follow one another.
-#[tactic(auto, using(crate::proofs::RunLoads::run_there))]
+// What stands at the cells with these indices: at once, where they follow one another.
 fn load_each(rows: &[KeptRow], array: ArrayId, out: &mut [u64])
-    requires { (k : ℕ) → k < length out.old → IsSome (cells_kept rows.now (record { array = array; index = slice_index out.old k })) }
     ensures size { length out.new ≡ length out.old }
-    ensures values { (k : ℕ) → k < length out.old → cells_kept rows.now (record { array = array; index = slice_index out.old k }) ≡ Some (slice_index out.new k) }
+    ensures values { AreLoaded (cells_kept rows.now) array (slice_index out.old) out.new }
 {
-    match first_of_run(out) {
-        Some(first) => load_run(rows, array, first, out),
-        None => gather(rows, array, out),
+    if let Some(first) = first_of_run(out) {
+        if let Some(run) = run_of(rows, array, first, out.len()) {
+            numbers::copy(out, run);
+            return;
+        }
     }
+    gather(rows, array, out);
 }
 
-// What stands at the cells with these indices, all of which are there.
+// What stands at the cells whose indices are the turns.
 #[inline(never)]
-#[tactic(auto, using(crate::proofs::Gathers::still_there, crate::proofs::Gathers::one_more))]
-fn gather(rows: &[KeptRow], array: ArrayId, out: &mut [u64])
-    requires { (k : ℕ) → k < length out.old → IsSome (cells_kept rows.now (record { array = array; index = slice_index out.old k })) }
+fn load_turns(rows: &[KeptRow], array: ArrayId, first: u64, out: &mut [u64])
+    requires { first + length out.old ≤ 2 ^ 64 }
     ensures size { length out.new ≡ length out.old }
-    ensures values { (k : ℕ) → k < length out.old → cells_kept rows.now (record { array = array; index = slice_index out.old k }) ≡ Some (slice_index out.new k) }
+    ensures values { AreLoaded (cells_kept rows.now) array (λ k. first + k) out.new }
 {
-    'lanes: for j in 0..out.len() {
-        let index = out[j];
-        out[j] = load(rows, Cell { array, index });
+    if let Some(run) = run_of(rows, array, first, out.len()) {
+        numbers::copy(out, run);
+        return;
     }
+    numbers::turns(out, first);
+    gather(rows, array, out);
 }
 
-// What stands at the cells whose indices are the turns, all of which are there.
-#[inline(never)]
-fn load_run(rows: &[KeptRow], array: ArrayId, first: u64, out: &mut [u64])
-    requires some { 0 < length out.old }
-    requires there { (k : ℕ) → k < length out.old → IsSome (cells_kept rows.now (record { array = array; index = first + k })) }
-    ensures size { length out.new ≡ length out.old }
-    ensures values { (k : ℕ) → k < length out.old → cells_kept rows.now (record { array = array; index = first + k }) ≡ Some (slice_index out.new k) }
+// As many cells of an array from an index on, where all of them are there.
+fn run_of<'a>(rows: &'a [KeptRow], array: ArrayId, first: u64, n: usize) -> Option<&'a [u64]>
+    ensures { IfSome result (λ run. IsRun (cells_kept rows.now) array first n run.now) }
 {
-    let row = &rows[array.0 as usize];
+    let row = rows.get(array.0 as usize)?;
+    if first < row.first {
+        return None;
+    }
     let at = (first - row.first) as usize;
-    numbers::copy(out, &row.cells[at..at + out.len()]);
+    if at > row.cells.len() || n > row.cells.len() - at {
+        return None;
+    }
+    Some(&row.cells[at..at + n])
+}
+
+// What stands at the cells with these indices, one by one.
+#[inline(never)]
+fn gather(rows: &[KeptRow], array: ArrayId, out: &mut [u64])
+    ensures size { length out.new ≡ length out.old }
+    ensures values { AreLoaded (cells_kept rows.now) array (slice_index out.old) out.new }
+{
+    match rows.get(array.0 as usize) {
+        None => numbers::fill(out, 0),
+        Some(row) => gather_in(row, out),
+    }
+}
+
+// What stands in a row at these indices, and 0 where nothing does.
+fn gather_in(row: &KeptRow, out: &mut [u64])
+    ensures size { length out.new ≡ length out.old }
+    ensures values { (k : ℕ) → k < length out.new → Agrees (at_index row.now.first row.now.cells.items (slice_index out.old k)) (slice_index out.new k) }
+{
+    let cells: &[u64] = &row.cells;
+    'lanes: for j in 0..out.len() {
+        let at = out[j].wrapping_sub(row.first) as usize;
+        out[j] = if at < cells.len() { cells[at] } else { 0 };
+    }
 }

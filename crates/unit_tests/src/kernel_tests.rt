@@ -10,7 +10,7 @@ use std::test::Fail;
 const TURNS: [u64; 9] = [0, 1, 2, 63, 64, 511, 512, 513, 1100];
 
 // What a turn does on the arrays A and B and the scalar s, and the same on C, D and t.
-const BODIES: [(&str, &str); 32] = [
+const BODIES: [(&str, &str); 49] = [
     ("A[i] = B[i] * 3 + (i ^ 5);", "C[i] = D[i] * 3 + (i ^ 5);"),
     ("A[i] = A[i - 1] + B[i];", "C[i] = C[i - 1] + D[i];"),
     ("A[i] = A[i + 1] + B[i];", "C[i] = C[i + 1] + D[i];"),
@@ -78,6 +78,71 @@ const BODIES: [(&str, &str); 32] = [
     (
         "A[s % 50 + i] = B[i]; s = s ^ 1;",
         "C[t % 50 + i] = D[i]; t = t ^ 1;",
+    ),
+    (
+        "if (A[i] < 3) { A[i] = A[i] + 1; } else { A[i] = 0; }",
+        "if (C[i] < 3) { C[i] = C[i] + 1; } else { C[i] = 0; }",
+    ),
+    (
+        "if (i % 3 == 0) { B[i] = A[i]; }",
+        "if (i % 3 == 0) { D[i] = C[i]; }",
+    ),
+    (
+        "if (i > 1) { B[i] = A[i - 1]; }",
+        "if (i > 1) { D[i] = C[i - 1]; }",
+    ),
+    (
+        "if (i < 3) { B[i] = A[i + 5]; } else { B[i] = A[i - 3] + 7; }",
+        "if (i < 3) { D[i] = C[i + 5]; } else { D[i] = C[i - 3] + 7; }",
+    ),
+    (
+        "if (A[i] > 1) { if (B[i] % 2) { A[i] = B[i]; } else { B[i] = i; } } else { A[i] = 9; B[i] = A[i] + i; }",
+        "if (C[i] > 1) { if (D[i] % 2) { C[i] = D[i]; } else { D[i] = i; } } else { C[i] = 9; D[i] = C[i] + i; }",
+    ),
+    (
+        "if (A[i] == 0) { B[i] = 1; } else { if (A[i] == 1) { B[i] = 2; } else { A[i] = B[i] + i; } }",
+        "if (C[i] == 0) { D[i] = 1; } else { if (C[i] == 1) { D[i] = 2; } else { C[i] = D[i] + i; } }",
+    ),
+    (
+        "uint64_t u = B[i]; if (u % 2) { u = u * 3 + 1; } A[i] = u;",
+        "uint64_t u = D[i]; if (u % 2) { u = u * 3 + 1; } C[i] = u;",
+    ),
+    (
+        "s = i; if (B[i] % 4 == 3) { s = A[i]; } else { s = s + 1; } A[i] = s;",
+        "t = i; if (D[i] % 4 == 3) { t = C[i]; } else { t = t + 1; } C[i] = t;",
+    ),
+    (
+        "if (A[i] && B[i] > 40) { A[i] = i; B[i] = A[i] + B[i]; } B[i] = B[i] + A[i];",
+        "if (C[i] && D[i] > 40) { C[i] = i; D[i] = C[i] + D[i]; } D[i] = D[i] + C[i];",
+    ),
+    (
+        "if (A[i] % 2) { A[i] = A[i] + 5; } s = s + A[i];",
+        "if (C[i] % 2) { C[i] = C[i] + 5; } t = t + C[i];",
+    ),
+    ("if (A[i] % 2) { s = B[i]; }", "if (C[i] % 2) { t = D[i]; }"),
+    (
+        "if (B[i] > 900) { s = A[i]; B[i] = s; } A[i] = i;",
+        "if (D[i] > 900) { t = C[i]; D[i] = t; } C[i] = i;",
+    ),
+    (
+        "if (A[i] < 3) { A[i] = A[i - 1] + 1; }",
+        "if (C[i] < 3) { C[i] = C[i - 1] + 1; }",
+    ),
+    (
+        "if (A[i - 1] < 3) { A[i] = 2; } else { B[i] = A[i + 1]; }",
+        "if (C[i - 1] < 3) { C[i] = 2; } else { D[i] = C[i + 1]; }",
+    ),
+    (
+        "if (A[i] < 3) { A[i + 7] = B[i]; }",
+        "if (C[i] < 3) { C[i + 7] = D[i]; }",
+    ),
+    (
+        "if (B[i] & 4) { A[i + 7] = A[7 + i] * 2; } else { A[i + 7] = i; }",
+        "if (D[i] & 4) { C[i + 7] = C[7 + i] * 2; } else { C[i + 7] = i; }",
+    ),
+    (
+        "if (i > 1) { if (0) { A[i] = 1; } }",
+        "if (i > 1) { if (0) { C[i] = 1; } }",
     ),
 ];
 

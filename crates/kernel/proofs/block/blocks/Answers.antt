@@ -1,9 +1,5 @@
 use Rattle.kernel.proofs.BlockTurns.{next_there, carried_on, carried_end}
-use Rattle.kernel.proofs.Sums.{form_plain}
 use Rattle.kernel.proofs.block.blocks.Goals as goal
-
-pub block-requires-clause-plain : goal.block-requires-clause-plain
-block-requires-clause-plain c = form_plain _ c.args.body.now c.args.form.front.now c.args.form.sum c.requires.form
 
 pub block-requires-clause-there : goal.block-requires-clause-there
 block-requires-clause-there c =

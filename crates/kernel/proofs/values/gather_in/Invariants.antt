@@ -1,0 +1,5 @@
+use Rattle.kernel.proofs.Gathers.{Gathered}
+use Rattle.kernel.proofs.values.gather_in.Given as goal
+
+abbrev pub invariant-lanes : goal.invariant-lanes
+invariant-lanes l = Gathered l.row.first l.row.cells.items l.fn.out l.out l.j
