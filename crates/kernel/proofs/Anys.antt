@@ -4,7 +4,7 @@ use Rattle.std.specs.Prelude.{◌||◌}
 use Rattle.std.proofs.lemmas.List.{drop_more, drop_all}
 use Rattle.base.specs.declared.tree.Expr.{Expr}
 use Rattle.base.specs.declared.tree.Stmt.{Stmt}
-use Rattle.lanes.specs.Apart.{Set, assigned_by, assigned_in, body_apart}
+use Rattle.lanes.specs.Apart.{Set, assigned_by, assigned_in}
 use Rattle.kernel.specs.Loops.{AreApartFor, AreSettled, IsApartFor, IsSettled, certain_in, stored_by, stored_in}
 use Rattle.kernel.proofs.Narrower.{one_more_apart}
 

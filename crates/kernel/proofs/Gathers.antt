@@ -6,7 +6,6 @@ use Rattle.std.proofs.lemmas.List.{get_or-set_same, get_or-set_other}
 use Rattle.std.proofs.lemmas.Option.{slice_get-get_or, slice_get_within}
 use Rattle.base.specs.Rows.{at_index}
 use Rattle.kernel.specs.Lanes.{Agrees}
-use Rattle.kernel.proofs.Agreements.{agrees_same}
 
 -- the first numbers are the cells' of a row from an index on, and the others are still indices
 pub record Gathered (first : ℕ) (cells xs ys : List ℕ) (n : ℕ) : Type 0 where

@@ -1,6 +1,6 @@
 -- Rows of marks and of numbers that are changed one by one.
-use Rattle.std.proofs.Common.{◌≡◌, ℕ, ◌+◌, ◌<◌, ◌≤◌, Bool, true, false, List, length, set, refl, sym, ap, ap₂, ◌∙◌, arith, subst, ⊎_elim, length-set, if◌then◌else◌}
-use Rattle.std.specs.Prelude.{◌&&◌, slice_index, slice_index_or}
+use Rattle.std.proofs.Common.{◌≡◌, ℕ, ◌+◌, ◌<◌, ◌≤◌, Bool, false, List, length, set, refl, sym, ap, ◌∙◌, arith, ⊎_elim, length-set}
+use Rattle.std.specs.Prelude.{◌&&◌, slice_index_or}
 use Rattle.std.proofs.lemmas.Bool.{cases_eq, cases_lt}
 use Rattle.std.proofs.lemmas.List.{get_or-set_same, get_or-set_other, get_or_past}
 use Rattle.kernel.specs.Masks.{IsMask, Narrowed}

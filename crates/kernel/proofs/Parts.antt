@@ -1,6 +1,6 @@
 -- Which turns of a block take part.
-use Rattle.std.proofs.Common.{◌≡◌, ℕ, ◌+◌, ◌-◌, ◌<◌, Bool, true, false, List, length, replicate, Option, Some, None, refl, sym, ap, ap₂, ◌∙◌, arith, subst, Bor, if◌then◌else◌}
-use Rattle.std.specs.Prelude.{◌&&◌, IsSome, slice_index, slice_index_or}
+use Rattle.std.proofs.Common.{◌≡◌, ℕ, ◌+◌, ◌-◌, Bool, true, false, List, length, replicate, Option, Some, None, sym, ap, ap₂, ◌∙◌, Bor}
+use Rattle.std.specs.Prelude.{◌&&◌, slice_index, slice_index_or}
 use Rattle.std.proofs.lemmas.List.{get_or-replicate, length-replicate}
 use mathlib.Core.Path.{fun_ext}
 use Rattle.base.specs.declared.tree.ArrayId.{ArrayId}

@@ -1,5 +1,5 @@
 -- A body whose last statement carries a scalar on.
-use Rattle.std.proofs.Common.{◌≡◌, ℕ, Bool, true, false, List, [], ◌∷◌, ◌++◌, Option, Some, None, refl, sym, ap, ap₂, ◌∙◌}
+use Rattle.std.proofs.Common.{◌≡◌, ℕ, Bool, true, false, List, [], ◌∷◌, ◌++◌, refl, sym, ap, ap₂, ◌∙◌}
 use Rattle.std.specs.Prelude.{not, ◌&&◌, ◌||◌}
 use Rattle.std.proofs.lemmas.Bool.{and_parts, false≢true}
 use mathlib.Core.Path.{fun_ext}
@@ -10,7 +10,7 @@ use Rattle.base.specs.declared.tree.Stmt.{Stmt}
 use Rattle.base.specs.declared.tree.Stmt.TheVariants.{Declare, Assign, Store, Print, Block', Loop', If'}
 use Rattle.lanes.specs.Apart.{Set, assigned_by, assigned_in, is_apart, loose_after, loose_body, body_apart, stmt_apart}
 use Rattle.lanes.specs.Sums.{ended}
-use Rattle.kernel.specs.Forms.{HasSum, IsCarriedBy, IsFormOf, IsSum, with_sum}
+use Rattle.kernel.specs.Forms.{HasSum, IsCarriedBy, IsSum}
 use Rattle.kernel.specs.Loops.{AreApartFor, AreSettled, certain_by, certain_in, loose_in, stored_by, stored_in}
 use Rattle.kernel.specs.declared.turns.Sum.{Sum}
 use Rattle.lanes.proofs.Carried.{same_is}

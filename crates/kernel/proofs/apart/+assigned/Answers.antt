@@ -3,7 +3,7 @@ use Rattle.std.specs.Prelude.{◌||◌}
 use Rattle.base.specs.declared.tree.Stmt.{Stmt}
 use Rattle.lanes.specs.Apart.{assigned_in, assigned_by}
 use Rattle.lanes.proofs.ChoicesIn.{assigned_If}
-use Rattle.kernel.proofs.Anys.{assigned_next, assigned_found, assigned_none}
+use Rattle.kernel.proofs.Anys.{assigned_next, assigned_none}
 use Rattle.kernel.proofs.apart.+assigned.Goals as goal
 
 pub is_assigned-loop-s-preserved : goal.is_assigned-loop-s-preserved

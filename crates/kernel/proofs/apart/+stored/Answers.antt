@@ -3,7 +3,7 @@ use Rattle.std.specs.Prelude.{◌||◌}
 use Rattle.base.specs.declared.tree.Stmt.{Stmt}
 use Rattle.kernel.specs.Loops.{stored_in, stored_by}
 use Rattle.kernel.proofs.ChoiceRows.{stored_If}
-use Rattle.kernel.proofs.Anys.{stored_next, stored_found, stored_none}
+use Rattle.kernel.proofs.Anys.{stored_next, stored_none}
 use Rattle.kernel.proofs.apart.+stored.Goals as goal
 
 pub is_stored-loop-s-preserved : goal.is_stored-loop-s-preserved

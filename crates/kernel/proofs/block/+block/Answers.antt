@@ -1,4 +1,4 @@
-use Rattle.std.proofs.Common.{ℕ, Bool, List, rules, sym, subst}
+use Rattle.std.proofs.Common.{Bool, List, rules, sym, subst}
 use Rattle.base.specs.declared.tree.Stmt.TheViews.{the_lemmas}
 use Rattle.std.proofs.lemmas.Result.{on_ok_weaker}
 use Rattle.kernel.specs.Lanes.{IsPart, block_of, inside_of, masked}
@@ -7,7 +7,7 @@ use Rattle.kernel.specs.Offsets.{places_of}
 use Rattle.std.specs.Prelude.{◌-◌, ◌&&◌}
 use Rattle.lanes.specs.Apart.{in_block, where_false, where_true}
 use Rattle.std.proofs.Common.{ap}
-use Rattle.kernel.proofs.Bodies.{begun, this_there, one_done, all_is_done}
+use Rattle.kernel.proofs.Bodies.{this_there, one_done, all_is_done}
 use Rattle.kernel.proofs.ChoiceRows.{first_there, second_there, choice_done}
 use Rattle.kernel.proofs.NoTurns.{none_body}
 use Rattle.kernel.proofs.block.+block.Goals as goal

@@ -22,7 +22,7 @@ do_body-requires-clause-there c =
       mask = None;
       some = c.requires.some;
       no_wrap = c.requires.no_wrap;
-      each = tt;
+      each = λ m e. absurd cc;
     } in
     begin_there at c.args.form.front.now c.new-lanes.result.items c.args.rows.now c.new-lanes.ensures.items
     (front_there (places_of c.args.form.offset) (in_block c.args.first c.args.count) c.args.outer.now c.args.form.front.now c.args.form.sum
@@ -40,7 +40,7 @@ carry_on-requires-clause-there c =
       mask = None;
       some = c.requires.some;
       no_wrap = c.requires.no_wrap;
-      each = tt;
+      each = λ m e. absurd cc;
     } in
     added_at at c.args.form.front.now c.args.form.sum c.in-Some.sum c.new-lanes.result.items c.do_body.new.lanes.items
     c.deref-in-Some.result.now c.args.rows.now c.do_body.new.rows c.in-Some.is c.new-lanes.ensures.items
@@ -58,7 +58,7 @@ returns c =
       mask = None;
       some = c.requires.some;
       no_wrap = c.requires.no_wrap;
-      each = tt;
+      each = λ m e. absurd cc;
     } in
     let front = c.args.form.front.now in
     let last = c.args.first + (c.args.count - 1) in

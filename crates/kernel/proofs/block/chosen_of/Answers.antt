@@ -1,4 +1,4 @@
-use Rattle.std.proofs.Common.{◌≡◌, ℕ, Bool, List, length, sym, ap, subst, arith}
+use Rattle.std.proofs.Common.{ℕ, Bool, List, length, sym, ap, subst, arith}
 use Rattle.std.specs.Prelude.{◌&&◌, not, slice_index}
 use Rattle.std.proofs.lemmas.List.{with_items_is}
 use Rattle.base.specs.Value.{is_zero}

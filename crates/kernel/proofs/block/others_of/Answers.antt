@@ -1,5 +1,5 @@
-use Rattle.std.proofs.Common.{◌≡◌, ℕ, Bool, List, length, sym, ap, subst, arith}
-use Rattle.std.specs.Prelude.{◌&&◌, not, slice_index}
+use Rattle.std.proofs.Common.{ℕ, Bool, List, length, sym, ap, subst, arith}
+use Rattle.std.specs.Prelude.{◌&&◌, slice_index}
 use Rattle.std.proofs.lemmas.List.{with_items_is}
 use Rattle.base.specs.Value.{is_zero}
 use Rattle.kernel.specs.Lanes.{takes_part}

@@ -1,5 +1,5 @@
 use Rattle.std.proofs.Common.{Bool, false, refl, arith}
-use Rattle.std.specs.Prelude.{◌&&◌, not, slice_index}
+use Rattle.std.specs.Prelude.{◌&&◌, slice_index}
 use Rattle.base.specs.Value.{is_zero}
 use Rattle.kernel.proofs.MaskRows.{one_more, none_changed, all_narrowed}
 use Rattle.kernel.proofs.masks.keep_false.Goals as goal
