@@ -30,9 +30,14 @@ fn is_shallow(e: &Expr, deepest: usize) -> bool {
     }
 }
 
+/// Whether an expression is not too deep for a function that calls itself for the operands.
+pub fn has_room(e: &Expr) -> bool {
+    is_shallow(e, DEEPEST)
+}
+
 fn source_shallow(v: &Source) -> bool {
     match v {
-        Source::Value(e) => is_shallow(e, DEEPEST),
+        Source::Value(e) => has_room(e),
         Source::Read => true,
     }
 }
@@ -46,9 +51,9 @@ fn stmt_shallow(s: &Stmt, left: &mut usize) -> bool {
     *left -= 1;
     match s {
         Stmt::Declare(_, v) | Stmt::Assign(_, v) => source_shallow(v),
-        Stmt::Store(_, _, e, v) => is_shallow(e, DEEPEST) && source_shallow(v),
+        Stmt::Store(_, _, e, v) => has_room(e) && source_shallow(v),
         Stmt::If(c, first, second) => {
-            is_shallow(c, DEEPEST) && are_shallow(first, left) && are_shallow(second, left)
+            has_room(c) && are_shallow(first, left) && are_shallow(second, left)
         }
         _ => false,
     }

@@ -9,28 +9,6 @@ use crate::state::{Machine, flag, load, loop_value, of_both, of_division, of_one
 use base::item::Cell;
 use base::tree::Expr;
 
-/// The most that operators stand in one another: the stack of a worker has room for so many calls.
-const DEEPEST: usize = 256;
-
-fn is_shallow(e: &Expr, deepest: usize) -> bool {
-    if deepest == 0 {
-        return false;
-    }
-    match e {
-        Expr::Number(_) | Expr::Scalar(_) | Expr::LoopName(_) => true,
-        Expr::Cell(_, _, a) | Expr::Unary(_, a) | Expr::Shift(_, a, _) | Expr::Divide(_, a, _) =>
-            is_shallow(a, deepest - 1),
-        Expr::Binary(_, a, b) | Expr::And(a, b) | Expr::Or(a, b) => {
-            is_shallow(a, deepest - 1) && is_shallow(b, deepest - 1)
-        }
-    }
-}
-
-/// Whether a condition is not too deep for `value_of`, which calls itself for the operands.
-pub fn has_room(e: &Expr) -> bool {
-    is_shallow(e, DEEPEST)
-}
-
 /// The value of an expression. The right side of `&&` and `||` may have none where the left one decides.
 #[inline(never)]
 pub fn value_of(e: &Expr, m: &Machine<'_>) -> u64

@@ -5,9 +5,9 @@ ghost use Rattle.kernel.specs.Forms.{IsForm};
 ghost use Rattle.kernel.specs.Offsets.{IsWithin};
 ghost use Rattle.kernel.specs.Walks.{CanDo, HasDone, list_meaning, loop_meaning, stmt_meaning, turn_meaning};
 
-use crate::apart::form_of;
+use crate::apart::{form_of, has_room};
 use crate::block::blocks;
-use crate::condition::{has_room, value_of};
+use crate::condition::value_of;
 use crate::emit::ops_of;
 use crate::follow::follow;
 use crate::state::{Machine, pop};
