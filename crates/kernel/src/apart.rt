@@ -204,7 +204,7 @@ fn source_apart(body: &[Stmt], before: &[Stmt], at: &Around<'_>, v: &Source) -> 
     }
 }
 
-// The scalars that a branch of a choice assigns count as loose in it: they are so at the end.
+// What a branch of a choice assigns does not count as assigned in it: one set of loose scalars serves all of it.
 #[cycle(apart)]
 fn stmt_apart(s: &Stmt, body: &[Stmt], before: &[Stmt], at: &Around<'_>) -> bool
     ensures { result ≡ true → IsApartFor (here_in body.now at.now) body.now (loose_in body.now before.now) s.now }

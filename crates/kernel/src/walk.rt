@@ -57,18 +57,40 @@ fn is_blocked(s: &Stmt, level: usize) -> bool {
     match s {
         Stmt::Loop(bounds, body) => {
             (is_long(*bounds) && looks_apart(body, level))
-                || has_blocks(body, level.saturating_add(1))
+                || has_blocks_in_turns(body, level.saturating_add(1))
         }
-        Stmt::Block(all) => has_blocks(all, level),
+        Stmt::Block(all) => has_blocks_in_turns(all, level),
         Stmt::If(c, first, second) => {
-            has_room(c) && (has_blocks(first, level) || has_blocks(second, level))
+            has_room(c) && (has_blocks_in_turns(first, level) || has_blocks_in_turns(second, level))
         }
         _ => false,
     }
 }
 
-/// Whether there is a loop that is done in blocks, alone or in loops, braces and branches.
+// Whether all are loops, choices and braces, so that none of them is done by its operations alone.
+fn are_nested(all: &[Stmt]) -> bool {
+    for s in all {
+        if !matches!(s, Stmt::Loop(_, _) | Stmt::If(_, _, _) | Stmt::Block(_)) {
+            return false;
+        }
+    }
+    true
+}
+
+// The same of statements that may be done in each turn of a loop. There the operations of statements beside such a loop are
+// made anew each time, and a loop in a choice may come in few of the turns: so it counts only where there are none.
 #[cycle(has)]
+fn has_blocks_in_turns(all: &[Stmt], level: usize) -> bool {
+    let alone = are_nested(all);
+    for s in all {
+        if (alone || !matches!(s, Stmt::If(_, _, _))) && is_blocked(s, level) {
+            return true;
+        }
+    }
+    false
+}
+
+/// Whether the statements of a region have a loop that is done in blocks, alone or in loops, braces and branches.
 pub fn has_blocks(all: &[Stmt], level: usize) -> bool {
     for s in all {
         if is_blocked(s, level) {
@@ -152,7 +174,7 @@ fn inside(alloc: Global, all: &[Stmt], m: &mut Machine<'_>) -> Result<(), AllocE
     requires { CanDo (list_meaning all.now) m.old }
     ensures { OnOk result (HasDone (list_meaning all.now) m.old m.new) }
 {
-    if all.is_empty() || has_blocks(all, m.loops.len()) {
+    if all.is_empty() || has_blocks_in_turns(all, m.loops.len()) {
         return walk(alloc, all, m);
     }
     by_code(alloc, all, m)
@@ -171,7 +193,7 @@ fn walk_one(alloc: Global, s: &Stmt, m: &mut Machine<'_>) -> Result<(), AllocErr
                 return Ok(());
             }
         }
-        if has_blocks(body, level.saturating_add(1)) {
+        if has_blocks_in_turns(body, level.saturating_add(1)) {
             in_turns(alloc, *bounds, body, m)?;
             return Ok(());
         }

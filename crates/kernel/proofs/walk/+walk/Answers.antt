@@ -60,12 +60,12 @@ walk-returns t c =
 pub walk_one-in_turns-requires : goal.walk_one-in_turns-requires
 walk_one-in_turns-requires t c = (
   search (rules, the_lemmas),
-  loop_can c.args.s.now c.in-Loop.bounds c.in-Loop.body _ c.args.m.now c.in-Loop.is c.deref-then-has_blocks.ensures.value c.requires,
+  loop_can c.args.s.now c.in-Loop.bounds c.in-Loop.body _ c.args.m.now c.in-Loop.is c.deref-then-has_blocks_in_turns.ensures.value c.requires,
 )
 
-pub walk_one-returns-then-has_blocks : goal.walk_one-returns-then-has_blocks
-walk_one-returns-then-has_blocks t c =
-    loop_done c.args.s.now c.in-Loop.bounds c.in-Loop.body _ c.args.m.now c.in-Loop.is c.deref-then-has_blocks.ensures.value
+pub walk_one-returns-then-has_blocks_in_turns : goal.walk_one-returns-then-has_blocks_in_turns
+walk_one-returns-then-has_blocks_in_turns t c =
+    loop_done c.args.s.now c.in-Loop.bounds c.in-Loop.body _ c.args.m.now c.in-Loop.is c.deref-then-has_blocks_in_turns.ensures.value
     c.in_turns.new.m c.in_ok-in_turns.ensures
 
 pub walk_one-returns : goal.walk_one-returns
