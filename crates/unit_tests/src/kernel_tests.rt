@@ -182,14 +182,62 @@ fn add_loop(text: &mut String, turns: u64, body: &str) -> Result<(), AllocError>
     Ok(())
 }
 
-// Both loops, the second one in a branch, where no loop is done in blocks.
-fn source(alloc: Global, turns: u64, body: &str, again: &str) -> Result<String, AllocError> {
+// Where a loop stands: what comes before it and after it, beside the same for C, D and t.
+const PLACES: [[(&str, &str); 2]; 6] = [
+    [("", ""), ("", "")],
+    [("{\n", "}\n"), ("{\n", "}\n")],
+    [("if (1) {\n", "}\n"), ("if (1) {\n", "}\n")],
+    [
+        (
+            "if (s > A[3] + 9 || !B[2]) {\ns = s + 1;\n} else {\n",
+            "}\n",
+        ),
+        (
+            "if (t > C[3] + 9 || !D[2]) {\nt = t + 1;\n} else {\n",
+            "}\n",
+        ),
+    ],
+    [
+        (
+            "for (uint64_t k = 0; k < 4; k += 1) {\ns = s + 1;\nif (k && (k << 1) / 3 % 4 < ~s) {\n",
+            "}\nA[k] = s;\n}\n",
+        ),
+        (
+            "for (uint64_t k = 0; k < 4; k += 1) {\nt = t + 1;\nif (k && (k << 1) / 3 % 4 < ~t) {\n",
+            "}\nC[k] = t;\n}\n",
+        ),
+    ],
+    [
+        (
+            "for (uint64_t k = 0; k < 3; k += 1) {\nif ((k + A[k + 1]) % 2 == 0) {\n",
+            "} else {\nfor (uint64_t i = 1; i < 700; i += 1) { B[i] = A[i] + k; }\n}\n}\n",
+        ),
+        (
+            "for (uint64_t k = 0; k < 3; k += 1) {\nif ((k + C[k + 1]) % 2 == 0) {\n",
+            "} else {\nfor (uint64_t i = 1; i < 700; i += 1) { { D[i] = C[i] + k; } }\n}\n}\n",
+        ),
+    ],
+];
+
+// Both loops in a place, the second one with a body in braces, which is not done in blocks.
+fn source(
+    alloc: Global,
+    place: &[(&str, &str); 2],
+    turns: u64,
+    body: &str,
+    again: &str,
+) -> Result<String, AllocError> {
+    let [(before, after), (before_again, after_again)] = *place;
     let mut text = String::new(alloc);
     text.push_str(HEAD)?;
+    text.push_str(before)?;
     add_loop(&mut text, turns, body)?;
-    text.push_str("#pragma omp taskwait\nif (1) {\n")?;
-    add_loop(&mut text, turns, again)?;
-    text.push_str("}\n")?;
+    text.push_str(after)?;
+    text.push_str("#pragma omp taskwait\n")?;
+    text.push_str(before_again)?;
+    let inner = format!(in alloc; "{{ {again} }}")?;
+    add_loop(&mut text, turns, &inner)?;
+    text.push_str(after_again)?;
     text.push_str(TAIL)?;
     Ok(text)
 }
@@ -207,10 +255,54 @@ impl Look for Prints<'_> {
 fn blocks_do_what_their_turns_do(rt: HostRuntime) -> Result<(), Fail> {
     for (body, again) in BODIES {
         for turns in TURNS {
-            let text = source(rt.alloc(), turns, body, again)?;
+            let text = source(rt.alloc(), &PLACES[0], turns, body, again)?;
             assert!(rt; look_at(rt.alloc(), &text, &Prints(b"0\n0\n"))?);
         }
     }
+    Ok(())
+}
+
+#[test]
+fn blocks_stand_in_braces_and_branches(rt: HostRuntime) -> Result<(), Fail> {
+    for place in &PLACES[1..] {
+        for (body, again) in BODIES {
+            for turns in [63, 64, 513] {
+                let text = source(rt.alloc(), place, turns, body, again)?;
+                assert!(rt; look_at(rt.alloc(), &text, &Prints(b"0\n0\n"))?);
+            }
+        }
+    }
+    Ok(())
+}
+
+// Two arrays in turn, and a loop in a branch of each turn. A program in another language wrote the same numbers.
+const IN_TURN: &str = "\
+uint64_t A[600];
+uint64_t B[600];
+int main(void) {
+for (uint64_t i = 0; i < 600; i += 1) { A[i] = i; }
+#pragma omp target map(tofrom: A) map(tofrom: B)
+for (uint64_t k = 0; k < 7; k += 1) {
+if (k % 2 == 0) {
+for (uint64_t i = 0; i < 600; i += 1) { B[i] = A[i] * 3 + k; }
+} else {
+for (uint64_t i = 0; i < 600; i += 1) { A[i] = B[i] + 1; }
+}
+if (k > 4 && A[k] % 2) {
+{ for (uint64_t i = 1; i < 600; i += 1) { B[i] = B[i] + A[i - 1]; } }
+}
+}
+print(A[0]);
+print(A[599]);
+print(B[0]);
+print(B[1]);
+print(B[599]);
+}
+";
+
+#[test]
+fn arrays_take_turns_in_branches(rt: HostRuntime) -> Result<(), Fail> {
+    assert!(rt; look_at(rt.alloc(), IN_TURN, &Prints(b"23\n16196\n75\n179\n64763\n"))?);
     Ok(())
 }
 
