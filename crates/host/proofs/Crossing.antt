@@ -23,6 +23,7 @@ use Rattle.outline.specs.contracts.Outlined.TheInside as outlined_inside
 use Rattle.kernel.specs.contracts.emit.Code as code
 use Rattle.lower.specs.contracts.image.Image as image
 use Rattle.kernel.proofs.frames.Frame.TheSendSync as frame
+use Rattle.kernel.proofs.op.Op.TheSendSync as operation
 use Rattle.device.specs.contracts.jobs.Job as job
 use Rattle.device.proofs.standing.Standing.TheSendSync as standing
 use Rattle.host.proofs.channel.Outbox.TheSendSync as outbox
@@ -77,7 +78,7 @@ pub outlined_sync : (a : NamedLft) → IsSync (outlined.the_row a)
 outlined_sync a = view_sync _ _ _ _ _ (outlined_inside_sync a)
 
 pub code_sync : (a : NamedLft) → IsSync (code.the_row a)
-code_sync a = search (region_sync, crossing.crosses, sendable) depth 60 fits 20000
+code_sync a = search (region_sync, operation.the_sync, crossing.crosses, sendable) depth 60 fits 20000
 
 pub image_sync : (a : NamedLft) → IsSync (image.the_row a)
 image_sync a = search (outlined_sync, code_sync, crossing.crosses, sendable) depth 60 fits 20000
