@@ -30,3 +30,4 @@ pub mod IssuedFrames
 pub mod OpenedItems
 pub mod NextTasks
 pub mod AtPlace
+pub mod OpenFrames

@@ -43,12 +43,12 @@ use Rattle.device.proofs.Starts.{as_many}
 use Rattle.device.proofs.Validity.{hosts_here, valid}
 
 -- an open item has captured scalars and a snapshot
-record OpenAt (c : Condition) : Type 0 where
-  captured : Scalars
-  snapshot : View
-  is : c ≡ Opened captured snapshot
+pub record OpenAt (c : Condition) : Type 0 where
+  pub captured : Scalars
+  pub snapshot : View
+  pub is : c ≡ Opened captured snapshot
 
-open_at : (c : Condition) → is_open c ≡ true → OpenAt c
+pub open_at : (c : Condition) → is_open c ≡ true → OpenAt c
 open_at Untouched h = absurd (false≢true h)
 open_at (Generated a) h = absurd (false≢true h)
 open_at (Opened a v) h = record { captured = a; snapshot = v; is = refl }

@@ -12,7 +12,7 @@ use Rattle.kernel.specs.declared.frames.Frame.{Frame}
 use Rattle.device.specs.declared.jobs.Job.{Job}
 use Rattle.device.specs.Run.{Run, state_of}
 use Rattle.device.specs.Same.{same_list}
-use Rattle.device.specs.Standing.{done_on, frame_parts}
+use Rattle.device.specs.Standing.{Issue, done_on, frame_parts}
 
 -- the statements of an item's region, none where it has none
 abbrev pub statements_of : Option Region → List Stmt
@@ -25,6 +25,11 @@ pub record IsIssuedDone (r : Run) (region : Region) (frame : Frame) : Type 0 whe
   pub is_held : slice_get r.issued frame.item ≡ Some (Some (frame_parts frame))
   pub has_statements : (w : Work) → slice_get (plan r.program).items frame.item ≡ Some w →
       same_list (statements_of w.region) region.body.items ≡ true
+
+-- for each item that is open a frame was issued
+abbrev pub AreIssued : Run → Type 0
+AreIssued r = (i : ℕ) → enabled (plan r.program) (state_of r) (event.Close i) ≡ true →
+    (p : Issue) × (slice_get r.issued i ≡ Some (Some p))
 
 -- what was issued for an item: a run of this region on this frame is taken back
 pub record IsJob (r : Run) (i : ℕ) (job : Job) : Type 0 where

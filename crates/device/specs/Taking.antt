@@ -6,7 +6,7 @@ use Rattle.base.specs.declared.fault.RunFault.{RunFault}
 use Rattle.base.specs.declared.fault.RunFault.TheVariants as fault
 use Rattle.base.specs.Items.{plan}
 use Rattle.base.specs.Machine.{step}
-use Rattle.device.specs.Run.{IsOpenFault, Run, fill_in, is_over, state_of}
+use Rattle.device.specs.Run.{HasOpened, IsOpenFault, Run, after, fill_in, is_over, state_of}
 
 -- one event more, which is a step of the machine
 pub record Takes (old : Run) (e : Event) (new : Run) : Type 0 where
@@ -16,6 +16,15 @@ pub record Takes (old : Run) (e : Event) (new : Run) : Type 0 where
   pub fresh : new.fresh ≡ old.fresh
   pub history : new.history ≡ old.history ++ e ∷ []
   pub stepped : step (plan old.program) (fill_in old) (state_of old) e ≡ Some (state_of new)
+
+-- what it does to what is issued: only an opening issues a frame
+abbrev pub HasDone : Event → Run → Run → Type 0
+HasDone (Open i) old new = HasOpened i old new
+HasDone (Gen i) old new = new ≡ after old (Gen i)
+HasDone (Step i) old new = new ≡ after old (Step i)
+HasDone (Close i) old new = new ≡ after old (Close i)
+HasDone (Wait i) old new = new ≡ after old (Wait i)
+HasDone End old new = new ≡ after old End
 
 -- an opening creates no more than there is room for
 abbrev pub FitsIn : Run → Event → Type 0

@@ -65,6 +65,22 @@ impl<'a> RunState<'a> {
         self.finish(item, &left)
     }
 
+    /// Closes an item with what its region did on the frame that was issued for it, where this is known. The error comes
+    /// for want of memory.
+    pub fn close_issued(&mut self, done: &Done<'_, '_, 'a>) -> Result<(), AllocError>
+        requires { IsIssuedDone self.old done.now.region.now done.now.frame.now }
+        ensures closed { OnOk result (self.new ≡ after self.old (event.Close done.now.frame.now.item)) }
+        ensures unchanged { OnErr result (self.new ≡ self.old) }
+    {
+        let left = Left {
+            scalars: &done.scalars,
+            rows: &done.rows,
+            input: done.input,
+            printed: &done.printed,
+        };
+        self.finish(done.frame.item, &left)
+    }
+
     /// Closes an item with what its region did on the frame that was issued for it. The error is `Stranger` where the
     /// item of the frame is not open, or the region or the frame is not the one that was issued, or `OutOfMemory`.
     pub fn close(&mut self, done: &Done<'_, '_, 'a>) -> Result<(), RunFault>
@@ -76,12 +92,6 @@ impl<'a> RunState<'a> {
         if !self.is_issued(done.region, done.frame) {
             return Err(RunFault::Stranger);
         }
-        let left = Left {
-            scalars: &done.scalars,
-            rows: &done.rows,
-            input: done.input,
-            printed: &done.printed,
-        };
-        or_out_of_memory(self.finish(done.frame.item, &left))
+        or_out_of_memory(self.close_issued(done))
     }
 }

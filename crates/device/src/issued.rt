@@ -4,7 +4,7 @@ ghost use Rattle.std.specs.Prelude.{◌≡◌, Some, false, true, slice_get};
 ghost use Rattle.base.specs.Items.{plan};
 ghost use Rattle.base.specs.Machine.{enabled};
 ghost use Rattle.base.specs.declared.item.Event.TheVariants as event;
-ghost use Rattle.device.specs.Jobs.{IsIssuedDone, IsJob};
+ghost use Rattle.device.specs.Jobs.{AreIssued, IsIssuedDone, IsJob};
 ghost use Rattle.device.specs.Run.{state_of};
 ghost use Rattle.device.specs.Standing.{frame_parts};
 
@@ -29,6 +29,13 @@ impl<'a> RunState<'a> {
             code: self.image.code(item as usize),
             frame,
         }
+    }
+
+    /// For each item that is open a frame was issued.
+    pub fn open_items_are_issued(&self)
+        ensures { AreIssued self.now }
+    {
+        let _whole = &self.whole;
     }
 
     // Whether this frame was issued for an item, and the item was not closed since.

@@ -5,7 +5,7 @@ ghost use Rattle.base.specs.Items.{plan};
 ghost use Rattle.base.specs.Machine.{enabled};
 ghost use Rattle.base.specs.declared.item.Event.TheVariants as event;
 ghost use Rattle.device.specs.Run.{HasOpened, IsOpenFault, is_over, state_of};
-ghost use Rattle.device.specs.Taking.{FitsIn, IsEventFault, Takes};
+ghost use Rattle.device.specs.Taking.{FitsIn, HasDone, IsEventFault, Takes};
 
 use crate::state::{RunState, or_out_of_memory};
 use base::fault::RunFault;
@@ -32,6 +32,7 @@ impl<'a> RunState<'a> {
     pub fn take(&mut self, event: Event) -> Result<(), RunFault>
         requires { IsTrue (enabled (plan self.old.program) (state_of self.old) event) }
         ensures taken { OnOk result (Takes self.old event self.new) }
+        ensures does { OnOk result (HasDone event self.old self.new) }
         ensures room { OnOk result (FitsIn self.old event) }
         ensures fault { IfErr result (IsEventFault self.old event) }
         ensures unchanged { OnErr result (self.new ≡ self.old) }

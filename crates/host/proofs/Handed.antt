@@ -1,7 +1,8 @@
 -- What one more event of a run leaves of what was handed to workers.
-use Rattle.std.proofs.Common.{◌≡◌, ℕ, ◌+◌, ◌-◌, ◌≤◌, ◌++◌, Bool, true, false, List, [], ◌∷◌, length, refl, sym, ap, ◌∙◌, subst, arith, append-nil, Option, Some, None, Result, Ok, Err, OnOk, OnErr, ◌⊎◌, inl, inr}
+use Rattle.std.proofs.Common.{◌≡◌, ℕ, ◌+◌, ◌-◌, ◌≤◌, ◌++◌, Bool, true, false, List, [], ◌∷◌, length, map, refl, sym, ap, ◌∙◌, subst, arith, append-nil, Option, Some, None, Result, Ok, Err, OnOk, OnErr, ◌⊎◌, inl, inr}
 use Rattle.std.specs.Prelude.{if◌then◌else◌}
 use Rattle.std.proofs.lemmas.Bool.{true≢false}
+use Rattle.std.proofs.lemmas.List.{map-append}
 use Rattle.std.proofs.lemmas.Option.{same_Some}
 use Rattle.base.specs.declared.item.Event.{Event}
 use Rattle.base.specs.declared.item.Event.TheVariants.{Gen, Open, Step, Close, Wait, End}
@@ -11,15 +12,18 @@ use Rattle.base.specs.Machine.{State, HasEnded, RunFrom, enabled, start}
 use Rattle.device.specs.Leading.{is_after, takes}
 use Rattle.device.specs.Run.{HasOpened, Run, after, fill_in, state_of}
 use Rattle.device.specs.Running.{IsReached}
-use Rattle.device.specs.Taking.{Takes}
+use Rattle.device.specs.declared.jobs.Job.{Job}
+use Rattle.device.specs.Jobs.{IsJob}
+use Rattle.device.specs.Taking.{HasDone, Takes}
 use Rattle.device.proofs.EventBounds.{is_fine, nothing_after}
 use Rattle.device.proofs.Reaching.{is_opened_next}
+use Rattle.host.proofs.Owned.{event_own, more_own, none_own}
 use Rattle.host.proofs.Past.{handed_next, opened_once}
 use Rattle.host.proofs.Turns.{Turned, none_open, part, returned_by, turned}
 use Rattle.host.specs.Handing.{handed, handed_by, open_for_workers}
 use Rattle.host.specs.Idle.{is_for_workers}
 use Rattle.host.specs.Once.{times}
-use Rattle.host.specs.Sent.{IsSent, handed_in, open_count}
+use Rattle.host.specs.Sent.{AreOwn, IsSent, handed_in, item_of, open_count}
 use Rattle.host.specs.Stops.{IsOver}
 use Rattle.host.specs.declared.board.Stop.{Stop}
 
@@ -80,14 +84,28 @@ host_count old new e n h may own is same =
     let b : length (returned_by (plan old.program) e) ≡ 0 = ap (λ (xs : List ℕ). length xs) k.1 in
     omega (arith, f.count, a, b, same)
 
-pub host_sent : (old new : Run) (e : Event) (o : Option Stop) (jobs : Option (List ℕ)) → IsReached old →
+-- it was not sent before
+pub not_sent : (r : Run) (i : ℕ) (sent : List ℕ) → IsReached r → enabled (plan r.program) (state_of r) (Open i) ≡ true →
+    sent ≡ handed_in r → times i sent ≡ 0
+not_sent r i sent h may same =
+    ap (times i) same ∙ opened_once (plan r.program) (fill_in r) r.input r.history (state_of r) i h.ran may
+
+pub host_sent : (old new : Run) (e : Event) (o : Option Stop) (jobs : Option (List Job)) → IsReached old →
     enabled (plan old.program) (state_of old) e ≡ true → is_for_workers (plan old.program) e ≡ false → Takes old e new →
-    o ≡ None → (HasEnded (plan new.program) (state_of new) → ⊥) → IsSent old o jobs → IsSent new o jobs
-host_sent old new e o (Some sent) h may own is goes on s =
+    HasDone e old new → o ≡ None → (HasEnded (plan new.program) (state_of new) → ⊥) → IsSent old o jobs → IsSent new o jobs
+host_sent old new e o (Some sent) h may own is does goes on s =
     let f = follows old new e h may is in
     let k = none_handed (plan old.program) e own in
-    (s.0, on, s.2 ∙ sym (append-nil (handed_in old)) ∙ ap (λ ys. handed_in old ++ ys) (sym k.0) ∙ sym f.handed)
-host_sent old new e o None h may own is goes on s =
+    let none : (i : ℕ) → e ≡ Open i → times i (map item_of sent) ≡ 0 = λ i same.
+    not_sent old i (map item_of sent) h (ap (enabled (plan old.program) (state_of old)) (sym same) ∙ may) s.2.0 in (
+      s.0,
+      on,
+      (
+        s.2.0 ∙ sym (append-nil (handed_in old)) ∙ ap (λ ys. handed_in old ++ ys) (sym k.0) ∙ sym f.handed,
+        event_own old new e sent does none s.2.1,
+      ),
+    )
+host_sent old new e o None h may own is does goes on s =
     absurd (not_ended old e h may (subst (λ (x : Option Stop). IsOver x old) goes s))
 
 pub host_opened_count : (old new : Run) (i n : ℕ) → IsReached old →
@@ -96,12 +114,12 @@ pub host_opened_count : (old new : Run) (i n : ℕ) → IsReached old →
 host_opened_count old new i n h may own is same =
     host_count old new (Open i) n h may own (opened_takes old new i h may is) same
 
-pub host_opened_sent : (old new : Run) (i : ℕ) (o : Option Stop) (jobs : Option (List ℕ)) → IsReached old →
+pub host_opened_sent : (old new : Run) (i : ℕ) (o : Option Stop) (jobs : Option (List Job)) → IsReached old →
     enabled (plan old.program) (state_of old) (Open i) ≡ true → is_for_workers (plan old.program) (Open i) ≡ false →
     HasOpened i old new → o ≡ None → IsSent old o jobs → IsSent new o jobs
 host_opened_sent old new i o jobs h may own is goes s =
     let t = opened_takes old new i h may is in
-    host_sent old new (Open i) o jobs h may own t goes ((follows old new (Open i) h may t).going (λ e. absurd (cc e))) s
+    host_sent old new (Open i) o jobs h may own t is goes ((follows old new (Open i) h may t).going (λ e. absurd (cc e))) s
 
 -- ---- an item that is handed out
 
@@ -113,28 +131,38 @@ hand_count old new i h may own is =
     ap (λ (b : Bool). length (if b then i ∷ [] else [])) own in
     omega (arith, f.count, a)
 
-pub hand_sent : (old new : Run) (i : ℕ) (sent : List ℕ) → IsReached old →
+pub hand_sent : (old new : Run) (i : ℕ) (sent : List Job) (job : Job) → IsReached old →
     enabled (plan old.program) (state_of old) (Open i) ≡ true → is_for_workers (plan old.program) (Open i) ≡ true →
-    HasOpened i old new → sent ≡ handed_in old → IsSent new None (Some (sent ++ i ∷ []))
-hand_sent old new i sent h may own is same =
+    HasOpened i old new → IsJob new i job → map item_of sent ≡ handed_in old → AreOwn old sent →
+    IsSent new None (Some (sent ++ job ∷ []))
+hand_sent old new i sent job h may own is made same owned =
     let f = follows old new (Open i) h may (opened_takes old new i h may is) in
     let a : handed_by (plan old.program) (Open i) ≡ i ∷ [] = ap (λ (b : Bool). if b then i ∷ [] else []) own in
-    (tt, f.going (λ e. absurd (cc e)), ap (λ xs. xs ++ i ∷ []) same ∙ ap (λ ys. handed_in old ++ ys) (sym a) ∙ sym f.handed)
-
--- it was not sent before
-pub not_sent : (r : Run) (i : ℕ) (sent : List ℕ) → IsReached r → enabled (plan r.program) (state_of r) (Open i) ≡ true →
-    sent ≡ handed_in r → times i sent ≡ 0
-not_sent r i sent h may same =
-    ap (times i) same ∙ opened_once (plan r.program) (fill_in r) r.input r.history (state_of r) i h.ran may
+    let none : (k : ℕ) → ◌≡◌ {A = Event} (Open i) (Open k) → times k (map item_of sent) ≡ 0 = λ k e.
+    subst (λ n. times n (map item_of sent) ≡ 0) (cc e) (not_sent old i (map item_of sent) h may same) in (
+      tt,
+      f.going (λ e. absurd (cc e)),
+      (
+        map-append item_of sent (job ∷ []) ∙ ap (λ n. map item_of sent ++ n ∷ []) made.item
+            ∙ ap (λ xs. xs ++ i ∷ []) same ∙ ap (λ ys. handed_in old ++ ys) (sym a) ∙ sym f.handed,
+        more_own new i sent job (event_own old new (Open i) sent is none owned) made,
+      ),
+    )
 
 -- ---- an item that is closed
 
-pub closed_sent : (old new : Run) (i : ℕ) (o : Option Stop) (jobs : Option (List ℕ)) → IsReached old →
+pub closed_sent : (old new : Run) (i : ℕ) (o : Option Stop) (jobs : Option (List Job)) → IsReached old →
     enabled (plan old.program) (state_of old) (Close i) ≡ true → new ≡ after old (Close i) → o ≡ None → IsSent old o jobs →
     IsSent new o jobs
 closed_sent old new i o (Some sent) h may is goes s =
-    let f = follows old new (Close i) h may (takes old new (Close i) h may (is_after old new (Close i) is)) in
-    (s.0, f.going (λ e. absurd (cc e)), s.2 ∙ sym (append-nil (handed_in old)) ∙ sym f.handed)
+    let f = follows old new (Close i) h may (takes old new (Close i) h may (is_after old new (Close i) is)) in (
+      s.0,
+      f.going (λ e. absurd (cc e)),
+      (
+        s.2.0 ∙ sym (append-nil (handed_in old)) ∙ sym f.handed,
+        event_own old new (Close i) sent is (λ k e. absurd (cc e)) s.2.1,
+      ),
+    )
 closed_sent old new i o None h may is goes s =
     absurd (not_ended old (Close i) h may (subst (λ (x : Option Stop). IsOver x old) goes s))
 
@@ -169,11 +197,14 @@ start_count r h none =
     sym (ap (λ (s : State). length (open_for_workers (plan r.program) s)) (at_start r h none)
     ∙ none_open (plan r.program) (start r.input) (λ i. refl))
 
-pub start_sent : (r : Run) (sent : List ℕ) → IsReached r → r.history ≡ [] → sent ≡ [] → IsSent r None (Some sent)
+pub start_sent : (r : Run) (sent : List Job) → IsReached r → r.history ≡ [] → sent ≡ [] → IsSent r None (Some sent)
 start_sent r sent h none same = (
   tt,
   (λ ended. let e : 0 ≡ length (plan r.program).items + 1 = sym (ap (λ (s : State). s.place) (at_start r h none)) ∙ ended in omega (arith, e)),
-  same ∙ sym (ap (handed (plan r.program)) none),
+  (
+    ap (map item_of) same ∙ sym (ap (handed (plan r.program)) none),
+    subst (AreOwn r) (sym same) (none_own r),
+  ),
 )
 
 -- one item less is open, where it is for workers

@@ -1,7 +1,10 @@
 pub mod Stopping
 pub mod Crossing
 pub mod Idle
+pub mod Among
 pub mod Sending
+pub mod Showing
 pub mod Turns
 pub mod Past
+pub mod Owned
 pub mod Handed

@@ -5,7 +5,9 @@ use Rattle.base.specs.declared.item.Event.TheVariants.{Open, Close}
 use Rattle.base.specs.declared.tree.Region.{Region}
 use Rattle.base.specs.Items.{plan}
 use Rattle.base.specs.Machine.{HasEnded, enabled}
+use Rattle.std.specs.List.{Contains}
 use Rattle.kernel.specs.declared.frames.Frame.{Frame}
+use Rattle.device.specs.declared.jobs.Job.{Job}
 use Rattle.device.specs.Jobs.{IsIssuedDone, IsJob}
 use Rattle.device.specs.Run.{HasOpened, Run, after, state_of}
 use Rattle.device.specs.Running.{IsReached}
@@ -41,15 +43,17 @@ IsForWorker r i =
     ⊎ (HasNoTask (plan r.program) (state_of r) 0 × ((state_of r).place ≡ i))
 
 -- Fewer than so many items for workers were open. The lowest that may be opened is opened, and its job is sent
-pub record HasHanded (workers : ℕ) (old : Run) (sent : Option (List ℕ)) (new : Run) (after : Option (List ℕ)) : Type 0 where
+pub record HasHanded (workers : ℕ) (old : Run) (sent : Option (List Job)) (new : Run) (after : Option (List Job)) : Type 0 where
   pub item : ℕ
-  pub before : List ℕ
+  pub job : Job
+  pub before : List Job
   pub room : open_count old < workers
   pub lowest : IsForWorker old item
   pub own : is_for_workers (plan old.program) (Open item) ≡ true
   pub opened : HasOpened item old new
   pub was_sent : sent ≡ Some before
-  pub is_sent : after ≡ Some (before ++ item ∷ [])
+  pub is_job : IsJob new item job
+  pub is_sent : after ≡ Some (before ++ job ∷ [])
 
 -- nothing is handed to a worker as yet: as many items are open as there are workers, or none may be opened
 abbrev pub HasNoneToHand : ℕ → Run → Type 0
@@ -61,7 +65,7 @@ IsJobBack old after new = (after ≡ Some stop.JobBack) × ((i : ℕ) × HasOpen
 
 -- What is handed to a worker, by a cause to stop, if there is one, a state and what was sent, before and after: an item is
 -- opened and its job sent, or neither, unless the job comes back
-abbrev pub IsHanding : ℕ → Option Stop → Run → Option (List ℕ) → Look → Option Stop → Run → Option (List ℕ) → Type 0
+abbrev pub IsHanding : ℕ → Option Stop → Run → Option (List Job) → Look → Option Stop → Run → Option (List Job) → Type 0
 IsHanding workers before old sent look.Stop after new now =
     IsOver after new × (now ≡ None)
     × (((new ≡ old) × ((after ≡ before) ⊎ IsLack after)) ⊎ ((before ≡ None) × IsJobBack old after new))
@@ -99,6 +103,10 @@ abbrev pub IsClosing : Option Stop → Run → Region → Frame → Option Stop 
 IsClosing (Some s) old region frame o new = (o ≡ Some s) × (new ≡ old)
 IsClosing None old region frame None new = new ≡ after old (Close frame.item)
 IsClosing None old region frame (Some s) new = (new ≡ old) × IsCloseCause old region frame s
+
+-- one of these jobs has this region and this frame
+abbrev pub HasJob : List Job → Region → Frame → Type 0
+HasJob jobs region frame = (j : Job) × Contains jobs j × (j.code.now ≡ region) × (j.frame ≡ frame)
 
 -- in a run that has not ended, where the host and the workers find nothing to do, an item is open, which is then closed
 abbrev pub WaitsAreForAClosing : Type 0

@@ -1,6 +1,7 @@
 -- What a run was started with.
-use Rattle.std.specs.Prelude.{◌≡◌, ℕ, List, Option, Some, refl}
+use Rattle.std.specs.Prelude.{◌≡◌, ℕ, List, [], Option, Some, refl}
 use Rattle.std.specs.Coded.{Coded, Coded-set, code_by, coded×, coded_ℕ, coded_list, coded_option}
+use Rattle.atomic_table.specs.Seated.{TableId}
 use Rattle.base.specs.contracts.tree.Program as program_code
 use Rattle.base.specs.declared.tree.Program.{Program}
 use Rattle.device.specs.Run.{Run}
@@ -35,3 +36,8 @@ start_code =
 -- in at most one way
 pub one_origin : (o : Option Start) (r : Run) → IsProp (IsFrom o r)
 one_origin o r = Coded-set (coded_option start_code) o (Some (start_of r))
+
+-- the name of no table
+abbrev pub no_table : TableId
+no_table =
+    record { words = 0; slots = 0; views_name = 0; atom = 0; block = 0; offset = 0; slot_names = [] }

@@ -1,22 +1,23 @@
 // What stands behind the lock.
 
-ghost use Rattle.std.specs.Prelude.{◌≡◌, ◌≤◌, ◌<◌, ◌||◌, ◌&&◌, [], true, false, not, IsTrue, IfErr, IfNone, IfOk, IfSome, None, Some, OnOk, count_by, length, slice_get};
+ghost use Rattle.std.specs.Prelude.{◌≡◌, ◌≤◌, ◌<◌, ◌||◌, ◌&&◌, ◌⊎◌, [], true, false, not, IsTrue, IfErr, IfNone, IfOk, IfSome, None, Some, OnOk, count_by, length, slice_get};
 ghost use Rattle.base.specs.declared.item.Event.TheVariants as event;
 ghost use Rattle.base.specs.Accepted.{is_target};
 ghost use Rattle.base.specs.Items.{plan};
 ghost use Rattle.base.specs.Limits.{most_items};
-ghost use Rattle.base.specs.Machine.{enabled};
+ghost use Rattle.base.specs.Machine.{HasEnded, enabled};
+ghost use Rattle.device.specs.Jobs.{IsIssuedDone};
 ghost use Rattle.device.specs.Room.{IsAnswerWithin};
 ghost use Rattle.device.specs.Run.{state_of};
 ghost use Rattle.host.specs.Handing.{is_handed};
 ghost use Rattle.host.specs.Idle.{AreWorkersIdle, IsHostIdle, IsNoTargetHere, is_for_workers, turn_of};
-ghost use Rattle.host.specs.Looks.{HasNoMoreToHand, IsClosing, IsEventOf, IsForWorker, IsHanding, IsHostLook, IsLook, WantsTheHost};
+ghost use Rattle.host.specs.Looks.{HasJob, HasNoMoreToHand, IsClosing, IsEventOf, IsForWorker, IsHanding, IsHostLook, IsLook, WantsTheHost};
 ghost use Rattle.host.specs.Origins.{IsFrom, IsOf, one_origin, one_program};
-ghost use Rattle.host.specs.Sent.{IsSent, one_sent, open_count};
+ghost use Rattle.host.specs.Sent.{AreOwn, IsSent, one_sent, open_count};
 ghost use Rattle.host.specs.Stops.{HasCause, IsCause, IsEndFault, IsOver, IsPlain, StaysStopped, fault_of, first_stop, lack_at, one_cause};
 ghost use Rattle.host.specs.Threads.{IsThreadAnswer, IsThreadFault};
 
-use crate::channel::{Numbered, Outbox};
+use crate::channel::{Inbox, Numbered, Outbox};
 use crate::origin::Origin;
 use base::fault::RunFault;
 use base::item::{Answer, Event, Item, ItemKind};
@@ -28,7 +29,13 @@ use std::marker::PhantomData;
 use std::sync::Wait;
 
 impl Numbered for Job<'_> {
-    ghost number = { λ job. job.frame.item };
+    ghost use Rattle.host.specs.Sent.{item_of};
+
+    ghost number = { item_of };
+
+    ghost told = { λ b. b };
+
+    ghost one = { λ a b e. e };
 }
 
 /// Why a run on threads stops before its end.
@@ -60,13 +67,13 @@ pub enum Look<'a> {
 /// A run; the first cause to stop it, after which no event is done; and, as long as the run goes on, the sending end
 /// of the jobs. The state is of the run that the parameter `B` names. Where an opening did not fit, it is the state
 /// in which that opening may happen. The jobs ever sent are those of the items that were opened for workers, in
-/// order.
+/// order; and as long as such an item is open, its job is what was issued for it.
 #[derive(Drop)]
 pub struct Board<'a, B: Origin> {
     image: &'a Image<'a>,
     state: RunState<'a>,
     stop: Option<Stop>,
-    jobs: Option<Outbox<Job<'a>>>,
+    jobs: Option<Outbox<Job<'a>, B>>,
     // How many items for workers are open, and how many may be.
     open_items: usize,
     workers: usize,
@@ -167,7 +174,7 @@ impl<'a, B: Origin> Board<'a, B> {
     pub fn new(
         image: &'a Image<'a>,
         state: RunState<'a>,
-        jobs: Outbox<Job<'a>>,
+        jobs: Outbox<Job<'a>, B>,
         workers: usize,
     ) -> Self
         requires program { IsOf image.now state }
@@ -417,6 +424,62 @@ impl<'a, B: Origin> Board<'a, B> {
             Err(RunFault::OutOfMemory) => self.halt(Stop::OutOfMemory),
             Err(_) => self.halt(Stop::Stranger),
         }
+    }
+
+    // Closes an item with what was computed, which is known to be what was issued.
+    fn close_issued(&mut self, done: &Done<'_, '_, 'a>)
+        requires goes { self.old.stop ≡ None }
+        requires issued { IsIssuedDone self.old.state done.now.region.now done.now.frame.now }
+        ensures { IsClosing None self.old.state done.now.region.now done.now.frame.now self.new.stop self.new.state }
+    {
+        self.state.is_reached();
+        match self.state.close_issued(done) {
+            Ok(()) => {
+                if is_handed(&self.image.items()[done.frame.item as usize]) {
+                    self.open_items -= 1;
+                }
+            }
+            Err(_) => self.halt(Stop::OutOfMemory),
+        }
+    }
+
+    // What a worker received is what was issued, where a frame is issued for its item.
+    fn has_sent(&mut self, inbox: Inbox<Job<'a>, B>) -> Inbox<Job<'a>, B>
+        requires goes { self.old.stop ≡ None }
+        ensures inbox { result ≡ inbox.entry }
+        ensures goes { self.new.stop ≡ None }
+        ensures same { self.new.state ≡ self.old.state }
+        ensures own { HasEnded (plan self.old.state.program) (state_of self.old.state) ⊎ AreOwn self.old.state inbox.entry }
+    {
+        match &mut self.jobs {
+            None => inbox,
+            Some(jobs) => inbox.was_sent(jobs),
+        }
+    }
+
+    /// Closes the item of a job that a worker received, unless the run was stopped. Nothing is compared: the job is what
+    /// was issued for its item, as long as it is open.
+    pub fn close_received(
+        &mut self,
+        inbox: Inbox<Job<'a>, B>,
+        done: &Done<'_, '_, 'a>,
+    ) -> Inbox<Job<'a>, B>
+        requires { HasJob inbox done.now.region.now done.now.frame.now }
+        ensures closing { IsClosing self.old.stop self.old.state done.now.region.now done.now.frame.now self.new.stop self.new.state }
+        ensures inbox { result ≡ inbox.entry }
+    {
+        if self.stop.is_some() {
+            return inbox;
+        }
+        let inbox = self.has_sent(inbox);
+        self.state.is_reached();
+        self.state.open_items_are_issued();
+        if self.state.is_enabled(Event::Close(done.frame.item)) {
+            self.close_issued(done);
+        } else {
+            self.halt(Stop::Stranger);
+        }
+        inbox
     }
 
     /// What the run has come to. `OtherState` is for a job that came back, and for a state that has not ended though

@@ -2,23 +2,24 @@
 
 ghost use Rattle.std.specs.Prelude.{◌≡◌, ◌≤◌, IfErr, IfOk, Some};
 ghost use Rattle.device.specs.Room.{IsAnswerWithin};
+ghost use Rattle.host.specs.Once.{IsNew};
 ghost use Rattle.host.specs.Threads.{IsThreadAnswer, IsThreadFault};
 
 use crate::board::{Board, handed_count};
-use crate::channel::each_once;
+use crate::channel::{Ends, each_once, new_ends};
 use crate::gate::Gate;
 use crate::origin::Origin;
 use crate::work::{Calls, work_on_threads};
 use base::fault::RunFault;
 use base::item::Answer;
-use device::RunState;
+use device::{Job, RunState};
 use lower::Image;
 use std::alloc::Global;
 use std::marker::Brand;
 use std::sync::{Mutex, Wait};
 use std::thread::Threads;
 
-// The run that the parameter `B` names. The channel has room for every job that there can be.
+// The run that the parameter `B` names, with the channel that it names.
 fn run_from<'a, B: Origin + Send, R: Threads + Wait + Sync, G: Gate + Sync>(
     rt: &R,
     alloc: Global,
@@ -27,8 +28,11 @@ fn run_from<'a, B: Origin + Send, R: Threads + Wait + Sync, G: Gate + Sync>(
     workers: usize,
     capacity: u64,
     gate: &G,
+    ends: Ends<Job<'a>>,
 ) -> Result<Answer, RunFault>
-    requires { B.start ≡ Some (record { program = image.now; input = input.now; capacity = capacity }) }
+    requires new { IsNew ends }
+    requires named { (ends.pass.table_id ≡ B.table) × (ends.pass.me.0.of ≡ B.key) }
+    requires start { B.start ≡ Some (record { program = image.now; input = input.now; capacity = capacity }) }
     ensures answer { IfOk result (IsThreadAnswer image.now input.now) }
     ensures within { IfOk result (IsAnswerWithin image.now input.now capacity) }
     ensures fault { IfErr result (IsThreadFault image.now input.now capacity) }
@@ -37,13 +41,33 @@ fn run_from<'a, B: Origin + Send, R: Threads + Wait + Sync, G: Gate + Sync>(
         Err(_) => return Err(RunFault::OutOfMemory),
         Ok(state) => state,
     };
-    let room = handed_count(image.items()).max(1);
-    let Ok((jobs, inboxes)) = each_once(alloc, room, workers) else {
+    let Ok((jobs, inboxes)) = each_once(alloc, ends, workers) else {
         return Err(RunFault::OutOfMemory);
     };
     let board: Mutex<Board<'a, B>> = Mutex::new(Board::new(image, state, jobs, workers));
     work_on_threads(rt, alloc, &board, &Calls::new(), gate, inboxes);
     board.into_inner().answer(alloc)
+}
+
+// The same, by a new channel with room for every job that there can be.
+fn run_through<'a, R: Threads + Wait + Sync, G: Gate + Sync>(
+    rt: &R,
+    alloc: Global,
+    image: &'a Image<'a>,
+    input: &'a [u64],
+    workers: usize,
+    capacity: u64,
+    gate: &G,
+) -> Result<Answer, RunFault>
+    ensures answer { IfOk result (IsThreadAnswer image.now input.now) }
+    ensures within { IfOk result (IsAnswerWithin image.now input.now capacity) }
+    ensures fault { IfErr result (IsThreadFault image.now input.now capacity) }
+{
+    let room = handed_count(image.items()).max(1);
+    let Ok(ends) = new_ends::<Job<'a>>(alloc, room) else {
+        return Err(RunFault::OutOfMemory);
+    };
+    run_from::<Brand, R, G>(rt, alloc, image, input, workers, capacity, gate, ends)
 }
 
 /// Runs an accepted program on this input by worker threads, on devices each with room for `capacity` cells. The
@@ -69,5 +93,5 @@ pub fn run_threads<R: Threads + Wait + Sync, G: Gate + Sync>(
     ensures within { IfOk result (IsAnswerWithin image.now input.now capacity) }
     ensures fault { IfErr result (IsThreadFault image.now input.now capacity) }
 {
-    run_from::<Brand, R, G>(rt, alloc, image, input, workers, capacity, gate)
+    run_through(rt, alloc, image, input, workers, capacity, gate)
 }

@@ -1,5 +1,7 @@
 // What threads do until the run is over.
 
+ghost use Rattle.std.specs.Prelude.{IfSome};
+ghost use Rattle.std.specs.List.{Contains};
 ghost use Rattle.host.specs.Stops.{IsPlain};
 
 use crate::board::{Board, Look, Stop};
@@ -53,8 +55,10 @@ fn next_job<'a, B: Origin, R: Wait>(
     rt: &R,
     board: &Mutex<Board<'a, B>>,
     calls: &Calls,
-    inbox: &mut Inbox<Job<'a>>,
-) -> Option<Job<'a>> {
+    inbox: &mut Inbox<Job<'a>, B>,
+) -> Option<Job<'a>>
+    ensures { IfSome result (Contains inbox.new) }
+{
     // The lock, from the second look on.
     let mut held = None;
     for _ in rt.forever() {
@@ -101,23 +105,62 @@ fn next_of_host<'a, B: Origin, R: Wait>(
 }
 
 // Stops the run, and wakes all threads.
-fn stop_all<B: Origin, R: Wait>(rt: &R, board: &Mutex<Board<'_, B>>, calls: &Calls, stop: Stop)
+fn stop_all<'a, B: Origin, R: Wait>(rt: &R, board: &Mutex<Board<'a, B>>, calls: &Calls, stop: Stop)
     requires { IsPlain stop }
 {
     board.lock(rt).stop(stop);
     calls.all();
 }
 
-// Does one job outside the lock, then closes its item and hands out what is ready. A worker is woken for each job
-// that is sent, but for `left` of them, which the thread itself comes to receive.
-fn do_job<'a, B: Origin, R: Wait, G: Gate>(
+// Hands out what is ready after a closing. A worker is woken for each job that is sent, but for `left` of them, which
+// the thread itself comes to receive.
+fn hand_on<'a, B: Origin, R: Wait>(rt: &R, board: &mut Board<'a, B>, calls: &Calls, left: usize) {
+    calls.some(board.hand_out(rt).saturating_sub(left));
+    if board.calls_host() {
+        calls.host.notify_one();
+    }
+}
+
+// Does a job that was received, outside the lock, then closes its item under the lock and hands out what is ready. What
+// the gate computed has the job's own region and frame, as its contract says, so that nothing is compared.
+fn do_received<'a, B: Origin, R: Wait, G: Gate>(
+    rt: &R,
+    alloc: Global,
+    board: &Mutex<Board<'a, B>>,
+    calls: &Calls,
+    gate: &G,
+    inbox: Inbox<Job<'a>, B>,
+    job: Job<'a>,
+) -> Inbox<Job<'a>, B>
+    requires { Contains inbox job }
+{
+    let item = job.frame.item;
+    gate.pass(item, Phase::Opened);
+    match gate.compute(alloc, item, &job) {
+        Ok(done) => {
+            gate.pass(item, Phase::Computed);
+            let mut guard = board.lock(rt);
+            let inbox = guard.close_received(inbox, &done);
+            hand_on(rt, &mut guard, calls, 1);
+            drop(guard);
+            gate.pass(item, Phase::Closed);
+            inbox
+        }
+        Err(_) => {
+            stop_all(rt, board, calls, Stop::OutOfMemory);
+            inbox
+        }
+    }
+}
+
+// The same for a job of the host.
+fn do_own<'a, B: Origin, R: Wait, G: Gate>(
     rt: &R,
     alloc: Global,
     board: &Mutex<Board<'a, B>>,
     calls: &Calls,
     gate: &G,
     job: Job<'a>,
-    left: usize,
 ) {
     let item = job.frame.item;
     gate.pass(item, Phase::Opened);
@@ -126,10 +169,7 @@ fn do_job<'a, B: Origin, R: Wait, G: Gate>(
             gate.pass(item, Phase::Computed);
             let mut guard = board.lock(rt);
             guard.close(&done);
-            calls.some(guard.hand_out(rt).saturating_sub(left));
-            if guard.calls_host() {
-                calls.host.notify_one();
-            }
+            hand_on(rt, &mut guard, calls, 0);
             drop(guard);
             gate.pass(item, Phase::Closed);
         }
@@ -144,13 +184,13 @@ fn work<'a, B: Origin, R: Wait, G: Gate>(
     board: &Mutex<Board<'a, B>>,
     calls: &Calls,
     gate: &G,
-    mut inbox: Inbox<Job<'a>>,
+    mut inbox: Inbox<Job<'a>, B>,
 ) {
     for _ in rt.forever() {
         let Some(job) = next_job(rt, board, calls, &mut inbox) else {
             return;
         };
-        do_job(rt, alloc, board, calls, gate, job, 1);
+        inbox = do_received(rt, alloc, board, calls, gate, inbox, job);
     }
 }
 
@@ -166,7 +206,7 @@ fn work_as_host<'a, B: Origin, R: Wait, G: Gate>(
         let Some(job) = next_of_host(rt, board, calls) else {
             return;
         };
-        do_job(rt, alloc, board, calls, gate, job, 0);
+        do_own(rt, alloc, board, calls, gate, job);
     }
 }
 
@@ -178,7 +218,7 @@ pub fn work_on_threads<'a, B: Origin + Send, R: Threads + Wait + Sync, G: Gate +
     board: &Mutex<Board<'a, B>>,
     calls: &Calls,
     gate: &G,
-    inboxes: Vec<Inbox<Job<'a>>>,
+    inboxes: Vec<Inbox<Job<'a>, B>>,
 ) {
     thread::scope(thread::scope_env(), rt, move |scope| {
         for (worker, inbox) in inboxes.into_iter().enumerate() {

@@ -14,7 +14,7 @@ invariant_of-self-else-has_ended g c =
       origin = next_from g.B.Origin.start s.state new taken.program taken.input taken.capacity s.origin;
       cause = no_cause new s.stop none;
       sent =
-          host_sent s.state new c.args.event s.stop s.jobs c.is_reached.ensures.reached c.requires.may c.requires.goes.1 taken none
+          host_sent s.state new c.args.event s.stop s.jobs c.is_reached.ensures.reached c.requires.may c.requires.goes.1 taken c.in-Ok.ensures.does none
           (λ ended. true≢false (sym (c.has_ended.ensures.1 ended) ∙ c.if-has_ended.false)) s.sent;
       count = host_count s.state new c.args.event s.open_items c.is_reached.ensures.reached c.requires.may c.requires.goes.1 taken s.count;
     }

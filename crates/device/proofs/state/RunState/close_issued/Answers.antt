@@ -1,6 +1,6 @@
 use Rattle.std.proofs.Common.{refl}
 use Rattle.device.proofs.Kept.{kept_alike}
-use Rattle.device.proofs.state.RunState.close.Goals as goal
+use Rattle.device.proofs.state.RunState.close_issued.Goals as goal
 
 pub finish-requires : goal.finish-requires
 finish-requires c =
@@ -9,7 +9,7 @@ finish-requires c =
       region = d.region.now;
       frame = d.frame.now;
       of_item = refl;
-      issued = c.is_issued.ensures.yes c.if-not-is_issued.false;
+      issued = c.requires;
       kept =
           kept_alike d.region.now d.region.now d.frame.now d.frame.now d.scalars.value c.deref.result.now d.rows.items c.deref-2.result.now
           d.input.now d.printed.items c.deref-3.result.now refl refl c.deref.ensures c.deref-2.ensures.value c.deref-3.ensures.value

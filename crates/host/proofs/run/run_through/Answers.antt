@@ -1,4 +1,4 @@
-use Rattle.host.proofs.run.run_threads.Goals as goal
+use Rattle.host.proofs.run.run_through.Goals as goal
 
 pub returns-clause-answer : goal.returns-clause-answer
 returns-clause-answer g c = c.run_from.ensures.answer
