@@ -122,7 +122,8 @@ fn hand_on<'a, B: Origin, R: Wait>(rt: &R, board: &mut Board<'a, B>, calls: &Cal
 }
 
 // Does a job that was received, outside the lock, then closes its item under the lock and hands out what is ready. What
-// the gate computed has the job's own region and frame, as its contract says, so that nothing is compared.
+// the gate computed has the job's own region and frame, as its contract says, so that nothing is compared. The memory of
+// the job is given back before the next one is made, which then takes the same pages.
 fn do_received<'a, B: Origin, R: Wait, G: Gate>(
     rt: &R,
     alloc: Global,
@@ -141,6 +142,8 @@ fn do_received<'a, B: Origin, R: Wait, G: Gate>(
             gate.pass(item, Phase::Computed);
             let mut guard = board.lock(rt);
             let inbox = guard.close_received(inbox, &done);
+            drop(done);
+            drop(job);
             hand_on(rt, &mut guard, calls, 1);
             drop(guard);
             gate.pass(item, Phase::Closed);
@@ -169,6 +172,8 @@ fn do_own<'a, B: Origin, R: Wait, G: Gate>(
             gate.pass(item, Phase::Computed);
             let mut guard = board.lock(rt);
             guard.close(&done);
+            drop(done);
+            drop(job);
             hand_on(rt, &mut guard, calls, 0);
             drop(guard);
             gate.pass(item, Phase::Closed);
