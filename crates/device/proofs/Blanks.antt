@@ -1,6 +1,6 @@
 -- A frame without cells is for a frame that is filled, if it was for it before.
 use Rattle.std.proofs.Common.{◌≡◌, ◌⊎◌, inl, inr, ◌∙◌, ◌<◌, ◌≤◌, ◌+◌, ℕ, zero, suc, List, [], ◌∷◌, ◌++◌, get_or, map, take, length, Option, Some, None, refl, sym, ap, ap₂, subst, arith, length-append}
-use Rattle.std.specs.Prelude.{◌==◌, Bool, true, false, option_map, slice_get}
+use Rattle.std.specs.Prelude.{◌==◌, Bool, true, false, IfSome, option_map, slice_get}
 use Rattle.std.specs.List.{slice_set}
 use Rattle.std.proofs.lemmas.Bool.{eqb-true, eqb-false}
 use Rattle.base.proofs.Places.{get_set_other, get_set_same}
@@ -76,6 +76,12 @@ still_blank kind.Enter table given filled blank f t b = subst (λ (x : Frame). I
 still_blank kind.Exit table given filled blank f t b = subst (λ (x : Frame). IsBlank (frame_parts x) blank) (sym f) b
 still_blank kind.Update table given filled blank f t b = subst (λ (x : Frame). IsBlank (frame_parts x) blank) (sym f) b
 still_blank kind.Wait table given filled blank f t b = subst (λ (x : Frame). IsBlank (frame_parts x) blank) (sym f) b
+
+-- the same of a frame that is wanted
+pub still_blank_if : (k : ItemKind) (table : Table) (given filled : Frame) (o : Option Frame) → IsFilled k given table filled →
+    FillsRows k given table filled → IfSome o (IsBlank (frame_parts given)) → IfSome o (IsBlank (frame_parts filled))
+still_blank_if k table given filled None f t b = b
+still_blank_if k table given filled (Some blank) f t b = still_blank k table given filled blank f t b
 
 -- ---- a frame without cells takes those of the frame that it is for
 

@@ -4,7 +4,6 @@ use Rattle.std.specs.Prelude.{slice_get}
 use Rattle.base.specs.declared.item.Event.TheVariants as event
 use Rattle.base.specs.Items.{Work, plan}
 use Rattle.base.specs.Machine.{Condition, enabled, is_open}
-use Rattle.base.specs.Memory.{Scalars, View}
 use Rattle.two_memories.proofs.PlanItems.{on_true}
 use Rattle.device.specs.declared.standing.Held.{Held}
 use Rattle.device.specs.declared.standing.Held.TheVariants as held

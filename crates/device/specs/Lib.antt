@@ -5,6 +5,7 @@ pub mod Allowed
 pub mod Standing
 pub mod Opening
 pub mod Blank
+pub mod Shared
 pub mod Framing
 pub mod Closing
 pub mod Run

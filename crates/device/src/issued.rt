@@ -11,6 +11,7 @@ ghost use Rattle.device.specs.Standing.{frame_parts};
 use crate::jobs::Job;
 use crate::same::is_same_list;
 use crate::same_frame::is_same_frame;
+use crate::shared_frame::SharedFrame;
 use crate::standing::Held;
 use crate::state::RunState;
 use base::item::Event;
@@ -19,7 +20,7 @@ use kernel::Frame;
 
 impl<'a> RunState<'a> {
     // The job of an open item, with the frame that was issued for it.
-    pub(crate) fn job(&self, item: u32, frame: Frame<'a>) -> Job<'a>
+    pub(crate) fn job(&self, item: u32, frame: SharedFrame<'a>) -> Job<'a>
         requires open { enabled (plan self.now.program) (state_of self.now) (event.Close item) ≡ true }
         requires held { slice_get self.now.issued item ≡ Some (Some (frame_parts frame)) }
         ensures { IsJob self.now item result }

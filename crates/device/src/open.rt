@@ -1,26 +1,32 @@
 // Opening an item of a run.
 
-ghost use Rattle.std.specs.Prelude.{◌≡◌, IsTrue, IfErr, IfOk, IfSome, IsSome, OnErr, OnOk, false, true};
+ghost use Rattle.std.specs.Prelude.{◌≡◌, IsTrue, IfErr, IfOk, IfSome, IsSome, OnErr, OnOk, Some, false, slice_get, true};
 ghost use Rattle.base.specs.Items.{plan};
 ghost use Rattle.base.specs.Machine.{enabled};
 ghost use Rattle.base.specs.declared.item.Event.TheVariants as event;
 ghost use Rattle.device.specs.Jobs.{IsJob};
 ghost use Rattle.device.specs.Run.{HasOpened, IsOpenFault, is_over, state_of};
+ghost use Rattle.device.specs.Standing.{frame_parts};
 
-use crate::blank::{blank_if, take_cells};
+use crate::blank::blank_if;
 use crate::jobs::Job;
-use crate::standing::Held;
+use crate::shared_frame::SharedFrame;
 use crate::state::{RunState, forget, note};
 use base::fault::RunFault;
 use base::item::Event;
 
 impl<'a> RunState<'a> {
-    /// Opens an item that may be opened. Its job is answered where it is wanted.
-    pub(crate) fn open_with(&mut self, item: u32, wanted: bool) -> Result<Option<Job<'a>>, RunFault>
+    /// Opens an item that may be opened. Its frame is answered too where it is wanted.
+    pub(crate) fn open_with(
+        &mut self,
+        item: u32,
+        wanted: bool,
+    ) -> Result<Option<SharedFrame<'a>>, RunFault>
         requires { IsTrue (enabled (plan self.old.program) (state_of self.old) (event.Open item)) }
         ensures opened { OnOk result (HasOpened item self.old self.new) }
-        ensures wanted { IfOk result (λ job. wanted ≡ true → IsSome job) }
-        ensures job { IfOk result (λ job. IfSome job (IsJob self.new item)) }
+        ensures is_open { OnOk result (enabled (plan self.new.program) (state_of self.new) (event.Close item) ≡ true) }
+        ensures wanted { IfOk result (λ frame. wanted ≡ true → IsSome frame) }
+        ensures issued { IfOk result (λ frame. IfSome frame (λ f. slice_get self.new.issued item ≡ Some (Some (frame_parts f)))) }
         ensures room { OnOk result (is_over self.old item ≡ false) }
         ensures fault { IfErr result (IsOpenFault self.old item) }
         ensures unchanged { OnErr result (self.new ≡ self.old) }
@@ -35,17 +41,8 @@ impl<'a> RunState<'a> {
         let Ok(()) = note(&mut self.history, Event::Open(item)) else {
             return Err(RunFault::OutOfMemory);
         };
-        match self.standing.open(it, item, frame) {
-            Ok(()) => {
-                let Some(mut issued) = blank else {
-                    return Ok(None);
-                };
-                let Held::Issued(held) = &self.standing.held[item as usize] else {
-                    unreachable!()
-                };
-                take_cells(&mut issued, held);
-                Ok(Some(self.job(item, issued)))
-            }
+        match self.standing.open(self.alloc, it, item, frame, blank) {
+            Ok(issued) => Ok(issued),
             Err(fault) => {
                 forget(&mut self.history);
                 Err(fault)
@@ -66,7 +63,7 @@ impl<'a> RunState<'a> {
     {
         match self.open_with(item, true) {
             Err(fault) => Err(fault),
-            Ok(Some(job)) => Ok(job),
+            Ok(Some(frame)) => Ok(self.job(item, frame)),
             Ok(None) => unreachable!(),
         }
     }

@@ -1,19 +1,23 @@
 // Where an item is opened.
 
-ghost use Rattle.std.specs.Prelude.{◌≡◌, ◌≤◌, ◌<◌, ◌^◌, true, false, map, length, IfErr, OnErr, OnOk};
+ghost use Rattle.std.specs.Prelude.{◌≡◌, ◌≤◌, ◌<◌, ◌^◌, true, false, map, length, IfErr, IfOk, IfSome, OnErr, OnOk, Some, is_some, slice_get};
 ghost use Rattle.base.specs.declared.item.Event.TheVariants as event;
 ghost use Rattle.present.specs.Table.{AreSections, AreWithin, HasRoom};
 ghost use Rattle.taskgraph.specs.Board.{allows};
+ghost use Rattle.device.specs.Blank.{IsBlank};
 ghost use Rattle.device.specs.Devices.{AreKept, OnTable};
 ghost use Rattle.device.specs.Moves.{AreCounted, IsMapsFault, enters};
 ghost use Rattle.device.specs.Opening.{FillsRows, FollowsOpen, GoesIn, IsFilled, IsSame, Issues};
+ghost use Rattle.device.specs.Standing.{frame_parts, issue_of};
 
+use crate::shared_frame::SharedFrame;
 use crate::standing::{Held, Standing};
 use base::fault::RunFault;
 use base::item::{Item, ItemKind};
 use frames::load_rows;
 use kernel::Frame;
 use present::Table;
+use std::alloc::Global;
 
 // The frame of a kernel takes the numbers of its device. It takes no memory.
 fn fill(kind: ItemKind, frame: &mut Frame<'_>, table: &Table)
@@ -33,21 +37,51 @@ fn fill(kind: ItemKind, frame: &mut Frame<'_>, table: &Table)
     }
 }
 
+// The owners of a filled frame: the run, and the job for which there is a blank one.
+fn owners<'a>(
+    alloc: Global,
+    frame: Frame<'a>,
+    blank: Option<Frame<'a>>,
+) -> (SharedFrame<'a>, Option<SharedFrame<'a>>)
+    requires { IfSome blank (IsBlank (frame_parts frame)) }
+    ensures kept { result.0 ≡ frame.entry }
+    ensures wanted { is_some result.1 ≡ is_some blank.entry }
+    ensures job { IfSome result.1 (λ f. frame_parts f ≡ frame_parts frame.entry) }
+{
+    match blank {
+        None => (SharedFrame::new(frame), None),
+        Some(blank) => {
+            let (kept, job) = SharedFrame::pair(alloc, frame, blank);
+            (kept, Some(job))
+        }
+    }
+}
+
 impl<'a> Standing<'a> {
-    /// An item is opened: its entries, exits or updates are done on its device, and its frame is filled and kept. The
-    /// error is `DeviceFull` where its entries together would create more cells than the device has room for, or
-    /// `OutOfMemory`.
-    pub fn open(&mut self, it: &Item, item: u32, frame: Frame<'a>) -> Result<(), RunFault>
+    /// An item is opened: its entries, exits or updates are done on its device, and its frame is filled and kept. It is
+    /// answered too where there is a blank one for the answer. The error is `DeviceFull` where its entries together would
+    /// create more cells than the device has room for, or `OutOfMemory`.
+    pub fn open(
+        &mut self,
+        alloc: Global,
+        it: &Item,
+        item: u32,
+        frame: Frame<'a>,
+        blank: Option<Frame<'a>>,
+    ) -> Result<Option<SharedFrame<'a>>, RunFault>
         requires here { allows self.old.graph (event.Open item) ≡ true }
         requires inside { item < length self.old.held.items }
         requires going { self.old.ended ≡ false }
         requires few { it.now.kind ≡ ItemKind.Target → length frame.rows.items ≤ 2 ^ 32 }
+        requires blank { IfSome blank (IsBlank (frame_parts frame)) }
         requires sections { AreSections it.now.maps.items }
         requires within { AreWithin self.old.host it.now.maps.items }
         requires counted { OnTable self.old.devices it.now.device.number (λ t. AreCounted t self.old.entered) }
         requires goes { GoesIn self.old it.now }
         ensures opened { OnOk result (FollowsOpen self.old item it.now frame.entry self.new) }
         ensures issued { OnOk result (Issues it.now frame.entry item self.old self.new) }
+        ensures wanted { IfOk result (λ job. is_some job ≡ is_some blank.entry) }
+        ensures job { IfOk result (λ job. IfSome job (λ f. slice_get (map issue_of self.new.held.items) item ≡ Some (Some (frame_parts f)))) }
         ensures room { OnOk result (enters it.now.kind ≡ true → OnTable self.old.devices it.now.device.number (λ t. HasRoom t it.now.maps.items)) }
         ensures fault { IfErr result (λ f. OnTable self.old.devices it.now.device.number (λ t. IsMapsFault t it.now.kind it.now.maps.items f)) }
         ensures unchanged { OnErr result (IsSame it.now.device.number self.old self.new) }
@@ -64,9 +98,10 @@ impl<'a> Standing<'a> {
             Err(fault) => Err(fault),
             Ok(()) => {
                 fill(it.kind, &mut frame, self.devices.table(it.device));
-                self.held[item as usize] = Held::Issued(frame);
+                let (kept, job) = owners(alloc, frame, blank);
+                self.held[item as usize] = Held::Issued(kept);
                 self.graph.opened(item as usize);
-                Ok(())
+                Ok(job)
             }
         }
     }

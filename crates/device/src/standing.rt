@@ -12,8 +12,9 @@ ghost use Rattle.device.specs.Standing.{IsAt, Follows, Stays, issue_of};
 
 use crate::devices::Devices;
 use crate::output::Output;
+use crate::shared_frame::SharedFrame;
 use base::memory::Memory;
-use kernel::{Frame, Scalars};
+use kernel::Scalars;
 use lower::Image;
 use std::alloc::{AllocError, Global};
 use taskgraph::Graph;
@@ -23,7 +24,7 @@ use taskgraph::Graph;
 pub enum Held<'a> {
     Nothing,
     Captured(Scalars),
-    Issued(Frame<'a>),
+    Issued(SharedFrame<'a>),
 }
 
 /// Where a run stands: the host memory and the storage of each device, the order of the items, the scalars, the input

@@ -1,5 +1,5 @@
 use Rattle.std.proofs.Common.{◌≡◌, ◌∙◌, true, false, Option, Some, sym, ap, subst, arith}
-use Rattle.std.specs.Prelude.{slice_get}
+use Rattle.std.specs.Prelude.{IsSome, slice_get}
 use Rattle.std.proofs.lemmas.Option.{slice_get-get_or, slice_get_within}
 use Rattle.base.specs.Items.{plan}
 use Rattle.base.specs.declared.item.Event.TheVariants as event
@@ -8,7 +8,8 @@ use Rattle.device.specs.Jobs.{IsIssuedDone}
 use Rattle.base.specs.Machine.{is_open}
 use Rattle.device.specs.Run.{state_of}
 use Rattle.device.specs.Running.{run_of}
-use Rattle.device.specs.Standing.{Keeps}
+use Rattle.device.specs.Standing.{Keeps, done_on}
+use Rattle.kernel.specs.declared.frames.Frame.{Frame}
 use Rattle.device.proofs.Kept.{kept_alike}
 use Rattle.device.proofs.OpenedItems.{open_is_issued}
 use Rattle.device.proofs.Openings.{on_work}
@@ -46,7 +47,8 @@ run-requires c =
     slice_get-get_or s.standing.held.items c.args.item c.index.result.now f.item.inside ∙ ap (λ (x : Held). Some x) (sym c.index.ensures) in
     let at_f = at_i ∙ ap (λ (x : Held). Some x) c.in-Issued.is in
     let of = c.code-code.ensures f.item.work f.item.is in
-    runs s c.args.item it c.self.invariant f c.code-code.result.now c.in-Issued.frame of at_f
+    subst (λ (x : Frame). IsSome (done_on c.code-code.result.now x)) (sym c.deref.ensures)
+    (runs s c.args.item it c.self.invariant f c.code-code.result.now c.in-Issued.frame of at_f)
 
 pub finish-requires : goal.finish-requires
 finish-requires c =
@@ -69,9 +71,9 @@ finish-requires c =
           (is_issued_done s c.args.item it c.self.invariant f c.code-code.result.now c.in-Issued.frame of e
           (asked s c.args.self.now (event.Close c.args.item) c.self.view_is c.requires));
       kept =
-          kept_alike d.region.now c.code-code.result.now d.frame.now c.in-Issued.frame d.scalars.value c.deref.result.now d.rows.items
-          c.deref-2.result.now d.input.now d.printed.items c.deref-3.result.now c.in_ok-done.ensures.region c.in_ok-done.ensures.frame
-          c.deref.ensures c.deref-2.ensures.value c.deref-3.ensures.value d.is_meaning;
+          kept_alike d.region.now c.code-code.result.now d.frame.now c.in-Issued.frame d.scalars.value c.deref-2.result.now d.rows.items
+          c.deref-3.result.now d.input.now d.printed.items c.deref-4.result.now c.in_ok-done.ensures.region
+          (c.in_ok-done.ensures.frame ∙ c.deref.ensures) c.deref-2.ensures c.deref-3.ensures.value c.deref-4.ensures.value d.is_meaning;
     }
 
 pub unreachable-requires : goal.unreachable-requires

@@ -1,13 +1,10 @@
-use Rattle.std.proofs.Common.{◌≡◌, ◌∙◌, Some, refl, sym, ap, map, subst, arith}
-use Rattle.std.specs.Prelude.{slice_get}
-use Rattle.std.proofs.lemmas.Option.{slice_get-get_or}
-use Rattle.device.specs.declared.standing.Held.{Held}
+use Rattle.std.proofs.Common.{◌∙◌, refl, sym, ap, map, subst}
 use Rattle.base.specs.declared.item.Event.TheVariants as event
 use Rattle.device.specs.Run.{IsOpenFault, is_over, opened, state_of}
 use Rattle.device.specs.Running.{IsRunning, run_of}
 use Rattle.device.specs.Standing.{frame_parts, issue_of}
 use Rattle.device.proofs.MayOpen.{facts, has_room, inside_open, is_full, open_fault, same_but, same_work, unchanged}
-use Rattle.device.proofs.OpenedItems.{is_for_kept, is_held, kept_issue, may_close, never_other, still_there}
+use Rattle.device.proofs.OpenedItems.{may_close}
 use Rattle.device.proofs.Reaching.{goes_to}
 use Rattle.device.proofs.Tables.{own_table}
 use Rattle.device.proofs.state.RunState.open_with.Goals as goal
@@ -138,8 +135,8 @@ returns-in-Ok-open-clause-room c =
     ap (λ r. is_over r c.args.item) (sym c.self.view_is) ∙ has_room (run_of s) s.standing c.args.item c.index-items-item.result c.self.invariant f.item own.0 own.1
     (λ e. c.in-Ok-open.ensures.room e own.0 own.1)
 
-pub returns-clause-fault : goal.returns-clause-fault
-returns-clause-fault c =
+pub returns-in-Err-clause-fault : goal.returns-in-Err-clause-fault
+returns-in-Err-clause-fault c =
     let s = c.self.inside in
     let f = facts s c.args.self.now c.args.item _ c.items.result.now c.index-items-item.result c.self.view_is c.self.invariant c.requires
     c.items.ensures.shown c.index-items-item.is in
@@ -150,20 +147,8 @@ returns-clause-fault c =
     (is_full (run_of s) s.standing c.args.item c.index-items-item.result c.self.invariant f.item own.0 own.1)
     (c.in-Err.ensures.fault own.0 own.1))
 
-pub returns-clause-unchanged : goal.returns-clause-unchanged
-returns-clause-unchanged c =
-    let s = c.self.inside in
-    let f = facts s c.args.self.now c.args.item _ c.items.result.now c.index-items-item.result c.self.view_is c.self.invariant c.requires
-    c.items.ensures.shown c.index-items-item.is in
-    let same = c.in-Err.ensures.unchanged in
-    let back = same_but (run_of (record s { standing = c.open.new.self; history = c.forget.new.history })) (run_of s) refl refl refl
-    c.open.ensures.kept.fresh
-    (c.forget.ensures s.history.items (event.Open c.args.item) c.in-Ok-note.ensures.noted)
-    (ap (λ z. map issue_of z.held.items) same.rest) in
-    back ∙ c.self.view_is
-
-pub job-requires-clause-open : goal.job-requires-clause-open
-job-requires-clause-open c =
+pub returns-in-Ok-open-clause-is_open : goal.returns-in-Ok-open-clause-is_open
+returns-in-Ok-open-clause-is_open c =
     let s = c.self.inside in
     let f = facts s c.args.self.now c.args.item _ c.items.result.now c.index-items-item.result c.self.view_is c.self.invariant c.requires
     c.items.ensures.shown c.index-items-item.is in
@@ -176,90 +161,3 @@ job-requires-clause-open c =
       fresh = c.in-Ok-open.ensures.kept.fresh;
       history = c.in-Ok-note.ensures.noted;
     })
-
-pub index-requires : goal.index-requires
-index-requires c =
-    let s = c.self.inside in
-    let f = facts s c.args.self.now c.args.item _ c.items.result.now c.index-items-item.result c.self.view_is c.self.invariant c.requires
-    c.items.ensures.shown c.index-items-item.is in
-    let inside = still_there c.index-items-item.result c.in-Ok.frame c.args.item s.standing c.open.new.self c.in-Ok-open.ensures.issued f.item.inside in
-    omega (arith, inside)
-
-pub take_cells-requires : goal.take_cells-requires
-take_cells-requires c =
-    let s = c.self.inside in
-    let f = facts s c.args.self.now c.args.item _ c.items.result.now c.index-items-item.result c.self.view_is c.self.invariant c.requires
-    c.items.ensures.shown c.index-items-item.is in
-    let inside = still_there c.index-items-item.result c.in-Ok.frame c.args.item s.standing c.open.new.self c.in-Ok-open.ensures.issued f.item.inside in
-    let at_i : slice_get c.open.new.self.held.items c.args.item ≡ Some c.index.result.now =
-    slice_get-get_or c.open.new.self.held.items c.args.item c.index.result.now inside ∙ ap (λ (x : Held). Some x) (sym c.index.ensures) in
-    is_for_kept c.index-items-item.result c.in-Ok.frame c.args.item s.standing c.open.new.self c.in-Ok-open.ensures.issued f.item.inside
-    c.in-Some.issued c.in-Issued.held (at_i ∙ ap (λ (x : Held). Some x) c.in-Issued.is) (rw c.in-Some.is at c.in-Ok-blank_if.ensures.blank)
-
-pub job-requires-clause-held : goal.job-requires-clause-held
-job-requires-clause-held c =
-    let s = c.self.inside in
-    let f = facts s c.args.self.now c.args.item _ c.items.result.now c.index-items-item.result c.self.view_is c.self.invariant c.requires
-    c.items.ensures.shown c.index-items-item.is in
-    let inside = still_there c.index-items-item.result c.in-Ok.frame c.args.item s.standing c.open.new.self c.in-Ok-open.ensures.issued f.item.inside in
-    let at_i : slice_get c.open.new.self.held.items c.args.item ≡ Some c.index.result.now =
-    slice_get-get_or c.open.new.self.held.items c.args.item c.index.result.now inside ∙ ap (λ (x : Held). Some x) (sym c.index.ensures) in
-    is_held c.index-items-item.result c.in-Ok.frame c.args.item s.standing c.open.new.self c.in-Ok-open.ensures.issued f.item.inside
-    c.take_cells.new.blank c.in-Issued.held (at_i ∙ ap (λ (x : Held). Some x) c.in-Issued.is) c.take_cells.ensures
-
-pub invariant_of-self-in_default-blank : goal.invariant_of-self-in_default-blank
-invariant_of-self-in_default-blank c =
-    let s = c.self.inside in
-    let f = facts s c.args.self.now c.args.item _ c.items.result.now c.index-items-item.result c.self.view_is c.self.invariant c.requires
-    c.items.ensures.shown c.index-items-item.is in
-    goes_to (run_of s) _ s.standing c.open.new.self (event.Open c.args.item) c.self.invariant f.open'.next
-    (c.in-Ok-open.ensures.opened _ (state_of (run_of s)) f.open'.next.state f.item.work c.self.invariant.at f.item.is f.item.of
-    (c.in-Ok.ensures.serves (state_of (run_of s)) f.item.work c.self.invariant.at f.item.bounded f.item.fine f.item.is f.item.of
-    (same_work s c.args.item c.index-items-item.result f))
-    f.open'.next.step)
-    (record {
-      program = refl;
-      input = refl;
-      capacity = refl;
-      fresh = c.in-Ok-open.ensures.kept.fresh;
-      history = c.in-Ok-note.ensures.noted;
-    })
-    c.in-Ok-open.ensures.kept
-
-pub returns-in_default-blank-clause-opened : goal.returns-in_default-blank-clause-opened
-returns-in_default-blank-clause-opened c =
-    let s = c.self.inside in
-    let f = facts s c.args.self.now c.args.item _ c.items.result.now c.index-items-item.result c.self.view_is c.self.invariant c.requires
-    c.items.ensures.shown c.index-items-item.is in
-    record {
-      frame = frame_parts c.in-Ok-open.ensures.issued.frame;
-      is =
-          same_but (run_of (record s { standing = c.open.new.self; history = c.note.new.history }))
-          (opened (run_of s) c.args.item (frame_parts c.in-Ok-open.ensures.issued.frame)) refl refl refl
-          c.in-Ok-open.ensures.kept.fresh
-          c.in-Ok-note.ensures.noted c.in-Ok-open.ensures.issued.is
-          ∙ ap (λ r. opened r c.args.item (frame_parts c.in-Ok-open.ensures.issued.frame)) c.self.view_is;
-    }
-
-pub returns-in_default-blank-clause-room : goal.returns-in_default-blank-clause-room
-returns-in_default-blank-clause-room c =
-    let s = c.self.inside in
-    let f = facts s c.args.self.now c.args.item _ c.items.result.now c.index-items-item.result c.self.view_is c.self.invariant c.requires
-    c.items.ensures.shown c.index-items-item.is in
-    let it = c.index-items-item.result in
-    let own = own_table s.standing.devices c.self.invariant.at.alike it.device.number it.device.in_range in
-    ap (λ r. is_over r c.args.item) (sym c.self.view_is) ∙ has_room (run_of s) s.standing c.args.item c.index-items-item.result c.self.invariant f.item own.0 own.1
-    (λ e. c.in-Ok-open.ensures.room e own.0 own.1)
-
-pub unreachable-requires : goal.unreachable-requires
-unreachable-requires c =
-    let s = c.self.inside in
-    let f = facts s c.args.self.now c.args.item _ c.items.result.now c.index-items-item.result c.self.view_is c.self.invariant c.requires
-    c.items.ensures.shown c.index-items-item.is in
-    let issued = c.in-Ok-open.ensures.issued in
-    let inside = still_there c.index-items-item.result c.in-Ok.frame c.args.item s.standing c.open.new.self issued f.item.inside in
-    let at_i : slice_get c.open.new.self.held.items c.args.item ≡ Some c.index.result.now =
-    slice_get-get_or c.open.new.self.held.items c.args.item c.index.result.now inside ∙ ap (λ (x : Held). Some x) (sym c.index.ensures) in
-    never_other c.index.result.now (frame_parts issued.frame)
-    (kept_issue c.index-items-item.result c.in-Ok.frame c.args.item s.standing c.open.new.self issued f.item.inside c.index.result.now at_i)
-    c.in_default-index.not-Issued
