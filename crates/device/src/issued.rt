@@ -50,8 +50,8 @@ impl<'a> RunState<'a> {
         }
     }
 
-    // Whether the item of a frame is open, and this region and this frame are those that were issued for it.
-    pub(crate) fn is_issued(&self, region: &Region, frame: &Frame<'_>) -> bool
+    /// Whether the item of a frame is open, and this region and this frame are those that were issued for it.
+    pub fn is_issued(&self, region: &Region, frame: &Frame<'_>) -> bool
         ensures yes { result ≡ true → IsIssuedDone self.now region.now frame.now }
         ensures no { result ≡ false → IsIssuedDone self.now region.now frame.now → ⊥ }
     {

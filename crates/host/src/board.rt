@@ -414,15 +414,10 @@ impl<'a, B: Origin> Board<'a, B> {
         if self.stop.is_some() {
             return;
         }
-        self.state.is_reached();
-        match self.state.close(done) {
-            Ok(()) => {
-                if is_handed(&self.image.items()[done.frame.item as usize]) {
-                    self.open_items -= 1;
-                }
-            }
-            Err(RunFault::OutOfMemory) => self.halt(Stop::OutOfMemory),
-            Err(_) => self.halt(Stop::Stranger),
+        if self.state.is_issued(done.region, done.frame) {
+            self.close_issued(done);
+        } else {
+            self.halt(Stop::Stranger);
         }
     }
 

@@ -1,56 +1,26 @@
-use Rattle.std.proofs.Common.{rules, ◌≡◌, ◌∙◌, true, false, None, ap, sym, subst}
-use Rattle.base.specs.declared.item.Event.TheVariants.{Open}
-use Rattle.base.specs.Items.{plan}
-use Rattle.device.specs.Run.{Run}
-use Rattle.host.specs.Idle.{is_for_workers}
-use Rattle.host.specs.Origins.{IsFrom}
-use Rattle.host.proofs.Handed.{closed_busy, closed_other, closed_sent}
-use Rattle.host.proofs.Idle.{closed_own}
-use Rattle.host.proofs.Stopping.{no_cause}
+use Rattle.std.proofs.Common.{rules, ◌≡◌, ◌∙◌, Option, Some, None, ap, sym, subst}
+use Rattle.host.specs.Looks.{IsClosing}
+use Rattle.host.specs.Stops.{first_stop}
+use Rattle.host.specs.declared.board.Stop.{Stop}
+use Rattle.host.specs.declared.board.Stop.TheVariants as stop
 use Rattle.host.proofs.board.Board.close.Goals as goal
 
-pub overflow_sub-self : goal.overflow_sub-self
-overflow_sub-self g c =
+pub returns-then-is_issued : goal.returns-then-is_issued
+returns-then-is_issued g c =
     let s = c.args.self.now in
-    let i = c.args.done.now.frame.now.item in
-    let may = c.in-Ok.ensures.issued.is_open in
-    let own : is_for_workers (plan s.state.program) (Open i) ≡ true =
-    closed_own s.image.now s.state c.items.result.now i c.index-items-done.result s.program c.items.ensures.shown may c.index-items-done.is
-    ∙ sym c.is_handed.ensures ∙ c.if-is_handed.true in
-    (closed_busy s.state c.close.new.self i s.open_items c.is_reached.ensures.reached may c.in-Ok.ensures.closed own s.count).0
-
-pub invariant_of-self : goal.invariant_of-self
-invariant_of-self g c =
-    let s = c.args.self.now in
-    let i = c.args.done.now.frame.now.item in
-    let may = c.in-Ok.ensures.issued.is_open in
-    let is = c.in-Ok.ensures.closed in
-    let own : is_for_workers (plan s.state.program) (Open i) ≡ true =
-    closed_own s.image.now s.state c.items.result.now i c.index-items-done.result s.program c.items.ensures.shown may c.index-items-done.is
-    ∙ sym c.is_handed.ensures ∙ c.if-is_handed.true in
+    let d = c.args.done.now in
     let none : s.stop ≡ None = search rules in
-    record {
-      program = s.program ∙ sym (ap (λ (r : Run). r.program) is);
-      origin = subst (λ (r : Run). IsFrom g.B.Origin.start r) (sym is) s.origin;
-      cause = no_cause c.close.new.self s.stop none;
-      sent = closed_sent s.state c.close.new.self i s.stop s.jobs c.is_reached.ensures.reached may is none s.sent;
-      count = (closed_busy s.state c.close.new.self i s.open_items c.is_reached.ensures.reached may is own s.count).1;
-    }
+    let new = c.close_issued.new.self in
+    subst (λ (o : Option Stop). IsClosing o s.state d.region.now d.frame.now new.stop new.state) (sym none) c.close_issued.ensures
 
-pub invariant_of-self-else-is_handed : goal.invariant_of-self-else-is_handed
-invariant_of-self-else-is_handed g c =
+pub returns-else-is_issued : goal.returns-else-is_issued
+returns-else-is_issued g c =
     let s = c.args.self.now in
-    let i = c.args.done.now.frame.now.item in
-    let may = c.in-Ok.ensures.issued.is_open in
-    let is = c.in-Ok.ensures.closed in
-    let own : is_for_workers (plan s.state.program) (Open i) ≡ false =
-    closed_own s.image.now s.state c.items.result.now i c.index-items-done.result s.program c.items.ensures.shown may c.index-items-done.is
-    ∙ sym c.is_handed.ensures ∙ c.if-is_handed.false in
+    let d = c.args.done.now in
     let none : s.stop ≡ None = search rules in
-    record {
-      program = s.program ∙ sym (ap (λ (r : Run). r.program) is);
-      origin = subst (λ (r : Run). IsFrom g.B.Origin.start r) (sym is) s.origin;
-      cause = no_cause c.close.new.self s.stop none;
-      sent = closed_sent s.state c.close.new.self i s.stop s.jobs c.is_reached.ensures.reached may is none s.sent;
-      count = closed_other s.state c.close.new.self i s.open_items c.is_reached.ensures.reached may is own s.count;
-    }
+    let new = c.halt.new.self in
+    let stops : new.stop ≡ Some stop.Stranger =
+    c.halt.ensures.first ∙ ap (λ (o : Option Stop). first_stop o stop.Stranger) none in
+    subst (λ (o : Option Stop). IsClosing o s.state d.region.now d.frame.now new.stop new.state) (sym none)
+    (subst (λ (o : Option Stop). IsClosing None s.state d.region.now d.frame.now o new.state) (sym stops)
+    (c.halt.ensures.state.0, c.is_issued.ensures.no c.if-is_issued.false))
