@@ -8,3 +8,4 @@ pub mod Turns
 pub mod Past
 pub mod Owned
 pub mod Handed
+pub mod Handouts

@@ -1,5 +1,5 @@
 -- What is found on the board, and done to it.
-use Rattle.std.specs.Prelude.{◌≡◌, ◌⊎◌, ◌<◌, ◌≤◌, ◌++◌, ◌∷◌, [], ℕ, List, true, false, Option, Some, None}
+use Rattle.std.specs.Prelude.{◌≡◌, ◌⊎◌, ◌<◌, ◌≤◌, ◌++◌, ◌∷◌, [], ◌+◌, ℕ, List, length, true, false, Option, Some, None}
 use Rattle.base.specs.declared.item.Event.{Event}
 use Rattle.base.specs.declared.item.Event.TheVariants.{Open, Close}
 use Rattle.base.specs.declared.tree.Region.{Region}
@@ -51,6 +51,7 @@ pub record HasHanded (workers : ℕ) (old : Run) (sent : Option (List Job)) (new
   pub lowest : IsForWorker old item
   pub own : is_for_workers (plan old.program) (Open item) ≡ true
   pub opened : HasOpened item old new
+  pub counted : open_count new ≡ open_count old + 1
   pub was_sent : sent ≡ Some before
   pub is_job : IsJob new item job
   pub is_sent : after ≡ Some (before ++ job ∷ [])
@@ -74,6 +75,16 @@ IsHanding workers before old sent look.Wait after new now =
 IsHanding workers before old sent look.Again after new now =
     (before ≡ None) × (after ≡ None) × HasHanded workers old sent new now
 IsHanding workers before old sent (look.Do job) after new now = ⊥
+
+-- why handing out stops a run, if it does: it was stopped before, for want of memory or of room, or since a job came back
+abbrev pub IsHandStop : Option Stop → Option Stop → Type 0
+IsHandStop before after = (after ≡ before) ⊎ ((before ≡ None) × (IsLack after ⊎ (after ≡ Some stop.JobBack)))
+
+-- so many jobs were sent, if there is a sending end still
+abbrev pub HaveSent : Option (List Job) → ℕ → Option (List Job) → Type 0
+HaveSent None n now = Unit {0}
+HaveSent (Some sent) n None = Unit {0}
+HaveSent (Some sent) n (Some now) = length now ≡ length sent + n
 
 -- there is no more to hand to a worker: the run is over, or there is none as yet
 abbrev pub HasNoMoreToHand : ℕ → Option Stop → Run → Type 0

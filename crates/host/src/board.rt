@@ -11,7 +11,7 @@ ghost use Rattle.device.specs.Room.{IsAnswerWithin};
 ghost use Rattle.device.specs.Run.{state_of};
 ghost use Rattle.host.specs.Handing.{is_handed};
 ghost use Rattle.host.specs.Idle.{AreWorkersIdle, IsHostIdle, IsNoTargetHere, is_for_workers, turn_of};
-ghost use Rattle.host.specs.Looks.{HasJob, HasNoMoreToHand, IsClosing, IsEventOf, IsForWorker, IsHanding, IsHostLook, IsLook, WantsTheHost};
+ghost use Rattle.host.specs.Looks.{HasJob, HasNoMoreToHand, HaveSent, IsClosing, IsEventOf, IsForWorker, IsHandStop, IsHanding, IsHostLook, IsLook, WantsTheHost};
 ghost use Rattle.host.specs.Origins.{IsFrom, IsOf, one_origin, one_program};
 ghost use Rattle.host.specs.Sent.{AreOwn, IsSent, one_sent, open_count};
 ghost use Rattle.host.specs.Stops.{HasCause, IsCause, IsEndFault, IsOver, IsPlain, StaysStopped, fault_of, first_stop, lack_at, one_cause};
@@ -380,13 +380,14 @@ impl<'a, B: Origin> Board<'a, B> {
         ensures none { HasNoMoreToHand self.new.workers self.new.stop self.new.state }
         ensures workers { self.new.workers ≡ self.old.workers }
         ensures stopped { StaysStopped self.old.stop self.old.state self.new.stop self.new.state }
+        ensures stop { IsHandStop self.old.stop self.new.stop }
+        ensures sent { HaveSent self.old.jobs result self.new.jobs }
     {
-        let mut sent: usize = 0;
+        let open_before = self.open_items;
         for _ in rt.forever() {
-            if !matches!(self.hand_next(rt), Look::Again) {
-                return sent;
-            }
-            sent = sent.saturating_add(1);
+            let Look::Again = self.hand_next(rt) else {
+                return self.open_items.saturating_sub(open_before);
+            };
         }
         unreachable!()
     }

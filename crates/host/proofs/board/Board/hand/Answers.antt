@@ -95,6 +95,7 @@ returns-after-send-clause-handed g c =
               lowest = c.requires.next.0;
               own = c.requires.next.1;
               opened = c.in-Ok.ensures.opened;
+              counted = hand_count s.state c.open.new.self c.args.item c.is_reached.ensures.reached c.requires.may c.requires.next.1 c.in-Ok.ensures.opened;
               was_sent = is;
               is_job = c.in-Ok.ensures.job;
               is_sent = ap (λ (xs : List Job). Some xs) w.in-Ok-send.ensures.sent;
