@@ -214,6 +214,13 @@ struct Asked<'a, 'c> {
     finals: bool,
 }
 
+/// What starts threads, and where memory is from.
+#[derive(Clone, Copy)]
+struct Means<'r, T> {
+    rt: &'r T,
+    alloc: Global,
+}
+
 fn run_by<T: Threads + Wait + Sync>(
     rt: &T,
     alloc: Global,
@@ -234,8 +241,7 @@ fn run_by<T: Threads + Wait + Sync>(
 
 /// Checks a program, reads its input and runs it.
 fn answer_checked<'a, T: Threads + Wait + Sync, R: Read, E: Write>(
-    rt: &T,
-    alloc: Global,
+    on: Means<'_, T>,
     outlined: &Outlined<'_>,
     next: Next<'_>,
     capacity: u64,
@@ -245,13 +251,13 @@ fn answer_checked<'a, T: Threads + Wait + Sync, R: Read, E: Write>(
     ensures answered { IfOk result (IsReadAnswer (accepted_by (next_of next.entry capacity)) (R.remaining input.old) outlined.now) }
     ensures refused { IfErr result (IsRefusalBy (IsUnaccepted outlined.now)) }
 {
-    let accepted = match check(alloc, outlined) {
+    let accepted = match check(on.alloc, outlined) {
         Ok(accepted) => accepted,
-        Err(fault) => return Err(ending_of(tell(alloc, outlined.program(), fault, err))),
+        Err(fault) => return Err(ending_of(tell(on.alloc, outlined.program(), fault, err))),
     };
     accepted.is_accepted();
-    let numbers = read_input(alloc, input)?;
-    match run_by(rt, alloc, &accepted, &numbers, next, capacity) {
+    let numbers = read_input(on.alloc, input)?;
+    match run_by(on.rt, on.alloc, &accepted, &numbers, next, capacity) {
         Ok(answer) => Ok(answer),
         Err(fault) => Err(Ending::Source(SourceFault::Run(fault))),
     }
@@ -277,8 +283,7 @@ fn answer_fine<'a, R: Read>(
 
 /// The answer of a run of a program.
 fn answer<'a, T: Threads + Wait + Sync, R: Read, E: Write>(
-    rt: &T,
-    alloc: Global,
+    on: Means<'_, T>,
     program: &Program,
     asked: Asked<'_, '_>,
     input: &mut R,
@@ -287,15 +292,15 @@ fn answer<'a, T: Threads + Wait + Sync, R: Read, E: Write>(
     ensures answered { IfOk result (IsReadAnswer (answers_of asked.entry.way asked.entry.capacity) (R.remaining input.old) program.now) }
     ensures refused { IfErr result (IsRefusalBy (IsPlanFault (is_checked asked.entry.way) program.now)) }
 {
-    let outlined = match items(alloc, program) {
+    let outlined = match items(on.alloc, program) {
         Ok(outlined) => outlined,
         Err(fault) => return Err(Ending::Source(fault)),
     };
     match asked.way {
         Way::Checked(next) => {
-            answer_checked(rt, alloc, &outlined, next, asked.capacity, input, err)
+            answer_checked(on, &outlined, next, asked.capacity, input, err)
         }
-        Way::Fine(choices) => answer_fine(alloc, &outlined, choices, asked.capacity, input),
+        Way::Fine(choices) => answer_fine(on.alloc, &outlined, choices, asked.capacity, input),
     }
 }
 
@@ -321,8 +326,7 @@ fn write_answer<W: Write>(
 /// Runs a program and prints what is asked for. Faults are looked for in this order: the source's bytes, the program, the
 /// input, the run.
 fn run_file<'a, T: Threads + Wait + Sync, S: Sources, R: Read, W: Write, E: Write>(
-    rt: &T,
-    alloc: Global,
+    on: Means<'_, T>,
     asked: Asked<'a, '_>,
     sources: &mut S,
     input: &mut R,
@@ -335,12 +339,12 @@ fn run_file<'a, T: Threads + Wait + Sync, S: Sources, R: Read, W: Write, E: Writ
     ensures printed { IfOk result (λ s. s ≡ 0 → OfSource (S.known sources.old asked.entry.file.now) (λ bytes. IsPrinted (answers_of asked.entry.way asked.entry.capacity) asked.entry.log asked.entry.finals bytes (R.remaining input.old) (W.contents out.old) (W.contents out.new))) }
 {
     let bytes = bytes_of(sources, asked.file)?;
-    let program = match read(alloc, &bytes) {
+    let program = match read(on.alloc, &bytes) {
         Ok(program) => program,
         Err(fault) => return Err(Ending::Source(fault)),
     };
     erased_text_runs();
-    let answer = answer(rt, alloc, &program, asked, input, err)?;
+    let answer = answer(on, &program, asked, input, err)?;
     match write_answer(&program, &answer, asked, out) {
         Ok(()) => Ok(DONE),
         Err(_) => Ok(FAILED),
@@ -349,8 +353,7 @@ fn run_file<'a, T: Threads + Wait + Sync, S: Sources, R: Read, W: Write, E: Writ
 
 /// Runs a program by worker threads.
 fn do_run<'a, T: Threads + Wait + Sync, S: Sources, R: Read, W: Write, E: Write>(
-    rt: &T,
-    alloc: Global,
+    on: Means<'_, T>,
     run: Run<'a>,
     sources: &mut S,
     input: &mut R,
@@ -369,7 +372,7 @@ fn do_run<'a, T: Threads + Wait + Sync, S: Sources, R: Read, W: Write, E: Write>
         log: run.log,
         finals: run.finals,
     };
-    run_file(rt, alloc, asked, sources, input, out, err)
+    run_file(on, asked, sources, input, out, err)
 }
 
 /// How a program is run by choices.
@@ -385,8 +388,7 @@ fn step_way<'c>(fine: bool, choices: &'c [u32]) -> Way<'c>
 
 /// Runs a program event by event, and prints its output and its log.
 fn do_step<'a, T: Threads + Wait + Sync, S: Sources, R: Read, W: Write, E: Write>(
-    rt: &T,
-    alloc: Global,
+    on: Means<'_, T>,
     step: Step<'a>,
     sources: &mut S,
     input: &mut R,
@@ -398,7 +400,7 @@ fn do_step<'a, T: Threads + Wait + Sync, S: Sources, R: Read, W: Write, E: Write
     ensures refused { IfErr result (IsRefusalBy (IsRefusedOf (not step.entry.fine) (S.known sources.old step.entry.file.now))) }
     ensures done { IfOk result (λ s. s ≡ 0 → OfSource (S.known sources.old step.entry.file.now) (λ bytes. IsDone (Request.Step step.entry) bytes (R.remaining input.old) (W.contents out.old) (W.contents out.new))) }
 {
-    let choices = match choice_list(alloc, step.choices) {
+    let choices = match choice_list(on.alloc, step.choices) {
         Ok(choices) => choices,
         Err(NumbersFault::Malformed) => return Err(Ending::BadChoices),
         Err(NumbersFault::OutOfMemory) => return Err(Ending::OutOfMemory),
@@ -410,7 +412,7 @@ fn do_step<'a, T: Threads + Wait + Sync, S: Sources, R: Read, W: Write, E: Write
         log: true,
         finals: false,
     };
-    run_file(rt, alloc, asked, sources, input, out, err)
+    run_file(on, asked, sources, input, out, err)
 }
 
 /// Says whether a program is accepted.
@@ -539,8 +541,7 @@ fn do_witness<'a, S: Sources, R: Read, W: Write, E: Write>(
 
 /// Does what the words ask for.
 fn do_request<'a, T: Threads + Wait + Sync, S: Sources, R: Read, W: Write, E: Write>(
-    rt: &T,
-    alloc: Global,
+    on: Means<'_, T>,
     request: Request<'a>,
     sources: &mut S,
     input: &mut R,
@@ -555,20 +556,19 @@ fn do_request<'a, T: Threads + Wait + Sync, S: Sources, R: Read, W: Write, E: Wr
     ensures done { IfOk result (λ s. s ≡ 0 → OfSource (S.known sources.old (file_of request.entry)) (λ bytes. IsDone request.entry bytes (R.remaining input.old) (W.contents out.old) (W.contents out.new))) }
 {
     match request {
-        Request::Run(run) => do_run(rt, alloc, run, sources, input, out, err),
-        Request::Step(step) => do_step(rt, alloc, step, sources, input, out, err),
-        Request::Check(name) => do_check(alloc, name, sources, out, err),
-        Request::List(name) => do_list(alloc, name, sources, out, err),
-        Request::Explain(explain) => do_explain(alloc, explain, sources, out, err),
-        Request::Fix(name) => do_fix(alloc, name, sources, out, err),
-        Request::Witness(name) => do_witness(alloc, name, sources, input, out, err),
+        Request::Run(run) => do_run(on, run, sources, input, out, err),
+        Request::Step(step) => do_step(on, step, sources, input, out, err),
+        Request::Check(name) => do_check(on.alloc, name, sources, out, err),
+        Request::List(name) => do_list(on.alloc, name, sources, out, err),
+        Request::Explain(explain) => do_explain(on.alloc, explain, sources, out, err),
+        Request::Fix(name) => do_fix(on.alloc, name, sources, out, err),
+        Request::Witness(name) => do_witness(on.alloc, name, sources, input, out, err),
     }
 }
 
 /// Does a request, and tells why where it cannot be done.
 fn perform<T: Threads + Wait + Sync, S: Sources, R: Read, W: Write, E: Write>(
-    rt: &T,
-    alloc: Global,
+    on: Means<'_, T>,
     request: Request<'_>,
     sources: &mut S,
     input: &mut R,
@@ -582,7 +582,7 @@ fn perform<T: Threads + Wait + Sync, S: Sources, R: Read, W: Write, E: Write>(
     ensures misused { result ≡ 2 → IsMisusedRequest request.entry (S.known sources.old (file_of request.entry)) }
     ensures done { result ≡ 0 → OfSource (S.known sources.old (file_of request.entry)) (λ bytes. IsDone request.entry bytes (R.remaining input.old) (W.contents out.old) (W.contents out.new)) }
 {
-    match do_request(rt, alloc, request, sources, input, out, err) {
+    match do_request(on, request, sources, input, out, err) {
         Ok(status) => status,
         Err(ending) => {
             // A status is answered even where its text cannot be written.
@@ -634,7 +634,7 @@ pub fn drive<T: Threads + Wait + Sync, S: Sources, R: Read, W: Write, E: Write>(
     ensures done { result ≡ 0 → IsCommandDone (map (λ w. w.now) words.now) (S.known sources.old) (R.remaining input.old) (W.contents out.old) (W.contents out.new) }
 {
     match parse(alloc, words) {
-        Ok(request) => perform(rt, alloc, request, sources, input, out, err),
+        Ok(request) => perform(Means { rt, alloc }, request, sources, input, out, err),
         Err(error) => misused(&error, err),
     }
 }

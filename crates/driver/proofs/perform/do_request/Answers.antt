@@ -1,4 +1,3 @@
-use Rattle.std.proofs.lemmas.Result.{IfOk-weaker}
 use Rattle.driver.proofs.Requests.{same_request}
 use Rattle.driver.proofs.perform.do_request.Goals as goal
 
