@@ -51,6 +51,19 @@ apart() {
     printf '#pragma omp taskwait\nprint(A15[3]);\n}\n'
 }
 
+# the same with thirteen statements a turn in place of one
+long() {
+    for ((a = 0; a < 16; a += 1)); do printf 'uint64_t A%d[65536];\n' "$a"; done
+    printf 'int main(void) {\n'
+    for ((a = 0; a < 16; a += 1)); do
+        printf '#pragma omp target map(tofrom: A%d) nowait\nfor (uint64_t k = 0; k < 15; k += 1) {\n' "$a"
+        printf 'for (uint64_t i = 0; i < 65536; i += 1) {\nuint64_t x = A%d[i] + i;\n' "$a"
+        for ((n = 0; n < 3; n += 1)); do printf 'x = x ^ (x << 13); x = x ^ (x >> 7); x = x ^ (x << 17); x = x * 3 + k;\n'; done
+        printf 'A%d[i] = x;\n}\n}\n' "$a"
+    done
+    printf '#pragma omp taskwait\nprint(A15[3]);\n}\n'
+}
+
 lua() {
     printf 'local A = {}\nfor i = 0, 65535 do A[i] = 0 end\n'
     printf 'for k = 0, 14 do for i = 0, 65535 do A[i] = A[i] * 3 + (i ~ k) end end\nprint(string.format("%%u", A[3]))\n'
@@ -65,7 +78,7 @@ say() {
 }
 
 printf '#include <stdint.h>\n#include <stdio.h>\n#define print(x) printf("%%llu\\n", (unsigned long long)(x))\n' > "$folder/print.h"
-for source in tasks copies host kernel kernels apart; do
+for source in tasks copies host kernel kernels apart long; do
     echo "$source"
     "$source" > "$folder/$source.c"
     say 'ompc check' "$ompc" check "$folder/$source.c"
