@@ -297,9 +297,7 @@ fn answer<'a, T: Threads + Wait + Sync, R: Read, E: Write>(
         Err(fault) => return Err(Ending::Source(fault)),
     };
     match asked.way {
-        Way::Checked(next) => {
-            answer_checked(on, &outlined, next, asked.capacity, input, err)
-        }
+        Way::Checked(next) => { answer_checked(on, &outlined, next, asked.capacity, input, err) }
         Way::Fine(choices) => answer_fine(on.alloc, &outlined, choices, asked.capacity, input),
     }
 }
