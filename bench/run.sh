@@ -51,18 +51,20 @@ apart() {
     printf '#pragma omp taskwait\nprint(A15[3]);\n}\n'
 }
 
-# the same with thirteen statements a turn in place of one
-long() {
-    for ((a = 0; a < 16; a += 1)); do printf 'uint64_t A%d[65536];\n' "$a"; done
+# so many of them with thirteen statements a turn in place of one
+long_kernels() {
+    for ((a = 0; a < $1; a += 1)); do printf 'uint64_t A%d[65536];\n' "$a"; done
     printf 'int main(void) {\n'
-    for ((a = 0; a < 16; a += 1)); do
+    for ((a = 0; a < $1; a += 1)); do
         printf '#pragma omp target map(tofrom: A%d) nowait\nfor (uint64_t k = 0; k < 15; k += 1) {\n' "$a"
         printf 'for (uint64_t i = 0; i < 65536; i += 1) {\nuint64_t x = A%d[i] + i;\n' "$a"
         for ((n = 0; n < 3; n += 1)); do printf 'x = x ^ (x << 13); x = x ^ (x >> 7); x = x ^ (x << 17); x = x * 3 + k;\n'; done
         printf 'A%d[i] = x;\n}\n}\n' "$a"
     done
-    printf '#pragma omp taskwait\nprint(A15[3]);\n}\n'
+    printf '#pragma omp taskwait\nprint(A0[3]);\n}\n'
 }
+
+long() { long_kernels 16; }
 
 lua() {
     printf 'local A = {}\nfor i = 0, 65535 do A[i] = 0 end\n'
@@ -94,6 +96,15 @@ for source in tasks copies host kernel kernels apart long; do
         say 'clang -fopenmp-targets' "$folder/$source.offload"
     fi
 done
+# what the processors give: a quarter of the long kernels on one worker, alone and four times at once
+long_kernels 4 > "$folder/quarter.c"
+quarters() {
+    for ((p = 0; p < $1; p += 1)); do "$ompc" run "$folder/quarter.c" --workers 1 & done
+    wait
+}
+echo 'a quarter of long'
+say 'one program' quarters 1
+say 'four programs at once' quarters 4
 if command -v lua5.4 > /dev/null; then
     lua > "$folder/host.lua"
     say 'lua5.4, the loop of host' lua5.4 "$folder/host.lua"
