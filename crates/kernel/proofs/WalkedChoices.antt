@@ -9,7 +9,7 @@ use Rattle.base.specs.Meaning.{Run, choose, names_in, run_stmt, run_row, run_lis
 use Rattle.base.specs.Value.{Names, value}
 use Rattle.base.proofs.StmtRows.{first_row, second_row}
 use Rattle.kernel.specs.Machine.{names_of}
-use Rattle.kernel.specs.States.{state}
+use Rattle.kernel.specs.States.{at_rest}
 use Rattle.kernel.specs.Walks.{Meaning, At, CanDo, HasDone, choice_meaning, list_meaning, stmt_meaning}
 use Rattle.kernel.specs.declared.state.Machine.{Machine}
 use Rattle.kernel.proofs.WalkedLoops.{row_is}
@@ -64,7 +64,7 @@ module _ (s : Stmt) (c : Expr) (all other : Vec Stmt Global) (xs ys : List Stmt)
   choice_done m' h = same_done (stmt_meaning s) (choice_meaning c xs ys) m choice_is m' h
 
 -- the names of a run are those of the machine that stands there
-names_are : (m : Machine) (view : View) (r : Run) → At view r m → names_in view m.loops.items r ≡ names_of (state 0 m)
+names_are : (m : Machine) (view : View) (r : Run) → At view r m → names_in view m.loops.items r ≡ names_of (at_rest m)
 names_are m view r at =
     ap₂ (λ (x : Scalars) (cells : View). let n : Names = record { scalars = x; loops = m.loops.items; cells = cells } in n)
     (sym at.stands.scalars) (sym at.stands.cells)
@@ -76,7 +76,7 @@ takes_first : (o : Option ℕ) (n : ℕ) (f g : Run → Option Run) (r : Run) �
 takes_first o zero f g r e z = absurd (z refl)
 takes_first o (suc n) f g r e z = ap (λ p. choose p f g r) e
 
-module _ (c : Expr) (xs ys : List Stmt) (m : Machine) (n : ℕ) (is : value c (names_of (state 0 m)) ≡ Some n) where
+module _ (c : Expr) (xs ys : List Stmt) (m : Machine) (n : ℕ) (is : value c (names_of (at_rest m)) ≡ Some n) where
   value_is : (view : View) (r : Run) → At view r m → value c (names_in view m.loops.items r) ≡ Some n
   value_is view r at = ap (λ (names : Names). value c names) (names_are m view r at) ∙ is
 

@@ -1,5 +1,7 @@
 pub mod Rows
 pub mod Machine
+pub mod Room
+pub mod Named
 pub mod Codes
 pub mod Kept
 pub mod States

@@ -3,7 +3,7 @@
 ghost use Rattle.std.specs.Prelude.{◌≡◌, Some, IsSome};
 ghost use Rattle.base.specs.Value.{value};
 ghost use Rattle.kernel.specs.Machine.{names_of};
-ghost use Rattle.kernel.specs.States.{state};
+ghost use Rattle.kernel.specs.States.{at_rest};
 
 use crate::state::{Machine, flag, load, loop_value, of_both, of_division, of_one, of_shift};
 use base::item::Cell;
@@ -12,8 +12,8 @@ use base::tree::Expr;
 /// The value of an expression. The right side of `&&` and `||` may have none where the left one decides.
 #[inline(never)]
 pub fn value_of(e: &Expr, m: &Machine<'_>) -> u64
-    requires { IsSome (value e.now (names_of (state 0 m.now))) }
-    ensures { value e.now (names_of (state 0 m.now)) ≡ Some result }
+    requires { IsSome (value e.now (names_of (at_rest m.now))) }
+    ensures { value e.now (names_of (at_rest m.now)) ≡ Some result }
 {
     match e {
         Expr::Number(n) => *n,

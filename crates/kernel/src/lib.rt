@@ -1,4 +1,4 @@
-//! The stack code of a region, and its run.
+//! The code of a region on registers, and its run.
 #![tactic(auto)]
 
 pub use crate::emit::{Code, compile};
@@ -17,7 +17,9 @@ mod follow;
 mod frames;
 mod masks;
 mod moved;
+mod named;
 mod op;
+mod room;
 mod runnable;
 mod scalars;
 mod state;

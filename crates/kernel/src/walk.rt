@@ -10,6 +10,7 @@ use crate::block::blocks;
 use crate::condition::value_of;
 use crate::emit::ops_of;
 use crate::follow::follow;
+use crate::named::named;
 use crate::state::{Machine, pop};
 use crate::turns::Form;
 use base::tree::{Bounds, Stmt};
@@ -106,8 +107,9 @@ fn by_code(alloc: Global, all: &[Stmt], m: &mut Machine<'_>) -> Result<(), Alloc
     requires { CanDo (list_meaning all.now) m.old }
     ensures { OnOk result (HasDone (list_meaning all.now) m.old m.new) }
 {
-    let ops = ops_of(alloc, all)?;
-    follow(&ops, all, m)?;
+    let listing = ops_of(alloc, all)?;
+    named(all);
+    follow(alloc, &listing, all, m)?;
     Ok(())
 }
 
