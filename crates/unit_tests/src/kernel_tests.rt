@@ -414,3 +414,91 @@ fn rows_of_matrices_are_stored(rt: HostRuntime) -> Result<(), Fail> {
     );
     Ok(())
 }
+
+// Operators with each kind of right operand: numbers, scalars, loops, cells, shifts and multiples, some of them on the
+// left. A program in another language wrote the same numbers.
+const OPERANDS: &str = "\
+uint64_t A[64];
+uint64_t B[64];
+int main(void) {
+#pragma omp target map(tofrom: A) map(tofrom: B)
+for (uint64_t k = 0; k < 9; k += 1) {
+uint64_t x = k * 3 + 1;
+for (uint64_t i = 1; i < 60; i += 1) {
+x = x + i * 7;
+A[(i * 5 + k) % 64] = A[i % 16] + i;
+x = x ^ x * 3;
+x = B[(i + k) % 64] - x;
+B[(x >> 3) % 64] = (B[i] << 2) + k;
+x = x + (A[(i * 2) % 64] < A[x % 64]) * 11;
+x = (x * 5 & 1023) - (k << 1) + (x * x >> 60);
+A[x % 64] = x - i * 3 | (B[i + k % 4] ^ k);
+if (i * 2 > x % 97) { x = 7 - A[k] * 2; }
+}
+B[k] = B[k] + x;
+}
+print(A[0]); print(A[17]); print(A[63]); print(B[0]); print(B[8]); print(B[40]);
+}
+";
+
+#[test]
+fn operators_take_their_operands_with_them(rt: HostRuntime) -> Result<(), Fail> {
+    assert!(rt;
+        look_at(
+            rt.alloc(),
+            OPERANDS,
+            &Prints(
+                b"18446744073709551615\n18446744073709467105\n12\n22292\n18446744073709551385\n8\n",
+            ),
+        )?
+    );
+    Ok(())
+}
+
+// As many loops as may stand in one another, each with a name in the innermost one's reach. A program in another language
+// wrote the same numbers.
+const DEEP: &str = "\
+uint64_t A[4];
+int main(void) {
+#pragma omp target map(tofrom: A)
+for (uint64_t l0 = 0; l0 < 1; l0 += 1) {
+for (uint64_t l1 = 1; l1 < 2; l1 += 1) {
+for (uint64_t l2 = 2; l2 < 3; l2 += 1) {
+for (uint64_t l3 = 3; l3 < 4; l3 += 1) {
+for (uint64_t l4 = 4; l4 < 5; l4 += 1) {
+for (uint64_t l5 = 5; l5 < 6; l5 += 1) {
+for (uint64_t l6 = 6; l6 < 7; l6 += 1) {
+for (uint64_t l7 = 7; l7 < 8; l7 += 1) {
+for (uint64_t l8 = 8; l8 < 9; l8 += 1) {
+for (uint64_t l9 = 9; l9 < 10; l9 += 1) {
+for (uint64_t l10 = 10; l10 < 11; l10 += 1) {
+for (uint64_t l11 = 11; l11 < 13; l11 += 1) {
+for (uint64_t l12 = 12; l12 < 14; l12 += 1) {
+for (uint64_t l13 = 13; l13 < 15; l13 += 1) {
+for (uint64_t l14 = 14; l14 < 16; l14 += 1) {
+A[l14 - 14] = A[l14 - 14] * 3 + l0 + l11 * 5 + (l12 ^ A[1]) + l13 * l14;
+}
+}
+}
+}
+}
+}
+}
+}
+}
+}
+}
+}
+}
+}
+}
+print(A[0]);
+print(A[1]);
+}
+";
+
+#[test]
+fn loops_stand_in_loops(rt: HostRuntime) -> Result<(), Fail> {
+    assert!(rt; look_at(rt.alloc(), DEEP, &Prints(b"5702319\n5745779\n"))?);
+    Ok(())
+}
