@@ -15,9 +15,9 @@ use Rattle.lanes.specs.Apart.{Places, Block, block_body, in_block, names_at, num
 use Rattle.lanes.specs.There.{BodyThere, HasValues}
 use Rattle.kernel.specs.Masks.{IsMask}
 use Rattle.kernel.specs.Offsets.{moved_by, places_of}
-use Rattle.kernel.specs.Rows.{cells_kept, cells_stored}
+use Rattle.kernel.specs.Rows.{cells_kept, parts_stored}
 use Rattle.kernel.specs.Lanes.{Agrees, AreAssigned, AreNumbersOf, AreValues, IsBlock, IsPart, IsStoredIn, lane_scalars, names_of, inside_of, masked, takes_part, block_of, stored_lanes, begun_block}
-use Rattle.kernel.specs.declared.frames.KeptRow.{KeptRow}
+use Rattle.kernel.specs.Rows.{Parts}
 use Rattle.kernel.specs.declared.turns.Lane.{Lane}
 use Rattle.kernel.specs.declared.turns.Turns.{Turns}
 use Rattle.kernel.specs.declared.turns.Reads.{Reads}
@@ -100,7 +100,7 @@ set_same x f = fun_ext (λ (y : ℕ). go y (x == y) refl)
     go y false e = refl
 
 -- a scalar that the turns of the block assign that take part
-pub assigned_block : (at : Turns) (lanes : List Lane) (rows : List KeptRow) (e : Expr) (l : Lane) →
+pub assigned_block : (at : Turns) (lanes : List Lane) (rows : List Parts) (e : Expr) (l : Lane) →
     AreAssigned at l.scalar.0 e lanes (block_of at lanes rows) l.numbers.items →
     block_of at (l ∷ lanes) rows
     ≡ set_lanes (inside_of at) l.scalar.0 (numbers e (block_of at lanes rows) at.outer.now) (block_of at lanes rows)
@@ -169,13 +169,13 @@ lanes_same pl inside a n m view h =
     go c v false q i = refl
 
 -- cells that the turns of the block store that take part
-pub stored_block : (at : Turns) (lanes : List Lane) (rows rows' : List KeptRow) (a : ArrayId) (e : Expr) (xs ys : List ℕ) →
+pub stored_block : (at : Turns) (lanes : List Lane) (rows rows' : List Parts) (a : ArrayId) (e : Expr) (xs ys : List ℕ) →
     xs ≡ ys → AreNumbersOf at e (block_of at lanes rows) ys →
     IsStoredIn (takes_part at) (moved_by at.offset + at.first) at.count a.0 (slice_index xs) (cells_kept rows) (cells_kept rows') →
-    IsStoredIn (takes_part at) (moved_by at.offset + at.first) at.count a.0 (slice_index xs) (cells_stored rows) (cells_stored rows') →
+    IsStoredIn (takes_part at) (moved_by at.offset + at.first) at.count a.0 (slice_index xs) (parts_stored rows) (parts_stored rows') →
     block_of at lanes rows' ≡ stored_lanes (places_of at.offset) (inside_of at) at.outer.now a.0 e (block_of at lanes rows)
 stored_block at lanes rows rows' a e xs ys same given cells stored =
-    ap₂ (λ (p q : View). record (block_of at lanes rows) { cells = p; stored = q }) (now (cells_kept rows) cells) (now (cells_stored rows) stored)
+    ap₂ (λ (p q : View). record (block_of at lanes rows) { cells = p; stored = q }) (now (cells_kept rows) cells) (now (parts_stored rows) stored)
   where
     now : {new : View} (old : View) →
         IsStoredIn (takes_part at) (moved_by at.offset + at.first) at.count a.0 (slice_index xs) old new →
@@ -224,7 +224,7 @@ module _ (at : Turns) (c : Expr) (b : Block) (ys : List ℕ) (given : AreNumbers
   others_are h = record { size = h.size; is = fun_ext (narrowed is_zero h.each) }
 
 -- before the first statement
-pub none_assigned : (at : Turns) (rows : List KeptRow) → block_of at [] rows ≡ begun_block at.scalars.now rows
+pub none_assigned : (at : Turns) (rows : List Parts) → block_of at [] rows ≡ begun_block at.scalars.now rows
 none_assigned at rows =
     ap (λ (f : ℕ → Scalars). record (begun_block at.scalars.now rows) { scalars = f })
     (fun_ext (λ (v : ℕ). go (in_block at.first at.count v)))
@@ -233,7 +233,7 @@ none_assigned at rows =
     go true = refl
     go false = refl
 
-pub begin_there : (at : Turns) (body : List Stmt) (lanes : List Lane) (rows : List KeptRow) → lanes ≡ [] →
+pub begin_there : (at : Turns) (body : List Stmt) (lanes : List Lane) (rows : List Parts) → lanes ≡ [] →
     BodyThere (places_of at.offset) (inside_of at) at.outer.now body (begun_block at.scalars.now rows) →
     BodyThere (places_of at.offset) (inside_of at) at.outer.now body (block_of at lanes rows)
 begin_there at body lanes rows none h =
@@ -241,7 +241,7 @@ begin_there at body lanes rows none h =
     (sym (ap (λ (ls : List Lane). block_of at ls rows) none ∙ none_assigned at rows)) h
 
 -- after the last one, with the scalars of the last turn
-pub all_done : (at : Turns) (body : List Stmt) (lanes lanes' slice : List Lane) (rows rows' : List KeptRow) (scalars : List ℕ) →
+pub all_done : (at : Turns) (body : List Stmt) (lanes lanes' slice : List Lane) (rows rows' : List Parts) (scalars : List ℕ) →
     lanes ≡ [] → block_of at lanes' rows' ≡ block_body (places_of at.offset) (inside_of at) at.outer.now body (block_of at lanes rows) → slice ≡ lanes' →
     slice_index scalars ≡ lane_scalars slice (slice_index at.scalars.now) (at.count - 1) →
     IsBlock (block_body (places_of at.offset) (inside_of at) at.outer.now body (begun_block at.scalars.now rows)) (at.first + (at.count - 1)) scalars rows'

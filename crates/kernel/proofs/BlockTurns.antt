@@ -18,7 +18,7 @@ use Rattle.kernel.specs.Forms.{IsForm, IsFormOf, carried, form_block, statements
 use Rattle.kernel.specs.Lanes.{begun_block, IsBlock}
 use Rattle.kernel.specs.Offsets.{IsWithin, here_of, places_of}
 use Rattle.kernel.specs.Loops.{stored_in, does, Stands, Begins, Ends}
-use Rattle.kernel.specs.declared.frames.KeptRow.{KeptRow}
+use Rattle.kernel.specs.Rows.{Parts}
 use Rattle.kernel.specs.declared.turns.Form.{Form}
 use Rattle.kernel.specs.declared.turns.Sum.{Sum}
 use Rattle.kernel.proofs.Looseness.{none_loose}
@@ -76,7 +76,7 @@ form_is_turns here at body front (Some q) outer view s t v more named places h e
 
 -- the same turns, one more at least, from where the rows stand
 pub begun_there : (here : Expr → Bool) (f : Form) (body : List Stmt) (outer : List ℕ) (view : View) (s t : Run) (v count : ℕ)
-    (scalars : List ℕ) (rows : List KeptRow) → 0 < count →
+    (scalars : List ℕ) (rows : List Parts) → 0 < count →
     NamesPlaces here (places_of f.offset) (assigned_in body) s.scalars outer → HavePlaces (in_block v count) (places_of f.offset) →
     IsFormOf here body f.front.now f.sum → Stands view s scalars rows → turn count v 1 (does view outer body) s ≡ Some t →
     BodyThere (places_of f.offset) (in_block v count) outer (statements f) (begun_block scalars rows)
@@ -95,7 +95,7 @@ begun_there here f body outer view s t v (suc more) scalars rows some named plac
     )
 
 -- where a block is left, its run stands
-pub left_there : (view : View) (s t : Run) (b : Block) (last : ℕ) (scalars : List ℕ) (rows : List KeptRow) →
+pub left_there : (view : View) (s t : Run) (b : Block) (last : ℕ) (scalars : List ℕ) (rows : List Parts) →
     IsBlock b last scalars rows → IsRun view b last s t → Stands view t scalars rows
 left_there view s t b last scalars rows h r =
     record {
@@ -105,7 +105,7 @@ left_there view s t b last scalars rows h r =
     }
 
 -- what is left of the turns from v on
-pub record Left (body : List Stmt) (outer : List ℕ) (view : View) (s t : Run) (v end : ℕ) (scalars : List ℕ) (rows : List KeptRow) : Type 0 where
+pub record Left (body : List Stmt) (outer : List ℕ) (view : View) (s t : Run) (v end : ℕ) (scalars : List ℕ) (rows : List Parts) : Type 0 where
   pub now : Run
   pub rest : turn (end - v) v 1 (does view outer body) now ≡ Some t
   pub stands : Stands view now scalars rows
@@ -114,13 +114,13 @@ pub record Left (body : List Stmt) (outer : List ℕ) (view : View) (s t : Run) 
   pub printed : s.printed ≡ now.printed
 
 -- of each run that begins so
-abbrev pub Carries : List Stmt → List ℕ → ℕ → ℕ → ℕ → List ℕ → List KeptRow → List ℕ → List KeptRow → Type 0
+abbrev pub Carries : List Stmt → List ℕ → ℕ → ℕ → ℕ → List ℕ → List Parts → List ℕ → List Parts → Type 0
 Carries body outer first end v scalars rows scalars' rows' =
     (view : View) (s t : Run) → Stands view s scalars rows →
     turn (end - first) first 1 (does view outer body) s ≡ Some t →
     Left body outer view s t v end scalars' rows'
 
-pub carried_all : (body : List Stmt) (outer : List ℕ) (first end : ℕ) (scalars : List ℕ) (rows : List KeptRow) →
+pub carried_all : (body : List Stmt) (outer : List ℕ) (first end : ℕ) (scalars : List ℕ) (rows : List Parts) →
     Carries body outer first end first scalars rows scalars rows
 carried_all body outer first end scalars rows view s t h e =
     record { now = s; rest = e; stands = h; kept = λ x o. refl; input = refl; printed = refl }
@@ -129,7 +129,7 @@ pub fits_more : (o : Option ℕ) (end v count : ℕ) → 0 < count → count ≤
 fits_more o end v count some within fits = omega arith
 
 module _ (f : Form) (body : List Stmt) (outer : List ℕ) (first end v count : ℕ) (some : 0 < count) (within : count ≤ end - v)
-    (scalars : List ℕ) (rows : List KeptRow) (form : IsForm (slice_index scalars) outer body f) (fits : IsWithin f.offset end) where
+    (scalars : List ℕ) (rows : List Parts) (form : IsForm (slice_index scalars) outer body f) (fits : IsWithin f.offset end) where
   abbrev here : Expr → Bool
   here = here_of (assigned_in body) (slice_index scalars) outer f.offset
 
@@ -150,7 +150,7 @@ module _ (f : Form) (body : List Stmt) (outer : List ℕ) (first end v count : �
   places = places_here f.offset v count some (fits_more f.offset end v count some within fits)
 
   -- the next block has what it needs
-  pub next_there : (scalars' : List ℕ) (rows' : List KeptRow) →
+  pub next_there : (scalars' : List ℕ) (rows' : List Parts) →
       Begins body outer first end scalars rows → Carries body outer first end v scalars rows scalars' rows' →
       BodyThere (places_of f.offset) (in_block v count) outer (statements f) (begun_block scalars' rows')
   next_there scalars' rows' h carried =
@@ -161,7 +161,7 @@ module _ (f : Form) (body : List Stmt) (outer : List ℕ) (first end v count : �
       l.stands p.front).0
 
   -- and fewer turns are left after it
-  pub carried_on : (scalars' : List ℕ) (rows' : List KeptRow) (scalars'' : List ℕ) (rows'' : List KeptRow) →
+  pub carried_on : (scalars' : List ℕ) (rows' : List Parts) (scalars'' : List ℕ) (rows'' : List Parts) →
       Carries body outer first end v scalars rows scalars' rows' →
       IsBlock (form_block f outer v count (slice_index scalars') (begun_block scalars' rows')) (v + (count - 1)) scalars'' rows'' →
       Carries body outer first end (v + count) scalars rows scalars'' rows''
@@ -181,8 +181,8 @@ module _ (f : Form) (body : List Stmt) (outer : List ℕ) (first end v count : �
       }
 
 -- at the end nothing is left
-pub carried_end : (body : List Stmt) (outer : List ℕ) (first end v : ℕ) (scalars : List ℕ) (rows : List KeptRow)
-    (scalars' : List ℕ) (rows' : List KeptRow) → end ≤ v →
+pub carried_end : (body : List Stmt) (outer : List ℕ) (first end v : ℕ) (scalars : List ℕ) (rows : List Parts)
+    (scalars' : List ℕ) (rows' : List Parts) → end ≤ v →
     Carries body outer first end v scalars rows scalars' rows' → Ends body outer first end scalars rows scalars' rows'
 carried_end body outer first end v scalars rows scalars' rows' le carried view s t h e =
     let l = carried view s t h e in

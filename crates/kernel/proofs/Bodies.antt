@@ -6,22 +6,22 @@ use Rattle.lanes.specs.Apart.{Block, block_body, block_stmt}
 use Rattle.lanes.specs.There.{BodyThere, StmtThere}
 use Rattle.kernel.specs.Lanes.{HaveSize, block_of, inside_of}
 use Rattle.kernel.specs.Offsets.{places_of}
-use Rattle.kernel.specs.declared.frames.KeptRow.{KeptRow}
+use Rattle.kernel.specs.Rows.{Parts}
 use Rattle.kernel.specs.declared.turns.Lane.{Lane}
 use Rattle.kernel.specs.declared.turns.Turns.{Turns}
 
 -- what is left of a body from a place on
-pub record Doing (at : Turns) (body : List Stmt) (lanes : List Lane) (rows : List KeptRow) (k : ℕ) (lanes' : List Lane) (rows' : List KeptRow) : Type 0 where
+pub record Doing (at : Turns) (body : List Stmt) (lanes : List Lane) (rows : List Parts) (k : ℕ) (lanes' : List Lane) (rows' : List Parts) : Type 0 where
   pub sizes : HaveSize at.count lanes'
   pub there : BodyThere (places_of at.offset) (inside_of at) at.outer.now (drop k body) (block_of at lanes' rows')
   pub done : block_body (places_of at.offset) (inside_of at) at.outer.now (drop k body) (block_of at lanes' rows')
       ≡ block_body (places_of at.offset) (inside_of at) at.outer.now body (block_of at lanes rows)
 
-pub begun : (at : Turns) (body : List Stmt) (lanes : List Lane) (rows : List KeptRow) → HaveSize at.count lanes →
+pub begun : (at : Turns) (body : List Stmt) (lanes : List Lane) (rows : List Parts) → HaveSize at.count lanes →
     BodyThere (places_of at.offset) (inside_of at) at.outer.now body (block_of at lanes rows) → Doing at body lanes rows 0 lanes rows
 begun at body lanes rows sizes there = record { sizes = sizes; there = there; done = refl }
 
-module _ (at : Turns) (body : List Stmt) (lanes : List Lane) (rows : List KeptRow) (k : ℕ) (lanes' : List Lane) (rows' : List KeptRow)
+module _ (at : Turns) (body : List Stmt) (lanes : List Lane) (rows : List Parts) (k : ℕ) (lanes' : List Lane) (rows' : List Parts)
     (h : Doing at body lanes rows k lanes' rows') where
   -- the next statement with those behind it
   first_is : (s : Stmt) → k < length body → s ≡ get_or body k s → drop k body ≡ s ∷ drop (k + 1) body
@@ -37,7 +37,7 @@ module _ (at : Turns) (body : List Stmt) (lanes : List Lane) (rows : List KeptRo
       StmtThere (places_of at.offset) (inside_of at) at.outer.now s (block_of at lanes' rows')
   this_there s lt is = (both_there s lt is).0
 
-  pub one_done : (s : Stmt) (lanes'' : List Lane) (rows'' : List KeptRow) → k < length body → s ≡ get_or body k s →
+  pub one_done : (s : Stmt) (lanes'' : List Lane) (rows'' : List Parts) → k < length body → s ≡ get_or body k s →
       HaveSize at.count lanes'' →
       block_of at lanes'' rows'' ≡ block_stmt (places_of at.offset) (inside_of at) at.outer.now s (block_of at lanes' rows') →
       Doing at body lanes rows (k + 1) lanes'' rows''

@@ -23,6 +23,7 @@ pub mod StmtRuns
 pub mod RowStores
 pub mod Advance
 pub mod FreshRows
+pub mod KeptRows
 pub mod RegionRuns
 pub mod Advancing
 pub mod Runnables

@@ -11,7 +11,7 @@ use Rattle.lanes.specs.Apart.{is_turn}
 use Rattle.lanes.proofs.Deltas.{turn_value}
 use Rattle.kernel.specs.Rows.{cells_kept}
 use Rattle.kernel.specs.Lanes.{Agrees, IsRun, cell_of, names_of}
-use Rattle.kernel.specs.declared.frames.KeptRow.{KeptRow}
+use Rattle.kernel.specs.Rows.{Parts}
 use Rattle.kernel.specs.declared.turns.Reads.{Reads}
 use Rattle.kernel.proofs.Agreements.{agrees_same}
 use Rattle.kernel.proofs.Runs.{HasRun}
@@ -25,20 +25,20 @@ part_at xs at n k h =
     get_or-take (at + n - at) (drop at xs) k 0 (omega (arith, h, size)) ∙ get_or-drop at xs k 0
 
 -- a run of a row has what the row has
-pub loaded_run : (rows : List KeptRow) (a : ArrayId) (first n : ℕ) (r : KeptRow) → HasRun rows a.0 first n r → (k : ℕ) → k < n →
+pub loaded_run : (rows : List Parts) (a : ArrayId) (first n : ℕ) (r : Parts) → HasRun rows a.0 first n r → (k : ℕ) → k < n →
     cells_kept rows (record { array = a; index = first + k })
-    ≡ Some (slice_index (slice_range r.cells.items (first - r.first) (first - r.first + n)) k)
+    ≡ Some (slice_index (slice_range r.1 (first - r.0) (first - r.0 + n)) k)
 loaded_run rows a first n r has k h =
     let low = has.from in
     let fits = has.fits in
-    let place : first + k - r.first ≡ first - r.first + k = omega arith in
-    let inside : first - r.first + k < length r.cells.items = omega arith in
-    ap (λ o. elim o as (λ x. Option ℕ) [ None ↦ None | Some q ↦ at_index q.first q.cells.items (first + k) ]) has.is
-    ∙ ap (λ b. elim b as (λ x. Option ℕ) [ true ↦ slice_get r.cells.items (first + k - r.first) | false ↦ None ])
-    (from_below r.first first k low)
-    ∙ ap (slice_get r.cells.items) place
-    ∙ slice_get-get_or r.cells.items (first - r.first + k) 0 inside
-    ∙ ap Some (sym (part_at r.cells.items (first - r.first) n k h))
+    let place : first + k - r.0 ≡ first - r.0 + k = omega arith in
+    let inside : first - r.0 + k < length r.1 = omega arith in
+    ap (λ o. elim o as (λ x. Option ℕ) [ None ↦ None | Some q ↦ at_index q.0 q.1 (first + k) ]) has.is
+    ∙ ap (λ b. elim b as (λ x. Option ℕ) [ true ↦ slice_get r.1 (first + k - r.0) | false ↦ None ])
+    (from_below r.0 first k low)
+    ∙ ap (slice_get r.1) place
+    ∙ slice_get-get_or r.1 (first - r.0 + k) 0 inside
+    ∙ ap Some (sym (part_at r.1 (first - r.0) n k h))
 
 -- a cell whose subscript is the turn
 pub turn_cell : (a : ArrayId) (e : Expr) (b : Reads) (k : ℕ) → is_turn (length b.at.now.outer.now) e ≡ true →
@@ -52,9 +52,9 @@ pub turn_agrees : (a : ArrayId) (e : Expr) (b : Reads) (k y : ℕ) → is_turn (
 turn_agrees a e b k y h there = subst (λ (o : Option ℕ). Agrees o y) (sym (turn_cell a e b k h)) there
 
 -- the cells of a part of a row
-pub part_is_run : (rows : List KeptRow) (a : ArrayId) (first n : ℕ) (r : KeptRow) → slice_get rows a.0 ≡ Some r → r.first ≤ first →
-    first - r.first + n ≤ length r.cells.items →
-    IsRun (cells_kept rows) a first n (slice_range r.cells.items (first - r.first) (first - r.first + n))
+pub part_is_run : (rows : List Parts) (a : ArrayId) (first n : ℕ) (r : Parts) → slice_get rows a.0 ≡ Some r → r.0 ≤ first →
+    first - r.0 + n ≤ length r.1 →
+    IsRun (cells_kept rows) a first n (slice_range r.1 (first - r.0) (first - r.0 + n))
 part_is_run rows a first n r is low fits =
     let has : HasRun rows a.0 first n r = record { within = slice_get_within rows a.0 r is; is = is; from = low; fits = fits } in
     record {

@@ -9,8 +9,8 @@ use Rattle.base.specs.Memory.{View}
 use Rattle.lanes.specs.Apart.{own_value_places, in_block, with_lanes}
 use Rattle.kernel.specs.Lanes.{IsStoredIn, some_of}
 use Rattle.kernel.specs.Machine.{with_cell}
-use Rattle.kernel.specs.Rows.{cells_kept, cells_stored}
-use Rattle.kernel.specs.declared.frames.KeptRow.{KeptRow}
+use Rattle.kernel.specs.Rows.{cells_kept, parts_stored}
+use Rattle.kernel.specs.Rows.{Parts}
 
 none_in : (first i : ℕ) → in_block first 0 i ≡ false
 none_in first i = grind (arith, nat_tests)
@@ -96,10 +96,10 @@ module _ (part : ℕ → Bool) (first : ℕ) (a : ArrayId) (f : ℕ → ℕ) (n 
       go false = h
 
 -- the rows as far as the numbers were stored
-pub record SomeStored (part : ℕ → Bool) (first a : ℕ) (f : ℕ → ℕ) (old new : List KeptRow) (n : ℕ) : Type 0 where
+pub record SomeStored (part : ℕ → Bool) (first a : ℕ) (f : ℕ → ℕ) (old new : List Parts) (n : ℕ) : Type 0 where
   pub cells : IsStoredIn part first n a f (cells_kept old) (cells_kept new)
-  pub stored : IsStoredIn part first n a f (cells_stored old) (cells_stored new)
+  pub stored : IsStoredIn part first n a f (parts_stored old) (parts_stored new)
 
-pub begun : (part : ℕ → Bool) (first a : ℕ) (f : ℕ → ℕ) (rows : List KeptRow) → SomeStored part first a f rows rows 0
+pub begun : (part : ℕ → Bool) (first a : ℕ) (f : ℕ → ℕ) (rows : List Parts) → SomeStored part first a f rows rows 0
 begun part first a f rows =
-    record { cells = none_stored part first a f (cells_kept rows); stored = none_stored part first a f (cells_stored rows) }
+    record { cells = none_stored part first a f (cells_kept rows); stored = none_stored part first a f (parts_stored rows) }

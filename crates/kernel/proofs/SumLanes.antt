@@ -16,7 +16,7 @@ use Rattle.lanes.proofs.Carried.{set_twice, set_own}
 use Rattle.kernel.specs.Forms.{IsCarriedOn, carried, with_sum}
 use Rattle.kernel.specs.Offsets.{places_of}
 use Rattle.kernel.specs.Lanes.{lane_scalars, inside_of, block_of, begun_block, IsBlock}
-use Rattle.kernel.specs.declared.frames.KeptRow.{KeptRow}
+use Rattle.kernel.specs.Rows.{Parts}
 use Rattle.kernel.specs.declared.turns.Lane.{Lane}
 use Rattle.kernel.specs.declared.turns.Sum.{Sum}
 use Rattle.kernel.specs.declared.turns.Turns.{Turns}
@@ -87,7 +87,7 @@ module _ (at : Turns) (all : at.mask ≡ None) (b : Block) (x : ScalarId) (e : E
       none k = omega arith
 
 -- after the last statement, and the sum
-pub sum_done : (at : Turns) (all : at.mask ≡ None) (front : List Stmt) (s : Sum) (lanes lanes' slice : List Lane) (rows rows' : List KeptRow)
+pub sum_done : (at : Turns) (all : at.mask ≡ None) (front : List Stmt) (s : Sum) (lanes lanes' slice : List Lane) (rows rows' : List Parts)
     (scalars scalars' : List ℕ) (n : ℕ) → lanes ≡ [] →
     block_of at lanes' rows' ≡ block_body (places_of at.offset) (inside_of at) at.outer.now front (block_of at lanes rows) → slice ≡ lanes' →
     slice_index scalars ≡ lane_scalars slice (slice_index at.scalars.now) (at.count - 1) →
@@ -133,7 +133,7 @@ sum_done at all front s lanes lanes' slice rows rows' scalars scalars' n none is
     below = let some = at.some in omega arith
 
 -- what is added has a value in each turn
-pub added_at : (at : Turns) (front : List Stmt) (sum : Option Sum) (s : Sum) (lanes lanes' slice : List Lane) (rows rows' : List KeptRow) →
+pub added_at : (at : Turns) (front : List Stmt) (sum : Option Sum) (s : Sum) (lanes lanes' slice : List Lane) (rows rows' : List Parts) →
     sum ≡ Some s → lanes ≡ [] →
     block_of at lanes' rows' ≡ block_body (places_of at.offset) (inside_of at) at.outer.now front (block_of at lanes rows) → slice ≡ lanes' →
     BodyThere (places_of at.offset) (inside_of at) at.outer.now (with_sum front sum) (begun_block at.scalars.now rows) →
@@ -146,7 +146,7 @@ added_at at front sum s lanes lanes' slice rows rows' is none block same h =
 
 -- a block in its form
 pub formed : (sum other : Option Sum) (pl : Places) (inside : ℕ → Bool) (outer : List ℕ) (front : List Stmt) (before : Scalars) (first count last : ℕ)
-    (begun : Block) (scalars scalars' : List ℕ) (rows : List KeptRow) → sum ≡ other → scalars' ≡ scalars →
+    (begun : Block) (scalars scalars' : List ℕ) (rows : List Parts) → sum ≡ other → scalars' ≡ scalars →
     IsBlock (carried other before first count (block_body pl inside outer (with_sum front other) begun)) last scalars rows →
     IsBlock (carried sum before first count (block_body pl inside outer (with_sum front sum) begun)) last scalars' rows
 formed sum other pl inside outer front before first count last begun scalars scalars' rows is same h =

@@ -12,7 +12,7 @@ use Rattle.base.proofs.StmtRows.{first_row}
 use Rattle.kernel.specs.Loops.{does, Stands, Begins, Ends}
 use Rattle.kernel.specs.Walks.{At, CanDo, HasDone, stmt_meaning, list_meaning, loop_meaning, turn_meaning}
 use Rattle.kernel.specs.declared.state.Machine.{Machine}
-use Rattle.kernel.specs.declared.frames.KeptRow.{KeptRow}
+use Rattle.kernel.specs.Rows.{Parts}
 
 row_is_list : (n : Count) (row : Row_of-Stmt n) (view : View) (loops : List ℕ) (s : Run) →
     run_row row view loops s ≡ run_list (items-the_row-Stmt n row) view loops s
@@ -93,12 +93,12 @@ loop_turns : (b : Bounds) (body : List Stmt) (view : View) (loops : List ℕ) (s
     loop_meaning b body view loops s ≡ turn (b.end - b.first) b.first 1 (does view loops body) s
 loop_turns b body view loops s one = ap₂ (λ n step. turn n b.first step (does view loops body) s) (turns_are b one) one
 
-module _ (b : Bounds) (body : List Stmt) (m : Machine) (outer numbers : List ℕ) (rows : List KeptRow)
+module _ (b : Bounds) (body : List Stmt) (m : Machine) (outer numbers : List ℕ) (rows : List Parts)
     (e : outer ≡ m.loops.items) (f : numbers ≡ m.scalars.value) (g : rows ≡ m.rows.items) (one : b.step ≡ 1) where
   stands_so : (view : View) (s : Run) → At view s m → Stands view s numbers rows
   stands_so view s h =
       subst (λ (xs : List ℕ). Stands view s xs rows) (sym f)
-      (subst (λ (xs : List KeptRow). Stands view s m.scalars.value xs) (sym g) h.stands)
+      (subst (λ (xs : List Parts). Stands view s m.scalars.value xs) (sym g) h.stands)
 
   turns_so : (view : View) (s : Run) →
       loop_meaning b body view m.loops.items s ≡ turn (b.end - b.first) b.first 1 (does view outer body) s
@@ -111,7 +111,7 @@ module _ (b : Bounds) (body : List Stmt) (m : Machine) (outer numbers : List ℕ
   blocks_can h = (h.0, h.1, stands_so h.0 h.1 h.2, subst (λ (o : Option Run). IsSome o) (turns_so h.0 h.1) h.3)
 
   -- and lead to where the loop does
-  pub blocks_done : (m' : Machine) (rows' : List KeptRow) →
+  pub blocks_done : (m' : Machine) (rows' : List Parts) →
       Ends body outer b.first b.end numbers rows m'.scalars.value rows' → m'.rows.items ≡ rows' →
       m'.loops.items ≡ m.loops.items → m'.input.now ≡ m.input.now → m'.printed.items ≡ m.printed.items →
       HasDone (loop_meaning b body) m m'
@@ -120,7 +120,7 @@ module _ (b : Bounds) (body : List Stmt) (m : Machine) (outer numbers : List ℕ
     λ view s t h is.
         let u = ends view s t (stands_so view s h) (sym (turns_so view s) ∙ is) in
         record {
-          stands = subst (λ (xs : List KeptRow). Stands view t m'.scalars.value xs) (sym left) u.0;
+          stands = subst (λ (xs : List Parts). Stands view t m'.scalars.value xs) (sym left) u.0;
           input = input ∙ h.input ∙ u.1;
           printed = printed ∙ h.printed ∙ u.2;
         },

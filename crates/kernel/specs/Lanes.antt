@@ -6,8 +6,8 @@ use Rattle.base.specs.Memory.{Scalars, View}
 use Rattle.base.specs.Value.{Names, value}
 use Rattle.base.specs.Meaning.{set_scalar}
 use Rattle.lanes.specs.Apart.{Places, Block, in_block, names_at, numbers, own_value_places, set_lanes, store_lanes, with_lanes}
-use Rattle.kernel.specs.Rows.{cells_kept, cells_stored}
-use Rattle.kernel.specs.declared.frames.KeptRow.{KeptRow}
+use Rattle.kernel.specs.Rows.{cells_kept, parts_stored}
+use Rattle.kernel.specs.Rows.{Parts}
 use Rattle.kernel.specs.declared.turns.Lane.{Lane}
 use Rattle.kernel.specs.declared.turns.Turns.{Turns}
 use Rattle.kernel.specs.declared.turns.Reads.{Reads}
@@ -69,14 +69,14 @@ abbrev pub some_of : (ℕ → Bool) → ℕ → ℕ → ℕ → Bool
 some_of part first n v = part (v - first) && in_block first n v
 
 -- where a block of turns stands; each turn of it has its scalars, whether it takes part or not
-abbrev pub block_of : Turns → List Lane → List KeptRow → Block
+abbrev pub block_of : Turns → List Lane → List Parts → Block
 block_of at lanes rows =
     record {
       scalars =
           λ v. if in_block at.first at.count v then lane_scalars lanes (slice_index at.scalars.now) (v - at.first)
           else slice_index at.scalars.now;
       cells = cells_kept rows;
-      stored = cells_stored rows;
+      stored = parts_stored rows;
     }
 
 -- the numbers of an expression in the turns that take part, by their place
@@ -96,14 +96,14 @@ pub record IsPart (at : Turns) (mask : List Bool) (inside : ℕ → Bool) : Type
   pub is : masked at mask ≡ inside
 
 -- before its first statement
-abbrev pub begun_block : List ℕ → List KeptRow → Block
-begun_block scalars rows = record { scalars = λ v. slice_index scalars; cells = cells_kept rows; stored = cells_stored rows }
+abbrev pub begun_block : List ℕ → List Parts → Block
+begun_block scalars rows = record { scalars = λ v. slice_index scalars; cells = cells_kept rows; stored = parts_stored rows }
 
 -- the scalars and the rows are as a block leaves them, with the scalars of its last turn
-pub record IsBlock (b : Block) (last : ℕ) (numbers : List ℕ) (rows : List KeptRow) : Type 0 where
+pub record IsBlock (b : Block) (last : ℕ) (numbers : List ℕ) (rows : List Parts) : Type 0 where
   pub scalars : slice_index numbers ≡ b.scalars last
   pub cells : cells_kept rows ≡ b.cells
-  pub stored : cells_stored rows ≡ b.stored
+  pub stored : parts_stored rows ≡ b.stored
 
 -- a scalar that turns of a block assign, and cells that they store
 abbrev pub assigned_lanes : (ℕ → Bool) → List ℕ → ℕ → Expr → Block → Block
@@ -120,6 +120,12 @@ IsStoredIn part first n a f old new = new ≡ with_lanes own_value_places (some_
 pub record Over (A : Type 0) (f : ℕ → A) (at n : ℕ) (xs ys : List A) : Type 0 where
   pub size : length ys ≡ length xs
   pub each : (k : ℕ) → slice_get ys k ≡ (if nat_le at k && nat_lt k (at + n) then Some (f (k - at)) else slice_get xs k)
+
+-- numbers went into the cells of a row from a place on, which are marked
+pub record HasPut (at : ℕ) (numbers : List ℕ) (old new : Parts) : Type 0 where
+  pub first : new.0 ≡ old.0
+  pub cells : Over ℕ (slice_index numbers) at (length numbers) old.1 new.1
+  pub marks : Over Bool (λ k. true) at (length numbers) old.2 new.2
 
 -- numbers, one at least, that follow one another
 pub record IsRunFrom (xs : List ℕ) (first : ℕ) : Type 0 where

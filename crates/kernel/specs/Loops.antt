@@ -6,8 +6,8 @@ use Rattle.base.specs.Memory.{View, last_stored}
 use Rattle.base.specs.Meaning.{Run, seen, turn, run_list}
 use Rattle.base.specs.declared.tree.Expr.{Expr}
 use Rattle.lanes.specs.Apart.{Set, assigned_by, assigned_in, body_apart, stmt_apart}
-use Rattle.kernel.specs.Rows.{cells_kept, cells_stored}
-use Rattle.kernel.specs.declared.frames.KeptRow.{KeptRow}
+use Rattle.kernel.specs.Rows.{cells_kept, parts_stored}
+use Rattle.kernel.specs.Rows.{Parts}
 
 abbrev mutual
   -- the arrays that a statement stores, in the branches of its choices too
@@ -72,18 +72,18 @@ abbrev pub does : View → List ℕ → List Stmt → ℕ → Run → Option Run
 does view outer body v = run_list body view (outer ++ v ∷ [])
 
 -- the scalars and the rows are those of a run on a view
-pub record Stands (view : View) (s : Run) (numbers : List ℕ) (rows : List KeptRow) : Type 0 where
+pub record Stands (view : View) (s : Run) (numbers : List ℕ) (rows : List Parts) : Type 0 where
   pub scalars : slice_index numbers ≡ s.scalars
   pub cells : cells_kept rows ≡ seen view s.stores
-  pub stored : cells_stored rows ≡ last_stored s.stores
+  pub stored : parts_stored rows ≡ last_stored s.stores
 
 -- the turns up to an end have a meaning from there on
-abbrev pub Begins : List Stmt → List ℕ → ℕ → ℕ → List ℕ → List KeptRow → Type 0
+abbrev pub Begins : List Stmt → List ℕ → ℕ → ℕ → List ℕ → List Parts → Type 0
 Begins body outer first end scalars rows =
     (view : View) × (s : Run) × Stands view s scalars rows × IsSome (turn (end - first) first 1 (does view outer body) s)
 
 -- and this is where they lead
-abbrev pub Ends : List Stmt → List ℕ → ℕ → ℕ → List ℕ → List KeptRow → List ℕ → List KeptRow → Type 0
+abbrev pub Ends : List Stmt → List ℕ → ℕ → ℕ → List ℕ → List Parts → List ℕ → List Parts → Type 0
 Ends body outer first end scalars rows scalars' rows' =
     (view : View) (s t : Run) → Stands view s scalars rows →
     turn (end - first) first 1 (does view outer body) s ≡ Some t →

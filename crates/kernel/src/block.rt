@@ -12,7 +12,7 @@ ghost use Rattle.kernel.specs.Rows.{cells_kept};
 ghost use Rattle.lanes.specs.Apart.{block_body, block_stmt, in_block, where_false, where_true};
 ghost use Rattle.lanes.specs.There.{BodyThere, HasValues, StmtThere};
 
-use crate::frames::KeptRow;
+use crate::run_row::RunRow;
 use crate::masks::{begin_mask, has_turns, keep_false, keep_others, keep_true};
 use crate::stores::store_lanes;
 use crate::turns::{Form, Lane, Reads, Sum, Turns};
@@ -27,7 +27,7 @@ fn values(
     e: &Expr,
     at: &Turns<'_, '_>,
     lanes: &[Lane],
-    rows: &[KeptRow],
+    rows: &[RunRow<'_>],
 ) -> Result<Vec<u64>, AllocError>
     requires lanes { HaveSize at.now.count lanes.now }
     requires there { HasValues (inside_of at.now) at.now.outer.now e.now (block_of at.now lanes.now rows.now) }
@@ -46,7 +46,7 @@ fn assigned(
     e: &Expr,
     at: &Turns<'_, '_>,
     lanes: &[Lane],
-    rows: &[KeptRow],
+    rows: &[RunRow<'_>],
 ) -> Result<Vec<u64>, AllocError>
     requires lanes { HaveSize at.now.count lanes.now }
     requires there { HasValues (inside_of at.now) at.now.outer.now e.now (block_of at.now lanes.now rows.now) }
@@ -71,7 +71,7 @@ fn assign(
     e: &Expr,
     at: &Turns<'_, '_>,
     lanes: &mut Vec<Lane>,
-    rows: &[KeptRow],
+    rows: &[RunRow<'_>],
 ) -> Result<(), AllocError>
     requires lanes { HaveSize at.now.count lanes.old.items }
     requires there { HasValues (inside_of at.now) at.now.outer.now e.now (block_of at.now lanes.old.items rows.now) }
@@ -91,7 +91,7 @@ fn put(
     e: &Expr,
     at: &Turns<'_, '_>,
     lanes: &[Lane],
-    rows: &mut [KeptRow],
+    rows: &mut [RunRow<'_>],
 ) -> Result<(), AllocError>
     requires lanes { HaveSize at.now.count lanes.now }
     requires there { HasValues (inside_of at.now) at.now.outer.now e.now (block_of at.now lanes.now rows.old) }
@@ -100,7 +100,7 @@ fn put(
         ≡ stored_lanes (places_of at.now.offset) (inside_of at.now) at.now.outer.now array.0 e.now (block_of at.now lanes.now rows.old)) }
 {
     let numbers = values(alloc, e, at, lanes, rows)?;
-    store_lanes(rows, array, at, &numbers);
+    store_lanes(alloc, rows, array, at, &numbers)?;
     Ok(())
 }
 
@@ -137,7 +137,7 @@ fn split(
     c: &Expr,
     at: &Turns<'_, '_>,
     lanes: &[Lane],
-    rows: &[KeptRow],
+    rows: &[RunRow<'_>],
 ) -> Result<BranchTurns, AllocError>
     requires lanes { HaveSize at.now.count lanes.now }
     requires there { HasValues (inside_of at.now) at.now.outer.now c.now (block_of at.now lanes.now rows.now) }
@@ -157,7 +157,7 @@ fn do_stmt(
     s: &Stmt,
     at: &Turns<'_, '_>,
     lanes: &mut Vec<Lane>,
-    rows: &mut [KeptRow],
+    rows: &mut [RunRow<'_>],
 ) -> Result<(), AllocError>
     requires lanes { HaveSize at.now.count lanes.old.items }
     requires there { StmtThere (places_of at.now.offset) (inside_of at.now) at.now.outer.now s.now (block_of at.now lanes.old.items rows.old) }
@@ -186,7 +186,7 @@ fn do_branch(
     at: &Turns<'_, '_>,
     mask: &[bool],
     lanes: &mut Vec<Lane>,
-    rows: &mut [KeptRow],
+    rows: &mut [RunRow<'_>],
 ) -> Result<(), AllocError>
     requires size { length mask.now ≡ at.now.count }
     requires lanes { HaveSize at.now.count lanes.old.items }
@@ -216,7 +216,7 @@ fn do_body(
     body: &[Stmt],
     at: &Turns<'_, '_>,
     lanes: &mut Vec<Lane>,
-    rows: &mut [KeptRow],
+    rows: &mut [RunRow<'_>],
 ) -> Result<(), AllocError>
     requires lanes { HaveSize at.now.count lanes.old.items }
     requires there { BodyThere (places_of at.now.offset) (inside_of at.now) at.now.outer.now body.now (block_of at.now lanes.old.items rows.old) }
@@ -254,7 +254,7 @@ fn carry_on(
     sum: Sum<'_>,
     at: &Turns<'_, '_>,
     lanes: &[Lane],
-    rows: &[KeptRow],
+    rows: &[RunRow<'_>],
 ) -> Result<u64, AllocError>
     requires all { at.now.mask ≡ None }
     requires lanes { HaveSize at.now.count lanes.now }
@@ -273,7 +273,7 @@ fn block(
     first: u64,
     count: usize,
     scalars: &mut [u64; 256],
-    rows: &mut [KeptRow],
+    rows: &mut [RunRow<'_>],
 ) -> Result<(), AllocError>
     requires some { 0 < count }
     requires no_wrap { IsWithin form.offset (first + count) }
@@ -310,7 +310,7 @@ pub fn blocks(
     outer: &[u64],
     bounds: Bounds,
     scalars: &mut [u64; 256],
-    rows: &mut [KeptRow],
+    rows: &mut [RunRow<'_>],
 ) -> Result<(), AllocError>
     requires form { IsForm (slice_index scalars.old) outer.now body.now form }
     requires within { IsWithin form.offset bounds.end }

@@ -11,7 +11,7 @@ use base::tree::Expr;
 
 /// The value of an expression. The right side of `&&` and `||` may have none where the left one decides.
 #[inline(never)]
-pub fn value_of(e: &Expr, m: &Machine<'_>) -> u64
+pub fn value_of(e: &Expr, m: &Machine<'_, '_>) -> u64
     requires { IsSome (value e.now (names_of (at_rest m.now))) }
     ensures { value e.now (names_of (at_rest m.now)) ≡ Some result }
 {

@@ -20,6 +20,7 @@ mod moved;
 mod named;
 mod op;
 mod room;
+mod run_row;
 mod runnable;
 mod scalars;
 mod state;

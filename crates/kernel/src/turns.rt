@@ -4,7 +4,7 @@ ghost use Rattle.std.specs.Prelude.{◌≡◌, ◌<◌, ◌+◌, length};
 ghost use Rattle.std.specs.Option.{ForSome};
 ghost use Rattle.kernel.specs.Offsets.{IsWithin};
 
-use crate::frames::KeptRow;
+use crate::run_row::RunRow;
 use base::tree::{BinaryOp, Expr, ScalarId, Stmt};
 
 /// A scalar that the turns of a block have assigned, with its number in each of them.
@@ -44,7 +44,7 @@ pub struct Turns<'a, 'm> {
 pub struct Reads<'a> {
     pub at: &'a Turns<'a, 'a>,
     pub lanes: &'a [Lane],
-    pub rows: &'a [KeptRow],
+    pub rows: &'a [RunRow<'a>],
 }
 
 /// A scalar that the last statement of a turn makes of itself and of the value of an expression, by an operator with the

@@ -7,7 +7,7 @@ ghost use Rattle.kernel.specs.Lanes.{Agrees, AreLoaded, AreValues, HaveSize, IsR
 ghost use Rattle.kernel.specs.Rows.{cells_kept};
 
 use crate::apart::is_turn;
-use crate::frames::KeptRow;
+use crate::run_row::RunRow;
 use crate::turns::{Lane, Reads};
 use base::tree::{ArrayId, BinaryOp, Expr, ScalarId};
 use lanes::numbers;
@@ -181,7 +181,7 @@ fn first_of_run(row: &[u64]) -> Option<u64>
 }
 
 // What stands at the cells with these indices: at once, where they follow one another.
-fn load_each(rows: &[KeptRow], array: ArrayId, out: &mut [u64])
+fn load_each(rows: &[RunRow<'_>], array: ArrayId, out: &mut [u64])
     ensures size { length out.new ≡ length out.old }
     ensures values { AreLoaded (cells_kept rows.now) array (slice_index out.old) out.new }
 {
@@ -196,7 +196,7 @@ fn load_each(rows: &[KeptRow], array: ArrayId, out: &mut [u64])
 
 // What stands at the cells whose indices are the turns.
 #[inline(never)]
-fn load_turns(rows: &[KeptRow], array: ArrayId, first: u64, out: &mut [u64])
+fn load_turns(rows: &[RunRow<'_>], array: ArrayId, first: u64, out: &mut [u64])
     requires { first + length out.old ≤ 2 ^ 64 }
     ensures size { length out.new ≡ length out.old }
     ensures values { AreLoaded (cells_kept rows.now) array (λ k. first + k) out.new }
@@ -210,23 +210,24 @@ fn load_turns(rows: &[KeptRow], array: ArrayId, first: u64, out: &mut [u64])
 }
 
 // As many cells of an array from an index on, where all of them are there.
-fn run_of<'a>(rows: &'a [KeptRow], array: ArrayId, first: u64, n: usize) -> Option<&'a [u64]>
+fn run_of<'a>(rows: &'a [RunRow<'_>], array: ArrayId, first: u64, n: usize) -> Option<&'a [u64]>
     ensures { IfSome result (λ run. IsRun (cells_kept rows.now) array first n run.now) }
 {
     let row = rows.get(array.0 as usize)?;
-    if first < row.first {
+    if first < row.first() {
         return None;
     }
-    let at = (first - row.first) as usize;
-    if at > row.cells.len() || n > row.cells.len() - at {
+    let cells = row.cells();
+    let at = (first - row.first()) as usize;
+    if at > cells.len() || n > cells.len() - at {
         return None;
     }
-    Some(&row.cells[at..at + n])
+    Some(&cells[at..at + n])
 }
 
 // What stands at the cells with these indices, one by one.
 #[inline(never)]
-fn gather(rows: &[KeptRow], array: ArrayId, out: &mut [u64])
+fn gather(rows: &[RunRow<'_>], array: ArrayId, out: &mut [u64])
     ensures size { length out.new ≡ length out.old }
     ensures values { AreLoaded (cells_kept rows.now) array (slice_index out.old) out.new }
 {
@@ -237,13 +238,14 @@ fn gather(rows: &[KeptRow], array: ArrayId, out: &mut [u64])
 }
 
 // What stands in a row at these indices, and 0 where nothing does.
-fn gather_in(row: &KeptRow, out: &mut [u64])
+fn gather_in(row: &RunRow<'_>, out: &mut [u64])
     ensures size { length out.new ≡ length out.old }
-    ensures values { (k : ℕ) → k < length out.new → Agrees (at_index row.now.first row.now.cells.items (slice_index out.old k)) (slice_index out.new k) }
+    ensures values { (k : ℕ) → k < length out.new → Agrees (at_index row.now.0 row.now.1 (slice_index out.old k)) (slice_index out.new k) }
 {
-    let cells: &[u64] = &row.cells;
+    let first = row.first();
+    let cells = row.cells();
     'lanes: for j in 0..out.len() {
-        let at = out[j].wrapping_sub(row.first) as usize;
+        let at = out[j].wrapping_sub(first) as usize;
         out[j] = if at < cells.len() { cells[at] } else { 0 };
     }
 }

@@ -103,7 +103,7 @@ pub fn has_blocks(all: &[Stmt], level: usize) -> bool {
 
 // Statements, one operation after another. It has a frame of its own, as `in_blocks`, since `walk` calls itself.
 #[inline(never)]
-fn by_code(alloc: Global, all: &[Stmt], m: &mut Machine<'_>) -> Result<(), AllocError>
+fn by_code(alloc: Global, all: &[Stmt], m: &mut Machine<'_, '_>) -> Result<(), AllocError>
     requires { CanDo (list_meaning all.now) m.old }
     ensures { OnOk result (HasDone (list_meaning all.now) m.old m.new) }
 {
@@ -120,7 +120,7 @@ fn in_blocks(
     bounds: Bounds,
     form: Form<'_>,
     body: &[Stmt],
-    m: &mut Machine<'_>,
+    m: &mut Machine<'_, '_>,
 ) -> Result<(), AllocError>
     requires step { bounds.step ≡ 1 }
     requires form { IsForm (slice_index m.old.scalars.value) m.old.loops.items body.now form }
@@ -141,7 +141,7 @@ fn in_blocks(
 }
 
 #[cycle(walk)]
-fn in_turn(alloc: Global, v: u64, body: &[Stmt], m: &mut Machine<'_>) -> Result<(), AllocError>
+fn in_turn(alloc: Global, v: u64, body: &[Stmt], m: &mut Machine<'_, '_>) -> Result<(), AllocError>
     requires { CanDo (turn_meaning v body.now) m.old }
     ensures { OnOk result (HasDone (turn_meaning v body.now) m.old m.new) }
 {
@@ -157,7 +157,7 @@ fn in_turns(
     alloc: Global,
     bounds: Bounds,
     body: &[Stmt],
-    m: &mut Machine<'_>,
+    m: &mut Machine<'_, '_>,
 ) -> Result<(), AllocError>
     requires { CanDo (loop_meaning bounds body.now) m.old }
     ensures { OnOk result (HasDone (loop_meaning bounds body.now) m.old m.new) }
@@ -172,7 +172,7 @@ fn in_turns(
 
 // The statements of braces or of a branch.
 #[cycle(walk)]
-fn inside(alloc: Global, all: &[Stmt], m: &mut Machine<'_>) -> Result<(), AllocError>
+fn inside(alloc: Global, all: &[Stmt], m: &mut Machine<'_, '_>) -> Result<(), AllocError>
     requires { CanDo (list_meaning all.now) m.old }
     ensures { OnOk result (HasDone (list_meaning all.now) m.old m.new) }
 {
@@ -183,7 +183,7 @@ fn inside(alloc: Global, all: &[Stmt], m: &mut Machine<'_>) -> Result<(), AllocE
 }
 
 #[cycle(walk)]
-fn walk_one(alloc: Global, s: &Stmt, m: &mut Machine<'_>) -> Result<(), AllocError>
+fn walk_one(alloc: Global, s: &Stmt, m: &mut Machine<'_, '_>) -> Result<(), AllocError>
     requires { CanDo (stmt_meaning s.now) m.old }
     ensures { OnOk result (HasDone (stmt_meaning s.now) m.old m.new) }
 {
@@ -217,7 +217,7 @@ fn walk_one(alloc: Global, s: &Stmt, m: &mut Machine<'_>) -> Result<(), AllocErr
 
 /// Does statements in order. The error comes for want of memory.
 #[cycle(walk)]
-pub fn walk(alloc: Global, all: &[Stmt], m: &mut Machine<'_>) -> Result<(), AllocError>
+pub fn walk(alloc: Global, all: &[Stmt], m: &mut Machine<'_, '_>) -> Result<(), AllocError>
     requires { CanDo (list_meaning all.now) m.old }
     ensures { OnOk result (HasDone (list_meaning all.now) m.old m.new) }
 {

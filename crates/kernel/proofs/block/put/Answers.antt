@@ -13,6 +13,6 @@ pub returns : goal.returns
 returns c = record {
   block =
       stored_block c.args.at.now c.args.lanes.now c.args.rows.now c.store_lanes.new.rows c.args.array c.args.e.now _
-      c.in_ok-numbers.numbers.items c.deref.ensures.value c.in_ok-numbers.ensures.values c.store_lanes.ensures.cells
-      c.store_lanes.ensures.stored;
+      c.in_ok-numbers.numbers.items c.deref.ensures.value c.in_ok-numbers.ensures.values c.in_ok-store_lanes.ensures.cells
+      c.in_ok-store_lanes.ensures.stored;
 }

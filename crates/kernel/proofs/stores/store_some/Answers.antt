@@ -1,7 +1,7 @@
 use Rattle.std.proofs.Common.{◌≡◌, ℕ, ◌+◌, Bool, false, length, subst, refl, arith}
 use Rattle.std.specs.Prelude.{slice_index, slice_index_or}
 use Rattle.kernel.specs.Lanes.{IsStoredIn}
-use Rattle.kernel.specs.Rows.{cells_kept, cells_stored}
+use Rattle.kernel.specs.Rows.{cells_kept, parts_stored}
 use Rattle.kernel.proofs.SomeStores.{one_more_stored, still_there}
 use Rattle.kernel.proofs.stores.store_some.Goals as goal
 
@@ -18,11 +18,11 @@ lanes-preserved c =
       cells =
           one_more_stored part c.args.first c.args.array (slice_index c.args.numbers.now) c.lanes.j (cells_kept c.args.rows.now)
           (cells_kept c.lanes.rows) c.lanes.invariant.cells (cells_kept c.store_if.new.rows) (slice_index c.args.numbers.now c.lanes.j)
-          (slice_index_or c.args.mask.now c.lanes.j false) refl refl c.store_if.ensures.cells;
+          (slice_index_or c.args.mask.now c.lanes.j false) refl refl c.in_ok-store_if.ensures.cells;
       stored =
-          one_more_stored part c.args.first c.args.array (slice_index c.args.numbers.now) c.lanes.j (cells_stored c.args.rows.now)
-          (cells_stored c.lanes.rows) c.lanes.invariant.stored (cells_stored c.store_if.new.rows) (slice_index c.args.numbers.now c.lanes.j)
-          (slice_index_or c.args.mask.now c.lanes.j false) refl refl c.store_if.ensures.stored;
+          one_more_stored part c.args.first c.args.array (slice_index c.args.numbers.now) c.lanes.j (parts_stored c.args.rows.now)
+          (parts_stored c.lanes.rows) c.lanes.invariant.stored (parts_stored c.store_if.new.rows) (slice_index c.args.numbers.now c.lanes.j)
+          (slice_index_or c.args.mask.now c.lanes.j false) refl refl c.in_ok-store_if.ensures.stored;
     }
 
 pub returns-clause-cells : goal.returns-clause-cells
@@ -35,4 +35,4 @@ pub returns-clause-stored : goal.returns-clause-stored
 returns-clause-stored c =
     let same : c.lanes.j ≡ length c.args.numbers.now = omega arith in
     subst (λ (n : ℕ). IsStoredIn (λ k. slice_index_or c.args.mask.now k false) c.args.first n c.args.array.0 (slice_index c.args.numbers.now)
-    (cells_stored c.args.rows.now) (cells_stored c.lanes.rows)) same c.lanes.invariant.stored
+    (parts_stored c.args.rows.now) (parts_stored c.lanes.rows)) same c.lanes.invariant.stored
