@@ -57,3 +57,4 @@ pub mod Codings
 pub mod Walking
 pub mod WalkedLoops
 pub mod WalkedChoices
+pub mod SimpleStmts

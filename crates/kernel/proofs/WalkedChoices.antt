@@ -64,7 +64,7 @@ module _ (s : Stmt) (c : Expr) (all other : Vec Stmt Global) (xs ys : List Stmt)
   choice_done m' h = same_done (stmt_meaning s) (choice_meaning c xs ys) m choice_is m' h
 
 -- the names of a run are those of the machine that stands there
-names_are : (m : Machine) (view : View) (r : Run) → At view r m → names_in view m.loops.items r ≡ names_of (at_rest m)
+pub names_are : (m : Machine) (view : View) (r : Run) → At view r m → names_in view m.loops.items r ≡ names_of (at_rest m)
 names_are m view r at =
     ap₂ (λ (x : Scalars) (cells : View). let n : Names = record { scalars = x; loops = m.loops.items; cells = cells } in n)
     (sym at.stands.scalars) (sym at.stands.cells)

@@ -35,7 +35,8 @@ pub fn has_room(e: &Expr) -> bool {
     is_shallow(e, DEEPEST)
 }
 
-fn source_shallow(v: &Source) -> bool {
+/// The same of what is assigned.
+pub fn source_shallow(v: &Source) -> bool {
     match v {
         Source::Value(e) => has_room(e),
         Source::Read => true,

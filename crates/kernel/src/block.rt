@@ -230,7 +230,8 @@ fn do_body(
     Ok(())
 }
 
-fn set(scalars: &mut [u64; 256], x: ScalarId, n: u64)
+/// A number in a scalar.
+pub fn set(scalars: &mut [u64; 256], x: ScalarId, n: u64)
     ensures { slice_index scalars.new ≡ set_scalar x.0 n (slice_index scalars.old) }
 {
     scalars[x.0 as usize] = n;

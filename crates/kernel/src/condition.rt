@@ -1,4 +1,4 @@
-// The value of a condition where the machine stands, without operations.
+// The value of an expression where the machine stands, without operations.
 
 ghost use Rattle.std.specs.Prelude.{◌≡◌, Some, IsSome};
 ghost use Rattle.base.specs.Value.{value};

@@ -23,6 +23,7 @@ mod room;
 mod run_row;
 mod runnable;
 mod scalars;
+mod simple;
 mod state;
 mod step;
 mod stores;

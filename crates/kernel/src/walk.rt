@@ -5,20 +5,21 @@ ghost use Rattle.kernel.specs.Forms.{IsForm};
 ghost use Rattle.kernel.specs.Offsets.{IsWithin};
 ghost use Rattle.kernel.specs.Walks.{CanDo, HasDone, list_meaning, loop_meaning, stmt_meaning, turn_meaning};
 
-use crate::apart::{form_of, has_room};
+use crate::apart::{form_of, has_room, source_shallow};
 use crate::block::blocks;
 use crate::condition::value_of;
 use crate::emit::ops_of;
 use crate::follow::follow;
 use crate::named::named;
+use crate::simple::{assign, print, store_at};
 use crate::state::{Machine, pop};
 use crate::turns::Form;
 use base::tree::{Bounds, Stmt};
 use std::alloc::{AllocError, Global};
 use std::slice;
 
-/// The fewest turns that are done in blocks: the test, and the operations that are made anew for the statements beside
-/// such a loop, take as long as some turns.
+/// The fewest turns that are done in blocks: the test, and the operations that are made anew for choices and deep
+/// expressions beside such a loop, take as long as some turns.
 const FEWEST: u64 = 64;
 
 // A loop of step 1 with some turns at least.
@@ -68,7 +69,7 @@ fn is_blocked(s: &Stmt, level: usize) -> bool {
     }
 }
 
-// Whether all are loops, choices and braces, so that none of them is done by its operations alone.
+// Whether all are loops, choices and braces, so that none of them is done alone.
 fn are_nested(all: &[Stmt]) -> bool {
     for s in all {
         if !matches!(s, Stmt::Loop(_, _) | Stmt::If(_, _, _) | Stmt::Block(_)) {
@@ -78,8 +79,9 @@ fn are_nested(all: &[Stmt]) -> bool {
     true
 }
 
-// The same of statements that may be done in each turn of a loop. There the operations of statements beside such a loop are
-// made anew each time, and a loop in a choice may come in few of the turns: so it counts only where there are none.
+// The same of statements that may be done in each turn of a loop. There a statement beside such a loop takes longer
+// than its operations in the code of all, and a loop in a choice may come in few of the turns: so it counts only where
+// there is none.
 #[cycle(has)]
 fn has_blocks_in_turns(all: &[Stmt], level: usize) -> bool {
     let alone = are_nested(all);
@@ -138,6 +140,26 @@ fn in_blocks(
         &mut m.rows,
     )?;
     Ok(())
+}
+
+// A statement whose own statements are not walked: by the values of its expressions where it has no statements and
+// they are not deep, and else by its operations.
+fn alone(alloc: Global, s: &Stmt, m: &mut Machine<'_>) -> Result<(), AllocError>
+    requires { CanDo (stmt_meaning s.now) m.old }
+    ensures { OnOk result (HasDone (stmt_meaning s.now) m.old m.new) }
+{
+    match s {
+        Stmt::Declare(x, v) | Stmt::Assign(x, v) if source_shallow(v) => {
+            assign(*x, v, m);
+            Ok(())
+        }
+        Stmt::Store(array, _, index, v) if has_room(index) && source_shallow(v) => {
+            store_at(*array, index, v, m);
+            Ok(())
+        }
+        Stmt::Print(e) if has_room(e) => print(e, m),
+        _ => by_code(alloc, slice::from_ref(s), m),
+    }
 }
 
 #[cycle(walk)]
@@ -211,8 +233,7 @@ fn walk_one(alloc: Global, s: &Stmt, m: &mut Machine<'_, '_>) -> Result<(), Allo
             return inside(alloc, first, m);
         }
     }
-    by_code(alloc, slice::from_ref(s), m)?;
-    Ok(())
+    alone(alloc, s, m)
 }
 
 /// Does statements in order. The error comes for want of memory.

@@ -6,7 +6,7 @@ use Rattle.base.specs.declared.tree.Stmt.{Stmt}
 use Rattle.kernel.specs.Forms.{IsForm}
 use Rattle.kernel.specs.Walks.{HasDone, list_meaning, loop_meaning, stmt_meaning, turn_meaning}
 use Rattle.kernel.proofs.Walking.{next_can, next_done, all_done, from_on, this_first, none_left, turns_from, turn_first, no_turn}
-use Rattle.kernel.proofs.WalkedLoops.{loop_can, loop_done, alone_done}
+use Rattle.kernel.proofs.WalkedLoops.{loop_can, loop_done}
 use Rattle.kernel.proofs.WalkedChoices.{block_can, block_done, choice_can, choice_done, first_can, first_done, second_can, second_done}
 use Rattle.kernel.proofs.walk.+walk.Goals as goal
 
@@ -67,10 +67,6 @@ pub walk_one-returns-then-has_blocks_in_turns : goal.walk_one-returns-then-has_b
 walk_one-returns-then-has_blocks_in_turns t c =
     loop_done c.args.s.now c.in-Loop.bounds c.in-Loop.body _ c.args.m.now c.in-Loop.is c.deref-then-has_blocks_in_turns.ensures.value
     c.in_turns.new.m c.in_ok-in_turns.ensures
-
-pub walk_one-returns : goal.walk_one-returns
-walk_one-returns t c =
-    alone_done c.args.s.now c.from_ref.result.now c.args.m.now c.by_code.new.m c.from_ref.ensures.value c.in_ok-by_code.ensures
 
 pub walk_one-in_blocks-requires-clause-form : goal.walk_one-in_blocks-requires-clause-form
 walk_one-in_blocks-requires-clause-form t c =
