@@ -9,7 +9,7 @@ use Rattle.base.specs.Memory.{View, last_stored}
 use Rattle.base.specs.Meaning.{Run, source_of, stored}
 use Rattle.base.specs.Value.{Names, value}
 use Rattle.kernel.specs.Machine.{cell_of, names_of, with_cell}
-use Rattle.kernel.specs.Rows.{cells_kept, cells_stored}
+use Rattle.kernel.specs.Rows.{cells_kept, parts_stored}
 use Rattle.kernel.specs.States.{at_rest}
 use Rattle.kernel.specs.Walks.{At, CanDo, HasDone, HasGiven, store_meaning}
 use Rattle.kernel.specs.declared.state.Machine.{Machine}
@@ -59,7 +59,7 @@ module _ (a : ArrayId) (e : Expr) (v : Source) (i n : ℕ) (m m' : Machine) (is 
 
   -- and takes the number
   pub store_done : (m'' : Machine) → cells_kept m''.rows.items ≡ with_cell (cells_kept m'.rows.items) (cell_of a i) n →
-      cells_stored m''.rows.items ≡ with_cell (cells_stored m'.rows.items) (cell_of a i) n →
+      parts_stored m''.rows.items ≡ with_cell (parts_stored m'.rows.items) (cell_of a i) n →
       m''.scalars.value ≡ m'.scalars.value → m''.loops.items ≡ m'.loops.items → m''.input.now ≡ m'.input.now →
       m''.printed.items ≡ m'.printed.items → HasDone (store_meaning a e v) m m''
   store_done m'' cells stored scalars loops input printed = (

@@ -12,8 +12,8 @@ ghost use Rattle.kernel.specs.Rows.{cells_kept};
 ghost use Rattle.lanes.specs.Apart.{block_body, block_stmt, in_block, where_false, where_true};
 ghost use Rattle.lanes.specs.There.{BodyThere, HasValues, StmtThere};
 
-use crate::run_row::RunRow;
 use crate::masks::{begin_mask, has_turns, keep_false, keep_others, keep_true};
+use crate::run_row::RunRow;
 use crate::stores::store_lanes;
 use crate::turns::{Form, Lane, Reads, Sum, Turns};
 use crate::values::{eval, scalar};

@@ -24,7 +24,8 @@ pub struct Frame<'i> {
     pub input: &'i [u64],
 }
 
-/// A row after a region, and for each of its cells whether the region stored in it.
+/// A row after a region, and for each of its cells whether the region stored in it. It may have no cells where the region
+/// stored in none of them.
 #[derive(Drop)]
 pub struct KeptRow {
     pub first: u64,

@@ -11,7 +11,7 @@ use base::tree::{ArrayId, Expr, ScalarId, Source};
 use std::alloc::AllocError;
 
 // What is assigned: the value of an expression, or the next number of the input.
-fn given(v: &Source, m: &mut Machine<'_>) -> u64
+fn given(v: &Source, m: &mut Machine<'_, '_>) -> u64
     requires { CanGive v.now m.old }
     ensures { HasGiven v.now result m.old m.new }
 {
@@ -29,7 +29,7 @@ fn given(v: &Source, m: &mut Machine<'_>) -> u64
 
 /// Assigns a scalar.
 #[inline(never)]
-pub fn assign(x: ScalarId, v: &Source, m: &mut Machine<'_>)
+pub fn assign(x: ScalarId, v: &Source, m: &mut Machine<'_, '_>)
     requires { CanDo (assign_meaning x v.now) m.old }
     ensures { HasDone (assign_meaning x v.now) m.old m.new }
 {
@@ -37,20 +37,26 @@ pub fn assign(x: ScalarId, v: &Source, m: &mut Machine<'_>)
     set(&mut m.scalars, x, n);
 }
 
-/// Stores in a cell.
+/// Stores in a cell. The error comes for want of memory.
 #[inline(never)]
-pub fn store_at(array: ArrayId, index: &Expr, v: &Source, m: &mut Machine<'_>)
+pub fn store_at(
+    array: ArrayId,
+    index: &Expr,
+    v: &Source,
+    m: &mut Machine<'_, '_>,
+) -> Result<(), AllocError>
     requires { CanDo (store_meaning array index.now v.now) m.old }
-    ensures { HasDone (store_meaning array index.now v.now) m.old m.new }
+    ensures { OnOk result (HasDone (store_meaning array index.now v.now) m.old m.new) }
 {
     let index = value_of(index, m);
     let n = given(v, m);
-    store(&mut m.rows, Cell { array, index }, n);
+    store(m.alloc, &mut m.rows, Cell { array, index }, n)?;
+    Ok(())
 }
 
 /// Prints a number. The error comes for want of memory.
 #[inline(never)]
-pub fn print(e: &Expr, m: &mut Machine<'_>) -> Result<(), AllocError>
+pub fn print(e: &Expr, m: &mut Machine<'_, '_>) -> Result<(), AllocError>
     requires { CanDo (print_meaning e.now) m.old }
     ensures { OnOk result (HasDone (print_meaning e.now) m.old m.new) }
 {

@@ -144,7 +144,7 @@ fn in_blocks(
 
 // A statement whose own statements are not walked: by the values of its expressions where it has no statements and
 // they are not deep, and else by its operations.
-fn alone(alloc: Global, s: &Stmt, m: &mut Machine<'_>) -> Result<(), AllocError>
+fn alone(alloc: Global, s: &Stmt, m: &mut Machine<'_, '_>) -> Result<(), AllocError>
     requires { CanDo (stmt_meaning s.now) m.old }
     ensures { OnOk result (HasDone (stmt_meaning s.now) m.old m.new) }
 {
@@ -154,8 +154,7 @@ fn alone(alloc: Global, s: &Stmt, m: &mut Machine<'_>) -> Result<(), AllocError>
             Ok(())
         }
         Stmt::Store(array, _, index, v) if has_room(index) && source_shallow(v) => {
-            store_at(*array, index, v, m);
-            Ok(())
+            store_at(*array, index, v, m)
         }
         Stmt::Print(e) if has_room(e) => print(e, m),
         _ => by_code(alloc, slice::from_ref(s), m),

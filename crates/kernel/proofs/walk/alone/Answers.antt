@@ -7,7 +7,8 @@ use Rattle.kernel.proofs.walk.alone.Goals as goal
 
 pub returns-in-Store : goal.returns-in-Store
 returns-in-Store c =
-    subst (λ (s : Stmt). HasDone (stmt_meaning s) c.args.m.now c.store_at.new.m) (sym c.in-Store.is) c.store_at.ensures
+    on_ok_weaker c.store_at.result
+    (subst (λ (s : Stmt). HasDone (stmt_meaning s) c.args.m.now c.store_at.new.m) (sym c.in-Store.is)) c.store_at.ensures
 
 pub returns-in_default : goal.returns-in_default
 returns-in_default c =
