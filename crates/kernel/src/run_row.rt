@@ -1,43 +1,37 @@
 // A row while a region runs.
 
-ghost use Rattle.std.specs.Prelude.{ℕ, ◌≡◌, ◌+◌, ◌<◌, ◌≤◌, Bool, true, IfOk, OnOk, length, slice_index, slice_set};
+ghost use Rattle.std.specs.Prelude.{ℕ, ◌≡◌, ◌+◌, ◌<◌, ◌≤◌, Bool, true, false, IfOk, OnOk, length, replicate, slice_index, slice_set};
 ghost use Rattle.kernel.specs.Lanes.{HasPut, Over};
-ghost use Rattle.kernel.specs.Rows.{fresh_parts, held_parts, is_own, kept_parts, stored_at};
+ghost use Rattle.kernel.specs.Rows.{fresh_parts, have_marks, is_own, kept_parts, run_parts, stored_at};
 
 use crate::frames::{KeptRow, Row};
 use std::alloc::{AllocError, Global};
 use std::marker::Model;
 
+// The cells of a row. As both kinds begin with where they lie, a load does not look which it is.
 #[derive(Drop)]
-enum Held<'f> {
-    Lent(&'f Row),
-    Own(KeptRow),
+enum Cells<'f> {
+    Lent(&'f [u64]),
+    Own(Vec<u64>),
 }
 
 /// A row while a region runs: that of the frame as long as nothing is stored in it, and then one of its own.
 #[derive(Drop)]
 pub struct RunRow<'f> {
-    held: Held<'f>,
+    first: u64,
+    cells: Cells<'f>,
+    // one for each cell of its own
+    stored: Vec<bool>,
 }
 
 impl<'f> Model for RunRow<'f> {
-    ghost use Rattle.kernel.specs.Rows.{Parts, held_parts};
+    ghost use Rattle.kernel.specs.Rows.{Parts, have_marks, run_parts};
 
     ghost Value = { Parts };
 
-    ghost view = { λ r. held_parts r.held };
-}
+    ghost view = { λ r. run_parts r.first r.cells r.stored.items };
 
-// A row with the same cells and a mark for each, of which none is set.
-#[inline(never)]
-fn own_row(alloc: Global, row: &Row) -> Result<KeptRow, AllocError>
-    ensures { IfOk result (λ kept. kept_parts kept ≡ fresh_parts row.now) }
-{
-    Ok(KeptRow {
-        first: row.first,
-        cells: Vec::from_slice(alloc, &row.cells)?,
-        stored: vec![in alloc; false; row.cells.len()]?,
-    })
+    ghost invariant = { λ r. have_marks r.cells r.stored.items };
 }
 
 #[inline(never)]
@@ -62,26 +56,42 @@ fn mark_run(marks: &mut [bool], at: usize, n: usize)
     }
 }
 
-// From now on it has cells of its own.
-#[inline]
-fn make_own(alloc: Global, held: &mut Held<'_>) -> Result<(), AllocError>
-    ensures same { held_parts held.new ≡ held_parts held.old }
-    ensures own { OnOk result (is_own held.new ≡ true) }
+// Cells of its own, with a mark for each, of which none is set.
+#[inline(never)]
+fn own_cells(alloc: Global, lent: &[u64]) -> Result<(Vec<u64>, Vec<bool>), AllocError>
+    ensures cells { IfOk result (λ own. own.0.items ≡ lent.now) }
+    ensures marks { IfOk result (λ own. own.1.items ≡ replicate (length lent.now) false) }
 {
-    if let Held::Lent(row) = held {
-        let own = own_row(alloc, row)?;
-        *held = Held::Own(own);
+    let cells = Vec::from_slice(alloc, lent)?;
+    let stored = vec![in alloc; false; lent.len()]?;
+    Ok((cells, stored))
+}
+
+// From now on a row has cells of its own.
+#[inline]
+fn make_own(alloc: Global, cells: &mut Cells<'_>, stored: &mut Vec<bool>) -> Result<(), AllocError>
+    requires { have_marks cells.old stored.old.items }
+    ensures same { (first : ℕ) → run_parts first cells.new stored.new.items ≡ run_parts first cells.old stored.old.items }
+    ensures marks { have_marks cells.new stored.new.items }
+    ensures own { OnOk result (is_own cells.new ≡ true) }
+{
+    if let Cells::Lent(lent) = cells {
+        let (own, marks) = own_cells(alloc, lent)?;
+        *cells = Cells::Own(own);
+        *stored = marks;
     }
     Ok(())
 }
 
 impl<'f> RunRow<'f> {
     /// The row of a frame, in which nothing is stored.
-    pub fn lent(row: &'f Row) -> RunRow<'f>
+    pub fn lent(alloc: Global, row: &'f Row) -> RunRow<'f>
         ensures { result ≡ fresh_parts row.now }
     {
         RunRow {
-            held: Held::Lent(row),
+            first: row.first,
+            cells: Cells::Lent(&row.cells),
+            stored: Vec::new(alloc),
         }
     }
 
@@ -90,10 +100,7 @@ impl<'f> RunRow<'f> {
     pub fn first(&self) -> u64
         ensures { result ≡ self.now.0 }
     {
-        match &self.held {
-            Held::Lent(row) => row.first,
-            Held::Own(row) => row.first,
-        }
+        self.first
     }
 
     /// Its cells.
@@ -101,9 +108,9 @@ impl<'f> RunRow<'f> {
     pub fn cells(&self) -> &[u64]
         ensures { result.now ≡ self.now.1 }
     {
-        match &self.held {
-            Held::Lent(row) => &row.cells,
-            Held::Own(row) => &row.cells,
+        match &self.cells {
+            Cells::Lent(cells) => cells,
+            Cells::Own(cells) => cells,
         }
     }
 
@@ -114,14 +121,14 @@ impl<'f> RunRow<'f> {
         ensures put { OnOk result (self.new ≡ (self.old.0, slice_set self.old.1 at v, slice_set self.old.2 at true)) }
         ensures marks { length self.old.2 ≡ length self.old.1 }
     {
-        make_own(alloc, &mut self.held)?;
-        match &mut self.held {
-            Held::Own(row) => {
-                row.cells[at] = v;
-                row.stored[at] = true;
+        make_own(alloc, &mut self.cells, &mut self.stored)?;
+        match &mut self.cells {
+            Cells::Own(cells) => {
+                cells[at] = v;
+                self.stored[at] = true;
                 Ok(())
             }
-            Held::Lent(_) => unreachable!(),
+            Cells::Lent(_) => unreachable!(),
         }
     }
 
@@ -130,14 +137,14 @@ impl<'f> RunRow<'f> {
         requires { at + length numbers.now ≤ length self.old.1 }
         ensures { OnOk result (HasPut at numbers.now self.old self.new) }
     {
-        make_own(alloc, &mut self.held)?;
-        match &mut self.held {
-            Held::Own(row) => {
-                put_numbers(&mut row.cells, at, numbers);
-                mark_run(&mut row.stored, at, numbers.len());
+        make_own(alloc, &mut self.cells, &mut self.stored)?;
+        match &mut self.cells {
+            Cells::Own(cells) => {
+                put_numbers(cells, at, numbers);
+                mark_run(&mut self.stored, at, numbers.len());
                 Ok(())
             }
-            Held::Lent(_) => unreachable!(),
+            Cells::Lent(_) => unreachable!(),
         }
     }
 
@@ -145,10 +152,19 @@ impl<'f> RunRow<'f> {
     pub fn kept(self, alloc: Global) -> KeptRow
         ensures { (i : ℕ) → stored_at (kept_parts result) i ≡ stored_at self.entry i }
     {
-        match self.held {
-            Held::Own(row) => row,
-            Held::Lent(row) => KeptRow {
-                first: row.first,
+        let RunRow {
+            first,
+            cells,
+            stored,
+        } = self;
+        match cells {
+            Cells::Own(cells) => KeptRow {
+                first,
+                cells,
+                stored,
+            },
+            Cells::Lent(_) => KeptRow {
+                first,
                 cells: Vec::new(alloc),
                 stored: Vec::new(alloc),
             },
