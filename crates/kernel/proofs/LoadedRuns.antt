@@ -1,6 +1,6 @@
 -- Cells whose indices are the turns of a block.
 use Rattle.std.proofs.Common.{◌≡◌, ℕ, ◌+◌, ◌-◌, ◌<◌, ◌≤◌, true, false, List, length, drop, Option, Some, None, refl, sym, ap, ◌∙◌, arith, subst, length-take, length-drop}
-use Rattle.std.specs.Prelude.{nat_le, slice_get, slice_index, slice_range, option_and_then}
+use Rattle.std.specs.Prelude.{IsSome, nat_le, slice_get, slice_index, slice_range, option_and_then}
 use Rattle.std.proofs.lemmas.Bool.Decides.{nat_tests}
 use Rattle.std.proofs.lemmas.List.{get_or-take, get_or-drop}
 use Rattle.std.proofs.lemmas.Option.{slice_get-get_or, slice_get_within}
@@ -14,7 +14,7 @@ use Rattle.kernel.specs.Lanes.{Agrees, IsRun, cell_of, names_of}
 use Rattle.kernel.specs.Rows.{Parts}
 use Rattle.kernel.specs.declared.turns.Reads.{Reads}
 use Rattle.kernel.proofs.Agreements.{agrees_same}
-use Rattle.kernel.proofs.Runs.{HasRun}
+use Rattle.kernel.proofs.Runs.{AllThere, HasRun}
 
 from_below : (from first k : ℕ) → from ≤ first → nat_le from (first + k) ≡ true
 from_below from first k h = grind (arith, nat_tests)
@@ -61,3 +61,10 @@ part_is_run rows a first n r is low fits =
       size = simp (length-take, length-drop) (omega arith);
       each = λ k lt. agrees_same _ _ _ (loaded_run rows a first n r has k lt) refl;
     }
+
+-- a run of cells that a row has is there
+pub run_there : (rows : List Parts) (a : ArrayId) (first n : ℕ) (r : Parts) → slice_get rows a.0 ≡ Some r → r.0 ≤ first →
+    first - r.0 + n ≤ length r.1 → AllThere rows a first n
+run_there rows a first n r is low fits k lt =
+    subst (λ (o : Option ℕ). IsSome o)
+    (sym (loaded_run rows a first n r (record { within = slice_get_within rows a.0 r is; is = is; from = low; fits = fits }) k lt)) refl

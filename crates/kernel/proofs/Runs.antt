@@ -8,11 +8,11 @@ use Rattle.base.specs.declared.item.Cell.{Cell}
 use Rattle.base.specs.declared.tree.ArrayId.{ArrayId}
 use Rattle.base.specs.Rows.{at_index, if_marked}
 use Rattle.base.proofs.Places.{get_set_same, get_set_other}
-use Rattle.lanes.specs.Apart.{own_value_places, in_block, with_lanes}
+use Rattle.lanes.specs.Apart.{own_value_places, with_lanes}
 use Rattle.kernel.specs.Rows.{Parts}
 use Rattle.kernel.specs.Rows.{cells_kept}
 use Rattle.kernel.specs.Rows.{parts_stored}
-use Rattle.kernel.specs.Lanes.{HasPut, Over}
+use Rattle.kernel.specs.Lanes.{HasPut, IsStoredIn, Over, some_of}
 use Rattle.kernel.proofs.Overs.{row_over}
 
 -- a row that has a cell
@@ -68,20 +68,14 @@ has_run rows a first n d some h =
     subst (λ r. HasRun rows a.0 first n r) (sym e)
     (record { within = w; is = p.1.is; from = omega arith; fits = omega arith })
 
-module _ (rows : List Parts) (a first n : ℕ) (f : ℕ → ℕ) (r w : Parts) (has : HasRun rows a first n r)
+module _ (rows : List Parts) (a first n : ℕ) (part : ℕ → Bool) (f : ℕ → ℕ) (r w : Parts) (has : HasRun rows a first n r)
     (same_first : w.0 ≡ r.0) (ys : List ℕ) (w_cells : w.1 ≡ ys)
-    (cells : Over ℕ f (first - r.0) n r.1 ys) where
-  abbrev lanes : ℕ → Bool
-  lanes = in_block first n
-
-  abbrev numbers : ℕ → ℕ
-  numbers v = f (v - first)
-
+    (cells : Over ℕ part f (first - r.0) n r.1 ys) where
   row_cells : (i : ℕ) →
-      at_index w.0 w.1 i ≡ (if in_block first n i then Some (f (i - first)) else at_index r.0 r.1 i)
+      at_index w.0 w.1 i ≡ (if some_of part first n i then Some (f (i - first)) else at_index r.0 r.1 i)
   row_cells i =
       (λ j. at_index (same_first j) (w_cells j) i)
-      ∙ row_over ℕ f r.0 first n r.1 ys i has.from cells
+      ∙ row_over ℕ part f r.0 first n r.1 ys i has.from cells
 
   row_of : (c : Cell) (q : Bool) → (a == c.array.0) ≡ q →
       slice_get (slice_set rows a w) c.array.0 ≡ (if q then Some w else slice_get rows c.array.0)
@@ -89,33 +83,33 @@ module _ (rows : List Parts) (a first n : ℕ) (f : ℕ → ℕ) (r w : Parts) (
       ap (slice_get (slice_set rows a w)) (sym (eqb-true a c.array.0 e)) ∙ get_set_same rows a w has.within
   row_of c false e = get_set_other rows a w c.array.0 (eqb-false a c.array.0 e)
 
-  pub cells_run : cells_kept (slice_set rows a w) ≡ with_lanes own_value_places (in_block first n) a (λ v. f (v - first)) (cells_kept rows)
+  pub cells_run : cells_kept (slice_set rows a w) ≡ with_lanes own_value_places (some_of part first n) a (λ v. f (v - first)) (cells_kept rows)
   cells_run = fun_ext (λ (c : Cell). go c (a == c.array.0) refl)
     where
       look : Cell → Option Parts → Option ℕ
       look c o = elim o [ None ↦ None | Some x ↦ at_index x.0 x.1 c.index ]
 
       go : (c : Cell) (q : Bool) → (a == c.array.0) ≡ q → cells_kept (slice_set rows a w) c
-          ≡ (if q && in_block first n c.index then Some (f (c.index - first)) else cells_kept rows c)
+          ≡ (if q && some_of part first n c.index then Some (f (c.index - first)) else cells_kept rows c)
       go c true e =
           ap (look c) (row_of c true e) ∙ row_cells c.index
-          ∙ ap (λ o. if in_block first n c.index then Some (f (c.index - first)) else look c o)
+          ∙ ap (λ o. if some_of part first n c.index then Some (f (c.index - first)) else look c o)
           (sym (ap (slice_get rows) (sym (eqb-true a c.array.0 e)) ∙ has.is))
       go c false e = ap (look c) (row_of c false e)
 
-  module _ (zs : List Bool) (w_marks : w.2 ≡ zs) (marks : Over Bool (λ k. true) (first - r.0) n r.2 zs) where
+  module _ (zs : List Bool) (w_marks : w.2 ≡ zs) (marks : Over Bool part (λ k. true) (first - r.0) n r.2 zs) where
     row_marks : (i : ℕ) →
-        at_index w.0 w.2 i ≡ (if in_block first n i then Some true else at_index r.0 r.2 i)
+        at_index w.0 w.2 i ≡ (if some_of part first n i then Some true else at_index r.0 r.2 i)
     row_marks i =
         (λ j. at_index (same_first j) (w_marks j) i)
-        ∙ row_over Bool (λ k. true) r.0 first n r.2 zs i has.from marks
+        ∙ row_over Bool part (λ k. true) r.0 first n r.2 zs i has.from marks
 
     both_marked : (q : Bool) (x : Option Bool) (y : Option ℕ) (v : ℕ) →
         if_marked (if q then Some true else x) (if q then Some v else y) ≡ (if q then Some v else if_marked x y)
     both_marked true x y v = refl
     both_marked false x y v = refl
 
-    pub stored_run : parts_stored (slice_set rows a w) ≡ with_lanes own_value_places (in_block first n) a (λ v. f (v - first)) (parts_stored rows)
+    pub stored_run : parts_stored (slice_set rows a w) ≡ with_lanes own_value_places (some_of part first n) a (λ v. f (v - first)) (parts_stored rows)
     stored_run = fun_ext (λ (c : Cell). go c (a == c.array.0) refl)
       where
         look : Cell → Option Parts → Option ℕ
@@ -125,36 +119,34 @@ module _ (rows : List Parts) (a first n : ℕ) (f : ℕ → ℕ) (r w : Parts) (
         ]
 
         go : (c : Cell) (q : Bool) → (a == c.array.0) ≡ q → parts_stored (slice_set rows a w) c
-            ≡ (if q && in_block first n c.index then Some (f (c.index - first)) else parts_stored rows c)
+            ≡ (if q && some_of part first n c.index then Some (f (c.index - first)) else parts_stored rows c)
         go c true e =
             ap (look c) (row_of c true e)
             ∙ (λ i. if_marked (row_marks c.index i) (row_cells c.index i))
-            ∙ both_marked (in_block first n c.index) _ _ (f (c.index - first))
-            ∙ ap (λ o. if in_block first n c.index then Some (f (c.index - first)) else look c o)
+            ∙ both_marked (some_of part first n c.index) _ _ (f (c.index - first))
+            ∙ ap (λ o. if some_of part first n c.index then Some (f (c.index - first)) else look c o)
             (sym (ap (slice_get rows) (sym (eqb-true a c.array.0 e)) ∙ has.is))
         go c false e = ap (look c) (row_of c false e)
 
 -- numbers that were put in a row, whose first index is this one
-module _ (rows : List Parts) (a : ArrayId) (first here : ℕ) (numbers : List ℕ) (d w : Parts) (some : 0 < length numbers)
+module _ (rows : List Parts) (a : ArrayId) (first here : ℕ) (part : ℕ → Bool) (numbers : List ℕ) (d w : Parts) (some : 0 < length numbers)
     (there : AllThere rows a first (length numbers)) (e : here ≡ (get_or rows a.0 d).0)
-    (h : HasPut (first - here) numbers (get_or rows a.0 d) w) where
+    (h : HasPut part (first - here) numbers (get_or rows a.0 d) w) where
   abbrev old : Parts
   old = get_or rows a.0 d
 
-  cells : Over ℕ (slice_index numbers) (first - old.0) (length numbers) old.1 w.1
-  cells = subst (λ n. Over ℕ (slice_index numbers) (first - n) (length numbers) old.1 w.1) e h.cells
+  cells : Over ℕ part (slice_index numbers) (first - old.0) (length numbers) old.1 w.1
+  cells = subst (λ n. Over ℕ part (slice_index numbers) (first - n) (length numbers) old.1 w.1) e h.cells
 
-  marks : Over Bool (λ k. true) (first - old.0) (length numbers) old.2 w.2
-  marks = subst (λ n. Over Bool (λ k. true) (first - n) (length numbers) old.2 w.2) e h.marks
+  marks : Over Bool part (λ k. true) (first - old.0) (length numbers) old.2 w.2
+  marks = subst (λ n. Over Bool part (λ k. true) (first - n) (length numbers) old.2 w.2) e h.marks
 
-  pub cells_put : cells_kept (slice_set rows a.0 w)
-      ≡ with_lanes own_value_places (in_block first (length numbers)) a.0 (λ v. slice_index numbers (v - first)) (cells_kept rows)
+  pub cells_put : IsStoredIn part first (length numbers) a.0 (slice_index numbers) (cells_kept rows) (cells_kept (slice_set rows a.0 w))
   cells_put =
-      cells_run rows a.0 first (length numbers) (slice_index numbers) old w (has_run rows a first (length numbers) d some there)
+      cells_run rows a.0 first (length numbers) part (slice_index numbers) old w (has_run rows a first (length numbers) d some there)
       h.first w.1 refl cells
 
-  pub stored_put : parts_stored (slice_set rows a.0 w)
-      ≡ with_lanes own_value_places (in_block first (length numbers)) a.0 (λ v. slice_index numbers (v - first)) (parts_stored rows)
+  pub stored_put : IsStoredIn part first (length numbers) a.0 (slice_index numbers) (parts_stored rows) (parts_stored (slice_set rows a.0 w))
   stored_put =
-      stored_run rows a.0 first (length numbers) (slice_index numbers) old w (has_run rows a first (length numbers) d some there)
+      stored_run rows a.0 first (length numbers) part (slice_index numbers) old w (has_run rows a first (length numbers) d some there)
       h.first w.1 refl cells w.2 refl marks

@@ -116,16 +116,21 @@ stored_lanes at inside loops a e b = store_lanes at inside a (numbers e b loops)
 abbrev pub IsStoredIn : (ℕ → Bool) → ℕ → ℕ → ℕ → (ℕ → ℕ) → View → View → Type 0
 IsStoredIn part first n a f old new = new ≡ with_lanes own_value_places (some_of part first n) a (λ i. f (i - first)) old
 
--- from a place on, as many elements of a list became what f makes of their number
-pub record Over (A : Type 0) (f : ℕ → A) (at n : ℕ) (xs ys : List A) : Type 0 where
+-- from a place on, of as many elements of a list those that take part became what f makes of their number
+pub record Over (A : Type 0) (part : ℕ → Bool) (f : ℕ → A) (at n : ℕ) (xs ys : List A) : Type 0 where
   pub size : length ys ≡ length xs
-  pub each : (k : ℕ) → slice_get ys k ≡ (if nat_le at k && nat_lt k (at + n) then Some (f (k - at)) else slice_get xs k)
+  pub each : (k : ℕ) → slice_get ys k
+      ≡ (if part (k - at) && (nat_le at k && nat_lt k (at + n)) then Some (f (k - at)) else slice_get xs k)
 
--- numbers went into the cells of a row from a place on, which are marked
-pub record HasPut (at : ℕ) (numbers : List ℕ) (old new : Parts) : Type 0 where
+-- of numbers those that take part went into the cells of a row from a place on, which are marked
+pub record HasPut (part : ℕ → Bool) (at : ℕ) (numbers : List ℕ) (old new : Parts) : Type 0 where
   pub first : new.0 ≡ old.0
-  pub cells : Over ℕ (slice_index numbers) at (length numbers) old.1 new.1
-  pub marks : Over Bool (λ k. true) at (length numbers) old.2 new.2
+  pub cells : Over ℕ part (slice_index numbers) at (length numbers) old.1 new.1
+  pub marks : Over Bool part (λ k. true) at (length numbers) old.2 new.2
+
+-- all of them
+abbrev pub all_of : ℕ → Bool
+all_of k = true
 
 -- numbers, one at least, that follow one another
 pub record IsRunFrom (xs : List ℕ) (first : ℕ) : Type 0 where

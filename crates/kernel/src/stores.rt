@@ -51,10 +51,45 @@ fn store_if(
     Ok(())
 }
 
-// Of some numbers those that a mask has go into the cells of an array from an index on.
+// True only where the row of an array has so many cells from an index on, one at least.
+#[tactic(auto, using(crate::proofs::LoadedRuns::run_there))]
+fn has_run(rows: &[RunRow<'_>], array: ArrayId, first: u64, n: usize) -> bool
+    ensures some { result ≡ true → 0 < n }
+    ensures there { result ≡ true → (k : ℕ) → k < n → IsSome (cells_kept rows.now (record { array = array; index = first + k })) }
+{
+    match rows.get(array.0 as usize) {
+        None => false,
+        Some(row) => {
+            let size = row.cells().len();
+            n > 0 && n <= size && row.first() <= first && first - row.first() <= (size - n) as u64
+        }
+    }
+}
+
+// Of some numbers those that a mask has go into the cells of an array from an index on, whose row has a cell for each.
+fn store_masked(
+    alloc: Global,
+    rows: &mut [RunRow<'_>],
+    array: ArrayId,
+    first: u64,
+    numbers: &[u64],
+    mask: &[bool],
+) -> Result<(), AllocError>
+    requires size { length mask.now ≡ length numbers.now }
+    requires some { 0 < length numbers.now }
+    requires there { (k : ℕ) → k < length numbers.now → IsSome (cells_kept rows.old (record { array = array; index = first + k })) }
+    ensures cells { OnOk result (IsStoredIn (λ k. slice_index_or mask.now k false) first (length numbers.now) array.0 (slice_index numbers.now) (cells_kept rows.old) (cells_kept rows.new)) }
+    ensures stored { OnOk result (IsStoredIn (λ k. slice_index_or mask.now k false) first (length numbers.now) array.0 (slice_index numbers.now) (parts_stored rows.old) (parts_stored rows.new)) }
+{
+    let row = &mut rows[array.0 as usize];
+    let at = (first - row.first()) as usize;
+    row.put_some(alloc, at, numbers, mask)
+}
+
+// The same one by one, since a cell that the mask has not need not be there.
 #[inline(never)]
 #[tactic(auto, using(crate::proofs::SomeStores::begun))]
-fn store_some(
+fn store_each(
     alloc: Global,
     rows: &mut [RunRow<'_>],
     array: ArrayId,
@@ -93,6 +128,11 @@ pub fn store_lanes(
     let first = offset + at.first;
     match at.mask {
         None => store_run(alloc, rows, array, first, numbers),
-        Some(mask) => store_some(alloc, rows, array, first, numbers, mask),
+        Some(mask) => {
+            if has_run(rows, array, first, numbers.len()) {
+                return store_masked(alloc, rows, array, first, numbers, mask);
+            }
+            store_each(alloc, rows, array, first, numbers, mask)
+        }
     }
 }

@@ -18,18 +18,34 @@ returns-in-None-clause-stored c =
     (ap (λ o. o + c.args.at.now.first) c.unwrap_or-offset.ensures) c.requires.size)
     c.store_run.ensures.stored
 
-pub returns-in-Some-clause-cells : goal.returns-in-Some-clause-cells
-returns-in-Some-clause-cells c =
-    on_ok_weaker c.store_some.result
+pub returns-then-has_run-clause-cells : goal.returns-then-has_run-clause-cells
+returns-then-has_run-clause-cells c =
+    on_ok_weaker c.store_masked.result
     (stored_some c.args.at.now c.in-Some.mask c.args.array c.args.numbers.now _ (cells_kept c.args.rows.now)
-    (cells_kept c.store_some.new.rows) c.in-Some.is
+    (cells_kept c.store_masked.new.rows) c.in-Some.is
     (ap (λ o. o + c.args.at.now.first) c.unwrap_or-offset.ensures) c.requires.size)
-    c.store_some.ensures.cells
+    c.store_masked.ensures.cells
 
-pub returns-in-Some-clause-stored : goal.returns-in-Some-clause-stored
-returns-in-Some-clause-stored c =
-    on_ok_weaker c.store_some.result
+pub returns-then-has_run-clause-stored : goal.returns-then-has_run-clause-stored
+returns-then-has_run-clause-stored c =
+    on_ok_weaker c.store_masked.result
     (stored_some c.args.at.now c.in-Some.mask c.args.array c.args.numbers.now _ (parts_stored c.args.rows.now)
-    (parts_stored c.store_some.new.rows) c.in-Some.is
+    (parts_stored c.store_masked.new.rows) c.in-Some.is
     (ap (λ o. o + c.args.at.now.first) c.unwrap_or-offset.ensures) c.requires.size)
-    c.store_some.ensures.stored
+    c.store_masked.ensures.stored
+
+pub returns-else-has_run-clause-cells : goal.returns-else-has_run-clause-cells
+returns-else-has_run-clause-cells c =
+    on_ok_weaker c.store_each.result
+    (stored_some c.args.at.now c.in-Some.mask c.args.array c.args.numbers.now _ (cells_kept c.args.rows.now)
+    (cells_kept c.store_each.new.rows) c.in-Some.is
+    (ap (λ o. o + c.args.at.now.first) c.unwrap_or-offset.ensures) c.requires.size)
+    c.store_each.ensures.cells
+
+pub returns-else-has_run-clause-stored : goal.returns-else-has_run-clause-stored
+returns-else-has_run-clause-stored c =
+    on_ok_weaker c.store_each.result
+    (stored_some c.args.at.now c.in-Some.mask c.args.array c.args.numbers.now _ (parts_stored c.args.rows.now)
+    (parts_stored c.store_each.new.rows) c.in-Some.is
+    (ap (λ o. o + c.args.at.now.first) c.unwrap_or-offset.ensures) c.requires.size)
+    c.store_each.ensures.stored

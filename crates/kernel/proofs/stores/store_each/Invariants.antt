@@ -1,7 +1,7 @@
 use Rattle.std.proofs.Common.{false}
 use Rattle.std.specs.Prelude.{slice_index, slice_index_or}
 use Rattle.kernel.proofs.SomeStores.{SomeStored}
-use Rattle.kernel.proofs.stores.store_some.Given as goal
+use Rattle.kernel.proofs.stores.store_each.Given as goal
 
 abbrev pub invariant-lanes : goal.invariant-lanes
 invariant-lanes l =

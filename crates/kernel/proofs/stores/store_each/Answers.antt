@@ -3,7 +3,7 @@ use Rattle.std.specs.Prelude.{slice_index, slice_index_or}
 use Rattle.kernel.specs.Lanes.{IsStoredIn}
 use Rattle.kernel.specs.Rows.{cells_kept, parts_stored}
 use Rattle.kernel.proofs.SomeStores.{one_more_stored, still_there}
-use Rattle.kernel.proofs.stores.store_some.Goals as goal
+use Rattle.kernel.proofs.stores.store_each.Goals as goal
 
 pub store_if-requires : goal.store_if-requires
 store_if-requires c part =
