@@ -5,83 +5,86 @@ use Rattle.std.specs.List.{slice_set}
 use Rattle.std.proofs.lemmas.Bool.{eqb-true, eqb-false}
 use Rattle.base.proofs.Places.{get_set_other, get_set_same}
 use Rattle.std.proofs.lemmas.Option.{same_Some, slice_get-map, slice_get_within}
-use Rattle.std.proofs.lemmas.List.{length-map, map-append, take_more}
+use Rattle.std.proofs.lemmas.List.{length-map, take_more}
 use Rattle.base.specs.declared.item.ItemKind.{ItemKind}
 use Rattle.base.specs.declared.item.ItemKind.TheVariants as kind
-use Rattle.base.specs.Memory.{View}
 use Rattle.kernel.specs.declared.frames.Frame.{Frame}
 use Rattle.kernel.specs.declared.frames.Row.{Row}
 use Rattle.present.specs.declared.Table.{Table}
-use Rattle.present.specs.Table.{number_at}
 use Rattle.frames.proofs.RowViews.{past_end}
-use Rattle.frames.specs.Rows.{TakeNumbers, TakesNumbers}
-use Rattle.device.specs.Blank.{AreBlankRows, IsBlank, IsBlankRow}
-use Rattle.device.specs.Opening.{FillsRows, IsFilled}
+use Rattle.frames.specs.Rows.{FitIn}
+use Rattle.device.specs.Blank.{AreBlankRows, HasRoomOf, HaveRoomOf, IsBlank, IsBlankOf, IsBlankRow}
+use Rattle.device.specs.declared.frame.Unfilled.{Unfilled}
+use Rattle.device.specs.Opening.{IsFilled}
 use Rattle.device.specs.Standing.{frame_parts, row_parts}
 
--- rows that took numbers are as long as they were
-same_count : (xs ys : List ℕ) (f : ℕ → ℕ → ℕ) → ((k : ℕ) → slice_get ys k ≡ option_map (f k) (slice_get xs k)) → length ys ≡ length xs
-same_count [] [] f h = refl
-same_count [] (y ∷ ys) f h = absurd (let bad : Some y ≡ None = h zero in cc)
-same_count (x ∷ xs) [] f h = absurd (let bad : None ≡ Some (f zero x) = h zero in cc)
-same_count (x ∷ xs) (y ∷ ys) f h = ap suc (same_count xs ys (λ k. f (suc k)) (λ k. h (suc k)))
-
-module _ (view : View) (a a' : List Row) (t : TakeNumbers view a a') (blank : List Row)
-    (h : AreBlankRows (map row_parts a) blank) where
-  row_still : (k : ℕ) (x y r : Row) → TakesNumbers view k x y → IsBlankRow (row_parts x) r → IsBlankRow (row_parts y) r
-  row_still k x y r takes is =
-      let size = same_count x.cells.items y.cells.items _ takes.numbers in
-      let room = is.room in
-      record { first = is.first ∙ sym takes.first; cells = is.cells; room = omega (arith, size, room) }
-
-  found_at : (k : ℕ) (p : ℕ × List ℕ) (r : Row) (o o' : Option Row) → slice_get a k ≡ o → slice_get a' k ≡ o' →
-      slice_get (map row_parts a') k ≡ Some p → slice_get blank k ≡ Some r → IsBlankRow p r
+-- rows with the room of others are for rows that fit in these
+module _ (xs ys blank : List Row) (fits : FitIn xs ys) (h : HaveRoomOf xs blank) where
+  found_at : (k : ℕ) (p : ℕ × List ℕ) (r : Row) (o o' : Option Row) → slice_get xs k ≡ o → slice_get ys k ≡ o' →
+      slice_get (map row_parts ys) k ≡ Some p → slice_get blank k ≡ Some r → IsBlankRow p r
   found_at k p r o None e f at_p at_r =
-      absurd (let bad : None ≡ Some p = sym (ap (option_map row_parts) f) ∙ sym (slice_get-map row_parts a' k) ∙ at_p in cc)
+      absurd (let bad : None ≡ Some p = sym (ap (option_map row_parts) f) ∙ sym (slice_get-map row_parts ys k) ∙ at_p in cc)
   found_at k p r None (Some y) e f at_p at_r =
-      let l = past_end a k e in
-      let m = slice_get_within a' k y f in
-      let n = t.count in
+      let l = past_end xs k e in
+      let m = slice_get_within ys k y f in
+      let n = fits.count in
       absurd (omega arith)
   found_at k p r (Some x) (Some y) e f at_p at_r =
       let is : row_parts y ≡ p =
-      same_Some (row_parts y) p (sym (ap (option_map row_parts) f) ∙ sym (slice_get-map row_parts a' k) ∙ at_p) in
+      same_Some (row_parts y) p (sym (ap (option_map row_parts) f) ∙ sym (slice_get-map row_parts ys k) ∙ at_p) in
+      let of = h.each k x r e at_r in
+      let room = of.room in
+      let fit = fits.fits k x y e f in
       subst (λ (q : ℕ × List ℕ). IsBlankRow q r) is
-      (row_still k x y r (t.each k x y e f)
-      (h.each k (row_parts x) r (slice_get-map row_parts a k ∙ ap (option_map row_parts) e) at_r))
+      (record { first = of.first ∙ sym (fits.first k x y e f); cells = of.cells; room = omega (arith, room, fit) })
 
-  pub rows_still : AreBlankRows (map row_parts a') blank
-  rows_still = record {
+  pub blank_rows : AreBlankRows (map row_parts ys) blank
+  blank_rows = record {
     count = let c = h.count in
-        let l = length-map a row_parts in
-        let m = length-map a' row_parts in
-        let n = t.count in
+        let m = length-map ys row_parts in
+        let n = fits.count in
         omega arith;
-    each = λ k p r. found_at k p r (slice_get a k) (slice_get a' k) refl refl;
+    each = λ k p r. found_at k p r (slice_get xs k) (slice_get ys k) refl refl;
   }
 
-pub still_blank : (k : ItemKind) (table : Table) (given filled blank : Frame) → IsFilled k given table filled →
-    FillsRows k given table filled → IsBlank (frame_parts given) blank → IsBlank (frame_parts filled) blank
-still_blank kind.Target table given filled blank f t b = record {
-  item = b.item ∙ sym f.item;
-  loops = b.loops ∙ sym f.loops;
-  scalars = b.scalars ∙ sym f.scalars;
-  rows = rows_still (number_at table) given.rows.items filled.rows.items t blank.rows.items b.rows;
-  input = b.input ∙ sym f.input;
-}
-still_blank kind.Host table given filled blank f t b = subst (λ (x : Frame). IsBlank (frame_parts x) blank) (sym f) b
-still_blank kind.Begin table given filled blank f t b = subst (λ (x : Frame). IsBlank (frame_parts x) blank) (sym f) b
-still_blank kind.End table given filled blank f t b = subst (λ (x : Frame). IsBlank (frame_parts x) blank) (sym f) b
-still_blank kind.Enter table given filled blank f t b = subst (λ (x : Frame). IsBlank (frame_parts x) blank) (sym f) b
-still_blank kind.Exit table given filled blank f t b = subst (λ (x : Frame). IsBlank (frame_parts x) blank) (sym f) b
-still_blank kind.Update table given filled blank f t b = subst (λ (x : Frame). IsBlank (frame_parts x) blank) (sym f) b
-still_blank kind.Wait table given filled blank f t b = subst (λ (x : Frame). IsBlank (frame_parts x) blank) (sym f) b
+-- what filling leaves as it is
+record Stays (u : Unfilled) (f : Frame) : Type 0 where
+  item : f.item ≡ u.frame.item
+  loops' : f.loops.now.values.items ≡ u.frame.loops.now.values.items
+  scalars' : f.scalars ≡ u.frame.scalars
+  input : f.input.now ≡ u.frame.input.now
 
--- the same of a frame that is wanted
-pub still_blank_if : (k : ItemKind) (table : Table) (given filled : Frame) (o : Option Frame) → IsFilled k given table filled →
-    FillsRows k given table filled → IfSome o (IsBlank (frame_parts given)) → IfSome o (IsBlank (frame_parts filled))
-still_blank_if k table given filled None f t b = b
-still_blank_if k table given filled (Some blank) f t b = still_blank k table given filled blank f t b
+same_stays : (u : Unfilled) (f : Frame) → f ≡ u.frame → Stays u f
+same_stays u f e = record {
+  item = ap (λ x. x.item) e;
+  loops' = ap (λ x. x.loops.now.values.items) e;
+  scalars' = ap (λ x. x.scalars) e;
+  input = ap (λ x. x.input.now) e;
+}
+
+filled_stays : (k : ItemKind) (u : Unfilled) (table : Table) (f : Frame) → IsFilled k u table f → Stays u f
+filled_stays kind.Target u table f h = record { item = h.item; loops' = h.loops; scalars' = h.scalars; input = h.input }
+filled_stays kind.Host u table f h = same_stays u f h
+filled_stays kind.Begin u table f h = same_stays u f h
+filled_stays kind.End u table f h = same_stays u f h
+filled_stays kind.Enter u table f h = same_stays u f h
+filled_stays kind.Exit u table f h = same_stays u f h
+filled_stays kind.Update u table f h = same_stays u f h
+filled_stays kind.Wait u table f h = same_stays u f h
+
+-- a frame without cells, with the room of the frame to be filled, is for the filled one
+pub blank_for : (k : ItemKind) (u : Unfilled) (table : Table) (f : Frame) (o : Option Frame) → IsFilled k u table f →
+    FitIn u.frame.rows.items f.rows.items → IfSome o (IsBlankOf u.frame) → IfSome o (IsBlank (frame_parts f))
+blank_for k u table f None filled fits b = b
+blank_for k u table f (Some blank) filled fits b =
+    let stays = filled_stays k u table f filled in
+    record {
+      item = b.item ∙ sym stays.item;
+      loops = b.loops ∙ sym stays.loops';
+      scalars = b.scalars ∙ sym stays.scalars';
+      rows = blank_rows u.frame.rows.items f.rows.items blank.rows.items fits b.rows;
+      input = b.input ∙ sym stays.input;
+    }
 
 -- ---- a frame without cells takes those of the frame that it is for
 
@@ -91,16 +94,11 @@ pub record FilledUpTo (n : ℕ) (rows old now : List Row) : Type 0 where
   pub rest : (k : ℕ) → n ≤ k → slice_get now k ≡ slice_get old k
 
 -- one more row of those that are asked for
-pub blank_more : (rows : List Row) (k : ℕ) (d : Row) (blank : List Row) (r : Row) → k < length rows →
-    AreBlankRows (map row_parts (take k rows)) blank → IsBlankRow (row_parts (get_or rows k d)) r →
-    AreBlankRows (map row_parts (take (k + 1) rows)) (blank ++ r ∷ [])
-blank_more rows k d blank r lt before one =
-    subst (λ (ps : List (ℕ × List ℕ)). AreBlankRows ps (blank ++ r ∷ [])) (sym whole)
-    (more (map row_parts (take k rows)) blank (row_parts (get_or rows k d)) r before one)
+pub room_more : (rows : List Row) (k : ℕ) (d : Row) (blank : List Row) (r : Row) → k < length rows →
+    HaveRoomOf (take k rows) blank → HasRoomOf (get_or rows k d) r → HaveRoomOf (take (k + 1) rows) (blank ++ r ∷ [])
+room_more rows k d blank r lt before one =
+    subst (λ xs. HaveRoomOf xs (blank ++ r ∷ [])) (sym (take_more rows k d lt)) (more (take k rows) blank (get_or rows k d) r before one)
   where
-    whole : map row_parts (take (k + 1) rows) ≡ map row_parts (take k rows) ++ row_parts (get_or rows k d) ∷ []
-    whole = ap (λ xs. map row_parts xs) (take_more rows k d lt) ∙ map-append row_parts (take k rows) (get_or rows k d ∷ [])
-
     at_end : {A : Type 0} (xs : List A) (x y : A) (k : ℕ) → slice_get (xs ++ x ∷ []) k ≡ Some y →
         (slice_get xs k ≡ Some y) ⊎ ((k ≡ length xs) × (x ≡ y))
     at_end [] x y zero e = inr (refl, same_Some x y e)
@@ -113,26 +111,25 @@ blank_more rows k d blank r lt before one =
         further (inl h) = inl h
         further (inr h) = inr (ap suc h.0, h.1)
 
-    more : (ps : List (ℕ × List ℕ)) (rs : List Row) (p : ℕ × List ℕ) (r : Row) → AreBlankRows ps rs → IsBlankRow p r →
-        AreBlankRows (ps ++ p ∷ []) (rs ++ r ∷ [])
-    more ps rs p r h one = record {
+    more : (xs rs : List Row) (x r : Row) → HaveRoomOf xs rs → HasRoomOf x r → HaveRoomOf (xs ++ x ∷ []) (rs ++ r ∷ [])
+    more xs rs x r h one = record {
       count = let c = h.count in
           let l = length-append rs (r ∷ []) in
-          let m = length-append ps (p ∷ []) in
+          let m = length-append xs (x ∷ []) in
           omega (arith, c, l, m);
-      each = λ k q s at_q at_s. go k q s (at_end ps p q k at_q) (at_end rs r s k at_s);
+      each = λ k y s at_y at_s. go k y s (at_end xs x y k at_y) (at_end rs r s k at_s);
     }
       where
-        go : (k : ℕ) (q : ℕ × List ℕ) (s : Row) → (slice_get ps k ≡ Some q) ⊎ ((k ≡ length ps) × (p ≡ q)) →
-            (slice_get rs k ≡ Some s) ⊎ ((k ≡ length rs) × (r ≡ s)) → IsBlankRow q s
-        go k q s (inl a) (inl b) = h.each k q s a b
-        go k q s (inr a) (inr b) = subst (λ (x : ℕ × List ℕ). IsBlankRow x s) a.1 (subst (λ (x : Row). IsBlankRow p x) b.1 one)
-        go k q s (inl a) (inr b) =
+        go : (k : ℕ) (y s : Row) → (slice_get xs k ≡ Some y) ⊎ ((k ≡ length xs) × (x ≡ y)) →
+            (slice_get rs k ≡ Some s) ⊎ ((k ≡ length rs) × (r ≡ s)) → HasRoomOf y s
+        go k y s (inl a) (inl b) = h.each k y s a b
+        go k y s (inr a) (inr b) = subst (λ u. HasRoomOf u s) a.1 (subst (HasRoomOf x) b.1 one)
+        go k y s (inl a) (inr b) =
             let c = h.count in
-            let l = slice_get_within ps k q a in
+            let l = slice_get_within xs k y a in
             let m = b.0 in
             absurd (omega arith)
-        go k q s (inr a) (inl b) =
+        go k y s (inr a) (inl b) =
             let c = h.count in
             let l = slice_get_within rs k s b in
             let m = a.0 in

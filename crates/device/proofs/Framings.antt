@@ -33,6 +33,7 @@ use Rattle.present.specs.Rows.{over}
 use Rattle.present.specs.Table.{number_at}
 use Rattle.regions.specs.Footprints.{BoundedScalars, BoundedView}
 use Rattle.two_memories.specs.Two.{BoundedCondition, IsBounded}
+use Rattle.device.specs.declared.frame.Unfilled.{Unfilled}
 use Rattle.device.specs.declared.standing.Held.{Held}
 use Rattle.device.specs.declared.standing.Standing.{Standing}
 use Rattle.device.specs.Framing.{Captures}
@@ -76,10 +77,16 @@ pub record IsFramed (i : ℕ) (loops scalars : List ℕ) (f : Frame) : Type 0 wh
   pub loops' : f.loops.now.values.items ≡ loops
   pub scalars' : f.scalars ≡ scalars
 
-module _ (p : Program) (now : Standing) (i : ℕ) (scalars : List ℕ) (reach : List Section) (frame : Frame)
+module _ (p : Program) (now : Standing) (i : ℕ) (scalars : List ℕ) (given : Unfilled)
     (s : State) (w : Work) (at : IsAt (plan p) now s) (b : IsBounded s) (fine : IsFine (plan p).lengths w)
     (is : slice_get (plan p).items i ≡ Some w) (waits : is_waiting w.deferred (s.condition i) ≡ true)
     (captures : Captures now w.deferred i scalars) where
+  abbrev reach : List Section
+  reach = given.reach.now
+
+  abbrev frame : Frame
+  frame = given.frame
+
   same_scalars : slice_index scalars ≡ captured_by (s.condition i) s.scalars
   same_scalars = captures (plan p) s w at is refl waits
 
@@ -113,10 +120,10 @@ module _ (p : Program) (now : Standing) (i : ℕ) (scalars : List ℕ) (reach : 
 
   pub host_serves : w.kind ≡ kind.Host → IsReach (plan p).lengths w reach → IsFramed i w.loops scalars frame →
       frame.input.now ≡ now.input.now → BoundedView (cells_of frame.rows.items) →
-      cells_of frame.rows.items ≡ in_reach reach (view_of (lengths_of now.host) (memory_of now.host)) → Serves (plan p) now s i w frame
+      cells_of frame.rows.items ≡ in_reach reach (view_of (lengths_of now.host) (memory_of now.host)) → Serves (plan p) now s i w given
   host_serves k reached framed input bounded cells m t f opened shown filled =
       subst (λ (g : Frame). IsFrameOf i w (captured_by (s.condition i) s.scalars) (worked_on (plan p).lengths w.kind m) s.input g)
-      (sym (subst (λ (y : ItemKind). IsFilled y frame t f) k filled)) made
+      (sym (subst (λ (y : ItemKind). IsFilled y given t f) k filled)) made
     where
       same : memories_at w.device s.memories ≡ m
       same = same_Some (memories_at w.device s.memories) m
@@ -151,8 +158,8 @@ module _ (p : Program) (now : Standing) (i : ℕ) (scalars : List ℕ) (reach : 
       }
 
   pub kernel_serves : w.kind ≡ kind.Target → IsReach (plan p).lengths w reach → IsFramed i w.loops scalars frame →
-      frame.input.now ≡ [] → cells_of frame.rows.items ≡ in_reach reach (every 0) → Serves (plan p) now s i w frame
-  kernel_serves k reached framed input cells m t f opened shown filled = record {
+      frame.input.now ≡ [] → Serves (plan p) now s i w given
+  kernel_serves k reached framed input m t f opened shown filled = record {
     item = has.item ∙ framed.item;
     bounded = has.bounded;
     small = small_of f framed' [] input_is (All-nil (λ n. n < 2 ^ 64));
@@ -160,8 +167,8 @@ module _ (p : Program) (now : Standing) (i : ℕ) (scalars : List ℕ) (reach : 
     meaning = meaning;
   }
     where
-      has : HasCells frame (over (number_at t) (cells_of frame.rows.items)) f
-      has = subst (λ (y : ItemKind). IsFilled y frame t f) k filled
+      has : HasCells frame (in_reach reach (over (number_at t) (every 0))) f
+      has = subst (λ (y : ItemKind). IsFilled y given t f) k filled
 
       framed' : IsFramed i w.loops scalars f
       framed' = record { item = has.item ∙ framed.item; loops' = has.loops ∙ framed.loops'; scalars' = has.scalars ∙ framed.scalars' }
@@ -181,10 +188,10 @@ module _ (p : Program) (now : Standing) (i : ℕ) (scalars : List ℕ) (reach : 
           run_region r w.loops (worked_on (plan p).lengths w.kind m) (captured_by (s.condition i) s.scalars) (input_for w.kind s.input) ≡ done_on r f
       meaning r e =
           ap (λ (y : ItemKind). run_region r w.loops (worked_on (plan p).lengths y m) (captured_by (s.condition i) s.scalars) (input_for y s.input)) k
-          ∙ sym (on_frame f r (over (number_at t) (in_reach reach (every 0))) [] framed' (has.cells ∙ ap (over (number_at t)) cells) input_is
-          ∙ ap (λ (n : Scalars). run_region r w.loops (over (number_at t) (in_reach reach (every 0))) n []) (sym same_scalars)
-          ∙ kernel_frame_means r w.loops reach t m.device (over (number_at t) (in_reach reach (every 0))) (slice_index scalars) []
-          (small [] (All-nil (λ n. n < 2 ^ 64))) (subst BoundedView (has.cells ∙ ap (over (number_at t)) cells) has.bounded) (touched_as r e reached) shown
+          ∙ sym (on_frame f r (in_reach reach (over (number_at t) (every 0))) [] framed' has.cells input_is
+          ∙ ap (λ (n : Scalars). run_region r w.loops (in_reach reach (over (number_at t) (every 0))) n []) (sym same_scalars)
+          ∙ kernel_frame_means r w.loops reach t m.device (in_reach reach (over (number_at t) (every 0))) (slice_index scalars) []
+          (small [] (All-nil (λ n. n < 2 ^ 64))) (subst BoundedView has.cells has.bounded) (touched_as r e reached) shown
           (stored r e) refl
           ∙ ap (λ (n : Scalars). run_region r w.loops m.device.cells n []) same_scalars)
 
@@ -198,7 +205,7 @@ module _ (p : Program) (now : Standing) (i : ℕ) (scalars : List ℕ) (reach : 
       none_some e = cc e
 
   pub plain_serves : is_host w.kind ≡ false → is_target w.kind ≡ false → IsFramed i w.loops scalars frame →
-      frame.input.now ≡ [] → frame.rows.items ≡ [] → Serves (plan p) now s i w frame
+      frame.input.now ≡ [] → frame.rows.items ≡ [] → Serves (plan p) now s i w given
   plain_serves h k framed input rows m t f opened shown filled =
       subst (λ (g : Frame). IsFrameOf i w (captured_by (s.condition i) s.scalars) (worked_on (plan p).lengths w.kind m) s.input g)
       (sym (plain_filled w.kind h k t f filled)) (record {
@@ -209,7 +216,7 @@ module _ (p : Program) (now : Standing) (i : ℕ) (scalars : List ℕ) (reach : 
         meaning = λ r e. absurd (no_region r h k e);
       })
     where
-      plain_filled : (y : ItemKind) → is_host y ≡ false → is_target y ≡ false → (t : Table) (f : Frame) → IsFilled y frame t f →
+      plain_filled : (y : ItemKind) → is_host y ≡ false → is_target y ≡ false → (t : Table) (f : Frame) → IsFilled y given t f →
           f ≡ frame
       plain_filled kind.Host h k t f filled = absurd (true≢false h)
       plain_filled kind.Target h k t f filled = absurd (true≢false k)

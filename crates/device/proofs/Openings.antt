@@ -20,6 +20,7 @@ use Rattle.kernel.specs.declared.frames.Frame.{Frame}
 use Rattle.present.specs.declared.Table.{Table}
 use Rattle.present.specs.Table.{Are, Shows, fill_of, memories}
 use Rattle.taskgraph.specs.Board.{Board, Stands, Follows as GraphFollows}
+use Rattle.device.specs.declared.frame.Unfilled.{Unfilled}
 use Rattle.device.specs.declared.standing.Held.{Held}
 use Rattle.device.specs.declared.standing.Held.TheVariants as held
 use Rattle.device.specs.declared.standing.Standing.{Standing}
@@ -105,15 +106,15 @@ module _ (plan : Plan) (old : Standing) (s t : State) (at : IsAt plan old s) (go
   own_shown t0 has =
       subst (λ d. Shows t0 (s.memories.devices d)) (sym of.device) (at.devices it.device.number t0 has)
 
-  pub opened : (g : Board) (hs : Vec Held Global) (ds : Devices) (tab : Table) (host : Arrays) (n : ℕ) (frame f : Frame) →
+  pub opened : (g : Board) (hs : Vec Held Global) (ds : Devices) (tab : Table) (host : Arrays) (n : ℕ) (u : Unfilled) (f : Frame) →
       (b : Becomes it.device.number old.devices ds tab) →
       GraphFollows old.graph (event.Open i) g → hs.items ≡ slice_set old.held.items i (held.Issued f) →
       i < length old.held.items →
       Leads (opens_with (fill_of b.before) it.kind it.maps.items) b.before old.host tab host →
       lengths_of host ≡ lengths_of old.host → n ≡ old.entered + entered_by it.kind it.maps.items →
-      Serves plan old s i w frame → IsFilled it.kind frame tab f →
+      Serves plan old s i w u → IsFilled it.kind u tab f →
       IsAt plan (record old { graph = g; held = hs; devices = ds; host = host; entered = n }) t
-  opened g hs ds tab host n frame f b follows set lt leads lengths number serves filled =
+  opened g hs ds tab host n u f b follows set lt leads lengths number serves filled =
       subst (λ x. IsAt plan (record old { graph = g; held = hs; devices = ds; host = host; entered = n }) x) done.state made
     where
       next : State
@@ -164,5 +165,5 @@ module _ (plan : Plan) (old : Standing) (s t : State) (at : IsAt plan old s) (go
             (λ v k. subst (λ (x : Work). Keeps i x s.input (Opened (captured_by (s.condition i) s.scalars)
             (worked_on plan.lengths w.kind done.memories)) (Some (held.Issued f))) (same_Some w v (sym is ∙ k))
             (serves done.memories tab f done.is are.shown
-            (subst (λ (x : ItemKind). IsFilled x frame tab f) (sym of.kind) filled))));
+            (subst (λ (x : ItemKind). IsFilled x u tab f) (sym of.kind) filled))));
       }

@@ -22,3 +22,22 @@ pub record IsBlank (p : Issue) (f : Frame) : Type 0 where
   pub scalars : f.scalars ≡ p.scalars
   pub rows : AreBlankRows p.rows f.rows.items
   pub input : f.input.now ≡ p.input
+
+-- a row without cells, with the room of another
+pub record HasRoomOf (x r : Row) : Type 0 where
+  pub first : r.first ≡ x.first
+  pub cells : r.cells.items ≡ []
+  pub room : vec_capacity x.cells ≤ vec_capacity r.cells
+
+-- such rows
+pub record HaveRoomOf (xs rs : List Row) : Type 0 where
+  pub count : length rs ≡ length xs
+  pub each : (k : ℕ) (x r : Row) → slice_get xs k ≡ Some x → slice_get rs k ≡ Some r → HasRoomOf x r
+
+-- another frame without its cells, with room for as many
+pub record IsBlankOf (x f : Frame) : Type 0 where
+  pub item : f.item ≡ x.item
+  pub loops : f.loops.now.values.items ≡ x.loops.now.values.items
+  pub scalars : f.scalars ≡ x.scalars
+  pub rows : HaveRoomOf x.rows.items f.rows.items
+  pub input : f.input.now ≡ x.input.now

@@ -5,8 +5,8 @@ use Rattle.base.specs.declared.item.Item.{Item}
 use Rattle.base.specs.Items.{Work, Plan, plan}
 use Rattle.base.specs.Machine.{State, captured_by, is_waiting}
 use Rattle.frames.specs.Laws.{IsFine}
-use Rattle.kernel.specs.declared.frames.Frame.{Frame}
 use Rattle.two_memories.specs.Two.{IsBounded}
+use Rattle.device.specs.declared.frame.Unfilled.{Unfilled}
 use Rattle.device.specs.declared.standing.Standing.{Standing}
 use Rattle.device.specs.Opening.{IsOf, Serves}
 use Rattle.device.specs.Standing.{IsAt}
@@ -18,6 +18,6 @@ Captures now deferred i scalars = (p : Plan) (s : State) (w : Work) → IsAt p n
     slice_index scalars ≡ captured_by (s.condition i) s.scalars
 
 -- the frame serves an item of an accepted program that may be opened
-abbrev pub FramesWell : Program → Standing → ℕ → Item → Frame → Type 0
-FramesWell p now i it frame = (s : State) (w : Work) → IsAt (plan p) now s → IsBounded s → IsFine (plan p).lengths w →
-    slice_get (plan p).items i ≡ Some w → IsOf it w → is_waiting w.deferred (s.condition i) ≡ true → Serves (plan p) now s i w frame
+abbrev pub FramesWell : Program → Standing → ℕ → Item → Unfilled → Type 0
+FramesWell p now i it u = (s : State) (w : Work) → IsAt (plan p) now s → IsBounded s → IsFine (plan p).lengths w →
+    slice_get (plan p).items i ≡ Some w → IsOf it w → is_waiting w.deferred (s.condition i) ≡ true → Serves (plan p) now s i w u

@@ -9,15 +9,19 @@ use Rattle.base.specs.Memory.{View}
 use Rattle.base.specs.Items.{Work, Plan}
 use Rattle.base.specs.Map.{Memories, memories_at}
 use Rattle.base.specs.Machine.{State, captured_by, opening, step, worked_on}
-use Rattle.frames.specs.Rows.{TakeNumbers}
+use Rattle.frames.specs.Reach.{in_reach}
+use Rattle.frames.specs.Rows.{AreRows, HasRoom}
+use Rattle.frames.specs.Views.{every}
 use Rattle.kernel.specs.declared.frames.Frame.{Frame}
 use Rattle.kernel.specs.Rows.{cells_of}
 use Rattle.present.specs.declared.Table.{Table}
 use Rattle.present.specs.Rows.{over}
 use Rattle.present.specs.Table.{Shows, fill_of, number_at}
-use Rattle.device.specs.Devices.{LooksTheSame, OnTable, table_at}
+use Rattle.device.specs.Devices.{LooksTheSame, OnTable}
 use Rattle.device.specs.Moves.{Goes, opens_with}
+use Rattle.ranges.specs.Reach.{AreOfArrays}
 use Rattle.regions.specs.Footprints.{BoundedView}
+use Rattle.device.specs.declared.frame.Unfilled.{Unfilled}
 use Rattle.device.specs.declared.standing.Standing.{Standing}
 use Rattle.device.specs.Standing.{IsAt, IsFrameOf, fill_from, frame_parts, issue_of}
 
@@ -43,38 +47,32 @@ pub record HasCells (old : Frame) (view : View) (new : Frame) : Type 0 where
   pub cells : cells_of new.rows.items ≡ view
   pub bounded : BoundedView (cells_of new.rows.items)
 
--- the frame of a kernel takes the numbers of its device, after the entries
-abbrev pub IsFilled : ItemKind → Frame → Table → Frame → Type 0
-IsFilled kind.Target old t new = HasCells old (over (number_at t) (cells_of old.rows.items)) new
-IsFilled kind.Host old t new = new ≡ old
-IsFilled kind.Begin old t new = new ≡ old
-IsFilled kind.End old t new = new ≡ old
-IsFilled kind.Enter old t new = new ≡ old
-IsFilled kind.Exit old t new = new ≡ old
-IsFilled kind.Update old t new = new ≡ old
-IsFilled kind.Wait old t new = new ≡ old
+-- there is room for the cells in reach, and none of them yet
+pub record IsEmpty (u : Unfilled) : Type 0 where
+  pub room : AreRows HasRoom u.reach.now u.frame.rows.items
+  pub arrays : AreOfArrays u.reach.now
 
--- the rows of a kernel take the numbers of the device; the others stay
-abbrev pub FillsRows : ItemKind → Frame → Table → Frame → Type 0
-FillsRows kind.Target old t new = TakeNumbers (number_at t) old.rows.items new.rows.items
-FillsRows kind.Host old t new = new ≡ old
-FillsRows kind.Begin old t new = new ≡ old
-FillsRows kind.End old t new = new ≡ old
-FillsRows kind.Enter old t new = new ≡ old
-FillsRows kind.Exit old t new = new ≡ old
-FillsRows kind.Update old t new = new ≡ old
-FillsRows kind.Wait old t new = new ≡ old
+-- the frame of a kernel gets the cells in reach with the numbers of its device, after the entries
+abbrev pub IsFilled : ItemKind → Unfilled → Table → Frame → Type 0
+IsFilled kind.Target u t new = HasCells u.frame (in_reach u.reach.now (over (number_at t) (every 0))) new
+IsFilled kind.Host u t new = new ≡ u.frame
+IsFilled kind.Begin u t new = new ≡ u.frame
+IsFilled kind.End u t new = new ≡ u.frame
+IsFilled kind.Enter u t new = new ≡ u.frame
+IsFilled kind.Exit u t new = new ≡ u.frame
+IsFilled kind.Update u t new = new ≡ u.frame
+IsFilled kind.Wait u t new = new ≡ u.frame
 
 -- the frame is that of the item, once it is filled
-abbrev pub Serves : Plan → Standing → State → ℕ → Work → Frame → Type 0
-Serves plan now s i w frame = (m : Memories) (t : Table) (f : Frame) → opening (fill_from now i) w (memories_at w.device s.memories) ≡ Some m →
-    Shows t m.device → IsFilled w.kind frame t f →
+abbrev pub Serves : Plan → Standing → State → ℕ → Work → Unfilled → Type 0
+Serves plan now s i w u = (m : Memories) (t : Table) (f : Frame) → opening (fill_from now i) w (memories_at w.device s.memories) ≡ Some m →
+    Shows t m.device → IsFilled w.kind u t f →
     IsFrameOf i w (captured_by (s.condition i) s.scalars) (worked_on plan.lengths w.kind m) s.input f
 
 -- where an item is opened in a state that is shown, with a frame that serves it, the state after it is shown
-abbrev pub FollowsOpen : Standing → ℕ → Item → Frame → Standing → Type 0
-FollowsOpen old i it frame new = (plan : Plan) (s t : State) (w : Work) → IsAt plan old s →
-    slice_get plan.items i ≡ Some w → IsOf it w → Serves plan old s i w frame →
+abbrev pub FollowsOpen : Standing → ℕ → Item → Unfilled → Standing → Type 0
+FollowsOpen old i it u new = (plan : Plan) (s t : State) (w : Work) → IsAt plan old s →
+    slice_get plan.items i ≡ Some w → IsOf it w → Serves plan old s i w u →
     step plan (fill_from old) s (event.Open i) ≡ Some t → IsAt plan new t
 
 -- all but the table of device d is the same, and the table looks the same
@@ -82,11 +80,7 @@ pub record IsSame (d : ℕ) (old new : Standing) : Type 0 where
   pub looks : LooksTheSame d old.devices new.devices
   pub rest : new ≡ record old { devices = new.devices }
 
--- a frame, once it was filled, was issued for an item
-pub record Issues (it : Item) (given : Frame) (i : ℕ) (old new : Standing) : Type 0 where
+-- a frame was issued for an item
+pub record Issues (i : ℕ) (old new : Standing) : Type 0 where
   pub frame : Frame
   pub is : map issue_of new.held.items ≡ slice_set (map issue_of old.held.items) i (Some (frame_parts frame))
-  pub table : Table
-  pub has : table_at new.devices it.device.number ≡ Some table
-  pub filled : IsFilled it.kind given table frame
-  pub rows : FillsRows it.kind given table frame

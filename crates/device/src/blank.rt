@@ -1,27 +1,27 @@
 // A frame without its cells, with room for them.
 
 ghost use Rattle.std.specs.Prelude.{◌≡◌, IfOk, IfSome, IsSome, map, true};
-ghost use Rattle.device.specs.Blank.{AreBlankRows, IsBlank, IsBlankRow};
+ghost use Rattle.device.specs.Blank.{AreBlankRows, HaveRoomOf, IsBlank, IsBlankOf, IsBlankRow};
 ghost use Rattle.device.specs.Standing.{frame_parts, row_parts};
 
 use kernel::{Frame, Row};
 use std::alloc::{AllocError, Global};
 
 fn blank_rows(alloc: Global, rows: &[Row]) -> Result<Vec<Row>, AllocError>
-    ensures { IfOk result (λ blank. AreBlankRows (map row_parts rows.now) blank.items) }
+    ensures { IfOk result (λ blank. HaveRoomOf rows.now blank.items) }
 {
     let mut blank = Vec::new(alloc);
     'each: for row in rows {
         blank.push(Row {
             first: row.first,
-            cells: Vec::with_capacity(alloc, row.cells.len())?,
+            cells: Vec::with_capacity(alloc, row.cells.capacity())?,
         })?;
     }
     Ok(blank)
 }
 
 fn blank_of<'a>(alloc: Global, frame: &Frame<'a>) -> Result<Frame<'a>, AllocError>
-    ensures { IfOk result (IsBlank (frame_parts frame.now)) }
+    ensures { IfOk result (IsBlankOf frame.now) }
 {
     let rows = blank_rows(alloc, &frame.rows)?;
     Ok(Frame {
@@ -33,14 +33,14 @@ fn blank_of<'a>(alloc: Global, frame: &Frame<'a>) -> Result<Frame<'a>, AllocErro
     })
 }
 
-/// The same frame without its cells, if it is wanted.
+/// The same frame without its cells, with room for as many, if it is wanted.
 pub fn blank_if<'a>(
     alloc: Global,
     frame: &Frame<'a>,
     wanted: bool,
 ) -> Result<Option<Frame<'a>>, AllocError>
     ensures wanted { IfOk result (λ blank. wanted ≡ true → IsSome blank) }
-    ensures blank { IfOk result (λ blank. IfSome blank (IsBlank (frame_parts frame.now))) }
+    ensures blank { IfOk result (λ blank. IfSome blank (IsBlankOf frame.now)) }
 {
     if !wanted {
         return Ok(None);

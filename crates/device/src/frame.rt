@@ -1,18 +1,26 @@
 // The frame of an item.
 
-ghost use Rattle.std.specs.Prelude.{◌≡◌, ◌≤◌, ◌<◌, ◌^◌, false, IfOk, length};
+ghost use Rattle.std.specs.Prelude.{◌≡◌, ◌<◌, false, IfOk, length};
 ghost use Rattle.base.specs.Accepted.{is_host, is_target};
 ghost use Rattle.base.specs.Arrays.{lengths_of};
 ghost use Rattle.base.specs.Items.{plan};
-ghost use Rattle.base.specs.declared.tree.Program.{Program};
 ghost use Rattle.device.specs.Framing.{Captures, FramesWell};
+ghost use Rattle.device.specs.Opening.{IsEmpty};
 
 use crate::standing::{Held, Standing};
-use base::item::{Item, ItemKind};
+use base::item::{Item, ItemKind, Section};
 use frames::{host_frame, kernel_frame};
 use kernel::{Frame, Scalars};
 use lower::Image;
 use std::alloc::{AllocError, Global};
+
+/// The frame of an item before its entries are done: that of a kernel has room for the cells in reach, and none of them
+/// yet.
+#[derive(Drop)]
+pub struct Unfilled<'r, 'a> {
+    pub frame: Frame<'a>,
+    pub reach: &'r [Section],
+}
 
 impl<'a> Standing<'a> {
     // The scalars that an item has captured, or those of now where it is not deferred.
@@ -31,13 +39,13 @@ impl<'a> Standing<'a> {
     }
 
     // The frame of a host item.
-    fn frame_of_host(
+    fn frame_of_host<'r>(
         &self,
         alloc: Global,
-        image: &Image<'a>,
+        image: &'r Image<'a>,
         it: &'a Item,
         item: u32,
-    ) -> Result<Frame<'a>, AllocError>
+    ) -> Result<Unfilled<'r, 'a>, AllocError>
         requires inside { item < length self.now.held.items }
         requires same { length self.now.held.items ≡ length (plan image.now).items }
         requires lengths { lengths_of self.now.host ≡ (plan image.now).lengths }
@@ -50,72 +58,80 @@ impl<'a> Standing<'a> {
         let frame = host_frame(
             alloc, item, &it.loops, scalars, self.input, reach, &self.host,
         )?;
-        Ok(frame)
+        Ok(Unfilled { frame, reach })
     }
 
-    // The frame of a target, with no numbers yet.
-    fn frame_of_target(
+    // The frame of a target, with room for its cells.
+    fn frame_of_target<'r>(
         &self,
         alloc: Global,
-        image: &Image<'a>,
+        image: &'r Image<'a>,
         it: &'a Item,
         item: u32,
-    ) -> Result<Frame<'a>, AllocError>
+    ) -> Result<Unfilled<'r, 'a>, AllocError>
         requires inside { item < length self.now.held.items }
         requires same { length self.now.held.items ≡ length (plan image.now).items }
         requires kind { it.now.kind ≡ ItemKind.Target }
-        ensures few { IfOk result (λ frame. length frame.rows.items ≤ 2 ^ 32) }
+        ensures empty { IfOk result IsEmpty }
         ensures serves { IfOk result (FramesWell image.now self.now item it.now) }
     {
         let held = self.captured(it.deferred, item);
         let scalars = held.copy(alloc)?;
         let reach = image.reach(item as usize);
-        let _lengths = image.lengths();
         let frame = kernel_frame(alloc, item, &it.loops, scalars, reach)?;
-        Ok(frame)
+        Ok(Unfilled { frame, reach })
     }
 
     // The frame of an item without a region.
-    fn frame_of_none(&self, alloc: Global, it: &'a Item, item: u32) -> Result<Frame<'a>, AllocError>
+    fn frame_of_none<'r>(
+        &self,
+        alloc: Global,
+        image: &'r Image<'a>,
+        it: &'a Item,
+        item: u32,
+    ) -> Result<Unfilled<'r, 'a>, AllocError>
         requires inside { item < length self.now.held.items }
+        requires same { length self.now.held.items ≡ length (plan image.now).items }
         requires host { is_host it.now.kind ≡ false }
         requires target { is_target it.now.kind ≡ false }
-        ensures serves { (p : Program) → IfOk result (FramesWell p self.now item it.now) }
+        ensures serves { IfOk result (FramesWell image.now self.now item it.now) }
     {
         let held = self.captured(it.deferred, item);
         let scalars = held.copy(alloc)?;
-        Ok(Frame {
+        let reach = image.reach(item as usize);
+        let frame = Frame {
             item,
             loops: &it.loops,
             scalars,
             rows: Vec::new(alloc),
             input: &[],
-        })
+        };
+        Ok(Unfilled { frame, reach })
     }
 
     /// The frame of an item that may be opened, before its entries are done.
-    pub fn frame(
+    pub fn frame<'r>(
         &self,
         alloc: Global,
-        image: &Image<'a>,
+        image: &'r Image<'a>,
         it: &'a Item,
         item: u32,
-    ) -> Result<Frame<'a>, AllocError>
+    ) -> Result<Unfilled<'r, 'a>, AllocError>
         requires inside { item < length self.now.held.items }
         requires same { length self.now.held.items ≡ length (plan image.now).items }
         requires lengths { lengths_of self.now.host ≡ (plan image.now).lengths }
-        ensures few { IfOk result (λ frame. it.now.kind ≡ ItemKind.Target → length frame.rows.items ≤ 2 ^ 32) }
+        ensures empty { IfOk result (λ u. it.now.kind ≡ ItemKind.Target → IsEmpty u) }
         ensures serves { IfOk result (FramesWell image.now self.now item it.now) }
     {
         match it.kind {
             ItemKind::Host => self.frame_of_host(alloc, image, it, item),
             ItemKind::Target => self.frame_of_target(alloc, image, it, item),
-            ItemKind::Begin => self.frame_of_none(alloc, it, item),
-            ItemKind::End => self.frame_of_none(alloc, it, item),
-            ItemKind::Enter => self.frame_of_none(alloc, it, item),
-            ItemKind::Exit => self.frame_of_none(alloc, it, item),
-            ItemKind::Update => self.frame_of_none(alloc, it, item),
-            ItemKind::Wait => self.frame_of_none(alloc, it, item),
+            ItemKind::Begin => self.frame_of_none(alloc, image, it, item),
+            ItemKind::End => self.frame_of_none(alloc, image, it, item),
+            ItemKind::Enter => self.frame_of_none(alloc, image, it, item),
+            ItemKind::Exit => self.frame_of_none(alloc, image, it, item),
+            ItemKind::Update => self.frame_of_none(alloc, image, it, item),
+            ItemKind::Wait => self.frame_of_none(alloc, image, it, item),
         }
     }
 }

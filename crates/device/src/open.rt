@@ -32,16 +32,16 @@ impl<'a> RunState<'a> {
         ensures unchanged { OnErr result (self.new ≡ self.old) }
     {
         let it = &self.image.items()[item as usize];
-        let Ok(frame) = self.standing.frame(self.alloc, self.image, it, item) else {
+        let Ok(unfilled) = self.standing.frame(self.alloc, self.image, it, item) else {
             return Err(RunFault::OutOfMemory);
         };
-        let Ok(blank) = blank_if(self.alloc, &frame, wanted) else {
+        let Ok(blank) = blank_if(self.alloc, &unfilled.frame, wanted) else {
             return Err(RunFault::OutOfMemory);
         };
         let Ok(()) = note(&mut self.history, Event::Open(item)) else {
             return Err(RunFault::OutOfMemory);
         };
-        match self.standing.open(self.alloc, it, item, frame, blank) {
+        match self.standing.open(self.alloc, it, item, unfilled, blank) {
             Ok(issued) => Ok(issued),
             Err(fault) => {
                 forget(&mut self.history);

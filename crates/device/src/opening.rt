@@ -1,15 +1,17 @@
 // Where an item is opened.
 
-ghost use Rattle.std.specs.Prelude.{◌≡◌, ◌≤◌, ◌<◌, ◌^◌, true, false, map, length, IfErr, IfOk, IfSome, OnErr, OnOk, Some, is_some, slice_get};
+ghost use Rattle.std.specs.Prelude.{◌≡◌, ◌<◌, true, false, map, length, IfErr, IfOk, IfSome, OnErr, OnOk, Some, is_some, slice_get};
 ghost use Rattle.base.specs.declared.item.Event.TheVariants as event;
 ghost use Rattle.present.specs.Table.{AreSections, AreWithin, HasRoom};
 ghost use Rattle.taskgraph.specs.Board.{allows};
-ghost use Rattle.device.specs.Blank.{IsBlank};
+ghost use Rattle.frames.specs.Rows.{FitIn};
+ghost use Rattle.device.specs.Blank.{IsBlank, IsBlankOf};
 ghost use Rattle.device.specs.Devices.{AreKept, OnTable};
 ghost use Rattle.device.specs.Moves.{AreCounted, IsMapsFault, enters};
-ghost use Rattle.device.specs.Opening.{FillsRows, FollowsOpen, GoesIn, IsFilled, IsSame, Issues};
+ghost use Rattle.device.specs.Opening.{FollowsOpen, GoesIn, IsEmpty, IsFilled, IsSame, Issues};
 ghost use Rattle.device.specs.Standing.{frame_parts, issue_of};
 
+use crate::frame::Unfilled;
 use crate::shared_frame::SharedFrame;
 use crate::standing::{Held, Standing};
 use base::fault::RunFault;
@@ -19,14 +21,15 @@ use kernel::Frame;
 use present::Table;
 use std::alloc::Global;
 
-// The frame of a kernel takes the numbers of its device. It takes no memory.
-fn fill(kind: ItemKind, frame: &mut Frame<'_>, table: &Table)
-    requires { kind ≡ ItemKind.Target → length frame.old.rows.items ≤ 2 ^ 32 }
-    ensures filled { IsFilled kind frame.old table.now frame.new }
-    ensures rows { FillsRows kind frame.old table.now frame.new }
+// The frame of a kernel gets its cells, with the numbers of its device. It takes no memory.
+fn fill<'a>(kind: ItemKind, unfilled: Unfilled<'_, 'a>, table: &Table) -> Frame<'a>
+    requires { kind ≡ ItemKind.Target → IsEmpty unfilled }
+    ensures filled { IsFilled kind unfilled.entry table.now result }
+    ensures fits { FitIn unfilled.entry.frame.rows.items result.rows.items }
 {
+    let Unfilled { mut frame, reach } = unfilled;
     match kind {
-        ItemKind::Target => load_rows(&mut frame.rows, table),
+        ItemKind::Target => load_rows(&mut frame.rows, reach, table),
         ItemKind::Host => {}
         ItemKind::Begin => {}
         ItemKind::End => {}
@@ -35,6 +38,7 @@ fn fill(kind: ItemKind, frame: &mut Frame<'_>, table: &Table)
         ItemKind::Update => {}
         ItemKind::Wait => {}
     }
+    frame
 }
 
 // The owners of a filled frame: the run, and the job for which there is a blank one.
@@ -66,20 +70,20 @@ impl<'a> Standing<'a> {
         alloc: Global,
         it: &Item,
         item: u32,
-        frame: Frame<'a>,
+        unfilled: Unfilled<'_, 'a>,
         blank: Option<Frame<'a>>,
     ) -> Result<Option<SharedFrame<'a>>, RunFault>
         requires here { allows self.old.graph (event.Open item) ≡ true }
         requires inside { item < length self.old.held.items }
         requires going { self.old.ended ≡ false }
-        requires few { it.now.kind ≡ ItemKind.Target → length frame.rows.items ≤ 2 ^ 32 }
-        requires blank { IfSome blank (IsBlank (frame_parts frame)) }
+        requires empty { it.now.kind ≡ ItemKind.Target → IsEmpty unfilled }
+        requires blank { IfSome blank (IsBlankOf unfilled.frame) }
         requires sections { AreSections it.now.maps.items }
         requires within { AreWithin self.old.host it.now.maps.items }
         requires counted { OnTable self.old.devices it.now.device.number (λ t. AreCounted t self.old.entered) }
         requires goes { GoesIn self.old it.now }
-        ensures opened { OnOk result (FollowsOpen self.old item it.now frame.entry self.new) }
-        ensures issued { OnOk result (Issues it.now frame.entry item self.old self.new) }
+        ensures opened { OnOk result (FollowsOpen self.old item it.now unfilled.entry self.new) }
+        ensures issued { OnOk result (Issues item self.old self.new) }
         ensures wanted { IfOk result (λ job. is_some job ≡ is_some blank.entry) }
         ensures job { IfOk result (λ job. IfSome job (λ f. slice_get (map issue_of self.new.held.items) item ≡ Some (Some (frame_parts f)))) }
         ensures room { OnOk result (enters it.now.kind ≡ true → OnTable self.old.devices it.now.device.number (λ t. HasRoom t it.now.maps.items)) }
@@ -87,7 +91,6 @@ impl<'a> Standing<'a> {
         ensures unchanged { OnErr result (IsSame it.now.device.number self.old self.new) }
         ensures kept { AreKept self.old.devices self.new.devices }
     {
-        let mut frame = frame;
         match self.devices.open(
             it.device,
             &mut self.host,
@@ -97,7 +100,7 @@ impl<'a> Standing<'a> {
         ) {
             Err(fault) => Err(fault),
             Ok(()) => {
-                fill(it.kind, &mut frame, self.devices.table(it.device));
+                let frame = fill(it.kind, unfilled, self.devices.table(it.device));
                 let (kept, job) = owners(alloc, frame, blank);
                 self.held[item as usize] = Held::Issued(kept);
                 self.graph.opened(item as usize);

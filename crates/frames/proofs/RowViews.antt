@@ -107,61 +107,43 @@ filled_row m s xs r w e b f g = record {
   bounded = subst AreNumbers (sym f) b;
 }
 
-pub row_of_zeros : (s : Section) (xs : List ℕ) → xs ≡ replicate s.length 0 → (i : ℕ) →
-    at_index s.first xs i ≡ in_run (every 0) s i
-row_of_zeros s xs e =
-    row_from (every 0) s xs (ap length e ∙ length-replicate s.length 0)
-    (λ i h. ap (λ ys. slice_get ys (i - s.first)) e
-    ∙ get_replicate s.length (i - s.first) 0 (let p = in_parts (cell_of s.array.0 i) s h in
-    let a = p.above in let b = p.below in omega arith))
-
-pub zeros_small : (n : ℕ) (xs : List ℕ) → xs ≡ replicate n 0 → AreNumbers xs
-zeros_small n xs e k m f = go n k (ap (λ ys. slice_get ys k) (sym e) ∙ f)
-  where
-    go : (n k : ℕ) → slice_get (replicate n 0) k ≡ Some m → m < 2 ^ 64
-    go zero k g = absurd (cc g)
-    go (suc n) zero g = let z : 0 ≡ m = cc in omega arith
-    go (suc n) (suc k) g = go n k g
-
 -- Several rows.
 
 -- one row more
-pub each_more : (view : View) (reach : List Section) (rows : List Row) (s : Section) (r : Row) →
-    slice_get reach (length rows) ≡ Some s → IsRow view s r → AreEach view reach rows →
-    AreEach view reach (rows ++ r ∷ [])
-each_more view reach rows s r e one h a t q f g = go (nat_lt a (length rows)) refl
+pub each_more : (is : Section → Row → Type 0) (reach : List Section) (rows : List Row) (s : Section) (r : Row) →
+    slice_get reach (length rows) ≡ Some s → is s r → AreEach is reach rows → AreEach is reach (rows ++ r ∷ [])
+each_more is reach rows s r e one h a t q f g = go (nat_lt a (length rows)) refl
   where
-    go : (b : Bool) → nat_lt a (length rows) ≡ b → IsRow view t q
+    go : (b : Bool) → nat_lt a (length rows) ≡ b → is t q
     go true l = h a t q f (sym (get_left rows (r ∷ []) a (ltb-true a (length rows) l)) ∙ g)
     go false l =
         let past = ltb-false a (length rows) l in
         let bound = slice_get_within (rows ++ r ∷ []) a q g in
         let long = length-append rows (r ∷ []) in
-        let is : a ≡ length rows = omega arith in
-        let same : s ≡ t = one_block (slice_get reach a) s t (ap (slice_get reach) is ∙ e) f in
+        let at : a ≡ length rows = omega arith in
+        let same : s ≡ t = one_block (slice_get reach a) s t (ap (slice_get reach) at ∙ e) f in
         let none : length rows - length rows ≡ 0 = omega arith in
         let last : slice_get (rows ++ r ∷ []) a ≡ Some r =
-        ap (slice_get (rows ++ r ∷ [])) is ∙ get_right rows (r ∷ []) (length rows) (omega arith)
+        ap (slice_get (rows ++ r ∷ [])) at ∙ get_right rows (r ∷ []) (length rows) (omega arith)
         ∙ ap (slice_get (r ∷ [])) none in
         let row : r ≡ q = one_block (slice_get (rows ++ r ∷ []) a) r q last g in
-        subst (λ x. IsRow view x q) same (subst (IsRow view s) row one)
+        subst (λ x. is x q) same (subst (is s) row one)
 
 -- the same after a push
-pub record Grown (view : View) (reach : List Section) (n : ℕ) (rows : List Row) : Type 0 where
+pub record Grown (is : Section → Row → Type 0) (reach : List Section) (n : ℕ) (rows : List Row) : Type 0 where
   pub count : length rows ≡ n
-  pub each : AreEach view reach rows
+  pub each : AreEach is reach rows
 
-pub grown_more : (view : View) (reach : List Section) (n : ℕ) (rows after : List Row) (r : Row) (d : Section) →
-    n < length reach → IsRow view (get_or reach n d) r → after ≡ rows ++ r ∷ [] → Grown view reach n rows →
-    Grown view reach (n + 1) after
-grown_more view reach n rows after r d within one e h =
+pub grown_more : (is : Section → Row → Type 0) (reach : List Section) (n : ℕ) (rows after : List Row) (r : Row) (d : Section) →
+    n < length reach → is (get_or reach n d) r → after ≡ rows ++ r ∷ [] → Grown is reach n rows → Grown is reach (n + 1) after
+grown_more is reach n rows after r d within one e h =
     let count = h.count in
     let long = length-append rows (r ∷ []) in
     let at : slice_get reach (length rows) ≡ Some (get_or reach n d) =
     ap (slice_get reach) count ∙ slice_get-get_or reach n d within in
     record {
       count = ap length e ∙ (let l : length (rows ++ r ∷ []) ≡ n + 1 = omega arith in l);
-      each = subst (AreEach view reach) (sym e) (each_more view reach rows (get_or reach n d) r at one h.each);
+      each = subst (AreEach is reach) (sym e) (each_more is reach rows (get_or reach n d) r at one h.each);
     }
 
 -- a place where nothing stands is past the end
@@ -178,7 +160,7 @@ abbrev by_run : View → Cell → Option Section → Option ℕ
 by_run view c o = if (elim o [ None ↦ false | Some s ↦ is_in c s ]) then view c else None
 
 pub cells_in_reach : (view : View) (reach : List Section) (rows : List Row) → AreOfArrays reach →
-    AreRows view reach rows → cells_of rows ≡ in_reach reach view
+    AreRows (IsRow view) reach rows → cells_of rows ≡ in_reach reach view
 cells_in_reach view reach rows of h =
     fun_ext (λ (c : Cell). at c (slice_get reach c.array.0) refl (slice_get rows c.array.0) refl)
   where
@@ -219,7 +201,7 @@ cells_bounded rows h c n e = go (slice_get rows c.array.0) refl
             absurd (cc (sym (at_index_before r.first r.cells.items c.index (leb-false r.first c.index g))
             ∙ sym (ap (by_row c.index) f) ∙ e))
 
-pub rows_bounded : (view : View) (reach : List Section) (rows : List Row) → AreRows view reach rows →
+pub rows_bounded : (view : View) (reach : List Section) (rows : List Row) → AreRows (IsRow view) reach rows →
     BoundedView (cells_of rows)
 rows_bounded view reach rows h = cells_bounded rows small
   where

@@ -9,6 +9,7 @@ use Rattle.base.specs.Memory.{View, Stores, end_of, is_cell, is_in, last_stored,
 use Rattle.base.specs.Meaning.{Run, run_region}
 use Rattle.base.specs.Footprint.{Touch, has_cell, reads, touches_of, writes}
 use Rattle.kernel.specs.Kept.{Kept, kept_of}
+use Rattle.present.specs.Rows.{over}
 use Rattle.present.specs.Table.{number_at}
 use Rattle.base.proofs.Sections.{in_from}
 use Rattle.regions.specs.Footprints.{StoresIn}
@@ -55,7 +56,7 @@ kernel_frame_means r loops reach t d u scalars input n b h shows stored e =
         go None f s = absurd (cc s)
         go (Some x) f s =
             ap (λ (g : View). g c) e
-            ∙ ap (option_map (λ old. unwrap_or (number_at t c) old)) (reached_same reach (every 0) c (h c k))
+            ∙ reached_same reach (over (number_at t) (every 0)) c (h c k)
             ∙ ap (λ o. Some (unwrap_or o 0)) (sym (shows.numbers c) ∙ f)
             ∙ sym f
 

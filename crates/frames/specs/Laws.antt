@@ -62,7 +62,7 @@ KernelFrameMeans =
     (r : Region) (loops : List ℕ) (reach : List Section) (t : Table) (d : Device) (u : View) (scalars : Scalars)
     (input : List ℕ) → AreSmall loops scalars input → BoundedView u → HasTouched reach (touches_of r loops) →
     Shows t d → ((c : Cell) → is_touched (touches_of r loops) c ≡ true → IsSome (d.cells c)) →
-    u ≡ over (number_at t) (in_reach reach (every 0)) →
+    u ≡ in_reach reach (over (number_at t) (every 0)) →
     run_region r loops u scalars input ≡ run_region r loops d.cells scalars input
 
 -- after entries that succeed each cell of each map item's section has storage

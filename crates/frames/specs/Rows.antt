@@ -1,10 +1,10 @@
 -- Rows that have the cells of a view.
-use Rattle.std.specs.Prelude.{ℕ, ◌≡◌, ◌<◌, ◌^◌, List, length, Option, Some, None, slice_get, if◌then◌else◌}
+use Rattle.std.specs.Prelude.{ℕ, ◌≡◌, ◌<◌, ◌≤◌, ◌^◌, List, [], length, Option, Some, None, slice_get, vec_capacity, if◌then◌else◌}
 use Rattle.base.specs.declared.item.Section.{Section}
 use Rattle.base.specs.Memory.{View, is_in}
 use Rattle.kernel.specs.declared.frames.Row.{Row}
 use Rattle.base.specs.Rows.{at_index}
-use Rattle.present.specs.Rows.{IsLoaded}
+use Rattle.present.specs.Rows.{AreRead}
 use Rattle.ranges.specs.Reach.{cell_of}
 
 -- what is in a run of cells of a view
@@ -20,23 +20,33 @@ pub record IsRow (view : View) (s : Section) (r : Row) : Type 0 where
   pub cells : (i : ℕ) → at_index r.first r.cells.items i ≡ in_run view s i
   pub bounded : AreNumbers r.cells.items
 
--- each of these rows has those of the run at its place
-abbrev pub AreEach : View → List Section → List Row → Type 0
-AreEach view reach rows = (a : ℕ) (s : Section) (r : Row) → slice_get reach a ≡ Some s → slice_get rows a ≡ Some r →
-    IsRow view s r
+-- each of these rows is one of the run at its place
+abbrev pub AreEach : (Section → Row → Type 0) → List Section → List Row → Type 0
+AreEach is reach rows = (a : ℕ) (s : Section) (r : Row) → slice_get reach a ≡ Some s → slice_get rows a ≡ Some r → is s r
 
 -- for each run such a row
-pub record AreRows (view : View) (reach : List Section) (rows : List Row) : Type 0 where
+pub record AreRows (is : Section → Row → Type 0) (reach : List Section) (rows : List Row) : Type 0 where
   pub count : length rows ≡ length reach
-  pub each : AreEach view reach rows
+  pub each : AreEach is reach rows
 
--- a row of an array took the numbers of a view
-pub record TakesNumbers (view : View) (a : ℕ) (old new : Row) : Type 0 where
+-- a row without cells, with room for those of a run
+pub record HasRoom (s : Section) (r : Row) : Type 0 where
+  pub first : r.first ≡ s.first
+  pub empty : r.cells.items ≡ []
+  pub room : s.length ≤ vec_capacity r.cells
+
+-- a row that had room for the cells of a run has them, with the numbers of a view, and 0 where that has none
+pub record IsLoaded (view : View) (s : Section) (old new : Row) : Type 0 where
   pub first : new.first ≡ old.first
-  pub numbers : IsLoaded view (record { 0 = a }) old.first old.cells.items new.cells.items
+  pub begins : new.first ≡ s.first
+  pub count : length new.cells.items ≡ s.length
+  pub fits : length new.cells.items ≤ vec_capacity old.cells
+  pub numbers : AreRead view s new.cells.items
   pub bounded : AreNumbers new.cells.items
 
--- of as many rows each one did
-pub record TakeNumbers (view : View) (old new : List Row) : Type 0 where
+-- rows with as many cells as others have room for
+pub record FitIn (old new : List Row) : Type 0 where
   pub count : length new ≡ length old
-  pub each : (a : ℕ) (x y : Row) → slice_get old a ≡ Some x → slice_get new a ≡ Some y → TakesNumbers view a x y
+  pub first : (a : ℕ) (x y : Row) → slice_get old a ≡ Some x → slice_get new a ≡ Some y → y.first ≡ x.first
+  pub fits : (a : ℕ) (x y : Row) → slice_get old a ≡ Some x → slice_get new a ≡ Some y →
+      length y.cells.items ≤ vec_capacity x.cells

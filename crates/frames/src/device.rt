@@ -1,14 +1,14 @@
 // The device storage's part of a frame, and what a run leaves in it.
 
-ghost use Rattle.std.specs.Prelude.{◌≡◌, ◌<◌, ◌≤◌, ◌^◌, ℕ, [], Some, IfOk, length, replicate, slice_index};
+ghost use Rattle.std.specs.Prelude.{◌≡◌, ◌<◌, ◌^◌, ℕ, [], Some, IfOk, slice_index};
 ghost use Rattle.base.specs.declared.item.Cell.{Cell};
 ghost use Rattle.base.specs.Map.{Device};
 ghost use Rattle.ranges.specs.Reach.{AreOfArrays};
 ghost use Rattle.frames.specs.Reach.{in_reach};
-ghost use Rattle.frames.specs.Rows.{AreNumbers, AreRows, TakeNumbers, TakesNumbers};
+ghost use Rattle.frames.specs.Rows.{AreNumbers, AreRows, FitIn, HasRoom, IsLoaded};
 ghost use Rattle.frames.specs.Views.{every};
 ghost use Rattle.kernel.specs.Rows.{cells_of, cells_stored};
-ghost use Rattle.present.specs.Rows.{IsLoaded, over, with_numbers};
+ghost use Rattle.present.specs.Rows.{over, with_numbers};
 ghost use Rattle.present.specs.Table.{IsKept, Shows, number_at};
 ghost use Rattle.regions.specs.Footprints.{BoundedScalars, BoundedView};
 
@@ -18,29 +18,29 @@ use kernel::{Frame, KeptRow, Row, Scalars};
 use present::Table;
 use std::alloc::{AllocError, Global};
 
-fn zeros(alloc: Global, count: u64) -> Result<Vec<u64>, AllocError>
-    ensures { IfOk result (λ cells. cells.items ≡ replicate count 0) }
+// A row with room for the cells of a run.
+fn room_for(alloc: Global, section: &Section) -> Result<Row, AllocError>
+    ensures { IfOk result (HasRoom section.now) }
 {
-    vec![in alloc; 0u64; count as usize]
+    Ok(Row {
+        first: section.first,
+        cells: Vec::with_capacity(alloc, section.length as usize)?,
+    })
 }
 
-// For each run a row of zeros.
-fn zero_rows(alloc: Global, reach: &[Section]) -> Result<Vec<Row>, AllocError>
-    requires { AreOfArrays reach.now }
-    ensures { IfOk result (λ rows. AreRows (every 0) reach.now rows.items) }
+// For each run such a row.
+fn rows_for(alloc: Global, reach: &[Section]) -> Result<Vec<Row>, AllocError>
+    ensures { IfOk result (λ rows. AreRows HasRoom reach.now rows.items) }
 {
     let mut rows = Vec::new(alloc);
     'runs: for section in reach {
-        rows.push(Row {
-            first: section.first,
-            cells: zeros(alloc, section.length)?,
-        })?;
+        rows.push(room_for(alloc, section)?)?;
     }
     Ok(rows)
 }
 
-/// The frame of a region that runs on the device, before the numbers are read: of each array the cells in `reach`, all 0.
-/// Cells out of reach are not there. There is no input.
+/// The frame of a region that runs on the device, before the numbers are read: of each array there is room for the cells
+/// in `reach`. There is no input.
 pub fn kernel_frame<'i>(
     alloc: Global,
     item: u32,
@@ -48,13 +48,11 @@ pub fn kernel_frame<'i>(
     scalars: Scalars,
     reach: &[Section],
 ) -> Result<Frame<'i>, AllocError>
-    requires { AreOfArrays reach.now }
     ensures item { IfOk result (λ f. f.item ≡ item) }
     ensures loops { IfOk result (λ f. f.loops.now ≡ loops.now) }
     ensures scalars { IfOk result (λ f. f.scalars ≡ scalars) }
     ensures input { IfOk result (λ f. f.input.now ≡ []) }
-    ensures cells { IfOk result (λ f. cells_of f.rows.items ≡ in_reach reach.now (every 0)) }
-    ensures rows { IfOk result (λ f. length f.rows.items ≡ length reach.now) }
+    ensures room { IfOk result (λ f. AreRows HasRoom reach.now f.rows.items) }
     ensures small_scalars { BoundedScalars (slice_index scalars) }
 {
     let _numbers = scalars.numbers();
@@ -62,36 +60,38 @@ pub fn kernel_frame<'i>(
         item,
         loops,
         scalars,
-        rows: zero_rows(alloc, reach)?,
+        rows: rows_for(alloc, reach)?,
         input: &[],
     })
 }
 
-/// The cells of rows take the numbers of the storage of the device; a cell without storage stays as it was. It takes no
-/// memory.
-pub fn load_rows(rows: &mut [Row], table: &Table)
-    requires { length rows.old ≤ 2 ^ 32 }
-    ensures taken { TakeNumbers (number_at table.now) rows.old rows.new }
-    ensures cells { cells_of rows.new ≡ over (number_at table.now) (cells_of rows.old) }
+/// The rows that have room for the cells in reach get them, with the numbers of the storage of the device, and 0 for a
+/// cell without storage. Cells out of reach are not there. It takes no memory.
+pub fn load_rows(rows: &mut [Row], reach: &[Section], table: &Table)
+    requires room { AreRows HasRoom reach.now rows.old }
+    requires arrays { AreOfArrays reach.now }
+    ensures cells { cells_of rows.new ≡ in_reach reach.now (over (number_at table.now) (every 0)) }
     ensures bounded { BoundedView (cells_of rows.new) }
+    ensures fits { FitIn rows.old rows.new }
 {
     'each: for (a, row) in rows.iter_mut().enumerate() {
-        load_row(row, ArrayId(a as u32), table);
+        load_row(row, &reach[a], table);
     }
 }
 
-fn load_row(row: &mut Row, array: ArrayId, table: &Table)
-    ensures { TakesNumbers (number_at table.now) array.0 row.old row.new }
+// What every slice of numbers is.
+fn are_numbers(numbers: &[u64])
+    ensures { AreNumbers numbers.now }
 {
-    load_numbers(&mut row.cells, array, row.first, table);
+    let _numbers = numbers;
 }
 
-// The numbers of a run of cells, each of which is below 2^64.
-fn load_numbers(numbers: &mut [u64], array: ArrayId, first: u64, table: &Table)
-    ensures loaded { IsLoaded (number_at table.now) array first numbers.old numbers.new }
-    ensures bounded { AreNumbers numbers.new }
+fn load_row(row: &mut Row, section: &Section, table: &Table)
+    requires { HasRoom section.now row.old }
+    ensures { IsLoaded (number_at table.now) section.now row.old row.new }
 {
-    table.load_row(array, first, numbers);
+    table.read_row(section, &mut row.cells);
+    are_numbers(&row.cells);
 }
 
 /// Stores what a region stored in the storage of the device. A cell without storage is left out. It takes no memory.

@@ -42,7 +42,7 @@ fn host_row(alloc: Global, section: &Section, host: &Memory) -> Result<Row, Allo
 
 fn host_rows(alloc: Global, reach: &[Section], host: &Memory) -> Result<Vec<Row>, AllocError>
     requires { AreRuns (lengths_of host.now) reach.now }
-    ensures { IfOk result (λ rows. AreRows (view_of (lengths_of host.now) (memory_of host.now)) reach.now rows.items) }
+    ensures { IfOk result (λ rows. AreRows (IsRow (view_of (lengths_of host.now) (memory_of host.now))) reach.now rows.items) }
 {
     let mut rows = Vec::new(alloc);
     'runs: for section in reach {

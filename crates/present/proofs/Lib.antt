@@ -14,3 +14,5 @@ pub mod NeededCells
 pub mod Turns
 pub mod Undone
 pub mod EachTurn
+pub mod WholeRows
+pub mod MarkedRows

@@ -1,7 +1,8 @@
 -- Rows: numbers for a run of cells of an array.
-use Rattle.std.specs.Prelude.{ℕ, ◌≡◌, ◌+◌, ◌==◌, Bool, true, false, List, length, Option, Some, None, option_map, option_and_then, slice_get, unwrap_or}
+use Rattle.std.specs.Prelude.{ℕ, ◌≡◌, ◌+◌, ◌==◌, Bool, true, false, List, length, Option, Some, None, option_map, option_and_then, replicate, slice_get, unwrap_or}
 use Rattle.base.specs.declared.tree.ArrayId.{ArrayId}
 use Rattle.base.specs.declared.item.Cell.{Cell}
+use Rattle.base.specs.declared.item.Section.{Section}
 use Rattle.base.specs.Memory.{View, is_in}
 use Rattle.base.specs.Map.{Device}
 use Rattle.base.specs.Rows.{at_index, if_marked}
@@ -36,6 +37,10 @@ Takes number first old new = (k : ℕ) → slice_get new k
 -- a row took the numbers of cells of an array
 abbrev pub IsLoaded : View → ArrayId → ℕ → List ℕ → List ℕ → Type 0
 IsLoaded view a first old new = Takes (λ i. view (cell_at a i)) first old new
+
+-- the numbers of a section's cells, 0 where a cell is not there
+abbrev pub AreRead : View → Section → List ℕ → Type 0
+AreRead view s numbers = IsLoaded view s.array s.first (replicate s.length 0) numbers
 
 -- the numbers in one block, and in several
 abbrev pub view_in : Block → View

@@ -7,8 +7,8 @@ ghost use Rattle.present.specs.Found.{IsFound, IsBlockAt, AllBefore, AllAfter};
 use crate::block::Block;
 use base::item::{Cell, Section};
 
-// No array has more cells.
-const MOST_CELLS: u64 = 65_536;
+/// No array has more cells.
+pub const MOST_CELLS: u64 = 65_536;
 
 /// Where a section lies among the blocks.
 #[derive(Clone, Copy)]

@@ -14,8 +14,8 @@ use base::fault::RunFault;
 use base::item::Section;
 use base::memory::{Memory, overwrite};
 
-// So many numbers from a place on.
-fn part(numbers: &[u64], first: u64, count: u64) -> &[u64]
+/// So many numbers from a place on.
+pub fn part(numbers: &[u64], first: u64, count: u64) -> &[u64]
     requires { first + count ≤ length numbers.now }
     ensures { result.now ≡ slice_range numbers.now first (first + count) }
 {

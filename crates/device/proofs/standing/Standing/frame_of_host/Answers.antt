@@ -13,7 +13,7 @@ host_frame-requires c =
 pub returns : goal.returns
 returns c = record {
   serves = λ s w at b fine is of waits.
-      host_serves c.args.image.now c.args.self.now c.args.item c.captured-held.result.now c.reach-reach.result.now c.in_ok-frame.frame
+      host_serves c.args.image.now c.args.self.now c.args.item c.captured-held.result.now (record { frame = c.in_ok-frame.frame; reach = c.reach-reach.result })
       s w at b fine is waits (subst (λ d. Captures c.args.self.now d c.args.item c.captured-held.result.now) (sym of.deferred) c.captured-held.ensures)
       (of.kind ∙ c.requires.kind) (c.reach-reach.ensures w is)
       (record { item = c.in_ok-frame.ensures.item; loops' = ap (λ l. l.values.items) c.in_ok-frame.ensures.loops ∙ sym of.loops; scalars' = c.in_ok-frame.ensures.scalars ∙ c.in_ok-scalars.ensures })

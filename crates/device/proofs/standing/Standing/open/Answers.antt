@@ -8,7 +8,7 @@ use Rattle.device.specs.Opening.{IsFilled}
 use Rattle.std.proofs.lemmas.List.{map-set}
 use Rattle.kernel.specs.declared.frames.Frame.{Frame}
 use Rattle.device.specs.Standing.{frame_parts, issue_of}
-use Rattle.device.proofs.Blanks.{still_blank_if}
+use Rattle.device.proofs.Blanks.{blank_for}
 use Rattle.device.proofs.OpenedItems.{at_place}
 use Rattle.device.proofs.Openings.{opened}
 use Rattle.device.proofs.Tables.{here, same_table}
@@ -28,30 +28,26 @@ returns-clause-opened c plan s t w at is of serves e =
     c.in-Ok.ensures.number in
     let same =
     same_table new d c.table.result.now done.after c.table.ensures (here d old.devices new done.after done.becomes) in
-    let filled = subst (λ (x : Table). IsFilled it.kind c.args.frame x c.fill.new.frame) same c.fill.ensures.filled in
+    let filled = subst (λ (x : Table). IsFilled it.kind c.args.unfilled x c.fill-frame.result) same c.fill-frame.ensures.filled in
     opened plan old s t at c.requires.going c.args.item it w is of e _ _ new done.after c.open.new.host
-    c.open.new.entered c.args.frame c.owners-kept.result.0 done.becomes
+    c.open.new.entered c.args.unfilled c.owners-kept.result.0 done.becomes
     c.opened.ensures refl c.requires.inside done.leads c.in-Ok.ensures.lengths number serves
-    (subst (λ (f : Frame). IsFilled it.kind c.args.frame done.after f) (sym c.owners-kept.ensures.kept) filled)
+    (subst (λ (f : Frame). IsFilled it.kind c.args.unfilled done.after f) (sym c.owners-kept.ensures.kept) filled)
 
 pub returns-clause-issued : goal.returns-clause-issued
 returns-clause-issued c = record {
-  frame = c.fill.new.frame;
+  frame = c.fill-frame.result;
   is =
       map-set issue_of c.args.self.now.held.items c.args.item _
       ∙ ap (λ (f : Frame). slice_set (map issue_of c.args.self.now.held.items) c.args.item (Some (frame_parts f))) c.owners-kept.ensures.kept;
-  table = c.table.result.now;
-  has = c.table.ensures;
-  filled = c.fill.ensures.filled;
-  rows = c.fill.ensures.rows;
 }
 
 pub owners-kept-requires : goal.owners-kept-requires
 owners-kept-requires c =
-    still_blank_if c.args.it.now.kind c.table.result.now c.args.frame c.fill.new.frame c.args.blank c.fill.ensures.filled
-    c.fill.ensures.rows c.requires.blank
+    blank_for c.args.it.now.kind c.args.unfilled c.table.result.now c.fill-frame.result c.args.blank c.fill-frame.ensures.filled
+    c.fill-frame.ensures.fits c.requires.blank
 
 pub returns-clause-job : goal.returns-clause-job
 returns-clause-job c =
-    at_place c.args.self.now.held.items c.args.item c.owners-kept.result.0 c.fill.new.frame c.owners-kept.result.1 c.requires.inside
+    at_place c.args.self.now.held.items c.args.item c.owners-kept.result.0 c.fill-frame.result c.owners-kept.result.1 c.requires.inside
     c.owners-kept.ensures.kept c.owners-kept.ensures.job

@@ -27,8 +27,8 @@ frame-requires-clause-same c = c.self.invariant.at.slots
 pub frame-requires-clause-lengths : goal.frame-requires-clause-lengths
 frame-requires-clause-lengths c = c.self.invariant.at.lengths
 
-pub open-requires-clause-few : goal.open-requires-clause-few
-open-requires-clause-few c = c.in-Ok.ensures.few
+pub open-requires-clause-empty : goal.open-requires-clause-empty
+open-requires-clause-empty c = c.in-Ok.ensures.empty
 
 pub open-requires-clause-here : goal.open-requires-clause-here
 open-requires-clause-here c =
