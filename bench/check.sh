@@ -51,6 +51,12 @@ sections() {
     printf 'for (uint64_t i = 0; i < 16; i += 1) { A[16 * k + i] = A[16 * k + i] + 1; }\n}\n#pragma omp taskwait\n}\n'
 }
 
+# as many blocks of a cell each, two cells apart, and then a target on each
+blocks() {
+    printf 'uint64_t A[65536];\nint main(void) {\nfor (uint64_t k = 0; k < %d; k += 1) {\n#pragma omp target enter data map(to: A[2 * k:1])\n}\n' "$1"
+    printf 'for (uint64_t k = 0; k < %d; k += 1) {\n#pragma omp target map(tofrom: A[2 * k:1])\n{ A[2 * k] = A[2 * k] + k; }\n}\n}\n' "$1"
+}
+
 # deferred targets, each after the one before it
 chain() {
     printf 'uint64_t A[1];\nint main(void) {\n#pragma omp target enter data map(to: A)\nfor (uint64_t k = 0; k < %d; k += 1) {\n' "$1"
@@ -106,5 +112,6 @@ measure chains 3992
 measure cells 4000
 measure sections 4000
 for tasks in 16000 60000; do measure cells "$tasks"; measure chain "$tasks"; done
+for places in 4000 16000; do measure blocks "$places"; done
 measure host 2000
 for source in product histogram thirds condition hash; do measure "$source"; done
