@@ -4,7 +4,6 @@ pub mod Unmapped
 pub mod SideRows
 pub mod RowLists
 pub mod RowSteps
-pub mod Recounts
 pub mod Leasts
 pub mod Touched
 pub mod RegionEffects
@@ -37,3 +36,7 @@ pub mod KeptBlocks
 pub mod NoParts
 pub mod TargetMaps
 pub mod StageActions
+pub mod Searches
+pub mod Respots
+pub mod OrderedBlocks
+pub mod Recounts

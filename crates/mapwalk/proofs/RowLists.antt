@@ -54,17 +54,6 @@ pub set_mapped : {X : Type 0} (f : X → X) (xs : List X) (i : ℕ) (x v : X) �
 set_mapped f xs i x v e w =
     set_mapped_suc f xs i x v e w ∙ ap (λ k. map f (take k xs) ++ drop k xs) (sym (add-one i))
 
-keep_mapped_suc : {X : Type 0} (f : X → X) (xs : List X) (i : ℕ) (x : X) → slice_get xs i ≡ Some x → f x ≡ x →
-    map f (take i xs) ++ drop i xs ≡ map f (take (suc i) xs) ++ drop (suc i) xs
-keep_mapped_suc f [] i x e w = absurd cc
-keep_mapped_suc f (y ∷ xs) zero x e w =
-    let s : y ≡ x = cc in ap (λ z. z ∷ xs) (s ∙ sym w ∙ ap f (sym s))
-keep_mapped_suc f (y ∷ xs) (suc i) x e w = ap (λ zs. f y ∷ zs) (keep_mapped_suc f xs i x e w)
-
-pub keep_mapped : {X : Type 0} (f : X → X) (xs : List X) (i : ℕ) (x : X) → slice_get xs i ≡ Some x → f x ≡ x →
-    map f (take i xs) ++ drop i xs ≡ map f (take (i + 1) xs) ++ drop (i + 1) xs
-keep_mapped f xs i x e w = keep_mapped_suc f xs i x e w ∙ ap (λ k. map f (take k xs) ++ drop k xs) (sym (add-one i))
-
 -- the item there, before it was changed
 pub get_mapped : {X : Type 0} (f : X → X) (xs : List X) (i : ℕ) → slice_get (map f (take i xs) ++ drop i xs) i ≡ slice_get xs i
 get_mapped f [] zero = refl

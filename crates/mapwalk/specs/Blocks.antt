@@ -1,5 +1,4 @@
 -- What the blocks of the code stand for.
-use Rattle.std.specs.Prelude.{ℕ, ◌≤◌}
 use Rattle.base.specs.Map.{Block, Presence, Absent, Inside, InPart}
 use Rattle.mapwalk.specs.declared.blocks.Block.{Block as Kept}
 use Rattle.mapwalk.specs.declared.blocks.Place.{Place}
@@ -12,8 +11,3 @@ abbrev pub present_at : Place → Presence
 present_at place.Absent = Absent
 present_at (place.Inside b) = Inside (block_of b)
 present_at place.InPart = InPart
-
-abbrev pub PlaceUpTo : ℕ → Place → Type 0
-PlaceUpTo n place.Absent = Unit {0}
-PlaceUpTo n (place.Inside b) = b.count ≤ n
-PlaceUpTo n place.InPart = Unit {0}

@@ -1,21 +1,13 @@
 -- What the map items of an item do, by its kind: before its region, after it, and what they meet.
-use Rattle.std.specs.Prelude.{Bool, List, [], ◌++◌, Option, Some, None, map, Vec}
-use Rattle.std.specs.declared.alloc.Global.{Global}
+use Rattle.std.specs.Prelude.{List, [], ◌++◌}
 use Rattle.base.specs.declared.item.MapItem.{MapItem}
 use Rattle.base.specs.declared.item.ItemKind.{ItemKind}
 use Rattle.base.specs.declared.item.ItemKind.TheVariants as kind
 use Rattle.base.specs.Map.{Block}
 use Rattle.base.specs.Actions.{Met, always_works, rests}
-use Rattle.mapwalk.specs.declared.blocks.Block.{Block as Kept}
 use Rattle.mapwalk.specs.declared.rows.Acts.{Acts}
-use Rattle.mapwalk.specs.Blocks.{block_of}
 use Rattle.mapwalk.specs.Acts.{entries_after, entry_row, exit_row, exits_after, joined, update_row}
 use Rattle.mapwalk.specs.Seen.{entry_mets, exit_mets, update_mets}
-
--- whether a map item rests, where these are the blocks before a target
-abbrev pub rests_before : Option (Vec Kept Global) → MapItem → Bool
-rests_before None item = always_works item
-rests_before (Some blocks) item = rests (map block_of blocks.items) item
 
 abbrev pub before_region : ItemKind → List MapItem → List Block → List Acts
 before_region kind.Host maps blocks = []

@@ -17,3 +17,4 @@ pub mod Numbered
 pub mod Repeats
 pub mod Heads
 pub mod Laws
+pub mod Spots

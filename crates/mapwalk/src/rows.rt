@@ -1,15 +1,17 @@
 // What the map items of an item do on the table.
 
-ghost use Rattle.std.specs.Prelude.{◌≡◌, ◌+◌, ◌*◌, ◌<◌, ◌≤◌, ◌^◌, [], IfOk, OnOk, length, map};
+ghost use Rattle.std.specs.Prelude.{◌≡◌, ◌+◌, ◌*◌, ◌<◌, ◌≤◌, ◌^◌, Bool, [], IfOk, OnOk, length, map};
 ghost use Rattle.base.specs.Map.{presence};
 ghost use Rattle.base.specs.Actions;
-ghost use Rattle.mapwalk.specs.Blocks.{block_of, present_at};
+ghost use Rattle.base.specs.Actions.{always_works};
+ghost use Rattle.base.specs.declared.item.MapItem.{MapItem};
+ghost use Rattle.mapwalk.specs.Blocks.{present_at};
 ghost use Rattle.mapwalk.specs.Table.{blocks_of};
 ghost use Rattle.mapwalk.specs.Acts.{entries_after, entry_row, exit_row, exits_after, joined, looks, update_row, updated};
-ghost use Rattle.mapwalk.specs.Kinds.{after_maps, after_region, before_region, joined_by, met_by, rests_before};
+ghost use Rattle.mapwalk.specs.Kinds.{after_maps, after_region, before_region, joined_by, met_by};
 ghost use Rattle.mapwalk.specs.Seen.{entry_mets, exit_mets, seen_all, update_mets};
 
-use crate::blocks::{Block, Place, copies_from, copies_to, place_of};
+use crate::blocks::{Place, copies_from, copies_to};
 use crate::seen::Seen;
 use crate::table::Blocks;
 use base::item::{Item, ItemKind, MapItem, Section};
@@ -48,23 +50,6 @@ impl Acts {
     }
 }
 
-// Whether a map item of a target rests.
-fn rests_at(blocks: &[Block], item: &MapItem) -> bool
-    ensures { result ≡ Actions.rests (map block_of blocks.now) item.now }
-{
-    !item.always && matches!(place_of(blocks, &item.section), Place::Inside(_))
-}
-
-// Whether a map item rests, where these are the blocks before a target, or none for an item that always works.
-fn rests(before: &Option<Vec<Block>>, item: &MapItem) -> bool
-    ensures { result ≡ rests_before before.now item.now }
-{
-    match before {
-        None => false,
-        Some(blocks) => rests_at(blocks, item),
-    }
-}
-
 // One section of an update.
 fn update(item: &MapItem, place: &Place) -> Acts
     ensures { result ≡ updated item.now (present_at place.now) }
@@ -86,46 +71,73 @@ pub struct Rows {
     pub after: Vec<Acts>,
 }
 
+// For each map item that it does not rest.
+fn none_rests(alloc: Global, maps: &[MapItem]) -> Result<Vec<bool>, AllocError>
+    ensures { IfOk result (λ rests. rests.items ≡ map always_works maps.now) }
+{
+    let mut rests = Vec::new(alloc);
+    'maps: for _item in maps {
+        rests.push(false)?;
+    }
+    Ok(rests)
+}
+
 impl Blocks {
-    // Entries in turn.
+    // For each map item of a target whether it rests.
+    fn resting(&self, alloc: Global, maps: &[MapItem]) -> Result<Vec<bool>, AllocError>
+        ensures { IfOk result (λ rests. rests.items ≡ map (Actions.rests (blocks_of self.now)) maps.now) }
+    {
+        let mut rests = Vec::new(alloc);
+        'maps: for item in maps {
+            let inside = matches!(self.place(&item.section), Place::Inside(_));
+            rests.push(!item.always && inside)?;
+        }
+        Ok(rests)
+    }
+
+    // Entries in turn, of which these rest.
     fn enter_all(
         &mut self,
         alloc: Global,
         maps: &[MapItem],
-        before: &Option<Vec<Block>>,
+        rests: &[bool],
         seen: &mut Seen,
     ) -> Result<Vec<Acts>, AllocError>
-        requires { self.old.entries + length maps.now < 2 ^ 128 }
-        ensures row { IfOk result (λ row. row.items ≡ entry_row (rests_before before.now) maps.now (blocks_of self.old)) }
+        requires room { self.old.entries + length maps.now < 2 ^ 128 }
+        requires rests { length rests.now ≡ length maps.now }
+        ensures row { (f : MapItem → Bool) → rests.now ≡ map f maps.now → IfOk result (λ row. row.items ≡ entry_row f maps.now (blocks_of self.old)) }
         ensures blocks { OnOk result (blocks_of self.new ≡ entries_after maps.now (blocks_of self.old)) }
         ensures seen { OnOk result (seen.new ≡ seen_all (entry_mets maps.now (blocks_of self.old)) seen.old) }
         ensures entries { OnOk result (self.new.entries ≡ self.old.entries + length maps.now) }
     {
         let mut row = Vec::new(alloc);
-        'maps: for item in maps {
-            seen.note(&self.blocks, item);
-            row.push(self.enter(item, rests(before, item))?)?;
+        'maps: for i in 0..maps.len() {
+            let item = &maps[i];
+            seen.note(self.place(&item.section), &self.blocks, item);
+            row.push(self.enter(item, rests[i])?)?;
         }
         Ok(row)
     }
 
-    // Exits in turn.
+    // Exits in turn, of which these rest.
     fn leave_all(
         &mut self,
         alloc: Global,
         maps: &[MapItem],
-        before: &Option<Vec<Block>>,
+        rests: &[bool],
         seen: &mut Seen,
     ) -> Result<Vec<Acts>, AllocError>
-        ensures row { IfOk result (λ row. row.items ≡ exit_row (rests_before before.now) maps.now (blocks_of self.old)) }
+        requires { length rests.now ≡ length maps.now }
+        ensures row { (f : MapItem → Bool) → rests.now ≡ map f maps.now → IfOk result (λ row. row.items ≡ exit_row f maps.now (blocks_of self.old)) }
         ensures blocks { OnOk result (blocks_of self.new ≡ exits_after maps.now (blocks_of self.old)) }
         ensures seen { OnOk result (seen.new ≡ seen_all (exit_mets maps.now (blocks_of self.old)) seen.old) }
         ensures entries { self.new.entries ≡ self.old.entries }
     {
         let mut row = Vec::new(alloc);
-        'maps: for item in maps {
-            seen.note(&self.blocks, item);
-            row.push(self.leave(item, rests(before, item)))?;
+        'maps: for i in 0..maps.len() {
+            let item = &maps[i];
+            seen.note(self.place(&item.section), &self.blocks, item);
+            row.push(self.leave(item, rests[i]))?;
         }
         Ok(row)
     }
@@ -142,8 +154,9 @@ impl Blocks {
     {
         let mut row = Vec::new(alloc);
         'maps: for item in maps {
-            seen.note(&self.blocks, item);
-            row.push(update(item, &place_of(&self.blocks, &item.section)))?;
+            let place = self.place(&item.section);
+            seen.note(place, &self.blocks, item);
+            row.push(update(item, &place))?;
         }
         Ok(row)
     }
@@ -162,9 +175,9 @@ impl Blocks {
         ensures seen { OnOk result (seen.new ≡ seen_all (met_by ItemKind.Target maps.now (blocks_of self.old)) seen.old) }
         ensures entries { OnOk result (self.new.entries ≡ self.old.entries + length maps.now) }
     {
-        let present = Some(Vec::from_slice(alloc, &self.blocks)?);
-        let before = self.enter_all(alloc, maps, &present, seen)?;
-        let after = self.leave_all(alloc, maps, &present, seen)?;
+        let rests = self.resting(alloc, maps)?;
+        let before = self.enter_all(alloc, maps, &rests, seen)?;
+        let after = self.leave_all(alloc, maps, &rests, seen)?;
         Ok(Rows { before, after })
     }
 
@@ -185,12 +198,12 @@ impl Blocks {
             }),
             ItemKind::Target => self.target(alloc, maps, seen),
             ItemKind::Begin | ItemKind::Enter => Ok(Rows {
-                before: self.enter_all(alloc, maps, &None, seen)?,
+                before: self.enter_all(alloc, maps, &none_rests(alloc, maps)?, seen)?,
                 after: Vec::new(alloc),
             }),
             ItemKind::End | ItemKind::Exit => Ok(Rows {
                 before: Vec::new(alloc),
-                after: self.leave_all(alloc, maps, &None, seen)?,
+                after: self.leave_all(alloc, maps, &none_rests(alloc, maps)?, seen)?,
             }),
             ItemKind::Update => Ok(Rows {
                 before: self.update_all(alloc, maps, seen)?,

@@ -3,10 +3,11 @@
 ghost use Rattle.std.specs.Prelude.{◌≡◌, Some, None, map};
 ghost use Rattle.base.specs.Accepted.{first_cell};
 ghost use Rattle.base.specs.Least.{is_less};
-ghost use Rattle.mapwalk.specs.Blocks.{block_of};
+ghost use Rattle.base.specs.Map.{presence};
+ghost use Rattle.mapwalk.specs.Blocks.{block_of, present_at};
 ghost use Rattle.mapwalk.specs.Seen.{least_shared, lesser, nothing, seen_absent, seen_at, shared};
 
-use crate::blocks::{Block, Place, end, place_of};
+use crate::blocks::{Block, Place, end};
 use base::item::{Cell, MapItem, Section};
 
 /// The least cell of a section that overlaps a block in part and of a block; the least first cell of a section that is
@@ -104,11 +105,12 @@ impl Seen {
         }
     }
 
-    /// Notes a map item that is met.
-    pub fn note(&mut self, blocks: &[Block], item: &MapItem)
+    /// Notes a map item that is met, where its section lies here among the blocks.
+    pub fn note(&mut self, place: Place, blocks: &[Block], item: &MapItem)
+        requires { present_at place ≡ presence (map block_of blocks.now) item.now.section }
         ensures { self.new ≡ seen_at item.now (map block_of blocks.now) self.old }
     {
-        match place_of(blocks, &item.section) {
+        match place {
             Place::Absent => self.note_absent(item),
             Place::Inside(_) => {}
             Place::InPart => self.in_part = least_common(blocks, &item.section, self.in_part),

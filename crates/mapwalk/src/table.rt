@@ -1,24 +1,31 @@
 // The present table without values: the blocks and their counts.
 
 ghost use Rattle.mapwalk.specs.Counts.{CountUpTo};
+ghost use Rattle.mapwalk.specs.Spots.{AreOrdered};
 
-use crate::blocks::{Block, Place, copies_in, copies_out, left, place_of, remove, set_count};
+use crate::blocks::{Block, Place, copies_in, copies_out, left};
+use crate::ordered::{create, recount, remove};
 use crate::rows::Acts;
-use base::item::MapItem;
+use crate::spots::{Found, Spot, find};
+use base::item::{MapItem, Section};
 use std::alloc::{AllocError, Global};
 
-/// The blocks, and how many entries there were.
+/// The blocks in the order of their creation and of their places, and how many entries there were.
 #[derive(Drop)]
 pub struct Blocks {
     pub blocks: Vec<Block>,
+    spots: Vec<Spot>,
     pub entries: u128,
     ghost counted: { CountUpTo entries blocks.items },
+    ghost ordered: { AreOrdered blocks.items spots.items },
 }
 
 impl Blocks {
     ghost use Rattle.std.specs.Prelude.{◌≡◌, ◌+◌, ◌<◌, ◌^◌, [], IfOk, OnOk};
-    ghost use Rattle.base.specs.Map.{blocks_after, entry, exit};
+    ghost use Rattle.base.specs.Map.{blocks_after, entry, exit, presence};
     ghost use Rattle.mapwalk.specs.Acts.{entry_of, exit_of};
+    ghost use Rattle.mapwalk.specs.Blocks.{present_at};
+    ghost use Rattle.mapwalk.specs.Spots.{IsHeldAt, IsInsideAt};
     ghost use Rattle.mapwalk.specs.Table.{blocks_of};
 
     pub fn new(alloc: Global) -> Blocks
@@ -27,7 +34,29 @@ impl Blocks {
     {
         Blocks {
             blocks: Vec::new(alloc),
+            spots: Vec::new(alloc),
             entries: 0,
+        }
+    }
+
+    // The block of a spot, and its number.
+    fn held(&self, section: &Section, at: usize) -> (usize, Block)
+        requires { IsInsideAt self.now.blocks.items self.now.spots.items section.now at }
+        ensures { IsHeldAt self.now.blocks.items self.now.spots.items section.now at result.0 result.1 }
+    {
+        let _section = section;
+        let number = self.spots[at].number;
+        (number, self.blocks[number])
+    }
+
+    /// Where a section lies.
+    pub fn place(&self, section: &Section) -> Place
+        ensures { present_at result ≡ presence (blocks_of self.now) section.now }
+    {
+        match find(&self.blocks, &self.spots, section) {
+            Found::Absent(_) => Place::Absent,
+            Found::Inside(at) => Place::Inside(self.held(section, at).1),
+            Found::InPart => Place::InPart,
         }
     }
 
@@ -38,35 +67,31 @@ impl Blocks {
         ensures blocks { OnOk result (blocks_of self.new ≡ blocks_after (blocks_of self.old) (entry item.now (blocks_of self.old))) }
         ensures entries { OnOk result (self.new.entries ≡ self.old.entries + 1) }
     {
-        let place = place_of(&self.blocks, &item.section);
-        match place {
-            Place::Absent if item.present => {
+        match find(&self.blocks, &self.spots, &item.section) {
+            Found::Absent(_) if item.present => {
                 self.entries += 1;
                 Ok(Acts::look(item.section, true))
             }
-            Place::Absent => {
-                let block = Block {
-                    section: item.section,
-                    count: 1,
-                };
+            Found::Absent(at) => {
                 self.entries += 1;
-                self.blocks.push(block)?;
+                create(&mut self.blocks, &mut self.spots, at, item.section)?;
                 Ok(Acts {
                     creates: true,
                     copies_in: copies_in(item, 1),
                     ..Acts::look(item.section, rests)
                 })
             }
-            Place::Inside(block) => {
+            Found::Inside(at) => {
+                let (number, block) = self.held(&item.section, at);
                 let count = block.count + 1;
                 self.entries += 1;
-                set_count(&mut self.blocks, &block.section, count);
+                recount(&mut self.blocks, number, count);
                 Ok(Acts {
                     copies_in: copies_in(item, count),
                     ..Acts::look(block.section, rests)
                 })
             }
-            Place::InPart => {
+            Found::InPart => {
                 self.entries += 1;
                 Ok(Acts::look(item.section, true))
             }
@@ -79,16 +104,16 @@ impl Blocks {
         ensures blocks { blocks_of self.new ≡ blocks_after (blocks_of self.old) (exit item.now (blocks_of self.old)) }
         ensures entries { self.new.entries ≡ self.old.entries }
     {
-        let place = place_of(&self.blocks, &item.section);
-        match place {
-            Place::Absent => Acts::look(item.section, rests),
-            Place::InPart => Acts::look(item.section, true),
-            Place::Inside(block) => {
+        match find(&self.blocks, &self.spots, &item.section) {
+            Found::Absent(_) => Acts::look(item.section, rests),
+            Found::InPart => Acts::look(item.section, true),
+            Found::Inside(at) => {
+                let (number, block) = self.held(&item.section, at);
                 let count = left(item.kind, block.count);
                 if count == 0 {
-                    remove(&mut self.blocks, &block.section);
+                    remove(&mut self.blocks, &mut self.spots, at);
                 } else {
-                    set_count(&mut self.blocks, &block.section, count);
+                    recount(&mut self.blocks, number, count);
                 }
                 Acts {
                     removes: count == 0,
