@@ -1,3 +1,4 @@
+#include "ompc.h"
 // A stencil on two devices: each works on its half of the arrays, at the same time as the other, and on one cell of the other
 // half, which is brought to it through the host after each sweep.
 uint64_t A[16];

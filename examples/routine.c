@@ -1,3 +1,4 @@
+#include "ompc.h"
 // A routine works on data that its caller has on the device: it says that they are present, and so copies nothing. A caller
 // that did not enter them is refused.
 uint64_t X[4];

@@ -1,3 +1,4 @@
+#include "ompc.h"
 uint64_t A[4];
 uint64_t B[4];
 int main(void) {

@@ -1,3 +1,4 @@
+#include "ompc.h"
 uint64_t A[8];
 uint64_t S[2];
 uint64_t n;

@@ -1,1 +1,2 @@
+#include "ompc.h"
 int main(void) { print(1 $ 2); }

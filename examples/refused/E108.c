@@ -1,2 +1,3 @@
+#include "ompc.h"
 uint64_t x;
 int main(void) { print(7 % x); }

@@ -1,3 +1,4 @@
+#include "ompc.h"
 int main(void) {
 #pragma omp parallel
 { }

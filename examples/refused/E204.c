@@ -1,3 +1,4 @@
+#include "ompc.h"
 uint64_t A[4];
 int main(void) {
 #pragma omp target enter data map(from: A)

@@ -1,3 +1,4 @@
+#include "ompc.h"
 uint64_t x;
 int main(void) {
 #pragma omp target

@@ -1,3 +1,4 @@
+#include "ompc.h"
 uint64_t A[4];
 int main(void) {
 for (uint64_t i = 0; i < 1048577; i += 1) { A[0] = i; }

@@ -1,3 +1,4 @@
+#include "ompc.h"
 // The stencil on two devices of examples/border.c, which forgets to bring the second device's border cell to the first.
 uint64_t A[16];
 uint64_t B[16];

@@ -1,3 +1,4 @@
+#include "ompc.h"
 // The routine of examples/routine.c, whose caller did not enter the data that it works on.
 uint64_t X[4];
 uint64_t Y[4];

@@ -2,11 +2,14 @@
 #![tactic(auto)]
 
 mod absent;
+mod around;
 mod conflicts;
 mod diagnosis;
 mod events;
 mod faults;
+mod forms;
 mod further;
+mod limit;
 mod limits;
 mod past;
 mod rules;

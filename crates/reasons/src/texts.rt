@@ -1,8 +1,11 @@
 // Faults of the text (E1xx, E2xx).
 
+use crate::around::{Around, look_around};
 use crate::diagnosis::{Diagnosis, Note, Weight};
-use crate::rules::{read_help, read_rule, read_words};
-use crate::source::{declaration_of, word_at};
+use crate::forms::{self, Telling, with_help};
+use crate::limit::limit_of;
+use crate::rules::read_rule;
+use crate::source::{declaration_of, naming_of};
 use crate::words::add;
 use base::fault::{ReadCode, TextFault};
 use base::tree::Place;
@@ -36,6 +39,22 @@ fn note_earlier(
     }
 }
 
+// What is wrong with what stands at the place, and what can be written.
+fn telling_of(bytes: &[u8], code: ReadCode, around: &Around<'_>) -> Telling {
+    match code {
+        ReadCode::TooMany => limit_of(bytes, around),
+        ReadCode::Undeclared => forms::undeclared(naming_of(bytes, around.word), around),
+        ReadCode::UnknownByte => forms::unknown_byte(around),
+        ReadCode::BadNumber => forms::bad_number(around),
+        ReadCode::ClauseCount => forms::clause_count(around),
+        ReadCode::Unexpected => with_help(code, forms::unexpected(around)),
+        ReadCode::UnknownDirective => with_help(code, forms::unknown_directive(around)),
+        ReadCode::UnknownClause => with_help(code, forms::unknown_clause(around)),
+        ReadCode::BadBound => with_help(code, forms::bad_bound(around)),
+        _ => with_help(code, None),
+    }
+}
+
 /// Of a fault of the text.
 pub fn text_diagnosis(
     alloc: Global,
@@ -46,12 +65,14 @@ pub fn text_diagnosis(
         line: fault.line,
         column: fault.column,
     };
-    let word = word_at(bytes, place);
+    let around = look_around(bytes, place);
+    let word = around.word;
     let what = standing(alloc, word)?;
-    let message = format!(in alloc; "{what} {}", read_words(fault.code))?;
+    let told = telling_of(bytes, fault.code, &around);
+    let message = format!(in alloc; "{what} {}", told.said)?;
     let mut notes = Vec::new(alloc);
     note_earlier(alloc, bytes, fault, word, &mut notes)?;
-    let help = String::from_str(alloc, read_help(fault.code))?;
+    let help = String::from_str(alloc, told.help)?;
     add(&mut notes, Weight::Help, place, help)?;
     Ok(Diagnosis {
         code: fault.code.as_str(),

@@ -1,0 +1,70 @@
+// Which limit a text passes.
+
+use crate::around::Around;
+use crate::forms::Telling;
+use c_tokens::limits::{MAX_NAME, MAX_SOURCE};
+
+const SOURCE: Telling = Telling {
+    said: "begins a source of more than 1048576 bytes",
+    help: "split the program",
+};
+
+const NAME: Telling = Telling {
+    said: "is too long: a name has at most 64 bytes",
+    help: "take a shorter name",
+};
+
+const TERMS: Telling = Telling {
+    said: "is one term too many: a bound has at most 8",
+    help: "add the numbers up",
+};
+
+const DEPENDS: Telling = Telling {
+    said: "is one item too many: a directive has at most 64 depend items",
+    help: "name a section that has several of them",
+};
+
+const ARRAYS: Telling = Telling {
+    said: "is one array too many: a program has at most 64",
+    help: "put two arrays into one",
+};
+
+const SCALARS: Telling = Telling {
+    said: "is one scalar too many: a program has at most 256, each name of a loop counted",
+    help: "use a local or a loop for more than one thing, or an array",
+};
+
+const STATEMENTS: Telling = Telling {
+    said: "is one statement too many: a program has at most 16384, directives counted",
+    help: "write a loop, or split the program",
+};
+
+const TOKENS: Telling = Telling {
+    said: "is one token too many: an expression has at most 256",
+    help: "hold a part in a local",
+};
+
+// What stands before the beginning of a statement.
+fn ends_statement(before: &str) -> bool {
+    before == ";" || before == "{" || before == "}" || before.as_bytes().first() == Some(&b'#')
+}
+
+/// The limit that is passed at a place.
+pub fn limit_of(bytes: &[u8], around: &Around<'_>) -> Telling {
+    if bytes.len() > MAX_SOURCE {
+        return SOURCE;
+    }
+    if !around.line.is_empty() {
+        return if around.is_in_bound() { TERMS } else { DEPENDS };
+    }
+    if around.word.len() > MAX_NAME {
+        return NAME;
+    }
+    if around.before == "uint64_t" {
+        return if around.next == b'[' { ARRAYS } else { SCALARS };
+    }
+    if ends_statement(around.before) {
+        return STATEMENTS;
+    }
+    TOKENS
+}
