@@ -57,6 +57,18 @@ fn wants_operand(before: &str) -> bool {
     )
 }
 
+fn begins_word(word: &str) -> bool {
+    match word.as_bytes() {
+        [first, ..] => first.is_ascii_alphanumeric() || *first == b'_',
+        [] => false,
+    }
+}
+
+// An operand may end by this.
+fn ends_operand(before: &str) -> bool {
+    begins_word(before) || before == ")" || before == "]"
+}
+
 // It ends by `=`, and compares nothing.
 fn is_compound(word: &str) -> bool {
     is_one_of(
@@ -140,6 +152,9 @@ fn in_expression(around: &Around<'_>) -> Option<&'static str> {
     }
     if word == "," {
         return Some(ONE_NAME);
+    }
+    if ends_operand(before) && (word == "}" || begins_word(word)) {
+        return Some("an operator or a `;` is missing before it");
     }
     None
 }
@@ -238,10 +253,7 @@ fn foreign(around: &Around<'_>) -> Option<&'static str> {
 pub fn undeclared(naming: Naming, around: &Around<'_>) -> Telling {
     match misused(naming, around) {
         Some(told) => told,
-        None => Telling {
-            said: "is not declared here",
-            help: foreign(around).unwrap_or("declare it before, or take it away"),
-        },
+        None => with_help(ReadCode::Undeclared, foreign(around)),
     }
 }
 
@@ -260,6 +272,9 @@ fn foreign_byte(around: &Around<'_>) -> Option<&'static str> {
     if word == "." {
         return Some("there are whole numbers alone, and no members");
     }
+    if word == "this byte" && around.before.is_empty() {
+        return Some("take the bytes before the text away, as a byte-order mark");
+    }
     if word == "#" {
         return Some("nothing but blanks stands before the `#` of a line, no comment either");
     }
@@ -277,10 +292,7 @@ pub fn unknown_byte(around: &Around<'_>) -> Telling {
             help: "end the comment by `*/`",
         };
     }
-    Telling {
-        said: "begins no token",
-        help: foreign_byte(around).unwrap_or("take it away"),
-    }
+    with_help(ReadCode::UnknownByte, foreign_byte(around))
 }
 
 /// Of a number that is too large, or begins with a zero.
@@ -291,10 +303,24 @@ pub fn bad_number(around: &Around<'_>) -> Telling {
             help: "take the 0 away: a number is decimal",
         };
     }
-    Telling {
-        said: "is above 18446744073709551615",
-        help: "write a smaller number",
+    with_help(ReadCode::BadNumber, None)
+}
+
+/// Of an operand, or of a number in the head of a loop, that is not in range.
+pub fn bad_operand(around: &Around<'_>) -> Option<&'static str> {
+    let before = around.before;
+    if before == "/" || before == "%" {
+        return Some("divide by a number by itself, from 1 on");
     }
+    if before == "<<" || before == ">>" {
+        return Some("shift by a number by itself, from 0 to 63");
+    }
+    if around.in_head {
+        return Some(
+            "a step is at least 1, and the limit plus the step at most 18446744073709551616",
+        );
+    }
+    None
 }
 
 /// Of a clause that is missing, or stands a second time.
@@ -305,10 +331,7 @@ pub fn clause_count(around: &Around<'_>) -> Telling {
             help: "write the `map` clause that the directive needs, of an update `to` or `from`",
         };
     }
-    Telling {
-        said: "stands here a second time",
-        help: "take it away",
-    }
+    with_help(ReadCode::ClauseCount, None)
 }
 
 /// What is said of a code wherever it is answered, with a help of its own where there is one.

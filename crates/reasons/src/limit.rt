@@ -1,7 +1,8 @@
 // Which limit a text passes.
 
 use crate::around::Around;
-use crate::forms::Telling;
+use crate::forms::{Telling, with_help};
+use base::fault::ReadCode;
 use c_tokens::limits::{MAX_NAME, MAX_SOURCE};
 
 const SOURCE: Telling = Telling {
@@ -39,11 +40,6 @@ const STATEMENTS: Telling = Telling {
     help: "write a loop, or split the program",
 };
 
-const TOKENS: Telling = Telling {
-    said: "is one token too many: an expression has at most 256",
-    help: "hold a part in a local",
-};
-
 // What stands before the beginning of a statement.
 fn ends_statement(before: &str) -> bool {
     before == ";" || before == "{" || before == "}" || before.as_bytes().first() == Some(&b'#')
@@ -66,5 +62,5 @@ pub fn limit_of(bytes: &[u8], around: &Around<'_>) -> Telling {
     if ends_statement(around.before) {
         return STATEMENTS;
     }
-    TOKENS
+    with_help(ReadCode::TooMany, None)
 }

@@ -76,22 +76,20 @@ pub fn read_rule(code: ReadCode) -> &'static str {
 /// What is wrong with what stands at the place.
 pub fn read_words(code: ReadCode) -> &'static str {
     match code {
-        ReadCode::UnknownByte => "begins no token, or a comment that has no end",
+        ReadCode::UnknownByte => "begins no token",
         ReadCode::Unexpected => "cannot stand here",
-        ReadCode::Undeclared =>
-            "is not declared here, or is used as what it is not: an array has a subscript, a scalar has none",
+        ReadCode::Undeclared => "is not declared here",
         ReadCode::AlreadyDeclared => "is the name of something else that is visible here",
-        ReadCode::BadNumber => "is above 18446744073709551615, or begins with a superfluous 0",
+        ReadCode::BadNumber => "is above 18446744073709551615",
         ReadCode::BadLength => "is no length of an array, which has from 1 to 65536 cells",
         ReadCode::LoopNameAssigned => "is the name of a loop, and is assigned in it",
         ReadCode::BadOperand =>
             "cannot stand here: a divisor and a step are numbers from 1 on, a shift count one up to 63, and a loop does not wrap",
         ReadCode::TooDeep => "opens one bracket too many: 16 of a kind may be open at once",
-        ReadCode::TooMany =>
-            "is past a limit: of the length of the source, its names, its statements, or the tokens of an expression",
+        ReadCode::TooMany => "is one token too many: an expression has at most 256",
         ReadCode::UnknownDirective => "begins no directive that is read",
         ReadCode::UnknownClause => "is no clause that this directive takes",
-        ReadCode::ClauseCount => "stands where a clause is missing, or is one that stands twice",
+        ReadCode::ClauseCount => "stands here a second time",
         ReadCode::BadMapType =>
             "stands where a map type or modifier is missing, or is none that this directive takes",
         ReadCode::BadBound => "does not fit into a section, which is NAME[FIRST:LENGTH]",
@@ -108,20 +106,19 @@ pub fn read_words(code: ReadCode) -> &'static str {
 
 pub fn read_help(code: ReadCode) -> &'static str {
     match code {
-        ReadCode::UnknownByte => "take it away, or end the comment",
+        ReadCode::UnknownByte => "take it away",
         ReadCode::Unexpected => "write the token that is missing before it, or take it away",
-        ReadCode::Undeclared =>
-            "declare it before, or write the subscript that is missing, or take it away",
+        ReadCode::Undeclared => "declare it before, or take it away",
         ReadCode::AlreadyDeclared => "take another name",
-        ReadCode::BadNumber => "write a smaller number, or take its first 0 away",
+        ReadCode::BadNumber => "write a smaller number",
         ReadCode::BadLength => "write a length from 1 to 65536",
         ReadCode::LoopNameAssigned => "assign to a local in its place",
         ReadCode::BadOperand => "write a number in range here",
         ReadCode::TooDeep => "hold a part in a local",
-        ReadCode::TooMany => "hold a part in a local, or split the program",
+        ReadCode::TooMany => "hold a part in a local",
         ReadCode::UnknownDirective => "take the line away, or write one of these directives",
         ReadCode::UnknownClause => "take the clause away",
-        ReadCode::ClauseCount => "write the clause that is missing, or take the second one away",
+        ReadCode::ClauseCount => "take it away",
         ReadCode::BadMapType =>
             "write a type that the directive takes: `to`, `from`, `tofrom`, `alloc` on `target` and `target data`, `to`, `alloc` on `target enter data`, `from`, `release`, `delete` on `target exit data`",
         ReadCode::BadBound => "hold what is more in a loop's name, or name the whole array",

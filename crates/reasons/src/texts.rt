@@ -12,14 +12,14 @@ use base::tree::Place;
 use std::alloc::{AllocError, Global};
 
 // What stands at a place.
-fn standing(alloc: Global, word: &str) -> Result<String, AllocError> {
-    if word.is_empty() {
-        return String::from_str(alloc, "the end of the line");
+fn standing(alloc: Global, around: &Around<'_>) -> Result<String, AllocError> {
+    match around.word {
+        "" if around.line.is_empty() => String::from_str(alloc, "the end of the text"),
+        "" => String::from_str(alloc, "the end of the line"),
+        "#" => String::from_str(alloc, "this line"),
+        "this byte" => String::from_str(alloc, "this byte"),
+        word => format!(in alloc; "`{word}`"),
     }
-    if word == "#" {
-        return String::from_str(alloc, "this line");
-    }
-    format!(in alloc; "`{word}`")
 }
 
 // Where the name is declared that is declared again.
@@ -50,6 +50,7 @@ fn telling_of(bytes: &[u8], code: ReadCode, around: &Around<'_>) -> Telling {
         ReadCode::Unexpected => with_help(code, forms::unexpected(around)),
         ReadCode::UnknownDirective => with_help(code, forms::unknown_directive(around)),
         ReadCode::UnknownClause => with_help(code, forms::unknown_clause(around)),
+        ReadCode::BadOperand => with_help(code, forms::bad_operand(around)),
         ReadCode::BadBound => with_help(code, forms::bad_bound(around)),
         _ => with_help(code, None),
     }
@@ -67,7 +68,7 @@ pub fn text_diagnosis(
     };
     let around = look_around(bytes, place);
     let word = around.word;
-    let what = standing(alloc, word)?;
+    let what = standing(alloc, &around)?;
     let told = telling_of(bytes, fault.code, &around);
     let message = format!(in alloc; "{what} {}", told.said)?;
     let mut notes = Vec::new(alloc);
