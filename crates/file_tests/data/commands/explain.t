@@ -654,24 +654,24 @@ dear_check.c:13:7: help: run `ompc fix` to look for a change
 
 # faults of the text
 $ ompc explain cut_off.c
-cut_off.c:1:17: error: the end of the line cannot stand here [E102]
+cut_off.c:1:17: error: the end of the text cannot stand here [E102]
     int main(void) {
                     ^
 cut_off.c:1:17: help: write the token that is missing before it, or take it away
 ! E102 line 1 column 17
 [1]
 $ ompc explain undeclared.c
-undeclared.c:2:28: error: `B` is not declared here, or is used as what it is not: an array has a subscript, a scalar has none [E103]
+undeclared.c:2:28: error: `B` is not declared here [E103]
     #pragma omp target map(to: B)
                                ^
-undeclared.c:2:28: help: declare it before, or write the subscript that is missing, or take it away
+undeclared.c:2:28: help: declare it before, or take it away
 ! E103 line 2 column 28
 [1]
 $ ompc explain large_number.c
-large_number.c:2:7: error: `18446744073709551616` is above 18446744073709551615, or begins with a superfluous 0 [E105]
+large_number.c:2:7: error: `18446744073709551616` is above 18446744073709551615 [E105]
     print(18446744073709551616);
           ^
-large_number.c:2:7: help: write a smaller number, or take its first 0 away
+large_number.c:2:7: help: write a smaller number
 ! E105 line 2 column 7
 [1]
 
@@ -760,13 +760,13 @@ $ ompc explain undeclared.c --format json
       "item": null,
       "line": 2,
       "loops": [],
-      "message": "`B` is not declared here, or is used as what it is not: an array has a subscript, a scalar has none",
+      "message": "`B` is not declared here",
       "notes": [
         {
           "column": 28,
           "kind": "help",
           "line": 2,
-          "message": "declare it before, or write the subscript that is missing, or take it away"
+          "message": "declare it before, or take it away"
         }
       ],
       "rule": "a name is declared before it is used; an array has a subscript, a scalar has none"

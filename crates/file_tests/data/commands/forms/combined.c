@@ -1,0 +1,4 @@
+int main(void) {
+#pragma omp target teams distribute parallel for
+{ }
+}

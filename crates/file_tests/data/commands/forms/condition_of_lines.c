@@ -1,0 +1,4 @@
+#ifdef N
+int main(void) {
+
+}

@@ -1,0 +1,4 @@
+const uint64_t N = 4;
+int main(void) {
+
+}

@@ -1,0 +1,3 @@
+int main(void) {
+printf("%lu", 1);
+}

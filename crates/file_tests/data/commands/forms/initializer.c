@@ -1,0 +1,4 @@
+uint64_t n = 8;
+int main(void) {
+
+}

@@ -1,0 +1,3 @@
+int main(void) {
+uint64_t A[4];
+}

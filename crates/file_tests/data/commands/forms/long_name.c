@@ -1,0 +1,4 @@
+uint64_t aaaaaaaaaaaaaaaaaaaaaaaaaaaaaaaaaaaaaaaaaaaaaaaaaaaaaaaaaaaaaaaaa;
+int main(void) {
+
+}

@@ -1,0 +1,3 @@
+int main(void) {
+#pragma omp target update
+}

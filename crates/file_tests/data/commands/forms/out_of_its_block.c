@@ -1,0 +1,6 @@
+int main(void) {
+{
+uint64_t y = 1;
+}
+print(y);
+}

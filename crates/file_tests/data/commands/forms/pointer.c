@@ -1,0 +1,4 @@
+uint64_t *p;
+int main(void) {
+
+}

@@ -1,0 +1,3 @@
+int main(void) {
+size_t x = 4;
+}

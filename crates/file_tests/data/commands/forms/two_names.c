@@ -1,0 +1,4 @@
+uint64_t a, b;
+int main(void) {
+
+}
