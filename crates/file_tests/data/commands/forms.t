@@ -258,8 +258,6 @@ forms/call.c:2:1: help: there are no functions but `main`: write the statements 
 [1]
 $ ompc explain forms/nothing.c
 forms/nothing.c:1:1: error: the end of the text cannot stand here [E102]
-    
-    ^
 forms/nothing.c:1:1: help: a program is its globals, and then `int main(void) { .. }`
 ! E102 line 1 column 1
 [1]
