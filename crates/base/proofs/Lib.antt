@@ -1,4 +1,5 @@
 pub mod Trees
+pub mod Updates
 pub mod Runs
 pub mod Closing
 pub mod Places
@@ -10,5 +11,6 @@ pub mod Blocks
 pub mod Moves
 pub mod StmtRows
 pub mod LoopTurns
+pub mod TurnTouches
 pub mod Devices
 pub mod ShortArrays

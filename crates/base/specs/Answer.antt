@@ -25,8 +25,7 @@ abbrev pub finals_in : Answer → List (ℕ × List ℕ)
 finals_in a = map (λ f. (f.0.0, f.1.items)) a.finals.items
 
 -- the answer is right: its history is the run by these choices of the two-memory machine, which ends; its output is
--- that of
--- the erased program; and its finals are the erased program's values of the arrays marked current
+-- that of the erased program; and its finals are the erased program's values of the arrays marked current
 pub record IsAnswer (p : Program) (input choices : List ℕ) (a : Answer) : Type 0 where
   pub fill : ℕ → Fill
   pub is_fill : IsFill fill

@@ -5,7 +5,7 @@ use Rattle.base.specs.declared.fault.ReadCode.TheVariants.{UnknownByte, Unexpect
 use Rattle.base.specs.declared.fault.RangeCode.{RangeCode}
 use Rattle.base.specs.declared.fault.RangeCode.TheVariants.{SectionOutside, TooManyTurns, SubscriptOutside}
 use Rattle.base.specs.declared.fault.RefusalCode.{RefusalCode}
-use Rattle.base.specs.declared.fault.RefusalCode.TheVariants.{OverlapsInPart, ExitOfAbsent, UpdateOfAbsent, NotPresent, Unmapped, HostNotCurrent, DeviceNotCurrent, Conflict}
+use Rattle.base.specs.declared.fault.RefusalCode.TheVariants.{OverlapsInPart, ExitOfAbsent, UpdateOfAbsent, NotPresent, Unmapped, HostNotCurrent, DeviceNotCurrent, TurnsMeet, Conflict}
 
 abbrev pub read_code : ReadCode → List ℕ
 read_code UnknownByte = codes "E101"
@@ -44,4 +44,5 @@ refusal_code NotPresent = codes "E509"
 refusal_code Unmapped = codes "E504"
 refusal_code HostNotCurrent = codes "E506"
 refusal_code DeviceNotCurrent = codes "E507"
+refusal_code TurnsMeet = codes "E510"
 refusal_code Conflict = codes "E508"

@@ -9,6 +9,8 @@ pub mod Blocks
 pub mod Machine
 pub mod Interval
 pub mod Footprint
+pub mod ScalarUse
+pub mod Turns
 pub mod Actions
 pub mod Order
 pub mod Current

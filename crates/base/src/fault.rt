@@ -186,6 +186,8 @@ pub enum RefusalCode {
     HostNotCurrent,
     /// A kernel has an exposed read of a cell that is not current on its device.
     DeviceNotCurrent,
+    /// Two turns of a kernel that may run in any order meet on a cell: one writes it, and the other reads or writes it.
+    TurnsMeet,
     /// Two items conflict, and neither is before the other.
     Conflict,
 }
@@ -203,6 +205,7 @@ impl RefusalCode {
             RefusalCode::Unmapped => "E504",
             RefusalCode::HostNotCurrent => "E506",
             RefusalCode::DeviceNotCurrent => "E507",
+            RefusalCode::TurnsMeet => "E510",
             RefusalCode::Conflict => "E508",
         }
     }

@@ -57,6 +57,18 @@ pub enum DivideOp {
     Remainder,
 }
 
+/// The operator of a commuting update. Each is associative and commutative on numbers modulo 2^64.
+#[derive(Clone, Copy, Debug)]
+pub enum CombineOp {
+    Add,
+    Multiply,
+    BitAnd,
+    BitOr,
+    BitXor,
+    Min,
+    Max,
+}
+
 /// The literal that a number is shifted by.
 #[derive(Clone, Copy)]
 pub struct ShiftCount {
@@ -109,6 +121,9 @@ pub enum Stmt {
     Declare(ScalarId, Source),
     Assign(ScalarId, Source),
     Store(ArrayId, Place, Expr, Source),
+    /// A commuting update: `A[e] op= v`, by a subscript and a value, of a cell that other turns may update by the same
+    /// operator.
+    Combine(CombineOp, ArrayId, Place, Expr, Expr),
     Print(Expr),
     Block(Vec<Stmt>),
     Loop(Bounds, Vec<Stmt>),
@@ -120,6 +135,9 @@ pub enum Stmt {
 pub struct Region {
     pub place: Place,
     pub body: Vec<Stmt>,
+    /// How many of its outermost loops have turns that may run in any order: none on the host, and none of a `target`
+    /// with no words behind it.
+    pub depth: u8,
 }
 
 /// A term of a bound: a literal, or a loop's name with its factor.

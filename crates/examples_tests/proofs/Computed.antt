@@ -5,7 +5,7 @@ use Rattle.std.specs.Cmp.Lexicographic.{pointwise}
 use Rattle.std.specs.List.{list_any, list_all, range_with_len}
 use Rattle.base.specs.declared.item.Cell.{Cell}
 use Rattle.base.specs.declared.fault.RefusalCode.{RefusalCode}
-use Rattle.base.specs.declared.fault.RefusalCode.TheVariants.{OverlapsInPart, ExitOfAbsent, UpdateOfAbsent, NotPresent, Unmapped, HostNotCurrent, DeviceNotCurrent}
+use Rattle.base.specs.declared.fault.RefusalCode.TheVariants.{OverlapsInPart, ExitOfAbsent, UpdateOfAbsent, NotPresent, Unmapped, HostNotCurrent, DeviceNotCurrent, TurnsMeet}
 use Rattle.base.specs.Actions.{conflict}
 use Rattle.base.specs.Current.{Current, at_start, after_stages}
 use Rattle.base.specs.declared.item.Section.{Section}
@@ -62,7 +62,8 @@ cells_of lengths =
 
 abbrev codes_in_order : List RefusalCode
 codes_in_order =
-    OverlapsInPart ∷ ExitOfAbsent ∷ UpdateOfAbsent ∷ NotPresent ∷ Unmapped ∷ HostNotCurrent ∷ DeviceNotCurrent ∷ []
+    OverlapsInPart ∷ ExitOfAbsent ∷ UpdateOfAbsent ∷ NotPresent ∷ Unmapped ∷ HostNotCurrent ∷ DeviceNotCurrent ∷ TurnsMeet ∷
+    []
 
 record Found : Type 0 where
   item : ℕ
@@ -130,7 +131,7 @@ module _ (v : Vec (Unit {0}) Global) (p : Box (Unit {0}) Global) where
   upto n h = record { first = 0; end = n; step = 1; step_not_zero = lit≤ tt; no_wrap = omega arith }
 
   abbrev region : (xs : List Stmt) → length xs < 2 ^ 63 → Region
-  region xs h = record { place = here; body = vec_of v xs h }
+  region xs h = record { place = here; body = vec_of v xs h; depth = 0 }
 
   -- A[i] = i for each of the four cells
   abbrev fill_a : Stmt

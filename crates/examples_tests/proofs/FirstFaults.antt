@@ -7,7 +7,7 @@ use Rattle.std.proofs.lemmas.Option.{slice_get_within}
 use Rattle.base.specs.declared.item.Cell.{Cell}
 use Rattle.base.specs.declared.fault.Refusal.{Refusal}
 use Rattle.base.specs.declared.fault.RefusalCode.{RefusalCode}
-use Rattle.base.specs.declared.fault.RefusalCode.TheVariants.{OverlapsInPart, ExitOfAbsent, UpdateOfAbsent, NotPresent, Unmapped, HostNotCurrent, DeviceNotCurrent, Conflict}
+use Rattle.base.specs.declared.fault.RefusalCode.TheVariants.{OverlapsInPart, ExitOfAbsent, UpdateOfAbsent, NotPresent, Unmapped, HostNotCurrent, DeviceNotCurrent, TurnsMeet, Conflict}
 use Rattle.base.specs.Items.{Work, Plan}
 use Rattle.base.specs.Machine.{on_item, precedes, is_predecessor, is_empty}
 use Rattle.base.specs.Actions.{Stage, stages, conflict, touches_in}
@@ -29,18 +29,22 @@ all_at p (y ∷ xs) h (suc j) x e = all_at p xs (and_parts (p y) (list_all p xs)
 -- what holds of every code
 codes : (p : RefusalCode → Bool) → every_code p ≡ true →
     (p OverlapsInPart ≡ true) × (p ExitOfAbsent ≡ true) × (p UpdateOfAbsent ≡ true) × (p NotPresent ≡ true) ×
-    (p Unmapped ≡ true) × (p HostNotCurrent ≡ true) × (p DeviceNotCurrent ≡ true)
+    (p Unmapped ≡ true) × (p HostNotCurrent ≡ true) × (p DeviceNotCurrent ≡ true) × (p TurnsMeet ≡ true)
 codes p h =
     let a = and_parts (p OverlapsInPart)
-    (p ExitOfAbsent && (p UpdateOfAbsent && (p NotPresent && (p Unmapped && (p HostNotCurrent && p DeviceNotCurrent))))) h
+    (p ExitOfAbsent &&
+    (p UpdateOfAbsent && (p NotPresent && (p Unmapped && (p HostNotCurrent && (p DeviceNotCurrent && p TurnsMeet)))))) h
     in
     let b = and_parts (p ExitOfAbsent)
-    (p UpdateOfAbsent && (p NotPresent && (p Unmapped && (p HostNotCurrent && p DeviceNotCurrent)))) a.1 in
-    let d = and_parts (p UpdateOfAbsent) (p NotPresent && (p Unmapped && (p HostNotCurrent && p DeviceNotCurrent))) b.1 in
-    let g = and_parts (p NotPresent) (p Unmapped && (p HostNotCurrent && p DeviceNotCurrent)) d.1 in
-    let e = and_parts (p Unmapped) (p HostNotCurrent && p DeviceNotCurrent) g.1 in
-    let f = and_parts (p HostNotCurrent) (p DeviceNotCurrent) e.1 in
-    (a.0, b.0, d.0, g.0, e.0, f.0, f.1)
+    (p UpdateOfAbsent && (p NotPresent && (p Unmapped && (p HostNotCurrent && (p DeviceNotCurrent && p TurnsMeet))))) a.1
+    in
+    let d = and_parts (p UpdateOfAbsent)
+    (p NotPresent && (p Unmapped && (p HostNotCurrent && (p DeviceNotCurrent && p TurnsMeet)))) b.1 in
+    let g = and_parts (p NotPresent) (p Unmapped && (p HostNotCurrent && (p DeviceNotCurrent && p TurnsMeet))) d.1 in
+    let e = and_parts (p Unmapped) (p HostNotCurrent && (p DeviceNotCurrent && p TurnsMeet)) g.1 in
+    let f = and_parts (p HostNotCurrent) (p DeviceNotCurrent && p TurnsMeet) e.1 in
+    let t = and_parts (p DeviceNotCurrent) (p TurnsMeet) f.1 in
+    (a.0, b.0, d.0, g.0, e.0, f.0, t.0, t.1)
 
 -- where one holds, the other does not
 then_later : (a b : Bool) → (not a || not b) ≡ true → a ≡ true → b ≡ false
@@ -201,6 +205,7 @@ holds_alone n plan NotPresent j c f e = e
 holds_alone n plan Unmapped j c f e = e
 holds_alone n plan HostNotCurrent j c f e = e
 holds_alone n plan DeviceNotCurrent j c f e = e
+holds_alone n plan TurnsMeet j c f e = e
 holds_alone n plan Conflict j c f e = absurd (cc f)
 
 holds_pair : (n : ℕ) (plan : Plan) (r : Refusal) (i : ℕ) → refusal_holds n plan r (Some i) ≡ true →
@@ -223,6 +228,7 @@ holds_either n plan code j c None f e = holds_alone n plan code j c (no_other (i
     no_other true h = absurd (false≢true h)
     no_other false h = refl
 holds_either n plan Conflict j c (Some i) f e = holds_pair n plan (refusal Conflict j c (Some i)) i e
+holds_either n plan TurnsMeet j c (Some i) f e = absurd (false≢true f)
 holds_either n plan OverlapsInPart j c (Some i) f e = absurd (false≢true f)
 holds_either n plan ExitOfAbsent j c (Some i) f e = absurd (false≢true f)
 holds_either n plan UpdateOfAbsent j c (Some i) f e = absurd (false≢true f)
@@ -239,6 +245,8 @@ module _ (n : ℕ) (plan : Plan) (key : List ℕ) (stay : list_all (stage_stays 
       key_less (fault_key (Refused (refusal code j c other))) key ≡ false
   refused_later Conflict j c (Some i) e = conflict_off n plan key stay pairs i j c e.0 e.1 e.2
   refused_later Conflict j c None e = absurd e
+  refused_later TurnsMeet j c (Some i) e = absurd e
+  refused_later TurnsMeet j c None e = alone_off n plan key stay alone TurnsMeet (λ p h. (codes p h).7) j c e
   refused_later OverlapsInPart j c (Some i) e = absurd e
   refused_later ExitOfAbsent j c (Some i) e = absurd e
   refused_later UpdateOfAbsent j c (Some i) e = absurd e

@@ -8,7 +8,7 @@ use Rattle.base.specs.Items.{plan_of}
 use Rattle.headline.proofs.Headline.{headline}
 use Rattle.examples_tests.specs.Decide.{accepts}
 use Rattle.examples_tests.specs.Smallest.{smallest}
-use Rattle.examples_tests.specs.More.{two_halves, one_after_other, in_data, copied_again, two_devices}
+use Rattle.examples_tests.specs.More.{two_halves, one_after_other, in_data, copied_again, two_devices, any_order, two_loops, inner_in_order, own_scalar, summed, between}
 use Rattle.examples_tests.specs.EveryOrder.{PrintsAlways, NoOrderShows}
 use Rattle.examples_tests.proofs.Smallest.{all_accepted}
 
@@ -38,4 +38,10 @@ no_order_shows v p = record {
   in_data_prints = prints_always 0 (4 ∷ []) (in_data v p) (6 ∷ []) refl refl;
   copied_again_prints = prints_always 0 (4 ∷ 4 ∷ []) (copied_again v p) (6 ∷ 6 ∷ 6 ∷ 6 ∷ []) refl refl;
   two_devices_prints = prints_always 1 (4 ∷ 8 ∷ []) (two_devices v p) (1 ∷ 2 ∷ 3 ∷ 4 ∷ 30 ∷ 30 ∷ 30 ∷ 30 ∷ []) refl refl;
+  any_order_prints = prints_always 0 (4 ∷ []) (any_order v p) (1 ∷ 3 ∷ 5 ∷ 7 ∷ []) refl refl;
+  two_loops_prints = prints_always 0 (8 ∷ []) (two_loops v p) (0 ∷ 1 ∷ 2 ∷ 3 ∷ 1 ∷ 2 ∷ 3 ∷ 4 ∷ []) refl refl;
+  inner_in_order_prints = prints_always 0 (2 ∷ []) (inner_in_order v p) (3 ∷ 4 ∷ []) refl refl;
+  own_scalar_prints = prints_always 0 (4 ∷ []) (own_scalar v p) (1 ∷ 2 ∷ 3 ∷ 4 ∷ []) refl refl;
+  summed_prints = prints_always 0 (1 ∷ 4 ∷ []) (summed v p) (60 ∷ []) refl refl;
+  between_prints = prints_always 0 (2 ∷ 4 ∷ []) (between v p) (30 ∷ 0 ∷ []) refl refl;
 }

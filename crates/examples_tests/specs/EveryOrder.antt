@@ -10,7 +10,7 @@ use Rattle.base.specs.Map.{Fill}
 use Rattle.base.specs.Machine.{State, RunFrom, HasEnded}
 use Rattle.base.specs.Headline.{IsFill}
 use Rattle.examples_tests.specs.Smallest.{smallest}
-use Rattle.examples_tests.specs.More.{two_halves, one_after_other, in_data, copied_again, two_devices}
+use Rattle.examples_tests.specs.More.{two_halves, one_after_other, in_data, copied_again, two_devices, any_order, two_loops, inner_in_order, own_scalar, summed, between}
 
 -- every run that ends has printed these numbers, whatever created storage holds: of each program with arrays of these
 -- lengths and with these parts, with no input
@@ -27,6 +27,12 @@ pub record OrdersShowNothing (v : Vec (Unit {0}) Global) (p : Box (Unit {0}) Glo
   pub in_data_prints : PrintsAlways (4 ∷ []) (in_data v p) (6 ∷ [])
   pub copied_again_prints : PrintsAlways (4 ∷ 4 ∷ []) (copied_again v p) (6 ∷ 6 ∷ 6 ∷ 6 ∷ [])
   pub two_devices_prints : PrintsAlways (4 ∷ 8 ∷ []) (two_devices v p) (1 ∷ 2 ∷ 3 ∷ 4 ∷ 30 ∷ 30 ∷ 30 ∷ 30 ∷ [])
+  pub any_order_prints : PrintsAlways (4 ∷ []) (any_order v p) (1 ∷ 3 ∷ 5 ∷ 7 ∷ [])
+  pub two_loops_prints : PrintsAlways (8 ∷ []) (two_loops v p) (0 ∷ 1 ∷ 2 ∷ 3 ∷ 1 ∷ 2 ∷ 3 ∷ 4 ∷ [])
+  pub inner_in_order_prints : PrintsAlways (2 ∷ []) (inner_in_order v p) (3 ∷ 4 ∷ [])
+  pub own_scalar_prints : PrintsAlways (4 ∷ []) (own_scalar v p) (1 ∷ 2 ∷ 3 ∷ 4 ∷ [])
+  pub summed_prints : PrintsAlways (1 ∷ 4 ∷ []) (summed v p) (60 ∷ [])
+  pub between_prints : PrintsAlways (2 ∷ 4 ∷ []) (between v p) (30 ∷ 0 ∷ [])
 
 abbrev pub NoOrderShows : Type 0
 NoOrderShows = (v : Vec (Unit {0}) Global) (p : Box (Unit {0}) Global) → OrdersShowNothing v p

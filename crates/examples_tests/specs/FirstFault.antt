@@ -4,7 +4,7 @@ use Rattle.std.specs.List.{list_all, range_with_len}
 use Rattle.base.specs.declared.item.Cell.{Cell}
 use Rattle.base.specs.declared.fault.Refusal.{Refusal}
 use Rattle.base.specs.declared.fault.RefusalCode.{RefusalCode}
-use Rattle.base.specs.declared.fault.RefusalCode.TheVariants.{OverlapsInPart, ExitOfAbsent, UpdateOfAbsent, NotPresent, Unmapped, HostNotCurrent, DeviceNotCurrent, Conflict}
+use Rattle.base.specs.declared.fault.RefusalCode.TheVariants.{OverlapsInPart, ExitOfAbsent, UpdateOfAbsent, NotPresent, Unmapped, HostNotCurrent, DeviceNotCurrent, TurnsMeet, Conflict}
 use Rattle.base.specs.Items.{Plan}
 use Rattle.base.specs.Machine.{is_empty}
 use Rattle.base.specs.Actions.{Stage, stages, conflict}
@@ -15,7 +15,7 @@ use Rattle.examples_tests.specs.Decide.{every_cell, every_pair, stage_stays, cha
 abbrev pub every_code : (RefusalCode → Bool) → Bool
 every_code p =
     p OverlapsInPart && (p ExitOfAbsent &&
-    (p UpdateOfAbsent && (p NotPresent && (p Unmapped && (p HostNotCurrent && p DeviceNotCurrent)))))
+    (p UpdateOfAbsent && (p NotPresent && (p Unmapped && (p HostNotCurrent && (p DeviceNotCurrent && p TurnsMeet))))))
 
 abbrev pub refusal : RefusalCode → ℕ → Cell → Option ℕ → Refusal
 refusal code j c other = record { code = code; item = j; cell = c; other = other }
@@ -67,6 +67,7 @@ is_conflict NotPresent = false
 is_conflict Unmapped = false
 is_conflict HostNotCurrent = false
 is_conflict DeviceNotCurrent = false
+is_conflict TurnsMeet = false
 
 abbrev pub names_other : Option ℕ → Bool
 names_other None = false

@@ -5,14 +5,16 @@ use Rattle.std.proofs.lemmas.Bool.{cond_both}
 use Rattle.base.specs.declared.item.Cell.{Cell}
 use Rattle.base.specs.declared.item.Section.{Section}
 use Rattle.base.specs.declared.item.MapItem.{MapItem}
+use Rattle.base.specs.Value.{combined}
 use Rattle.base.specs.Memory.{View, same_cell, is_cell, within, is_in, is_inside}
 use Rattle.base.specs.Map.{Block, Memories, Fill, Move, Presence, Absent, Inside, InPart, presence, entry, exit_count, counted, without, when, with_blocks, with_cells}
 use Rattle.base.proofs.Blocks.{meets, judge, presence_is, holder_absent, counted_apart, more_apart, fewer_apart}
 use Rattle.base.proofs.Moves.{created_move, raised_move, entry_absent, entry_missing, entry_there, entry_part}
 use Rattle.base.specs.Blocks.{AreApart, holder}
-use Rattle.fine_machine.specs.Left.{Request, Load, Store, Enter, Leave, Remove, CopyIn, CopyOut, OnHost, OnDevice, Answer}
+use Rattle.fine_machine.specs.Left.{Request, Load, Store, Combine, Enter, Leave, Remove, CopyIn, CopyOut, OnHost, OnDevice, Answer}
 use Rattle.fine_machine.specs.Action.{act, on_cell, loaded, decided, with_host, with_device, lowered, removed}
 use Rattle.regions.specs.Footprints.{BoundedView}
+use Rattle.regions.proofs.Intervals.{combined_small}
 use Rattle.regions.proofs.ValueBounds.{IfThere, Small, there_map, there_at, view_there}
 use Rattle.two_memories.proofs.MapMoves.{within_yes, within_no}
 use Rattle.two_memories.proofs.BoundedMemories.{BoundedMemories}
@@ -172,6 +174,15 @@ act_kept lengths fill (Store OnHost c n) m f b k =
 act_kept lengths fill (Store OnDevice c n) m f b k =
     there_map Small IsActed (λ old. (loaded 0, with_device c n m)) (m.device.cells c)
     (λ old h. (no_number, device_put c n m b k)) (view_there m.device.cells k.bounded.device c)
+act_kept lengths fill (Combine OnHost op c n) m f b k =
+    on_kept (is_cell lengths c) (loaded 0, with_host c (combined op (m.host c) n) m) (
+      no_number,
+      host_put c (combined op (m.host c) n) m (combined_small op (m.host c) n (k.bounded.host c) b) k,
+    )
+act_kept lengths fill (Combine OnDevice op c n) m f b k =
+    there_map Small IsActed (λ old. (loaded 0, with_device c (combined op old n) m)) (m.device.cells c)
+    (λ old h. (no_number, device_put c (combined op old n) m (combined_small op old n h b) k))
+    (view_there m.device.cells k.bounded.device c)
 act_kept lengths fill (Enter item) m f b k = enter_kept lengths fill item m f b k
 act_kept lengths fill (Leave item) m f b k = leave_kept item m k
 act_kept lengths fill (Remove s) m f b k = (no_number, remove_kept s m k)

@@ -5,17 +5,16 @@ use Rattle.std.proofs.lemmas.Bool.{false≢true}
 use Rattle.std.proofs.lemmas.Option.{slice_get_within}
 use Rattle.base.specs.declared.item.MapItem.{MapItem}
 use Rattle.base.specs.Items.{Work}
-use Rattle.fine_machine.specs.Left.{Left, Finished, Asks, Request, Load, Store, Enter, Leave, Remove, CopyIn, CopyOut, Answer}
+use Rattle.fine_machine.specs.Left.{Left, Finished, Asks, Request, Load, Store, Combine, Enter, Leave, Remove, CopyIn, CopyOut, Answer}
 use Rattle.fine_machine.specs.Machine.{State, Condition, Untouched, Generated, Opened, Closed, Passed, has_step}
 use Rattle.machine.specs.Board.{Move}
 use Rattle.machine.specs.Board.Move.{Gen, Open, Step, Close, Wait}
 use Rattle.machine.specs.Machine.{InOrder, Does, Laws}
-use Rattle.two_memories.specs.Two.{Fixed}
 use Rattle.two_memories.proofs.PlanItems.{on_true}
 use Rattle.two_memories.proofs.RestingAlone.{RestingLooks}
 use Rattle.two_memories.proofs.RestingLooks.{resting_looks}
 use Rattle.two_memories.proofs.WalkBlocks.{walks_blocks}
-use Rattle.fine_headline.specs.FineState.{FineState, parts}
+use Rattle.fine_headline.specs.FineState.{Fixed, FineState, parts}
 use Rattle.fine_headline.proofs.StepLaws.{step_laws}
 use Rattle.fine_headline.proofs.FineSpots.{own_memories}
 use Rattle.fine_headline.proofs.Quietly.{at_start, Lawful_at}
@@ -45,6 +44,8 @@ module _ (start : FineState) (a a' : State) (b b' : Bool) (m m' : ℕ → List M
           Walked start.fixed.plan i r (m' i) (own_memories start.fixed.plan i a').device.blocks → LawfulAt (Step i)
       go (Load side c) is h = cell_lawful start a a' b b' m m' s' t' i (Load side c) k is h o d d' sound
       go (Store side c n) is h = cell_lawful start a a' b b' m m' s' t' i (Store side c n) k is h o d d' sound
+      go (Combine side op c n) is h =
+          cell_lawful start a a' b b' m m' s' t' i (Combine side op c n) k is h o d d' sound
       go (CopyIn c) is h = cell_lawful start a a' b b' m m' s' t' i (CopyIn c) k is h o d d' sound
       go (CopyOut c) is h = cell_lawful start a a' b b' m m' s' t' i (CopyOut c) k is h o d d' sound
       go (Enter item) is h = table_lawful start a a' b b' m m' s' t' i looks (Enter item) k tt is h o d d' sound

@@ -11,7 +11,7 @@ use Rattle.base.specs.Meaning.{Run}
 use Rattle.base.specs.Items.{Work}
 use Rattle.base.specs.Map.{Block, Presence, Absent, Inside, InPart, presence, copies_to, copies_from}
 use Rattle.base.specs.Footprint.{Touch, touches_of}
-use Rattle.fine_machine.specs.Left.{Side, OnHost, OnDevice, Request, Remove, CopyIn, CopyOut, Answer, Left, Finished, Asks, region_left, cells_left, section_left, left_if, entry_left, exit_left, update_left, each_left, present_of, item_left}
+use Rattle.fine_machine.specs.Left.{Side, OnHost, Request, Remove, CopyIn, CopyOut, Answer, Left, Finished, Asks, region_left, cells_left, section_left, left_if, entry_left, exit_left, update_left, each_left, present_of, kernel_left, item_left}
 use Rattle.regions.proofs.Needs.{Every}
 use Rattle.regions.proofs.StatementsDone.{AllSmall, Fine}
 use Rattle.regions.proofs.ValueBounds.{IfThere, there_map}
@@ -21,11 +21,12 @@ use Rattle.two_memories.proofs.MapLists.{AreSized}
 use Rattle.two_memories.proofs.MapLists.{sized}
 use Rattle.fine_headline.specs.FineState.{BoundedRequest, BoundedLeft}
 use Rattle.fine_headline.proofs.Regional.{Allowed, list_all}
+use Rattle.fine_headline.proofs.KernelKeeps.{kernel_keeps}
 
 abbrev pub anything : Cell → Type 0
 anything c = Unit {0}
 
-pub all_allowed : (touches : List Touch) → Every (Allowed anything anything) touches
+pub all_allowed : (touches : List Touch) → Every (Allowed (λ mark. anything) (λ mark. anything)) touches
 all_allowed [] = tt
 all_allowed (t ∷ rest) = (record { read = λ e c h. tt; written = λ e c h. tt }, all_allowed rest)
 
@@ -36,8 +37,17 @@ region_bounded : (o : Option Region) (side : Side) (loops : List ℕ) (s : Run) 
     Fine s → ((t : Run) → Fine t → BoundedLeft (k t)) → BoundedLeft (region_left o side loops s k)
 region_bounded None side loops s k l f next = next s f
 region_bounded (Some r) side loops s k l f next =
-    list_all anything anything side BoundedLeft (λ c k _ h. (tt, h))
-    (λ c n k _ small h. (small, λ a _. h a)) r.body.items loops l (all_allowed (touches_of r loops)) s k f next
+    list_all (λ mark. anything) (λ mark. anything) side BoundedLeft (λ c k _ h. (tt, h))
+    (λ c n k _ small h. (small, λ a _. h a)) (λ op c n k _ small h. (small, λ a _. h a)) r.body.items loops l
+    (all_allowed (touches_of r loops)) s k f next
+
+kernel_bounded : (order : List ℕ) (o : Option Region) (loops : List ℕ) (s : Run) (k : Run → Left) → AllSmall loops →
+    Fine s → ((t : Run) → Fine t → BoundedLeft (k t)) → BoundedLeft (kernel_left order o loops s k)
+kernel_bounded order None loops s k l f next = next s f
+kernel_bounded order (Some r) loops s k l f next =
+    kernel_keeps (λ mark. anything) (λ mark. anything) BoundedLeft (λ c k _ h. (tt, h))
+    (λ c n k _ small h. (small, λ a _. h a)) (λ op c n k _ small h. (small, λ a _. h a)) order r loops
+    s k l (all_allowed (touches_of r loops)) f next
 
 cells_bounded : (ask : Cell → Request) (a : ArrayId) (first n : ℕ) (k : Rest) → ((c : Cell) → BoundedRequest (ask c)) →
     BoundedLeft (k tt) → BoundedLeft (cells_left ask a first n k)
@@ -107,9 +117,9 @@ present_sized blocks (item ∷ rest) are = go (presence blocks item.section) ref
 finished_bounded : (t : Run) → Fine t → BoundedLeft (Finished t)
 finished_bounded t f = record { scalars = f.scalars; input = list_small t.input f.input }
 
-pub item_bounded : (w : Work) (blocks : List Block) (s : Run) → IsLawful w → Fine s →
-    IfThere BoundedLeft (item_left w blocks s)
-item_bounded w blocks s lawful f = go w.kind refl
+pub item_bounded : (order : List ℕ) (w : Work) (blocks : List Block) (s : Run) → IsLawful w → Fine s →
+    IfThere BoundedLeft (item_left order w blocks s)
+item_bounded order w blocks s lawful f = go w.kind refl
   where
     are : AreSized w.maps
     are = sized w.maps lawful.not_empty
@@ -123,12 +133,12 @@ item_bounded w blocks s lawful f = go w.kind refl
     exits : (k : Rest) → BoundedLeft (k tt) → BoundedLeft (each_left exit_left w.maps k)
     exits k next = each_bounded exit_left w.maps k exit_bounded are next
 
-    go : (k : ItemKind) → w.kind ≡ k → IfThere BoundedLeft (item_left w blocks s)
+    go : (k : ItemKind) → w.kind ≡ k → IfThere BoundedLeft (item_left order w blocks s)
     go kind.Host e = rw (e, item_left) (region_bounded w.region OnHost w.loops s Finished loops f finished_bounded)
     go kind.Target e =
-        rw (e, item_left) (entries (λ u. region_left w.region OnDevice w.loops s
+        rw (e, item_left) (entries (λ u. kernel_left order w.region w.loops s
         (λ t. each_left exit_left w.maps (λ u. Finished t)))
-        (region_bounded w.region OnDevice w.loops s (λ t. each_left exit_left w.maps (λ u. Finished t)) loops f
+        (kernel_bounded order w.region w.loops s (λ t. each_left exit_left w.maps (λ u. Finished t)) loops f
         (λ t g. exits (λ u. Finished t) (finished_bounded t g))))
     go kind.Begin e = rw (e, item_left) (entries (λ u. Finished s) (finished_bounded s f))
     go kind.Enter e = rw (e, item_left) (entries (λ u. Finished s) (finished_bounded s f))

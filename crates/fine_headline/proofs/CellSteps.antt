@@ -11,7 +11,7 @@ use Rattle.base.specs.Items.{Plan}
 use Rattle.base.specs.Map.{Memories}
 use Rattle.base.specs.Machine.{on_item}
 use Rattle.base.specs.Blocks.{holder}
-use Rattle.fine_machine.specs.Left.{Left, Asks, Request, Load, Store, Enter, Leave, Remove, CopyIn, CopyOut, Answer}
+use Rattle.fine_machine.specs.Left.{Left, Asks, Request, Load, Store, Combine, Enter, Leave, Remove, CopyIn, CopyOut, Answer}
 use Rattle.fine_machine.specs.Action.{act}
 use Rattle.fine_machine.specs.Machine.{State, Condition, Untouched, Opened, has_step, with_condition, with_memories, step_item}
 use Rattle.machine.specs.Board.{touches, Moves}
@@ -33,6 +33,7 @@ entered_same : (resting : MapItem → Bool) (r : Request) (k : Answer → Left) 
     IsAllowed plan i r → entered_by resting (Opened (Asks r k)) ms ≡ ms
 entered_same resting (Load side c) k ms plan i h = refl
 entered_same resting (Store side c n) k ms plan i h = refl
+entered_same resting (Combine side op c n) k ms plan i h = refl
 entered_same resting (CopyIn c) k ms plan i h = refl
 entered_same resting (CopyOut c) k ms plan i h = refl
 entered_same resting (Remove section) k ms plan i h = refl

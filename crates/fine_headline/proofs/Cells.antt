@@ -6,8 +6,9 @@ use Rattle.base.specs.declared.item.Cell.{Cell}
 use Rattle.base.specs.Actions.{Side, Host, Dev}
 use Rattle.base.specs.Memory.{same_cell, is_cell}
 use Rattle.base.specs.Items.{Plan}
+use Rattle.base.specs.Value.{combined}
 use Rattle.base.specs.Map.{Memories, Fill}
-use Rattle.fine_machine.specs.Left.{Request, Load, Store, Enter, Leave, Remove, CopyIn, CopyOut, OnHost, OnDevice, Answer}
+use Rattle.fine_machine.specs.Left.{Request, Load, Store, Combine, Enter, Leave, Remove, CopyIn, CopyOut, OnHost, OnDevice, Answer}
 use Rattle.fine_machine.specs.Action.{loaded, act, on_cell, with_host, with_device}
 use Rattle.two_memories.proofs.LikeMemories.{touched}
 use Rattle.two_memories.proofs.AdjustedCounts.{access_of}
@@ -24,6 +25,8 @@ IsAllowed plan i (Load OnHost c) = Touches plan i Host c
 IsAllowed plan i (Load OnDevice c) = Touches plan i Dev c
 IsAllowed plan i (Store OnHost c n) = Writes plan i Host c
 IsAllowed plan i (Store OnDevice c n) = Writes plan i Dev c
+IsAllowed plan i (Combine OnHost op c n) = Writes plan i Host c
+IsAllowed plan i (Combine OnDevice op c n) = Writes plan i Dev c
 IsAllowed plan i (CopyIn c) = Touches plan i Host c × Writes plan i Dev c
 IsAllowed plan i (CopyOut c) = Touches plan i Dev c × Writes plan i Host c
 IsAllowed plan i (Enter item) = ⊥
@@ -77,13 +80,14 @@ module _ (plan : Plan) (i : ℕ) (u u' : Memories) (hosts : (c : Cell) → Touch
             cells;
       }
 
-  host_written : (c : Cell) (n : ℕ) → Writes plan i Host c → IsFramed (with_host c n u) (with_host c n u')
-  host_written c n w = record {
+  host_written : (c : Cell) (n n' : ℕ) → n ≡ n' → Writes plan i Host c →
+      IsFramed (with_host c n u) (with_host c n' u')
+  host_written c n n' e w = record {
     host = λ d k. put_elsewhere (λ x. (access_of plan i).writes Host x) c d n (u.host d) w k;
     device = λ d k. refl;
     blocks = refl;
     blocks' = refl;
-    same_host = λ d k. ap (λ v. if same_cell c d then n else v) (hosts d k);
+    same_host = λ d k. ap₂ (λ v o. if same_cell c d then v else o) e (hosts d k);
     same_device = cells;
   }
 
@@ -142,7 +146,7 @@ module _ (plan : Plan) (i : ℕ) (u u' : Memories) (hosts : (c : Cell) → Touch
         after' = with_host c n u';
         is = ap (λ b. on_cell b (loaded 0, with_host c n u)) e;
         is' = ap (λ b. on_cell b (loaded 0, with_host c n u')) e;
-        framed = host_written c n h;
+        framed = host_written c n n refl h;
       })
   both_act lengths fill (Store OnDevice c n) h = go (u'.device.cells c) refl
     where
@@ -156,6 +160,36 @@ module _ (plan : Plan) (i : ℕ) (u u' : Memories) (hosts : (c : Cell) → Touch
         is = ap (option_map (λ old. (loaded 0, with_device c n u))) (cells c (written_touched Dev c h) ∙ e);
         is' = ap (option_map (λ old. (loaded 0, with_device c n u'))) e;
         framed = device_written c n n refl h;
+      })
+  both_act lengths fill (Combine OnHost op c n) h = go (is_cell lengths c) refl
+    where
+      go : (b : Bool) → is_cell lengths c ≡ b →
+          (act lengths fill (Combine OnHost op c n) u' ≡ None) ⊎ BothAct lengths fill (Combine OnHost op c n)
+      go false e = inl (ap (λ b. on_cell b (loaded 0, with_host c (combined op (u'.host c) n) u')) e)
+      go true e = inr (record {
+        answer = loaded 0;
+        after = with_host c (combined op (u.host c) n) u;
+        after' = with_host c (combined op (u'.host c) n) u';
+        is = ap (λ b. on_cell b (loaded 0, with_host c (combined op (u.host c) n) u)) e;
+        is' = ap (λ b. on_cell b (loaded 0, with_host c (combined op (u'.host c) n) u')) e;
+        framed =
+            host_written c (combined op (u.host c) n) (combined op (u'.host c) n)
+            (ap (λ v. combined op v n) (hosts c (written_touched Host c h))) h;
+      })
+  both_act lengths fill (Combine OnDevice op c n) h = go (u'.device.cells c) refl
+    where
+      go : (o : Option ℕ) → u'.device.cells c ≡ o →
+          (act lengths fill (Combine OnDevice op c n) u' ≡ None) ⊎ BothAct lengths fill (Combine OnDevice op c n)
+      go None e = inl (ap (option_map (λ old. (loaded 0, with_device c (combined op old n) u'))) e)
+      go (Some v) e = inr (record {
+        answer = loaded 0;
+        after = with_device c (combined op v n) u;
+        after' = with_device c (combined op v n) u';
+        is =
+            ap (option_map (λ old. (loaded 0, with_device c (combined op old n) u)))
+            (cells c (written_touched Dev c h) ∙ e);
+        is' = ap (option_map (λ old. (loaded 0, with_device c (combined op old n) u'))) e;
+        framed = device_written c (combined op v n) (combined op v n) refl h;
       })
   both_act lengths fill (CopyIn c) h = go (u'.device.cells c) refl
     where
@@ -181,7 +215,7 @@ module _ (plan : Plan) (i : ℕ) (u u' : Memories) (hosts : (c : Cell) → Touch
         after' = with_host c v u';
         is = ap (option_map (λ n. (loaded 0, with_host c n u))) (cells c h.0 ∙ e);
         is' = ap (option_map (λ n. (loaded 0, with_host c n u'))) e;
-        framed = host_written c v h.1;
+        framed = host_written c v v refl h.1;
       })
   both_act lengths fill (Enter item) h = absurd h
   both_act lengths fill (Leave item) h = absurd h

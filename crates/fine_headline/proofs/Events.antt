@@ -128,7 +128,7 @@ module _ (start : FineState) (a a' : State) (b b' : Bool) (m m' : ℕ → List M
   open_lawful i lawful o d d' sound present = by (on_true start.fixed.plan i (opens i) d.enabled.enabled)
     where
       by : (w : Work) × (slice_get start.fixed.plan.items i ≡ Some w) × (opens i w ≡ true) → LawfulAt (Open i)
-      by r = go (item_left w (a.memories.devices w.device).blocks (begun w (a.condition i) a)) refl
+      by r = go (item_left (start.fixed.order i) w (a.memories.devices w.device).blocks (begun w (a.condition i) a)) refl
         where
           w : Work
           w = r.0
@@ -138,25 +138,25 @@ module _ (start : FineState) (a a' : State) (b b' : Bool) (m m' : ℕ → List M
               (and_parts (two.is_waiting w.deferred (whole_condition (a.condition i))) _
               (and_parts (w.deferred || (a.place == i)) _ (and_parts (not (two.is_wait w.kind)) _ r.2).1).1).0
 
-          same : item_left w (a.memories.devices w.device).blocks
-              (begun w (a.condition i) a) ≡ item_left w (a'.memories.devices w.device).blocks (begun w (a'.condition i) a')
+          same : item_left (start.fixed.order i) w (a.memories.devices w.device).blocks
+              (begun w (a.condition i) a) ≡ item_left (start.fixed.order i) w (a'.memories.devices w.device).blocks (begun w (a'.condition i) a')
           same =
-              left_same w (a.memories.devices w.device).blocks (a'.memories.devices w.device).blocks (begun w (a.condition i) a) (present w r.1)
-              ∙ ap (item_left w (a'.memories.devices w.device).blocks)
+              left_same (start.fixed.order i) w (a.memories.devices w.device).blocks (a'.memories.devices w.device).blocks (begun w (a.condition i) a) (present w r.1)
+              ∙ ap (item_left (start.fixed.order i) w (a'.memories.devices w.device).blocks)
               (begun_same w (a.condition i) a a' (lawful i w r.1) waits
               (λ n. o.alike.host (ap not (at_item start.fixed.plan i w r.1 false (λ w. w.deferred) ∙ n))) ∙ ap
               (λ c. begun w c a') (same_condition (Open i) w r.1 o))
 
           opened : (u : State) (c : Bool) (n : ℕ → List MapItem) (x : Option Left) →
-              item_left w (u.memories.devices w.device).blocks (begun w (u.condition i) u) ≡ x →
+              item_left (start.fixed.order i) w (u.memories.devices w.device).blocks (begun w (u.condition i) u) ≡ x →
               next_move (at_start start u c n) (Open i) ≡ result_of (at_start start u c n) (event.Open i)
               (option_map (λ left. with_condition i (Opened left) u) x)
           opened u c n x e =
               ap (result_of (at_start start u c n) (event.Open i))
-              (at_item start.fixed.plan i w r.1 None (λ w. open_item i w u) ∙ ap
+              (at_item start.fixed.plan i w r.1 None (λ w. open_item (start.fixed.order i) i w u) ∙ ap
               (option_map (λ left. with_condition i (Opened left) u)) e)
 
-          go : (x : Option Left) → item_left w (a.memories.devices w.device).blocks (begun w (a.condition i) a) ≡ x →
+          go : (x : Option Left) → item_left (start.fixed.order i) w (a.memories.devices w.device).blocks (begun w (a.condition i) a) ≡ x →
               LawfulAt (Open i)
           go None e =
               absurd (false≢true (sym sound ∙ ap (λ (y : FineState). y.failed)

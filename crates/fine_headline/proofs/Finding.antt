@@ -173,7 +173,7 @@ updates_find start a a' b b' m m' t' i o d sound w at is =
     failing n =
         ap (λ (x : FineState). x.failed)
         (d.step ∙ ap (result_of (at_start start a' b' m') (event.Open i))
-        (at_item plan i w at None (λ w. open_item i w a')
+        (at_item plan i w at None (λ w. open_item (start.fixed.order i) i w a')
         ∙ ap (option_map (λ left. with_condition i (Opened left) a'))
-        (left_update w (a'.memories.devices w.device).blocks (begun w (a'.condition i) a') is ∙ ap
+        (left_update (start.fixed.order i) w (a'.memories.devices w.device).blocks (begun w (a'.condition i) a') is ∙ ap
         (option_map (λ present. each_left update_left present (λ u. Finished (begun w (a'.condition i) a')))) n)))

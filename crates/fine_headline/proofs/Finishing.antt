@@ -15,10 +15,10 @@ use Rattle.fine_machine.specs.Action.{act}
 use Rattle.fine_machine.specs.Machine.{State, Opened, with_condition, with_memories, has_step, is_finished, step_item, close_item}
 use Rattle.machine.specs.Board.Move.{Step}
 use Rattle.machine.specs.Machine.{Does, Finishes}
-use Rattle.two_memories.specs.Two.{Fixed, device_of}
+use Rattle.two_memories.specs.Two.{device_of}
 use Rattle.two_memories.proofs.PlanItems.{at_item}
 use Rattle.two_memories.proofs.MapLists.{AreSized}
-use Rattle.fine_headline.specs.FineState.{FineState, entered_after, result_of, parts}
+use Rattle.fine_headline.specs.FineState.{Fixed, FineState, entered_after, result_of, parts}
 use Rattle.fine_headline.proofs.Quietly.{closed_by}
 use Rattle.fine_headline.proofs.Reaching.{Reaches, there, next, on_from}
 

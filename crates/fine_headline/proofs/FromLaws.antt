@@ -25,10 +25,10 @@ use Rattle.headline.proofs.OrderedItems.{items_ordered}
 use Rattle.fine_headline.specs.FineState.{FineState, IsStart, event_of, result_of, next, entered_after, parts}
 use Rattle.fine_headline.proofs.NeverStuck.{a_run_goes_on}
 
-module _ (pl : Plan) (fill : ℕ → Fill) where
+module _ (pl : Plan) (fill : ℕ → Fill) (order : ℕ → List ℕ) where
   -- a state of the definitions, where nothing failed
   abbrev pub fine_state : (ℕ → List MapItem) → State → FineState
-  fine_state entered s = record { fixed = record { plan = pl; fill = fill }; state = s; failed = false; entered = entered }
+  fine_state entered s = record { fixed = record { plan = pl; fill = fill; order = order }; state = s; failed = false; entered = entered }
 
   abbrev pub move_of : Event → Move
   move_of (event.Gen i) = Gen i
@@ -70,7 +70,7 @@ module _ (pl : Plan) (fill : ℕ → Fill) where
     pub fails : end ≡ None → last.failed ≡ true
 
   pub leads : (events : List Event) (entered : ℕ → List MapItem) (s : State) (end : Option State) →
-      Run pl fill (Some s) events end → Leads (fine_state entered s) events end
+      Run pl fill order (Some s) events end → Leads (fine_state entered s) events end
   leads [] entered s end r =
       record {
         last = fine_state entered s;
@@ -86,13 +86,13 @@ module _ (pl : Plan) (fill : ℕ → Fill) where
       none_some : (s : State) → None ≡ Some s → ⊥
       none_some s e = cc e
   leads (e ∷ rest) entered s end r =
-      go (step pl fill s e) refl r.1 (λ u k. leads rest (entered_after pl s entered e) u end k)
+      go (step pl fill order s e) refl r.1 (λ u k. leads rest (entered_after pl s entered e) u end k)
     where
       some_none : (t : State) → Some t ≡ None → ⊥
       some_none t e = cc e
 
-      go : (o : Option State) → step pl fill s e ≡ o → Run pl fill o rest end →
-          ((u : State) → Run pl fill (Some u) rest end → Leads (fine_state (entered_after pl s entered e) u) rest end) →
+      go : (o : Option State) → step pl fill order s e ≡ o → Run pl fill order o rest end →
+          ((u : State) → Run pl fill order (Some u) rest end → Leads (fine_state (entered_after pl s entered e) u) rest end) →
           Leads (fine_state entered s) (e ∷ rest) end
       go (Some u) is k more =
           let l = more u k in
@@ -112,7 +112,7 @@ module _ (pl : Plan) (fill : ℕ → Fill) where
           }
       go None is k more = failed rest k
         where
-          failed : (rest : List Event) → Run pl fill None rest end → Leads (fine_state entered s) (e ∷ rest) end
+          failed : (rest : List Event) → Run pl fill order None rest end → Leads (fine_state entered s) (e ∷ rest) end
           failed [] k =
               record {
                 last = next (fine_state entered s) e;
@@ -129,17 +129,18 @@ abbrev pub none_entered : ℕ → List MapItem
 none_entered i = []
 
 -- program order as a run of the fine-grained machine, whose end shows what the program does without its directives
-pub record Chain (p : Program) (input : List ℕ) (fill : ℕ → Fill) : Type 0 where
-  pub turn : InTurn parts (fine_state (plan p) fill none_entered (start input))
+pub record Chain (p : Program) (input : List ℕ) (fill : ℕ → Fill) (order : ℕ → List ℕ) : Type 0 where
+  pub turn : InTurn parts (fine_state (plan p) fill order none_entered (start input))
   pub shows : FineShowsErased p input (turn.after (length (plan p).items + 1)).state
 
 module _ (laws : Laws parts) (p : Program) (accepted : IsAccepted (plan p))
-    (chain : (input : List ℕ) (fill : ℕ → Fill) → AreNumbers input → IsFill fill → Chain p input fill) where
+    (chain : (input : List ℕ) (fill : ℕ → Fill) (order : ℕ → List ℕ) → AreNumbers input → IsFill fill →
+    Chain p input fill order) where
   same_number : (a b : ℕ) → Number (Some a) ≡ Number (Some b) → a ≡ b
   same_number a b e = cc
 
-  module _ (input : List ℕ) (fill : ℕ → Fill) (numbers : AreNumbers input) (filled : IsFill fill) where
-    starts : IsStart (fine_state (plan p) fill none_entered (start input))
+  module _ (input : List ℕ) (fill : ℕ → Fill) (order : ℕ → List ℕ) (numbers : AreNumbers input) (filled : IsFill fill) where
+    starts : IsStart (fine_state (plan p) fill order none_entered (start input))
     starts =
         let s = is_start p accepted input fill numbers filled in record {
           lawful = s.lawful;
@@ -153,24 +154,24 @@ module _ (laws : Laws parts) (p : Program) (accepted : IsAccepted (plan p))
         }
 
     as_in_turn : (events : List Event) (end : Option State)
-        (l : Leads (plan p) fill (fine_state (plan p) fill none_entered (start input)) events end) → IsAsInTurn parts
-        (fine_state (plan p) fill none_entered (start input)) (chain input fill numbers filled).turn.after l.last
+        (l : Leads (plan p) fill order (fine_state (plan p) fill order none_entered (start input)) events end) → IsAsInTurn parts
+        (fine_state (plan p) fill order none_entered (start input)) (chain input fill order numbers filled).turn.after l.last
     as_in_turn events end l =
-        order_is_free parts laws (fine_state (plan p) fill none_entered (start input))
-        (map (move_of (plan p) fill) events) l.last (chain input fill numbers filled).turn starts
+        order_is_free parts laws (fine_state (plan p) fill order none_entered (start input))
+        (map (move_of (plan p) fill order) events) l.last (chain input fill order numbers filled).turn starts
         (items_ordered (plan p) accepted) l.run
 
-    never_failed : (events : List Event) → RunFrom (plan p) fill input events None → ⊥
+    never_failed : (events : List Event) → RunFrom (plan p) fill order input events None → ⊥
     never_failed events r =
-        let l = leads (plan p) fill events none_entered (start input) None r in
+        let l = leads (plan p) fill order events none_entered (start input) None r in
         let h = as_in_turn events None l in
         absurd (false≢true (sym h.sound ∙ l.fails refl))
 
-    shown : (events : List Event) (s : State) → RunFrom (plan p) fill input events (Some s) → HasEnded (plan p) s →
+    shown : (events : List Event) (s : State) → RunFrom (plan p) fill order input events (Some s) → HasEnded (plan p) s →
         FineShowsErased p input s
     shown events s r ended =
-        let c = chain input fill numbers filled in
-        let l = leads (plan p) fill events none_entered (start input) (Some s) r in
+        let c = chain input fill order numbers filled in
+        let l = leads (plan p) fill order events none_entered (start input) (Some s) r in
         let h = as_in_turn events (Some s) l in
         let is : l.last.state ≡ s = l.sound s refl in
         let at_end : l.last.state.place ≡ length (plan p).items + 1 = ap (λ (x : State). x.place) is ∙ ended in
@@ -187,13 +188,13 @@ module _ (laws : Laws parts) (p : Program) (accepted : IsAccepted (plan p))
 
   pub every_run_is_right : EveryFineRunIsRight p
   every_run_is_right = record {
-    shows = λ input fill events s numbers filled r ended. shown input fill numbers filled events s r ended;
-    never_fails = λ input fill events numbers filled r. never_failed input fill numbers filled events r;
-    never_stuck = λ input fill events s numbers filled r going. a_run_goes_on p input fill events s r going;
+    shows = λ input fill order events s numbers filled r ended. shown input fill order numbers filled events s r ended;
+    never_fails = λ input fill order events numbers filled r. never_failed input fill order numbers filled events r;
+    never_stuck = λ input fill order events s numbers filled r going. a_run_goes_on p input fill order events s r going;
   }
 
 -- the fine-grained headline, from the laws and the run in program order
 pub headline_from : Laws parts →
     ((p : Program) → IsAccepted (plan p) → (input : List ℕ)
-    (fill : ℕ → Fill) → AreNumbers input → IsFill fill → Chain p input fill) → FineHeadline
+    (fill : ℕ → Fill) (order : ℕ → List ℕ) → AreNumbers input → IsFill fill → Chain p input fill order) → FineHeadline
 headline_from laws chains p accepted = every_run_is_right laws p accepted (chains p accepted)

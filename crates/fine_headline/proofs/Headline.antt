@@ -7,5 +7,5 @@ use Rattle.fine_headline.proofs.FineChain.{fine_chain}
 
 pub headline : FineHeadline
 headline =
-    headline_from laws (λ p accepted input fill numbers filled. fine_chain p accepted
-    (is_start p accepted input fill numbers filled).lawful input fill numbers)
+    headline_from laws (λ p accepted input fill order numbers filled. fine_chain p accepted
+    (is_start p accepted input fill numbers filled).lawful input fill order numbers filled)

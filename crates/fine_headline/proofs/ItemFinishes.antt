@@ -1,7 +1,7 @@
 -- An item that is opened and closed whole is opened, done action by action with nothing in between, and closed, and
 -- ends
 -- with the same memories and the same host's part.
-use Rattle.std.proofs.Common.{◌≡◌, ℕ, ◌≤◌, Bool, true, false, List, [], ◌∷◌, ◌++◌, Option, Some, None, refl, sym, ◌∙◌, ap, ap₂, subst, append-nil}
+use Rattle.std.proofs.Common.{◌≡◌, ℕ, ◌≤◌, Bool, true, false, List, [], ◌∷◌, ◌++◌, Option, Some, None, refl, sym, ◌∙◌, ap, ap₂, inl, subst, append-nil}
 use Rattle.std.specs.Prelude.{option_map}
 use Rattle.std.proofs.lemmas.Bool.{false≢true, false_from_ne_true}
 use Rattle.std.proofs.lemmas.Option.{same_Some, none-some}
@@ -20,7 +20,7 @@ use Rattle.base.specs.Machine as two
 use Rattle.base.specs.Machine.Condition.{Opened as opened}
 use Rattle.base.specs.Accepted.{is_target, is_host}
 use Rattle.base.proofs.Moves.{update_absent, update_missing, update_part}
-use Rattle.fine_machine.specs.Left.{Left, Finished, OnHost, OnDevice, each_left, entry_left, exit_left, update_left, region_left, present_of, item_left}
+use Rattle.fine_machine.specs.Left.{Left, Finished, OnHost, each_left, entry_left, exit_left, update_left, region_left, kernel_left, present_of, item_left}
 use Rattle.fine_machine.specs.Machine.{State, Condition, Untouched, Generated, Opened, Closed, Passed, as_whole, whole_condition, captured_by, input_of, begun, host_done}
 use Rattle.two_memories.specs.Two.{IsLawful}
 use Rattle.two_memories.proofs.MapLists.{AreSized, sized}
@@ -28,7 +28,13 @@ use Rattle.two_memories.proofs.ByKind.{opening_target, opening_begin, opening_en
 use Rattle.two_memories.proofs.MapsFrame.{turn_is}
 use Rattle.fine_headline.proofs.LeftByKind.{left_host, left_target, left_begin, left_enter, left_end, left_exit, left_update}
 use Rattle.fine_headline.proofs.Reaching.{Reaches, there, on_from, bare, then_parts, map_parts}
-use Rattle.fine_headline.proofs.RegionReaching.{stored_on_host, stored_on_device, host_reaches, kernel_reaches}
+use Rattle.fine_headline.proofs.RegionReaching.{stored_on_host, stored_on_device, host_reaches}
+use Rattle.fine_headline.proofs.KernelReaching.{IsSafe, KernelDone, all_there, kernel_reaches, entered_bounded}
+use Rattle.fine_headline.proofs.EntriesThere.{entries_there}
+use Rattle.fine_headline.proofs.StepLaws.{begun_fine}
+use Rattle.regions.specs.Footprints.{BoundedScalars}
+use Rattle.regions.proofs.StatementsDone.{small_list}
+use Rattle.two_memories.proofs.BoundedMemories.{BoundedMemories}
 use Rattle.fine_headline.proofs.MapReaching.{entry_reaches, exit_reaches, update_reaches}
 use Rattle.fine_headline.proofs.DeviceStores.{device_stores}
 use Rattle.fine_headline.proofs.Finishing.{each_reaches}
@@ -144,10 +150,15 @@ pub record SameHost (x : State) (s : Whole) : Type 0 where
   pub input : x.input ≡ s.input
   pub output : x.output ≡ s.output
 
-module _ (plan : Plan) (fill : Fill) (i : ℕ) (w : Work) (lawful : IsLawful w) (t : State)
-    (h : AreStored (memories_at w.device t.memories)) where
+module _ (plan : Plan) (fill : Fill) (order : List ℕ) (i : ℕ) (w : Work) (lawful : IsLawful w) (t : State)
+    (h : AreStored (memories_at w.device t.memories)) (safe : IsSafe fill w t) where
   abbrev captured : Scalars
   captured = two.captured_by (whole_condition (t.condition i)) t.scalars
+
+  captured_small : BoundedScalars (two.captured_by (whole_condition (t.condition i)) t.scalars)
+  captured_small =
+      subst BoundedScalars (captured_same (t.condition i) t.scalars)
+      (begun_fine w (t.condition i) t (safe.bounded.condition i) safe.bounded).scalars
 
   -- the state that opens and closes whole items, after the opening
   abbrev pub opened_whole : Memories → Whole
@@ -157,7 +168,7 @@ module _ (plan : Plan) (fill : Fill) (i : ℕ) (w : Work) (lawful : IsLawful w) 
 
   pub record ItemDone (s : Whole) : Type 0 where
     pub left : Left
-    pub is_left : item_left w (t.memories.devices w.device).blocks (begun w (t.condition i) t) ≡ Some left
+    pub is_left : item_left order w (t.memories.devices w.device).blocks (begun w (t.condition i) t) ≡ Some left
     pub run : Run
     pub end : Memories
     pub reaches : Reaches plan.lengths fill left (memories_at w.device t.memories) (Finished run) end
@@ -198,7 +209,7 @@ module _ (plan : Plan) (fill : Fill) (i : ℕ) (w : Work) (lawful : IsLawful w) 
       (opened_whole m) ≡ Some (opened_whole m) →
       closing w (opened (two.captured_by (whole_condition (t.condition i)) t.scalars) (worked_on plan.lengths w.kind m))
       (opened_whole m) ≡ Some s →
-      (left : Left) → item_left w (t.memories.devices w.device).blocks
+      (left : Left) → item_left order w (t.memories.devices w.device).blocks
       (begun w (t.condition i) t) ≡ Some left → Reaches plan.lengths fill left (memories_at w.device t.memories)
       (Finished (begun w (t.condition i) t)) m → AreStored m → ItemDone s
   plain k e same m s does closes left is reaches stored =
@@ -219,7 +230,7 @@ module _ (plan : Plan) (fill : Fill) (i : ℕ) (w : Work) (lawful : IsLawful w) 
       closing w (opened (two.captured_by (whole_condition (t.condition i)) t.scalars) (worked_on plan.lengths w.kind m))
       (opened_whole m) ≡ Some (opened_whole m) →
       closing w (opened (two.captured_by (whole_condition (t.condition i)) t.scalars) (worked_on plan.lengths w.kind m))
-      (opened_whole m) ≡ Some s → item_left w (t.memories.devices w.device).blocks (begun w (t.condition i) t) ≡ Some
+      (opened_whole m) ≡ Some s → item_left order w (t.memories.devices w.device).blocks (begun w (t.condition i) t) ≡ Some
       (each_left entry_left w.maps (λ u. Finished (begun w (t.condition i) t))) → in_turn
       (enter fill) w.maps (memories_at w.device t.memories) ≡ Some m → ItemDone s
   entered k e same m s does closes is opens =
@@ -232,7 +243,7 @@ module _ (plan : Plan) (fill : Fill) (i : ℕ) (w : Work) (lawful : IsLawful w) 
       closing w (opened (two.captured_by (whole_condition (t.condition i)) t.scalars) (worked_on plan.lengths w.kind m))
       (opened_whole m) ≡ Some (opened_whole m) →
       closing w (opened (two.captured_by (whole_condition (t.condition i)) t.scalars) (worked_on plan.lengths w.kind m))
-      (opened_whole m) ≡ Some s → item_left w (t.memories.devices w.device).blocks (begun w (t.condition i) t) ≡ Some
+      (opened_whole m) ≡ Some s → item_left order w (t.memories.devices w.device).blocks (begun w (t.condition i) t) ≡ Some
       (each_left exit_left w.maps (λ u. Finished (begun w (t.condition i) t))) → in_turn leave w.maps (memories_at w.device t.memories) ≡ Some
       m → ItemDone s
   exited k e same m s does closes is opens =
@@ -247,7 +258,7 @@ module _ (plan : Plan) (fill : Fill) (i : ℕ) (w : Work) (lawful : IsLawful w) 
       let u = updates_reach plan.lengths fill w.maps (memories_at w.device t.memories) m (λ u. Finished (begun w (t.condition i) t)) h opens in
       plain kind.Update e (λ r x. refl) m s (closing_update w captured (worked_on plan.lengths w.kind m)
       (opened_whole m) e) closes (each_left update_left u.present (λ u. Finished (begun w (t.condition i) t)))
-      (left_update w (t.memories.devices w.device).blocks (begun w (t.condition i) t) e ∙ ap
+      (left_update order w (t.memories.devices w.device).blocks (begun w (t.condition i) t) e ∙ ap
       (option_map (λ present. each_left update_left present (λ u. Finished (begun w (t.condition i) t)))) u.is)
       u.reaches u.stored
 
@@ -263,7 +274,7 @@ module _ (plan : Plan) (fill : Fill) (i : ℕ) (w : Work) (lawful : IsLawful w) 
       (record {
         left = Finished (begun w (t.condition i) t);
         is_left =
-            left_host w (t.memories.devices w.device).blocks (begun w (t.condition i) t) e ∙ ap
+            left_host order w (t.memories.devices w.device).blocks (begun w (t.condition i) t) e ∙ ap
             (λ o. Some (region_left o OnHost w.loops (begun w (t.condition i) t) Finished)) has;
         run = begun w (t.condition i) t;
         end = (memories_at w.device t.memories);
@@ -298,7 +309,7 @@ module _ (plan : Plan) (fill : Fill) (i : ℕ) (w : Work) (lawful : IsLawful w) 
       (record {
         left = region_left (Some r) OnHost w.loops (begin kind.Host) Finished;
         is_left =
-            left_host w (t.memories.devices w.device).blocks (begun w (t.condition i) t) e
+            left_host order w (t.memories.devices w.device).blocks (begun w (t.condition i) t) e
             ∙ ap₂ (λ o b. Some (region_left o OnHost w.loops b Finished)) has (begins kind.Host e);
         run = bare d.0;
         end = stored_on_host (memories_at w.device t.memories) d.0.stores;
@@ -326,11 +337,11 @@ module _ (plan : Plan) (fill : Fill) (i : ℕ) (w : Work) (lawful : IsLawful w) 
       let y =
       map_parts (λ (n : Memories). two.with_memories w.device n (opened_whole m))
       (kernel_memories w d.0.stores (memories_at w.device (opened_whole m).memories)) s d.2 in
-      let done : kernel_memories w d.0.stores m ≡ Some y.0 =
+      let stores : kernel_memories w d.0.stores m ≡ Some y.0 =
       ap (kernel_memories w d.0.stores) (sym (memories_back w.device m t.memories)) ∙ y.1 in
       let x =
       then_parts (λ (v : Device). in_turn leave w.maps (record m { device = v })) (store_device d.0.stores m.device) y.0
-      done in
+      stores in
       let ran : Memories = stored_on_device m d.0.stores in
       let same : record m { device = x.0 } ≡ ran = ap (λ (v : Device). record m { device = v })
       (device_stores d.0.stores m.device x.0 x.1) in
@@ -338,32 +349,38 @@ module _ (plan : Plan) (fill : Fill) (i : ℕ) (w : Work) (lawful : IsLawful w) 
       let stored : AreStored m = each_stored (enter fill)
       (λ item m m' size h e. enter_stored fill item m m' size h e) w.maps (memories_at w.device t.memories) m are h opens in
       let after : AreStored ran = kernel_stored d.0.stores m stored in
-      let later : Rest = (λ u. region_left (Some r) OnDevice w.loops (begin kind.Target)
+      let small : BoundedMemories m = entered_bounded fill w.maps (memories_at w.device t.memories) m safe.filled are
+      (record { host = safe.bounded.host; device = safe.bounded.devices w.device }) opens in
+      let done : KernelDone plan.lengths fill order r w.loops captured (λ t. each_left exit_left w.maps
+      (λ u. Finished t)) m ran = kernel_reaches plan.lengths fill m order w r captured d.0
+      (λ t. each_left exit_left w.maps (λ u. Finished t)) has (small_list w.loops lawful.loops)
+      captured_small small.device (safe.apart (ap is_target e)) (all_there w r m.device.cells has
+      (λ c i. entries_there fill w.maps (memories_at w.device t.memories) m c are h opens
+      (inl (safe.mapped (ap is_target e) c i))))
+      (ap (λ v. run_region r w.loops v captured []) (sym (worked_target plan.lengths w.kind m e)) ∙ d.1) in
+      let later : Rest = (λ u. kernel_left order (Some r) w.loops (begin kind.Target)
       (λ t. each_left exit_left w.maps (λ u. Finished t))) in
       subst ItemDone y.2
       (record {
         left = each_left entry_left w.maps later;
         is_left =
-            left_target w (t.memories.devices w.device).blocks (begun w (t.condition i) t) e
+            left_target order w (t.memories.devices w.device).blocks (begun w (t.condition i) t) e
             ∙ ap₂ (λ o b. Some (each_left entry_left w.maps
-            (λ u. region_left o OnDevice w.loops b (λ t. each_left exit_left w.maps (λ u. Finished t))))) has
+            (λ u. kernel_left order o w.loops b (λ t. each_left exit_left w.maps (λ u. Finished t))))) has
             (begins kind.Target e);
-        run = bare d.0;
+        run = done.run;
         end = y.0;
         reaches =
             on_from plan.lengths fill (each_left entry_left w.maps later) (memories_at w.device t.memories) (later tt) m
-            (Finished (bare d.0)) y.0
+            (Finished done.run) y.0
             (entries_reach plan.lengths fill w.maps (memories_at w.device t.memories) m later are h opens)
-            (on_from plan.lengths fill (later tt) m (each_left exit_left w.maps (λ u. Finished (bare d.0))) ran
-            (Finished (bare d.0)) y.0
-            (kernel_reaches plan.lengths fill m r w.loops captured d.0
-            (λ t. each_left exit_left w.maps (λ u. Finished t))
-            (ap (λ v. run_region r w.loops v captured []) (sym (worked_target plan.lengths w.kind m e)) ∙ d.1))
-            (exits_reach plan.lengths fill w.maps ran y.0 (λ u. Finished (bare d.0)) are after left_all));
+            (on_from plan.lengths fill (later tt) m (each_left exit_left w.maps (λ u. Finished done.run)) ran
+            (Finished done.run) y.0 done.reaches
+            (exits_reach plan.lengths fill w.maps ran y.0 (λ u. Finished done.run) are after left_all));
         memories = put_again w.device m y.0 t.memories;
         stored =
             each_stored leave (λ item m m' size h e. leave_stored item m m' size h e) w.maps ran y.0 are after left_all;
-        host = alone kind.Target e (λ r x. refl) (bare d.0) (two.with_memories w.device y.0 (opened_whole m)) refl refl refl;
+        host = alone kind.Target e (λ r x. refl) done.run (two.with_memories w.device y.0 (opened_whole m)) refl refl refl;
       })
 
   -- an item that is opened and closed whole
@@ -380,19 +397,19 @@ module _ (plan : Plan) (fill : Fill) (i : ℕ) (w : Work) (lawful : IsLawful w) 
       go kind.Target e = targeted e w.region refl m (sym (opening_target fill w (memories_at w.device t.memories) e) ∙ opens) s closes
       go kind.Begin e =
           entered kind.Begin e (λ r x. refl) m s (closing_begin w captured (worked_on plan.lengths w.kind m)
-          (opened_whole m) e) closes (left_begin w (t.memories.devices w.device).blocks (begun w (t.condition i) t) e)
+          (opened_whole m) e) closes (left_begin order w (t.memories.devices w.device).blocks (begun w (t.condition i) t) e)
           (sym (opening_begin fill w (memories_at w.device t.memories) e) ∙ opens)
       go kind.Enter e =
           entered kind.Enter e (λ r x. refl) m s (closing_enter w captured (worked_on plan.lengths w.kind m)
-          (opened_whole m) e) closes (left_enter w (t.memories.devices w.device).blocks (begun w (t.condition i) t) e)
+          (opened_whole m) e) closes (left_enter order w (t.memories.devices w.device).blocks (begun w (t.condition i) t) e)
           (sym (opening_enter fill w (memories_at w.device t.memories) e) ∙ opens)
       go kind.End e =
           exited kind.End e (λ r x. refl) m s (closing_end w captured (worked_on plan.lengths w.kind m)
-          (opened_whole m) e) closes (left_end w (t.memories.devices w.device).blocks (begun w (t.condition i) t) e)
+          (opened_whole m) e) closes (left_end order w (t.memories.devices w.device).blocks (begun w (t.condition i) t) e)
           (sym (opening_end fill w (memories_at w.device t.memories) e) ∙ opens)
       go kind.Exit e =
           exited kind.Exit e (λ r x. refl) m s (closing_exit w captured (worked_on plan.lengths w.kind m)
-          (opened_whole m) e) closes (left_exit w (t.memories.devices w.device).blocks (begun w (t.condition i) t) e)
+          (opened_whole m) e) closes (left_exit order w (t.memories.devices w.device).blocks (begun w (t.condition i) t) e)
           (sym (opening_exit fill w (memories_at w.device t.memories) e) ∙ opens)
       go kind.Update e = updated e m s closes (sym (opening_update fill w (memories_at w.device t.memories) e) ∙ opens)
       go kind.Wait e = absurd (false≢true (sym other ∙ ap two.is_wait e))

@@ -14,7 +14,7 @@ use Rattle.base.specs.Items.{Work, Plan}
 use Rattle.base.specs.Map.{Block, Fill, Presence, Absent, Inside, InPart, presence, copies_to, copies_from}
 use Rattle.base.specs.Actions.{Acted, Counts, CopiesIn, CopiesOut, HostRegion, Kernel, only_if, acts_of, each_acts, entry_acts, exit_acts, update_acts, region_acts, then_acts, always_works}
 use Rattle.base.specs.Accepted.{is_target}
-use Rattle.fine_machine.specs.Left.{Left, Finished, OnHost, OnDevice, CopyOut, section_left, left_if, update_left, entry_left, exit_left, each_left, present_of, region_left, item_left}
+use Rattle.fine_machine.specs.Left.{Left, Finished, OnHost, CopyOut, section_left, left_if, update_left, entry_left, exit_left, each_left, present_of, region_left, kernel_left, item_left}
 use Rattle.regions.proofs.StatementsDone.{AllSmall, Fine, small_list}
 use Rattle.regions.proofs.ValueBounds.{IfThere}
 use Rattle.two_memories.specs.Two.{AreBlocks, IsLawful, blocks_before, number_inside}
@@ -121,11 +121,11 @@ module _ (plan : Plan) (fill : Fill) (i : ℕ) (w : Work) (at : slice_get plan.i
       go InPart f e again = absurd (none-some present (sym (part_is f) ∙ e))
 
 -- an item that is opened on the blocks that the walk has before it
-pub item_walks : (plan : Plan) (fill : Fill) (i : ℕ) (w : Work) (s : Run) → slice_get plan.items i ≡ Some w →
+pub item_walks : (plan : Plan) (fill : Fill) (order : List ℕ) (i : ℕ) (w : Work) (s : Run) → slice_get plan.items i ≡ Some w →
     IsLawful w → AreBlocks (blocks_before plan i) → Fine s →
     IfThere (InWalk plan fill i (acts_of w (blocks_before plan i)).blocks [] (blocks_before plan i))
-    (item_left w (blocks_before plan i) s)
-item_walks plan fill i w s at lawful ok f = go w.kind refl
+    (item_left order w (blocks_before plan i) s)
+item_walks plan fill order i w s at lawful ok f = go w.kind refl
   where
     before : List Block
     before = blocks_before plan i
@@ -184,19 +184,19 @@ item_walks plan fill i w s at lawful ok f = go w.kind refl
 
     target : w.kind ≡ kind.Target → (o : Option Region) → w.region ≡ o →
         InWalk plan fill i (acts_of w (blocks_before plan i)).blocks [] (blocks_before plan i)
-        (each_left entry_left w.maps (λ u. region_left o OnDevice w.loops s
+        (each_left entry_left w.maps (λ u. kernel_left order o w.loops s
         (λ t. each_left exit_left w.maps (λ u. Finished t))))
     target e None has = absurd (lawful.has_region (ap is_target e) has)
     target e (Some r) has =
         entries_walk plan fill i w at after [] w.maps before
-        (λ u. region_left (Some r) OnDevice w.loops s (λ t. each_left exit_left w.maps (λ u. Finished t))) tt are ok
+        (λ u. kernel_left order (Some r) w.loops s (λ t. each_left exit_left w.maps (λ u. Finished t))) tt are ok
         start_above
         (covers_left entered.actions (region_acts Kernel w entered.blocks).actions (access_of plan i)
         (covers_left (then_acts entered (region_acts Kernel w)).actions
         (each_acts (exit_acts (is_resting plan i)) w.maps (region_acts Kernel w entered.blocks).blocks).actions
         (access_of plan i) (covers _ is)))
         (λ now here ok' above.
-        kernel_allowed plan i w r at has e (InWalk plan fill i after (filter (is_resting plan i) w.maps) now)
+        kernel_allowed plan i w r at has order e (InWalk plan fill i after (filter (is_resting plan i) w.maps) now)
         (λ q k h next. cell_walks plan fill i w at after (filter (is_resting plan i) w.maps) now q k h next) s
         (λ t. each_left exit_left w.maps (λ u. Finished t)) loops f
         (λ t g. exits_walk plan fill i w at after w.maps now (λ u. Finished t) are ok'
@@ -234,24 +234,24 @@ item_walks plan fill i w s at lawful ok f = go w.kind refl
         unchanged [] bs = refl
         unchanged (m ∷ rest) bs = unchanged rest (update_acts m bs).blocks ∙ acts_blocks m bs
 
-    by : (o : Option Left) → item_left w (blocks_before plan i) s ≡ o →
+    by : (o : Option Left) → item_left order w (blocks_before plan i) s ≡ o →
         IfThere (InWalk plan fill i (acts_of w (blocks_before plan i)).blocks [] (blocks_before plan i)) o →
         IfThere (InWalk plan fill i (acts_of w (blocks_before plan i)).blocks [] (blocks_before plan i))
-        (item_left w (blocks_before plan i) s)
+        (item_left order w (blocks_before plan i) s)
     by o e h =
         subst (IfThere (InWalk plan fill i (acts_of w (blocks_before plan i)).blocks [] (blocks_before plan i)))
         (sym e) h
 
     go : (k : ItemKind) → w.kind ≡ k →
         IfThere (InWalk plan fill i (acts_of w (blocks_before plan i)).blocks [] (blocks_before plan i))
-        (item_left w (blocks_before plan i) s)
+        (item_left order w (blocks_before plan i) s)
     go kind.Host e =
-        by (Some (region_left w.region OnHost w.loops s Finished)) (left_host w before s e) (host e w.region refl)
-    go kind.Target e = by _ (left_target w before s e) (target e w.region refl)
-    go kind.Begin e = by _ (left_begin w before s e) (entries (acts_begin w before e) (ap is_target e))
-    go kind.Enter e = by _ (left_enter w before s e) (entries (acts_enter w before e) (ap is_target e))
-    go kind.End e = by _ (left_end w before s e) (exits (acts_end w before e) (ap is_target e))
-    go kind.Exit e = by _ (left_exit w before s e) (exits (acts_exit_item w before e) (ap is_target e))
-    go kind.Update e = by _ (left_update w before s e) (update e (present_of (blocks_before plan i) w.maps) refl)
+        by (Some (region_left w.region OnHost w.loops s Finished)) (left_host order w before s e) (host e w.region refl)
+    go kind.Target e = by _ (left_target order w before s e) (target e w.region refl)
+    go kind.Begin e = by _ (left_begin order w before s e) (entries (acts_begin w before e) (ap is_target e))
+    go kind.Enter e = by _ (left_enter order w before s e) (entries (acts_enter w before e) (ap is_target e))
+    go kind.End e = by _ (left_end order w before s e) (exits (acts_end w before e) (ap is_target e))
+    go kind.Exit e = by _ (left_exit order w before s e) (exits (acts_exit_item w before e) (ap is_target e))
+    go kind.Update e = by _ (left_update order w before s e) (update e (present_of (blocks_before plan i) w.maps) refl)
     go kind.Wait e =
-        by (Some (Finished s)) (left_wait w before s e) (sym (ap (λ (a : Acted). a.blocks) (acts_wait w before e)))
+        by (Some (Finished s)) (left_wait order w before s e) (sym (ap (λ (a : Acted). a.blocks) (acts_wait w before e)))

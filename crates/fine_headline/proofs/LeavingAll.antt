@@ -14,13 +14,14 @@ use Rattle.base.specs.Map.{Block, copies_to, copies_from}
 use Rattle.base.specs.Footprint.{touches_of}
 use Rattle.base.specs.Actions.{rests}
 use Rattle.base.specs.Accepted.{is_target}
-use Rattle.fine_machine.specs.Left.{Side, OnHost, OnDevice, Enter, Request, Remove, CopyIn, CopyOut, Answer, Left, Finished, Asks, region_left, cells_left, section_left, left_if, entry_left, exit_left, update_left, each_left, present_of, item_left}
+use Rattle.fine_machine.specs.Left.{Side, OnHost, Enter, Request, Remove, CopyIn, CopyOut, Answer, Left, Finished, Asks, region_left, cells_left, section_left, left_if, entry_left, exit_left, update_left, each_left, present_of, kernel_left, item_left}
 use Rattle.regions.proofs.StatementsDone.{AllSmall, Fine, small_list}
 use Rattle.regions.proofs.ValueBounds.{IfThere, there_map}
 use Rattle.two_memories.specs.Two.{IsLawful, blocks_before}
 use Rattle.two_memories.proofs.PlanItems.{at_item}
 use Rattle.fine_headline.specs.FineState.{is_resting, entered_now, all_but_first, OwnEntry, LeavesAll}
 use Rattle.fine_headline.proofs.Regional.{list_all}
+use Rattle.fine_headline.proofs.KernelKeeps.{kernel_keeps}
 use Rattle.fine_headline.proofs.BoundedLefts.{anything, all_allowed}
 
 abbrev Rest : Type 0
@@ -47,8 +48,16 @@ module _ (plan : Plan) (i : ℕ) where
       LeavesAll plan i ms (region_left o side loops s k)
   region_leaves None side loops s k ms l f next = next s f
   region_leaves (Some r) side loops s k ms l f next =
-      list_all anything anything side (LeavesAll plan i ms) (λ c k _ h. (tt, h))
-      (λ c n k _ small h. (tt, λ a _. h a)) r.body.items loops l (all_allowed (touches_of r loops)) s k f next
+      list_all (λ mark. anything) (λ mark. anything) side (LeavesAll plan i ms) (λ c k _ h. (tt, h))
+      (λ c n k _ small h. (tt, λ a _. h a)) (λ op c n k _ small h. (tt, λ a _. h a)) r.body.items loops l (all_allowed (touches_of r loops)) s k f next
+
+  kernel_leaves : (order : List ℕ) (o : Option Region) (loops : List ℕ) (s : Run) (k : Run → Left) (ms : List MapItem) →
+      AllSmall loops → Fine s → ((t : Run) → Fine t → LeavesAll plan i ms (k t)) →
+      LeavesAll plan i ms (kernel_left order o loops s k)
+  kernel_leaves order None loops s k ms l f next = next s f
+  kernel_leaves order (Some r) loops s k ms l f next =
+      kernel_keeps (λ mark. anything) (λ mark. anything) (LeavesAll plan i ms) (λ c k _ h. (tt, h))
+      (λ c n k _ small h. (tt, λ a _. h a)) (λ op c n k _ small h. (tt, λ a _. h a)) order r loops s k l (all_allowed (touches_of r loops)) f next
 
   cells_leave : (ask : Cell → Request) (a : ArrayId) (first n : ℕ) (k : Rest) (ms : List MapItem) →
       ((c : Cell) → OwnEntry plan i (ask c) × (entered_now (is_resting plan i) (ask c) ms ≡ ms)) →
@@ -200,9 +209,9 @@ module _ (plan : Plan) (i : ℕ) where
         cond-false (is_resting plan i m) (m ∷ filter (is_resting plan i) rest) (filter (is_resting plan i) rest)
         (no_resting e m) ∙ none_filtered e rest
 
-    pub item_leaves : (blocks : List Block) (s : Run) → IsLawful w → Fine s →
-        IfThere (LeavesAll plan i []) (item_left w blocks s)
-    item_leaves blocks s lawful f = go w.kind refl
+    pub item_leaves : (order : List ℕ) (blocks : List Block) (s : Run) → IsLawful w → Fine s →
+        IfThere (LeavesAll plan i []) (item_left order w blocks s)
+    item_leaves order blocks s lawful f = go w.kind refl
       where
         loops : AllSmall w.loops
         loops = small_list w.loops lawful.loops
@@ -217,13 +226,13 @@ module _ (plan : Plan) (i : ℕ) where
             subst (λ xs. LeavesAll plan i xs (each_left exit_left w.maps (λ u. Finished t))) (none_filtered e w.maps)
             (exits_leave w.maps (λ u. Finished t) refl)
 
-        go : (k : ItemKind) → w.kind ≡ k → IfThere (LeavesAll plan i []) (item_left w blocks s)
+        go : (k : ItemKind) → w.kind ≡ k → IfThere (LeavesAll plan i []) (item_left order w blocks s)
         go kind.Host e = rw (e, item_left) (region_leaves w.region OnHost w.loops s Finished [] loops f (λ t g. refl))
         go kind.Target e =
             rw (e, item_left) (entries_leave w.maps
-            (λ u. region_left w.region OnDevice w.loops s (λ t. each_left exit_left w.maps (λ u. Finished t))) []
+            (λ u. kernel_left order w.region w.loops s (λ t. each_left exit_left w.maps (λ u. Finished t))) []
             own_maps
-            (region_leaves w.region OnDevice w.loops s (λ t. each_left exit_left w.maps (λ u. Finished t))
+            (kernel_leaves order w.region w.loops s (λ t. each_left exit_left w.maps (λ u. Finished t))
             (filter (is_resting plan i) w.maps) loops f (λ t g. exits_leave w.maps (λ u. Finished t) refl)))
         go kind.Begin e = rw (e, item_left) (entries s (ap is_target e))
         go kind.Enter e = rw (e, item_left) (entries s (ap is_target e))

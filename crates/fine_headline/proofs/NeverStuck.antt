@@ -32,7 +32,7 @@ whole_if false c d = refl
 differ : {A : Type 0} (b : Bool) → b ≡ true → b ≡ false → A
 differ b h k = absurd (true≢false (sym h ∙ k))
 
-module _ (pl : Plan) (fill : ℕ → Fill) (sensible : (j : ℕ) (w : Work) → slice_get pl.items j ≡ Some w → Sensible w)
+module _ (pl : Plan) (fill : ℕ → Fill) (order : ℕ → List ℕ) (sensible : (j : ℕ) (w : Work) → slice_get pl.items j ≡ Some w → Sensible w)
   where
     abbrev Fair : State → Type 0
     Fair s = Sound pl fill sensible (as_whole s)
@@ -179,7 +179,7 @@ module _ (pl : Plan) (fill : ℕ → Fill) (sensible : (j : ℕ) (w : Work) → 
     done_place kind.Wait t s = (refl, refl)
 
     -- what each event leaves
-    step_keeps : (s : State) → Fair s → (e : Event) → enabled pl s e ≡ true → (t : State) → step pl fill s e ≡ Some t →
+    step_keeps : (s : State) → Fair s → (e : Event) → enabled pl s e ≡ true → (t : State) → step pl fill order s e ≡ Some t →
         Fair t
     step_keeps s ok (Gen i) en t is =
         subst Fair (same_Some (moves_on false (with_condition i (Generated s.scalars) s)) t is) (gen_fair s ok i en)
@@ -188,8 +188,8 @@ module _ (pl : Plan) (fill : ℕ → Fill) (sensible : (j : ℕ) (w : Work) → 
     step_keeps s ok End en t is = subst Fair (same_Some (moves_on false s) t is) (end_fair s ok en)
     step_keeps s ok (Open i) en t is =
         let f = on_true pl i (opens s i) en in
-        go (item_left f.0 (s.memories.devices f.0.device).blocks (begun f.0 (s.condition i) s))
-        (sym (at_item pl i f.0 f.1 None (λ w. open_item i w s)) ∙ is)
+        go (item_left (order i) f.0 (s.memories.devices f.0.device).blocks (begun f.0 (s.condition i) s))
+        (sym (at_item pl i f.0 f.1 None (λ w. open_item (order i) i w s)) ∙ is)
       where
         go : (o : Option Left) → option_map (λ left. with_condition i (Opened left) s) o ≡ Some t → Fair t
         go None h = absurd (cc h)
@@ -227,11 +227,11 @@ module _ (pl : Plan) (fill : ℕ → Fill) (sensible : (j : ℕ) (w : Work) → 
         go w e fin Passed c h = absurd (cc h)
 
     run_keeps : (events : List Event) (o : Option State) (t : State) → ((s : State) → o ≡ Some s → Fair s) →
-        Run pl fill o events (Some t) → Fair t
+        Run pl fill order o events (Some t) → Fair t
     run_keeps [] o t h r = h t (sym r)
     run_keeps (e ∷ rest) None t h r = absurd r
     run_keeps (e ∷ rest) (Some s) t h r =
-        run_keeps rest (step pl fill s e) t (λ u k. step_keeps s (h s refl) e r.0 u k) r.1
+        run_keeps rest (step pl fill order s e) t (λ u k. step_keeps s (h s refl) e r.0 u k) r.1
 
     -- an open item has a step, or can be closed
     open_next : (s : State) (i : ℕ) → on_item pl i false (λ w. two.is_open (whole_condition (s.condition i))) ≡ true →
@@ -260,7 +260,7 @@ module _ (pl : Plan) (fill : ℕ → Fill) (sensible : (j : ℕ) (w : Work) → 
     next_event s (event.Wait i) h = (Wait i, h)
     next_event s event.End h = (End, h)
 
-    pub goes_on : (input : List ℕ) (events : List Event) (s : State) → RunFrom pl fill input events (Some s) →
+    pub goes_on : (input : List ℕ) (events : List Event) (s : State) → RunFrom pl fill order input events (Some s) →
         (HasEnded pl s → ⊥) → (e : Event) × (enabled pl s e ≡ true)
     goes_on input events s r going =
         let ok = run_keeps events (Some (start input)) s
@@ -268,9 +268,9 @@ module _ (pl : Plan) (fill : ℕ → Fill) (sensible : (j : ℕ) (w : Work) → 
         let n = next_of pl fill sensible (as_whole s) ok going in
         next_event s n.0 n.1
 
-pub a_run_goes_on : (p : Program) (input : List ℕ) (fill : ℕ → Fill) (events : List Event) (s : State) →
-    RunFrom (plan p) fill input events (Some s) → (HasEnded (plan p) s → ⊥) →
+pub a_run_goes_on : (p : Program) (input : List ℕ) (fill : ℕ → Fill) (order : ℕ → List ℕ) (events : List Event) (s : State) →
+    RunFrom (plan p) fill order input events (Some s) → (HasEnded (plan p) s → ⊥) →
     (e : Event) × IsTrue (enabled (plan p) s e)
-a_run_goes_on p input fill events s r going =
-    goes_on (plan p) fill (sensible_at (plan p).items (list_sensible (lengths_of p) p.body.items)) input events s r
+a_run_goes_on p input fill order events s r going =
+    goes_on (plan p) fill order (sensible_at (plan p).items (list_sensible (lengths_of p) p.body.items)) input events s r
     going

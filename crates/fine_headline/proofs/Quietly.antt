@@ -250,11 +250,11 @@ open_quiet plan i left a a' h = record {
 }
 
 -- what is left of an item depends on the blocks only where an update finds its sections
-pub left_same : (w : Work) (bs bs' : List Block) (s : Run) →
-    (w.kind ≡ kind.Update → present_of bs w.maps ≡ present_of bs' w.maps) → item_left w bs s ≡ item_left w bs' s
-left_same w bs bs' s h = go w.kind refl
+pub left_same : (order : List ℕ) (w : Work) (bs bs' : List Block) (s : Run) →
+    (w.kind ≡ kind.Update → present_of bs w.maps ≡ present_of bs' w.maps) → item_left order w bs s ≡ item_left order w bs' s
+left_same order w bs bs' s h = go w.kind refl
   where
-    go : (k : ItemKind) → w.kind ≡ k → item_left w bs s ≡ item_left w bs' s
+    go : (k : ItemKind) → w.kind ≡ k → item_left order w bs s ≡ item_left order w bs' s
     go kind.Update e =
         rw (e, item_left) (ap (option_map (λ present. each_left update_left present (λ u. Finished s))) (h e))
     go kind.Host e = rw (e, item_left) refl

@@ -1,21 +1,23 @@
 -- A region done access by access, with nothing in between, does what the region does on what it saw at first.
-use Rattle.std.proofs.Common.{◌≡◌, ℕ, zero, suc, ◌+◌, ◌%◌, List, [], ◌∷◌, ◌++◌, Option, Some, None, refl, subst}
+use Rattle.std.proofs.Common.{◌≡◌, ℕ, zero, suc, ◌+◌, ◌%◌, List, [], ◌∷◌, ◌++◌, Option, Some, None, refl, ap, ◌∙◌, subst}
 use Rattle.std.specs.Prelude.{not, option_map, option_and_then, slice_index}
 use Rattle.std.proofs.lemmas.Option.{same_Some, none-some}
 use Rattle.base.specs.declared.item.Cell.{Cell}
+use Rattle.base.specs.declared.tree.ArrayId.{ArrayId}
+use Rattle.base.specs.declared.tree.CombineOp.{CombineOp}
 use Rattle.base.specs.declared.tree.Expr.{Expr}
 use Rattle.base.specs.declared.tree.Expr.TheVariants.{Number, Scalar, LoopName, Cell', Unary', Binary', And', Or', Shift', Divide'}
 use Rattle.base.specs.declared.tree.Source.{Source}
 use Rattle.base.specs.declared.tree.Source.TheVariants.{Value, Read}
 use Rattle.base.specs.declared.tree.Stmt.{Stmt, Row_of-Stmt, end_of-Stmt, more_of-Stmt}
-use Rattle.base.specs.declared.tree.Stmt.TheVariants.{Declare, Assign, Store, Print, Block', Loop', If'}
+use Rattle.base.specs.declared.tree.Stmt.TheVariants.{Declare, Assign, Store, Combine, Print, Block', Loop', If'}
 use Rattle.base.specs.Memory.{View, Scalars, Stores}
-use Rattle.base.specs.Value.{value, modulus, flag, is_zero, unary, binary, shifted, divided, on_one, on_both, and_of, or_of}
-use Rattle.base.specs.Meaning.{Run, seen, names_in, read_next, source_of, set_scalar, stored, printed, choose, turn, turns_of, run_stmt, run_row, run_list, assigned as assign}
+use Rattle.base.specs.Value.{value, combined, modulus, flag, is_zero, unary, binary, shifted, divided, on_one, on_both, and_of, or_of}
+use Rattle.base.specs.Meaning.{Run, seen, names_in, read_next, source_of, updated_by, set_scalar, stored, printed, choose, turn, turns_of, run_stmt, run_row, run_list, assigned as assign}
 use Rattle.base.specs.Map.{Memories, Fill}
 use Rattle.fine_machine.specs.Left.{Side, assigned, Request, Answer, Left, Asks, expr_left, source_left, stmt_left, row_left, list_left}
 use Rattle.fine_machine.specs.Action.{loaded, act}
-use Rattle.fine_machine.specs.Left.{Load, Store as Puts, turns_left as turns_after}
+use Rattle.fine_machine.specs.Left.{Load, Store as Puts, Combine as Updates, turns_left as turns_after}
 
 -- what is left of an item comes, with nothing in between, to what is then left
 pub data Reaches (lengths : List ℕ) (fill : Fill) : Left → Memories → Left → Memories → Type 0 where
@@ -61,7 +63,9 @@ module _ (lengths : List ℕ) (fill : Fill) (side : Side) (view : View) (mem : S
     (look : (stores : Stores) (c : Cell) (n : ℕ) → seen view stores c ≡ Some n → act lengths fill (Load side c)
     (mem stores) ≡ Some (loaded n, mem stores))
     (put : (stores : Stores) (c : Cell) (n old : ℕ) → view c ≡ Some old → act lengths fill (Puts side c n)
-    (mem stores) ≡ Some (loaded 0, mem (stores ++ (c, n) ∷ []))) where
+    (mem stores) ≡ Some (loaded 0, mem (stores ++ (c, n) ∷ [])))
+    (update : (stores : Stores) (op : CombineOp) (c : Cell) (n old : ℕ) → seen view stores c ≡ Some old → act lengths
+    fill (Updates side op c n) (mem stores) ≡ Some (loaded 0, mem (stores ++ (c, combined op old n) ∷ []))) where
   abbrev To : Left → Memories → Left → Memories → Type 0
   To l m l' m' = Reaches lengths fill l m l' m'
 
@@ -250,6 +254,66 @@ module _ (lengths : List ℕ) (fill : Fill) (side : Side) (view : View) (mem : S
           on_from lengths fill _ (mem s.stores) first (mem s.stores) (k (bare t)) (mem t.stores) (reached (suc m) is)
           (one e)
 
+  abbrev pushed : Run → Cell → ℕ → Run
+  pushed s c n = record s { stores = s.stores ++ (c, n) ∷ [] }
+
+  -- what a commuting update stores
+  record Updates_to (op : CombineOp) (x : Expr) (c : Cell) (loops : List ℕ) (s t : Run) : Type 0 where
+    old : ℕ
+    number : ℕ
+    was : seen view s.stores c ≡ Some old
+    is : value x (names_in view loops s) ≡ Some number
+    end : pushed s c (combined op old number) ≡ t
+
+  updates_to : (op : CombineOp) (x : Expr) (c : Cell) (loops : List ℕ) (s t : Run) →
+      stored view c (updated_by op x c view loops s) ≡ Some t → Updates_to op x c loops s t
+  updates_to op x c loops s t h =
+      let q = then_parts (λ (r : ℕ × Run). option_map (λ old. pushed r.1 c r.0) (view c))
+      (updated_by op x c view loops s) t h in
+      let o = map_parts (λ old. pushed q.0.1 c q.0.0) (view c) t q.2 in
+      let u = map_parts (λ n. (n, s)) (on_both (combined op) (seen view s.stores c) (value x (names_in view loops s)))
+      q.0 q.1 in
+      let b = both_parts (combined op) (seen view s.stores c) (value x (names_in view loops s)) u.0 u.1 in
+      record {
+        old = b.0;
+        number = b.1;
+        was = b.2;
+        is = b.3;
+        end = ap (pushed s c) b.4 ∙ (ap (λ (r : ℕ × Run). pushed r.1 c r.0) u.2 ∙ o.2);
+      }
+
+  update_reaches : (op : CombineOp) (a : ArrayId) (e x : Expr) (loops : List ℕ) (s t : Run) (k : Run → Left) →
+      option_and_then (λ i. let c : Cell = record { array = a; index = i } in stored view c
+      (updated_by op x c view loops s)) (value e (names_in view loops s)) ≡ Some t →
+      Done (expr_left e side loops s.scalars (λ i. expr_left x side loops s.scalars
+      (λ n. Asks (Updates side op (record { array = a; index = i }) n) (λ r. k (bare s))))) s t k
+  update_reaches op a e x loops s t k h =
+      let p = then_parts (λ i. let c : Cell = record { array = a; index = i } in stored view c
+      (updated_by op x c view loops s)) (value e (names_in view loops s)) t h in
+      go p.0 p.1 (updates_to op x (record { array = a; index = p.0 }) loops s t p.2)
+    where
+      last : ℕ → ℕ → Left
+      last i n = Asks (Updates side op (record { array = a; index = i }) n) (λ r. k (bare s))
+
+      first : ℕ → Left
+      first i = expr_left x side loops s.scalars (last i)
+
+      go : (i : ℕ) → value e (names_in view loops s) ≡ Some i →
+          Updates_to op x (record { array = a; index = i }) loops s t →
+          Done (expr_left e side loops s.scalars first) s t k
+      go i is u =
+          let c : Cell = record { array = a; index = i } in
+          let end : Run = pushed s c (combined op u.old u.number) in
+          subst (λ (t : Run). Reaches lengths fill (expr_left e side loops s.scalars first) (mem s.stores)
+          (k (bare t)) (mem t.stores)) u.end
+          (on_from lengths fill (expr_left e side loops s.scalars first) (mem s.stores) (first i) (mem s.stores)
+          (k (bare s)) (mem end.stores)
+          (expr_reaches e loops s.scalars s.stores first i is)
+          (on_from lengths fill (first i) (mem s.stores) (last i u.number) (mem s.stores) (k (bare s)) (mem end.stores)
+          (expr_reaches x loops s.scalars s.stores (last i) u.number u.is)
+          (next (Updates side op c u.number) (λ r. k (bare s)) (loaded 0) (mem s.stores) (mem end.stores) (k (bare s))
+          (mem end.stores) (update s.stores op c u.number u.old u.was) (there (k (bare s)) (mem end.stores)))))
+
   mutual
     stmt_reaches : (st : Stmt) (loops : List ℕ) (s t : Run) (k : Run → Left) → run_stmt st view loops s ≡ Some t →
         Done (stmt_left st side loops (bare s) k) s t k
@@ -277,6 +341,7 @@ module _ (lengths : List ℕ) (fill : Fill) (side : Side) (view : View) (mem : S
         (next (Puts side c r.0) (λ x. k (bare r.1)) (loaded 0) (mem r.1.stores) (mem (r.1.stores ++ (c, r.0) ∷ []))
         (k (bare r.1)) (mem (r.1.stores ++ (c, r.0) ∷ [])) (put r.1.stores c r.0 o.0 o.1)
         (there (k (bare r.1)) (mem (r.1.stores ++ (c, r.0) ∷ []))))))
+    stmt_reaches (Combine op a place e x) loops s t k h = update_reaches op a e x loops s t k h
     stmt_reaches (Print e) loops s t k h =
         let q = map_parts (printed s) (value e (names_in view loops s)) t h in
         subst (λ (t : Run). Reaches lengths fill (expr_left e side loops s.scalars (λ n. k (printed (bare s) n)))

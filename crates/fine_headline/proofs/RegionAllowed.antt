@@ -3,6 +3,7 @@ use Rattle.std.proofs.Common.{◌≡◌, ℕ, ◌<◌, ◌^◌, true, List, [], 
 use Rattle.std.specs.Prelude.{not, ◌&&◌, slice_get}
 use Rattle.std.proofs.lemmas.Bool.{and_from, or_left, or_right}
 use Rattle.base.specs.declared.item.Cell.{Cell}
+use Rattle.base.specs.declared.tree.CombineOp.{CombineOp}
 use Rattle.base.specs.declared.item.ItemKind.TheVariants as kind
 use Rattle.base.specs.Actions.{Side as On, Host, Dev}
 use Rattle.base.specs.declared.tree.Region.{Region}
@@ -11,7 +12,7 @@ use Rattle.base.specs.Items.{Work, Plan}
 use Rattle.base.specs.Map.{Block}
 use Rattle.base.specs.Footprint.{Touch, has_cell, reads, writes, touches_of}
 use Rattle.base.specs.Actions.{HostRegion, Kernel, Acted, each_acts, entry_acts, exit_acts, region_acts, then_acts, rests}
-use Rattle.fine_machine.specs.Left.{Side, OnHost, OnDevice, Left, Asks, Request, Answer, Load, Store, region_left}
+use Rattle.fine_machine.specs.Left.{Side, OnHost, OnDevice, Left, Asks, Request, Answer, Load, Store, Combine, region_left, kernel_left}
 use Rattle.regions.proofs.Needs.{Every}
 use Rattle.regions.proofs.StatementsDone.{AllSmall, Fine}
 use Rattle.two_memories.specs.Two.{blocks_before}
@@ -19,12 +20,13 @@ use Rattle.two_memories.proofs.LikeMemories.{touched, Covers, covers_left, cover
 use Rattle.two_memories.proofs.AdjustedCounts.{access_of, covers_item}
 use Rattle.two_memories.proofs.ByKind.{acts_host, acts_target, acts_some}
 use Rattle.fine_headline.proofs.Regional.{Allowed, list_all}
+use Rattle.fine_headline.proofs.KernelKeeps.{kernel_keeps}
 use Rattle.fine_headline.proofs.Cells.{IsAllowed}
 
 -- each touch is of what all of them touch
-touches_allowed : (readable writable : Cell → Type 0) (xs : List Touch) →
+pub touches_allowed : (readable writable : Cell → Type 0) (xs : List Touch) →
     ((c : Cell) → reads xs c ≡ true → readable c) → ((c : Cell) → writes xs c ≡ true → writable c) →
-    Every (Allowed readable writable) xs
+    Every (Allowed (λ mark. readable) (λ mark. writable)) xs
 touches_allowed readable writable [] h k = tt
 touches_allowed readable writable (t ∷ rest) h k = (
   record {
@@ -53,6 +55,11 @@ module _ (plan : Plan) (i : ℕ) where
   may_store OnHost c n h = h
   may_store OnDevice c n h = h
 
+  may_update : (side : Side) (op : CombineOp) (c : Cell) (n : ℕ) →
+      (access_of plan i).writes (side_of side) c ≡ true → IsAllowed plan i (Combine side op c n)
+  may_update OnHost op c n h = h
+  may_update OnDevice op c n h = h
+
   -- a predicate that allowed actions on cells keep holds of what is left of the region
   region_allowed : (side : Side) (r : Region) (loops : List ℕ) →
       ((c : Cell) → reads (touches_of r loops) c ≡ true → (access_of plan i).reads (side_of side) c ≡ true) →
@@ -62,13 +69,32 @@ module _ (plan : Plan) (i : ℕ) where
       (s : Run) (k : Run → Left) → AllSmall loops → Fine s → ((t : Run) → Fine t → K (k t)) → K
       (region_left (Some r) side loops s k)
   region_allowed side r loops h w K keeps s k l f next =
-      list_all (λ c. touched (access_of plan i) (side_of side) c ≡ true)
-      (λ c. (access_of plan i).writes (side_of side) c ≡ true) side K
+      list_all (λ mark c. touched (access_of plan i) (side_of side) c ≡ true)
+      (λ mark c. (access_of plan i).writes (side_of side) c ≡ true) side K
       (λ c k h n. keeps (Load side c) k (may_load side c h) n)
-      (λ c n k h small m. keeps (Store side c n) k (may_store side c n h) (λ a _. m a)) r.body.items loops l
+      (λ c n k h small m. keeps (Store side c n) k (may_store side c n h) (λ a _. m a))
+      (λ op c n k h small m. keeps (Combine side op c n) k (may_update side op c n h) (λ a _. m a)) r.body.items loops l
       (touches_allowed (λ c. touched (access_of plan i) (side_of side) c ≡ true)
       (λ c. (access_of plan i).writes (side_of side) c ≡ true) (touches_of r loops)
       (λ c e. or_left _ _ (h c e)) w) s k f next
+
+  -- and of what is left of a kernel
+  kernel_allows : (order : List ℕ) (r : Region) (loops : List ℕ) →
+      ((c : Cell) → reads (touches_of r loops) c ≡ true → (access_of plan i).reads Dev c ≡ true) →
+      ((c : Cell) → writes (touches_of r loops) c ≡ true → (access_of plan i).writes Dev c ≡ true) →
+      (K : Left → Type 0) → ((q : Request) (k : Answer → Left) → IsAllowed plan i q →
+      ((a : Answer) → a.number < 2 ^ 64 → K (k a)) → K (Asks q k)) →
+      (s : Run) (k : Run → Left) → AllSmall loops → Fine s → ((t : Run) → Fine t → K (k t)) → K
+      (kernel_left order (Some r) loops s k)
+  kernel_allows order r loops h w K keeps s k l f next =
+      kernel_keeps (λ mark c. touched (access_of plan i) Dev c ≡ true)
+      (λ mark c. (access_of plan i).writes Dev c ≡ true) K
+      (λ c k h n. keeps (Load OnDevice c) k (may_load OnDevice c h) n)
+      (λ c n k h small m. keeps (Store OnDevice c n) k (may_store OnDevice c n h) (λ a _. m a))
+      (λ op c n k h small m. keeps (Combine OnDevice op c n) k (may_update OnDevice op c n h) (λ a _. m a)) order r loops
+      s k l
+      (touches_allowed (λ c. touched (access_of plan i) Dev c ≡ true) (λ c. (access_of plan i).writes Dev c ≡ true)
+      (touches_of r loops) (λ c e. or_left _ _ (h c e)) w) f next
 
   module _ (w : Work) (r : Region) (at : slice_get plan.items i ≡ Some w) (has : w.region ≡ Some r) where
     host_covers : w.kind ≡ kind.Host → Covers (HostRegion (touches_of r w.loops) ∷ []) (access_of plan i)
@@ -103,12 +129,12 @@ module _ (plan : Plan) (i : ℕ) where
         entries : Acted
         entries = each_acts (entry_acts (rests (blocks_before plan i))) w.maps (blocks_before plan i)
 
-    pub kernel_allowed : w.kind ≡ kind.Target → (K : Left → Type 0) →
+    pub kernel_allowed : (order : List ℕ) → w.kind ≡ kind.Target → (K : Left → Type 0) →
         ((q : Request) (k : Answer → Left) → IsAllowed plan i q → ((a : Answer) → a.number < 2 ^ 64 → K (k a)) → K
         (Asks q k)) →
         (s : Run) (k : Run → Left) → AllSmall w.loops → Fine s → ((t : Run) → Fine t → K (k t)) → K
-        (region_left (Some r) OnDevice w.loops s k)
-    kernel_allowed e =
-        region_allowed OnDevice r w.loops (λ c h. reads_head (Kernel (touches_of r w.loops)) [] (access_of plan i)
+        (kernel_left order (Some r) w.loops s k)
+    kernel_allowed order e =
+        kernel_allows order r w.loops (λ c h. reads_head (Kernel (touches_of r w.loops)) [] (access_of plan i)
         (kernel_covers e) Dev c h) (λ c h. writes_head (Kernel (touches_of r w.loops)) [] (access_of plan i)
         (kernel_covers e) Dev c h)

@@ -5,14 +5,16 @@ use mathlib.Core.Path.{fun_ext}
 use Rattle.std.proofs.lemmas.Bool.{cases_Bool, and_parts, eqb-true}
 use Rattle.std.proofs.lemmas.Option.{same_Some, none-some}
 use Rattle.base.specs.declared.item.Cell.{Cell}
+use Rattle.base.specs.declared.tree.CombineOp.{CombineOp}
 use Rattle.base.specs.declared.tree.Region.{Region}
 use Rattle.base.specs.Memory.{Memory, View, Scalars, Stores, same_cell, is_cell, view_of, last_stored, with_stores}
+use Rattle.base.specs.Value.{combined}
 use Rattle.base.specs.Meaning.{Run, seen, run_region}
 use Rattle.base.specs.Map.{Memories, Fill}
-use Rattle.fine_machine.specs.Left.{Left, Load, Store, OnHost, OnDevice, Answer, region_left}
+use Rattle.fine_machine.specs.Left.{Left, Load, Store, Combine, OnHost, OnDevice, Answer, list_left, region_left}
 use Rattle.fine_machine.specs.Action.{loaded, act, on_cell, with_host, with_device}
 use Rattle.regions.proofs.StatementsDone.{last_push}
-use Rattle.fine_headline.proofs.Reaching.{Reaches, bare, list_reaches}
+use Rattle.fine_headline.proofs.Reaching.{Reaches, bare, map_parts, list_reaches}
 
 -- the memories after a region on either side has stored
 abbrev pub stored_on_host : Memories → Stores → Memories
@@ -66,7 +68,25 @@ module _ (lengths : List ℕ) (fill : Fill) (m : Memories) where
       go false e = absurd (none-some old e)
       go true e = ap (λ x. Some (loaded 0, x)) (host_pushed stores c n)
 
-  device_look : (stores : Stores) (c : Cell) (n : ℕ) → seen m.device.cells stores c ≡ Some n →
+  host_update : (stores : Stores) (op : CombineOp) (c : Cell) (n old : ℕ) →
+      seen (view_of lengths m.host) stores c ≡ Some old →
+      act lengths fill (Combine OnHost op c n) (stored_on_host m stores) ≡ Some
+      (loaded 0, stored_on_host m (stores ++ (c, combined op old n) ∷ []))
+  host_update stores op c n old h = go (is_cell lengths c) h
+    where
+      go : (b : Bool) →
+          option_map (λ old. unwrap_or (last_stored stores c) old) (if b then Some (m.host c) else None) ≡ Some old →
+          on_cell {A = Answer × Memories} b (
+            loaded 0,
+            with_host c (combined op (unwrap_or (last_stored stores c) (m.host c)) n) (stored_on_host m stores),
+          ) ≡ Some (loaded 0, stored_on_host m (stores ++ (c, combined op old n) ∷ []))
+      go false e = absurd (none-some old e)
+      go true e =
+          ap (λ v. Some (loaded 0, with_host c (combined op v n) (stored_on_host m stores)))
+          (same_Some (unwrap_or (last_stored stores c) (m.host c)) old e)
+          ∙ ap (λ x. Some (loaded 0, x)) (host_pushed stores c (combined op old n))
+
+  pub device_look : (stores : Stores) (c : Cell) (n : ℕ) → seen m.device.cells stores c ≡ Some n →
       act lengths fill (Load OnDevice c) (stored_on_device m stores) ≡ Some (loaded n, stored_on_device m stores)
   device_look stores c n h = ap (option_map (λ v. (loaded v, stored_on_device m stores))) h
 
@@ -91,13 +111,22 @@ module _ (lengths : List ℕ) (fill : Fill) (m : Memories) where
           ∙ sym (ap (λ b. option_map (λ old. unwrap_or (if b then Some n else last_stored stores d) old)
           (m.device.cells d)) s)
 
-  device_put : (stores : Stores) (c : Cell) (n old : ℕ) → m.device.cells c ≡ Some old →
+  pub device_put : (stores : Stores) (c : Cell) (n old : ℕ) → m.device.cells c ≡ Some old →
       act lengths fill (Store OnDevice c n) (stored_on_device m stores) ≡ Some
       (loaded 0, stored_on_device m (stores ++ (c, n) ∷ []))
   device_put stores c n old e =
       ap (option_map (λ x. (loaded 0, with_device c n (stored_on_device m stores))))
       (ap (option_map (λ o. unwrap_or (last_stored stores c) o)) e)
       ∙ ap (λ x. Some (loaded 0, x)) (device_pushed stores c n old e)
+
+  pub device_update : (stores : Stores) (op : CombineOp) (c : Cell) (n old : ℕ) →
+      seen m.device.cells stores c ≡ Some old →
+      act lengths fill (Combine OnDevice op c n) (stored_on_device m stores) ≡ Some
+      (loaded 0, stored_on_device m (stores ++ (c, combined op old n) ∷ []))
+  device_update stores op c n old e =
+      let was = map_parts (λ o. unwrap_or (last_stored stores c) o) (m.device.cells c) old e in
+      ap (option_map (λ old. (loaded 0, with_device c (combined op old n) (stored_on_device m stores)))) e
+      ∙ ap (λ x. Some (loaded 0, x)) (device_pushed stores c (combined op old n) was.0 was.1)
 
   -- a host region
   pub host_reaches : (r : Region) (loops : List ℕ) (scalars : Scalars) (input : List ℕ) (t : Run) (k : Run → Left) →
@@ -106,10 +135,10 @@ module _ (lengths : List ℕ) (fill : Fill) (m : Memories) where
       (record { scalars = scalars; stores = []; input = input; printed = [] }) k) m (k (bare t))
       (stored_on_host m t.stores)
   host_reaches r loops scalars input t k h =
-      list_reaches lengths fill OnHost (view_of lengths m.host) (stored_on_host m) host_look host_put r.body.items loops
+      list_reaches lengths fill OnHost (view_of lengths m.host) (stored_on_host m) host_look host_put host_update r.body.items loops
       (record { scalars = scalars; stores = []; input = input; printed = [] }) t k h
 
-  nothing_stored : stored_on_device m [] ≡ m
+  pub nothing_stored : stored_on_device m [] ≡ m
   nothing_stored =
       ap (λ (v : View). let x : Memories = record
       { host = m.host; device = record { blocks = m.device.blocks; cells = v } } in x)
@@ -119,15 +148,16 @@ module _ (lengths : List ℕ) (fill : Fill) (m : Memories) where
       same None = refl
       same (Some n) = refl
 
-  -- a kernel
-  pub kernel_reaches : (r : Region) (loops : List ℕ) (scalars : Scalars) (t : Run) (k : Run → Left) →
+  -- a kernel whose turns are in order
+  pub in_order_reaches : (r : Region) (loops : List ℕ) (scalars : Scalars) (t : Run) (k : Run → Left) →
       run_region r loops m.device.cells scalars [] ≡ Some t →
-      Reaches lengths fill (region_left (Some r) OnDevice loops
+      Reaches lengths fill (list_left r.body.items OnDevice loops
       (record { scalars = scalars; stores = []; input = []; printed = [] }) k) m (k (bare t))
       (stored_on_device m t.stores)
-  kernel_reaches r loops scalars t k h =
-      subst (λ n. Reaches lengths fill (region_left (Some r) OnDevice loops
+  in_order_reaches r loops scalars t k h =
+      subst (λ n. Reaches lengths fill (list_left r.body.items OnDevice loops
       (record { scalars = scalars; stores = []; input = []; printed = [] }) k) n (k (bare t))
       (stored_on_device m t.stores)) nothing_stored
-      (list_reaches lengths fill OnDevice m.device.cells (stored_on_device m) device_look device_put r.body.items loops
+      (list_reaches lengths fill OnDevice m.device.cells (stored_on_device m) device_look device_put device_update r.body.items
+      loops
       (record { scalars = scalars; stores = []; input = []; printed = [] }) t k h)

@@ -1,5 +1,5 @@
 -- What holds of what is left of a region, where each of its loads and stores keeps it.
-use Rattle.std.proofs.Common.{◌≡◌, ℕ, zero, suc, ◌+◌, ◌%◌, ◌<◌, ◌≤◌, ◌^◌, Bool, true, false, List, [], ◌∷◌, ◌++◌, refl, sym, subst, arith}
+use Rattle.std.proofs.Common.{Option, Some, None, ◌≡◌, ℕ, zero, suc, ◌+◌, ◌%◌, ◌<◌, ◌≤◌, ◌^◌, Bool, true, false, List, [], ◌∷◌, ◌++◌, refl, sym, subst, arith}
 use Rattle.std.specs.Prelude.{not, ◌&&◌, ◌||◌, ◌==◌, flat_map}
 use Rattle.std.proofs.lemmas.Bool.{and_parts, cond_both, false_from_ne_true}
 use Rattle.std.proofs.lemmas.Bool.Decides.{nat_tests}
@@ -7,19 +7,20 @@ use Rattle.std.proofs.lemmas.Nat.{mod_below}
 use Rattle.base.specs.declared.item.Cell.{Cell}
 use Rattle.base.specs.declared.fault.Interval.{Interval}
 use Rattle.base.specs.declared.tree.Bounds.{Bounds}
+use Rattle.base.specs.declared.tree.CombineOp.{CombineOp}
 use Rattle.base.specs.declared.tree.Expr.{Expr}
 use Rattle.base.specs.declared.tree.Expr.TheVariants.{Number, Scalar, LoopName, Cell', Unary', Binary', And', Or', Shift', Divide'}
 use Rattle.base.specs.declared.tree.Source.{Source}
 use Rattle.base.specs.declared.tree.Source.TheVariants.{Value, Read}
 use Rattle.base.specs.declared.tree.Stmt.{Stmt, Row_of-Stmt, end_of-Stmt, more_of-Stmt}
-use Rattle.base.specs.declared.tree.Stmt.TheVariants.{Declare, Assign, Store, Print, Block', Loop', If'}
+use Rattle.base.specs.declared.tree.Stmt.TheVariants.{Declare, Assign, Store, Combine, Print, Block', Loop', If'}
 use Rattle.base.specs.Memory.{Scalars}
 use Rattle.base.specs.Value.{modulus, flag, is_zero, unary, binary, shifted, divided}
 use Rattle.base.specs.Meaning.{Run, turns_of, turns_left, read_next, printed}
 use Rattle.base.specs.Interval.{interval, is_known_zero, is_known_nonzero}
-use Rattle.base.specs.Footprint.{Touch, has_cell, expr_touches, source_touches, stmt_touches, row_touches, turns_touch, unless}
+use Rattle.base.specs.Footprint.{Touch, has_cell, expr_touches, source_touches, update_touch, stmt_touches, row_touches, turns_touch, unless}
 use Rattle.fine_machine.specs.Left.{Side, Left, Asks, Answer, expr_left, source_left, stmt_left, row_left, list_left, assigned}
-use Rattle.fine_machine.specs.Left.{Load, Store as Puts, turns_left as turns_after}
+use Rattle.fine_machine.specs.Left.{Load, Store as Puts, Combine as Updates, turns_left as turns_after}
 use Rattle.regions.specs.Footprints.{BoundedScalars}
 use Rattle.regions.proofs.Intervals.{Has, full_has, exactly_has, known_has, unary_has, binary_has, shift_has, divide_has}
 use Rattle.regions.proofs.Needs.{Every, every_left, every_right}
@@ -33,17 +34,19 @@ zero_not e = grind (arith, nat_tests)
 suc_not : (m : ℕ) → not (is_zero (suc m)) ≡ false → ⊥
 suc_not m e = grind (arith, nat_tests)
 
--- what is asked of the cells that are read, and of those that are written
-module _ (reads writes : Cell → Type 0) where
+-- what is asked of the cells that are read, and of those that are written, by the updates with an operator or by none
+module _ (reads writes : Option CombineOp → Cell → Type 0) where
   pub record Allowed (t : Touch) : Type 0 where
-    pub read : t.is_write ≡ false → (c : Cell) → has_cell c t ≡ true → reads c
-    pub written : t.is_write ≡ true → (c : Cell) → has_cell c t ≡ true → writes c
+    pub read : t.is_write ≡ false → (c : Cell) → has_cell c t ≡ true → reads t.combines c
+    pub written : t.is_write ≡ true → (c : Cell) → has_cell c t ≡ true → writes t.combines c
 
   module _ (side : Side) (K : Left → Type 0)
-      (loads : (c : Cell) (k : Answer → Left) → reads c → ((a : Answer) → a.number < 2 ^ 64 → K (k a)) → K
+      (loads : (c : Cell) (k : Answer → Left) → reads None c → ((a : Answer) → a.number < 2 ^ 64 → K (k a)) → K
       (Asks (Load side c) k))
-      (puts : (c : Cell) (n : ℕ) (k : Answer → Left) → writes c → n < 2 ^ 64 → ((a : Answer) → K (k a)) → K
-      (Asks (Puts side c n) k)) where
+      (puts : (c : Cell) (n : ℕ) (k : Answer → Left) → writes None c → n < 2 ^ 64 → ((a : Answer) → K (k a)) → K
+      (Asks (Puts side c n) k))
+      (updates : (op : CombineOp) (c : Cell) (n : ℕ) (k : Answer → Left) → writes (Some op) c → n < 2 ^ 64 →
+      ((a : Answer) → K (k a)) → K (Asks (Updates side op c n) k)) where
     pub expr_all : (e : Expr) (loops : List ℕ) (scalars : Scalars) (certain : Bool) (k : ℕ → Left) →
         BoundedScalars scalars → AllSmall loops →
         Every Allowed (expr_touches e loops certain) → ((n : ℕ) → Has (interval e loops) n → K (k n)) → K
@@ -58,8 +61,8 @@ module _ (reads writes : Cell → Type 0) where
           cells = interval e loops;
           is_write = false;
           certain = certain;
-          place =
-              place;
+          combines = None;
+          place = place;
         } in
         let here = every_right Allowed (expr_touches e loops certain) (t ∷ []) h in
         expr_all e loops scalars certain (λ i. Asks (Load side (record { array = a; index = i })) (λ r. k r.number)) s l
@@ -194,8 +197,8 @@ module _ (reads writes : Cell → Type 0) where
             cells = interval e loops;
             is_write = true;
             certain = certain;
-            place =
-                place;
+            combines = None;
+            place = place;
           } in
           let later = every_right Allowed (expr_touches e loops certain) (source_touches v loops certain ++ t ∷ []) h in
           let here = every_right Allowed (source_touches v loops certain) (t ∷ []) later in
@@ -207,6 +210,22 @@ module _ (reads writes : Cell → Type 0) where
           (λ n u small g. puts (record { array = a; index = i }) n (λ r. k u)
           (here.0.written refl (record { array = a; index = i }) (in_cells a (interval e loops) i t refl refl m)) small
           (λ r. next u g)))
+      stmt_all (Combine op a place e v) loops certain l h s k f next =
+          let r : Touch = update_touch op a (interval e loops) false certain place in
+          let t : Touch = update_touch op a (interval e loops) true certain place in
+          let es = expr_touches e loops certain in
+          let vs = expr_touches v loops certain in
+          let later = every_right Allowed es ((vs ++ r ∷ []) ++ t ∷ []) h in
+          let here = every_right Allowed (vs ++ r ∷ []) (t ∷ []) later in
+          expr_all e loops s.scalars certain (λ i. expr_left v side loops s.scalars
+          (λ n. Asks (Updates side op (record { array = a; index = i }) n) (λ r. k s))) f.scalars l
+          (every_left Allowed es ((vs ++ r ∷ []) ++ t ∷ []) h)
+          (λ i m. expr_all v loops s.scalars certain
+          (λ n. Asks (Updates side op (record { array = a; index = i }) n) (λ r. k s)) f.scalars l
+          (every_left Allowed vs (r ∷ []) (every_left Allowed (vs ++ r ∷ []) (t ∷ []) later))
+          (λ n j. updates op (record { array = a; index = i }) n (λ r. k s)
+          (here.0.written refl (record { array = a; index = i }) (in_cells a (interval e loops) i t refl refl m)) j.small
+          (λ r. next s f)))
       stmt_all (Print e) loops certain l h s k f next =
           expr_all e loops s.scalars certain (λ n. k (printed s n)) f.scalars l h
           (λ n i. next (printed s n) (record { scalars = f.scalars; input = f.input; stores = f.stores }))

@@ -9,7 +9,7 @@ use Rattle.base.specs.Actions.{rests}
 use Rattle.base.specs.Accepted.{is_target}
 use Rattle.base.specs.declared.item.ItemKind.{ItemKind}
 use Rattle.base.specs.declared.item.ItemKind.TheVariants as kind
-use Rattle.fine_machine.specs.Left.{Request, Load, Store, Enter, Leave, Remove, CopyIn, CopyOut}
+use Rattle.fine_machine.specs.Left.{Request, Load, Store, Combine, Enter, Leave, Remove, CopyIn, CopyOut}
 use Rattle.fine_machine.specs.Machine.{Condition}
 use Rattle.two_memories.specs.Two.{resting_maps, blocks_before}
 use Rattle.two_memories.proofs.PlanItems.{at_item}
@@ -81,6 +81,7 @@ still_resting plan i (Leave x) ms own h =
     (λ _ k m e. let p = shortened ms m k e in h p.0 m p.1) (λ _. h)
 still_resting plan i (Load side c) ms own h = h
 still_resting plan i (Store side c n) ms own h = h
+still_resting plan i (Combine side op c n) ms own h = h
 still_resting plan i (Remove s) ms own h = h
 still_resting plan i (CopyIn c) ms own h = h
 still_resting plan i (CopyOut c) ms own h = h

@@ -28,7 +28,7 @@ use Rattle.machine.specs.Board.{Move, Allows, Moves, IsUnderWay, IsFresh}
 use Rattle.machine.specs.Board.Move.{Gen, Open, Step, Close, Wait}
 use Rattle.machine.specs.Board.Condition.{Untouched as untouched, Opened as is_opened}
 use Rattle.machine.specs.Machine.{Does, StepLaws}
-use Rattle.two_memories.specs.Two.{Two, Fixed, items_of, device_of, own_part, own_of as whole_own}
+use Rattle.two_memories.specs.Two.{Two, items_of, device_of, own_part, own_of as whole_own}
 use Rattle.two_memories.specs.Two as parts_of
 use Rattle.two_memories.proofs.PlanItems.{at_item, on_true, own_at, part_open}
 use Rattle.two_memories.proofs.AllowedEvents.{allows as whole_allows}
@@ -178,18 +178,18 @@ module _ (s : FineState) (v : IsValid s) where
       go false (Opened left) e h = absurd (false≢true h)
 
   open_good : (i : ℕ) → fine.enabled plan s.state (event.Open i) ≡ true →
-      IfThere (IsGood s (Open i) s.entered) (fine.step plan s.fixed.fill s.state (event.Open i))
+      IfThere (IsGood s (Open i) s.entered) (fine.step plan s.fixed.fill s.fixed.order s.state (event.Open i))
   open_good i en = go (on_true plan i (opens i) en)
     where
       go : (w : Work) × (slice_get plan.items i ≡ Some w) × (opens i w ≡ true) →
-          IfThere (IsGood s (Open i) s.entered) (fine.step plan s.fixed.fill s.state (event.Open i))
+          IfThere (IsGood s (Open i) s.entered) (fine.step plan s.fixed.fill s.fixed.order s.state (event.Open i))
       go r =
           let w = r.0 in
           let c = s.state.condition i in
-          subst (IfThere (IsGood s (Open i) s.entered)) (sym (at_item plan i w r.1 None (λ w. open_item i w s.state)))
+          subst (IfThere (IsGood s (Open i) s.entered)) (sym (at_item plan i w r.1 None (λ w. open_item (s.fixed.order i) i w s.state)))
           (there_map (λ left. BoundedLeft left × LeavesAll plan i [] left) (IsGood s (Open i) s.entered)
           (λ left. with_condition i (Opened left) s.state)
-          (item_left w (s.state.memories.devices w.device).blocks (begun w c s.state))
+          (item_left (s.fixed.order i) w (s.state.memories.devices w.device).blocks (begun w c s.state))
           (λ left b. record {
             bounded = bounded_with i (Opened left) s.state b.0 v.bounded;
             blocks = v.blocks;
@@ -198,10 +198,10 @@ module _ (s : FineState) (v : IsValid s) where
                 settled_with plan i s.entered s.state.condition v.settled (Opened left)
                 (subst (λ ms. LeavesAll plan i ms left) (sym (none_waiting i w.deferred (waits i w r.2))) b.1);
           })
-          (there_both BoundedLeft (LeavesAll plan i []) (item_left w (s.state.memories.devices w.device).blocks (begun w c s.state))
-          (item_bounded w (s.state.memories.devices w.device).blocks (begun w c s.state) (v.lawful i w r.1)
+          (there_both BoundedLeft (LeavesAll plan i []) (item_left (s.fixed.order i) w (s.state.memories.devices w.device).blocks (begun w c s.state))
+          (item_bounded (s.fixed.order i) w (s.state.memories.devices w.device).blocks (begun w c s.state) (v.lawful i w r.1)
           (begun_fine w c s.state (v.bounded.condition i) v.bounded))
-          (item_leaves plan i w r.1 (s.state.memories.devices w.device).blocks (begun w c s.state) (v.lawful i w r.1)
+          (item_leaves plan i w r.1 (s.fixed.order i) (s.state.memories.devices w.device).blocks (begun w c s.state) (v.lawful i w r.1)
           (begun_fine w c s.state (v.bounded.condition i) v.bounded))))
 
   pub kept_memories : (i : ℕ) → IsKept (own_memories plan i s.state)
@@ -211,7 +211,7 @@ module _ (s : FineState) (v : IsValid s) where
 
   step_good : (i : ℕ) → fine.enabled plan s.state (event.Step i) ≡ true →
       IfThere (IsGood s (Step i) (entered_after plan s.state s.entered (event.Step i)))
-      (fine.step plan s.fixed.fill s.state (event.Step i))
+      (fine.step plan s.fixed.fill s.fixed.order s.state (event.Step i))
   step_good i en = go (s.state.condition i) refl (v.bounded.condition i) (v.settled.settled i)
     where
       d : ℕ
@@ -259,11 +259,11 @@ module _ (s : FineState) (v : IsValid s) where
       go Passed e b l = tt
 
   close_good : (i : ℕ) → fine.enabled plan s.state (event.Close i) ≡ true →
-      IfThere (IsGood s (Close i) s.entered) (fine.step plan s.fixed.fill s.state (event.Close i))
+      IfThere (IsGood s (Close i) s.entered) (fine.step plan s.fixed.fill s.fixed.order s.state (event.Close i))
   close_good i en = by (on_true plan i (λ w. is_finished (s.state.condition i)) en)
     where
       by : (w : Work) × (slice_get plan.items i ≡ Some w) × (is_finished (s.state.condition i) ≡ true) →
-          IfThere (IsGood s (Close i) s.entered) (fine.step plan s.fixed.fill s.state (event.Close i))
+          IfThere (IsGood s (Close i) s.entered) (fine.step plan s.fixed.fill s.fixed.order s.state (event.Close i))
       by r =
           subst (IfThere (IsGood s (Close i) s.entered))
           (sym (at_item plan i w r.1 None (λ w. close_item i w (s.state.condition i) s.state)))
@@ -447,13 +447,13 @@ module _ (s : FineState) (v : IsValid s) where
       (gen_marked plan s.state (ready s v) i h.enabled)
       (settled_with plan i s.entered s.state.condition v.settled (Generated s.state.scalars) (gen_none i h.enabled)))
   next_is (Open i) h =
-      of_result (Open i) (event.Open i) (fine.step plan s.fixed.fill s.state (event.Open i))
+      of_result (Open i) (event.Open i) (fine.step plan s.fixed.fill s.fixed.order s.state (event.Open i))
       (open_good i h.enabled) (failed_open i h.enabled)
   next_is (Step i) h =
-      of_result (Step i) (event.Step i) (fine.step plan s.fixed.fill s.state (event.Step i))
+      of_result (Step i) (event.Step i) (fine.step plan s.fixed.fill s.fixed.order s.state (event.Step i))
       (step_good i h.enabled) (failed_step i h.enabled)
   next_is (Close i) h =
-      of_result (Close i) (event.Close i) (fine.step plan s.fixed.fill s.state (event.Close i))
+      of_result (Close i) (event.Close i) (fine.step plan s.fixed.fill s.fixed.order s.state (event.Close i))
       (close_good i h.enabled) (failed_close i h.enabled)
   next_is (Wait i) h = wait_next i h
 
@@ -490,8 +490,13 @@ finished_open (Generated captured) e = absurd (false≢true e)
 finished_open Closed e = absurd (false≢true e)
 finished_open Passed e = absurd (false≢true e)
 
-as_two : FineState → Two
-as_two s = record { fixed = s.fixed; state = as_whole s.state; failed = s.failed }
+abbrev as_two : FineState → Two
+as_two s =
+    record {
+      fixed = record { plan = s.fixed.plan; fill = s.fixed.fill };
+      state = as_whole s.state;
+      failed = s.failed;
+    }
 
 same_wait : (plan : Plan) (s : State) (i : ℕ) (b : Bool) →
     fine.enabled plan s (if b then event.End else event.Wait i) ≡ parts_of.on_event
@@ -501,15 +506,15 @@ same_wait plan s i false = refl
 
 allows : (s : FineState) (e : Move) → MayDo s e → Allows (items_of s.fixed.plan) (board_of s.fixed.plan s.state) e
 allows s (Gen i) h =
-    whole_allows (record { fixed = s.fixed; state = as_whole s.state; failed = s.failed }) (Gen i)
+    whole_allows (as_two s) (Gen i)
     (record { sound = h.sound; enabled = h.enabled })
 allows s (Open i) h =
-    whole_allows (record { fixed = s.fixed; state = as_whole s.state; failed = s.failed }) (Open i)
+    whole_allows (as_two s) (Open i)
     (record { sound = h.sound; enabled = h.enabled })
 allows s (Step i) h = under_way s i has_step stepping_open h.enabled
 allows s (Close i) h = under_way s i is_finished finished_open h.enabled
 allows s (Wait i) h =
-    whole_allows (record { fixed = s.fixed; state = as_whole s.state; failed = s.failed }) (Wait i)
+    whole_allows (as_two s) (Wait i)
     (record {
       sound = h.sound;
       enabled = sym (same_wait s.fixed.plan s.state i (i == length s.fixed.plan.items))

@@ -10,7 +10,7 @@ use Rattle.base.specs.Items.{Work, Plan}
 use Rattle.base.specs.Map.{Block, Memories}
 use Rattle.base.specs.Blocks.{holder}
 use Rattle.base.specs.Machine.{on_item}
-use Rattle.fine_machine.specs.Left.{Left, Asks, Request, Load, Store, Enter, Leave, Remove, CopyIn, CopyOut, Answer}
+use Rattle.fine_machine.specs.Left.{Left, Asks, Request, Load, Store, Combine, Enter, Leave, Remove, CopyIn, CopyOut, Answer}
 use Rattle.fine_machine.specs.Action.{act}
 use Rattle.fine_machine.specs.Machine.{State, Untouched, Opened, has_step, with_memories}
 use Rattle.machine.specs.Board.{touches, Moves}
@@ -46,6 +46,7 @@ stands_at plan i (Leave item) ms bs t h = h.stands
 stands_at plan i (Remove s) ms bs t h = h.stands
 stands_at plan i (Load side c) ms bs t h = absurd t
 stands_at plan i (Store side c n) ms bs t h = absurd t
+stands_at plan i (Combine side op c n) ms bs t h = absurd t
 stands_at plan i (CopyIn c) ms bs t h = absurd t
 stands_at plan i (CopyOut c) ms bs t h = absurd t
 
@@ -277,5 +278,6 @@ module _ (start : FineState) (a a' : State) (b b' : Bool) (m m' : ℕ → List M
           (others start.fixed.plan m i) (m' i) h.tables h.quiet h.apart h.apart' h.cells s walked)))
       go (Load side c) e table walked next = absurd table
       go (Store side c n) e table walked next = absurd table
+      go (Combine side op c n) e table walked next = absurd table
       go (CopyIn c) e table walked next = absurd table
       go (CopyOut c) e table walked next = absurd table

@@ -28,13 +28,13 @@ use Rattle.machine.specs.Board.Condition.{Untouched as untouched, Closed as clos
 use Rattle.machine.specs.Machine.{Does, Runs, Finishes, DoesItem, InOwnTurn}
 use Rattle.machine.proofs.TurnStates.{IsKnown, known_next}
 use Rattle.machine.proofs.TurnBoards.{reached, turn_known}
-use Rattle.two_memories.specs.Two.{Fixed, device_of, items_of, own_part, tables_before, blocks_before}
+use Rattle.two_memories.specs.Two.{device_of, items_of, own_part, tables_before, blocks_before}
 use Rattle.two_memories.proofs.PlanItems.{Which, which, own_at, at_item}
 use Rattle.two_memories.proofs.PlanItems.Which.{item, past}
 use Rattle.two_memories.proofs.ByKind.{acts_wait}
 use Rattle.two_memories.proofs.WalkBlocks.{walks_blocks}
 use Rattle.two_memories.proofs.TurnWalk.{before_next, from_none}
-use Rattle.fine_headline.specs.FineState.{FineState, IsValid, IsStart, BoundedCondition, board_of, is_resting, entered_by, entered_after, result_of, next, parts}
+use Rattle.fine_headline.specs.FineState.{Fixed, FineState, IsValid, IsStart, BoundedCondition, board_of, is_resting, entered_by, entered_after, result_of, next, parts}
 use Rattle.fine_headline.proofs.Acting.{IsActed, act_kept}
 use Rattle.fine_headline.proofs.StepLaws.{step_laws, begun_fine, none_waiting, kept_memories, moved_memories, moved_condition}
 use Rattle.fine_headline.proofs.Quietly.{closed_by}
@@ -125,7 +125,7 @@ module _ (u v : FineState) (i : ℕ) (w : Work) (at : slice_get u.fixed.plan.ite
       go Passed e h = absurd (cc e)
 
   open_walk : Does parts u (Open i) v → Stood → Stands v
-  open_walk d h = go (item_left w (u.state.memories.devices w.device).blocks (begun w (u.state.condition i) u.state)) refl
+  open_walk d h = go (item_left (u.fixed.order i) w (u.state.memories.devices w.device).blocks (begun w (u.state.condition i) u.state)) refl
     where
       test : not (two.is_wait w.kind) && ((w.deferred || (u.state.place == i)) && (two.is_waiting w.deferred
           (whole_condition (u.state.condition i)) && two.is_ready u.fixed.plan (as_whole u.state) i)) ≡ true
@@ -154,14 +154,14 @@ module _ (u v : FineState) (i : ℕ) (w : Work) (at : slice_get u.fixed.plan.ite
           ap (λ d. (u.state.memories.devices d).blocks) (sym (device_at u.fixed.plan i w at)) ∙ same
 
       stepped : (q : Option Left) →
-          item_left w (u.state.memories.devices w.device).blocks (begun w (u.state.condition i) u.state) ≡ q →
+          item_left (u.fixed.order i) w (u.state.memories.devices w.device).blocks (begun w (u.state.condition i) u.state) ≡ q →
           v ≡ result_of u (event.Open i) (option_map (λ left. with_condition i (Opened left) u.state) q)
       stepped q e =
           d.step ∙ ap (result_of u (event.Open i))
-          (at_item u.fixed.plan i w at None (λ w. open_item i w u.state) ∙ ap
+          (at_item u.fixed.plan i w at None (λ w. open_item (u.fixed.order i) i w u.state) ∙ ap
           (option_map (λ left. with_condition i (Opened left) u.state)) e)
 
-      go : (q : Option Left) → item_left w (u.state.memories.devices w.device).blocks (begun w (u.state.condition i) u.state) ≡ q →
+      go : (q : Option Left) → item_left (u.fixed.order i) w (u.state.memories.devices w.device).blocks (begun w (u.state.condition i) u.state) ≡ q →
           Stands v
       go None e = absurd (true≢false (sym (ap (λ (x : FineState). x.failed) (stepped None e)) ∙ sound))
       go (Some left) e =
@@ -177,12 +177,12 @@ module _ (u v : FineState) (i : ℕ) (w : Work) (at : slice_get u.fixed.plan.ite
                       (subst (λ bs. InWalk u.fixed.plan (u.fixed.fill i) i
                       (acts_of w (blocks_before u.fixed.plan i)).blocks [] bs left) (sym same)
                       (there_at (InWalk u.fixed.plan (u.fixed.fill i) i (acts_of w (blocks_before u.fixed.plan i)).blocks []
-                      (blocks_before u.fixed.plan i)) (item_left w (blocks_before u.fixed.plan i)
+                      (blocks_before u.fixed.plan i)) (item_left (u.fixed.order i) w (blocks_before u.fixed.plan i)
                       (begun w (u.state.condition i) u.state)) left
-                      (item_walks u.fixed.plan (u.fixed.fill i) i w (begun w (u.state.condition i) u.state) at (valid.lawful i w at)
+                      (item_walks u.fixed.plan (u.fixed.fill i) (u.fixed.order i) i w (begun w (u.state.condition i) u.state) at (valid.lawful i w at)
                       (walks_blocks u.fixed.plan valid.lawful i)
                       (begun_fine w (u.state.condition i) u.state (valid.bounded.condition i) valid.bounded))
-                      (ap (λ bs. item_left w bs (begun w (u.state.condition i) u.state)) (sym here) ∙ e))),
+                      (ap (λ bs. item_left (u.fixed.order i) w bs (begun w (u.state.condition i) u.state)) (sym here) ∙ e))),
                 );
           })
 

@@ -13,7 +13,7 @@ use Rattle.base.specs.Map.{Block, Memories, Fill}
 use Rattle.base.specs.Blocks.{holder}
 use Rattle.base.specs.Actions.{entry_acts, exit_acts}
 use Rattle.base.proofs.Blocks.{meets}
-use Rattle.fine_machine.specs.Left.{Left, Finished, Asks, Request, Load, Store, Enter, Leave, Remove, CopyIn, CopyOut, Answer}
+use Rattle.fine_machine.specs.Left.{Left, Finished, Asks, Request, Load, Store, Combine, Enter, Leave, Remove, CopyIn, CopyOut, Answer}
 use Rattle.fine_machine.specs.Action.{act}
 use Rattle.two_memories.specs.Two.{number_inside, AreEntered}
 use Rattle.two_memories.proofs.LikeMemories.{Covers}
@@ -63,6 +63,7 @@ Walked plan i (Leave item) ms bs = LeavesHere plan i item ms bs
 Walked plan i (Remove s) ms bs = RemovesHere plan i s ms bs
 Walked plan i (Load side c) ms bs = IsAllowed plan i (Load side c)
 Walked plan i (Store side c n) ms bs = IsAllowed plan i (Store side c n)
+Walked plan i (Combine side op c n) ms bs = IsAllowed plan i (Combine side op c n)
 Walked plan i (CopyIn c) ms bs = IsAllowed plan i (CopyIn c)
 Walked plan i (CopyOut c) ms bs = IsAllowed plan i (CopyOut c)
 

@@ -11,6 +11,7 @@ use Rattle.base.specs.declared.item.MapKind.TheVariants.{Delete}
 use Rattle.base.specs.Actions.{Host, Dev}
 use Rattle.base.specs.Memory.{is_in, is_inside, same_section}
 use Rattle.base.specs.Items.{Work, Plan}
+use Rattle.base.specs.Value.{combined}
 use Rattle.base.specs.Map.{Block, Memories, Fill, Move, Absent, Inside, InPart, presence, counted, without, when, with_blocks, with_cells, entry, exit, exit_count, exit_copies, enter, leave}
 use Rattle.base.specs.Blocks.{holder}
 use Rattle.base.specs.Actions.{entry_acts, exit_acts, each_acts, rests, is_present}
@@ -18,7 +19,7 @@ use Rattle.base.specs.Accepted.{is_target}
 use Rattle.base.proofs.Blocks.{meets, holder_counted, holder_inside, counted_same, counted_other}
 use Rattle.base.proofs.Sections.{first_in, in_from}
 use Rattle.base.proofs.Moves.{is_absent, is_there, is_part, lowered_move, ignored_move, exit_absent, exit_there}
-use Rattle.fine_machine.specs.Left.{Left, Asks, Request, Load, Store, Enter, Leave, Remove, CopyIn, CopyOut, OnHost, OnDevice, Answer, section_left, cells_left, left_if, entry_left, exit_left, each_left}
+use Rattle.fine_machine.specs.Left.{Left, Asks, Request, Load, Store, Combine, Enter, Leave, Remove, CopyIn, CopyOut, OnHost, OnDevice, Answer, section_left, cells_left, left_if, entry_left, exit_left, each_left}
 use Rattle.fine_machine.specs.Action.{act, on_cell, loaded, decided, lowered, removed, with_host, with_device}
 use Rattle.base.specs.declared.tree.ArrayId.{ArrayId}
 use Rattle.base.specs.Memory.{is_cell}
@@ -76,6 +77,12 @@ cell_blocks lengths fill (Store OnHost c v) m n x t e =
 cell_blocks lengths fill (Store OnDevice c v) m n x t e =
     ap (λ (p : Answer × Memories). p.1.device.blocks)
     (sym (of_map (λ old. (loaded 0, with_device c v m)) (m.device.cells c) (x, n) e).2)
+cell_blocks lengths fill (Combine OnHost op c v) m n x t e =
+    ap (λ (p : Answer × Memories). p.1.device.blocks)
+    (sym (of_cell (is_cell lengths c) (loaded 0, with_host c (combined op (m.host c) v) m) (x, n) e))
+cell_blocks lengths fill (Combine OnDevice op c v) m n x t e =
+    ap (λ (p : Answer × Memories). p.1.device.blocks)
+    (sym (of_map (λ old. (loaded 0, with_device c (combined op old v) m)) (m.device.cells c) (x, n) e).2)
 cell_blocks lengths fill (CopyIn c) m n x t e =
     ap (λ (p : Answer × Memories). p.1.device.blocks)
     (sym (of_map (λ old. (loaded 0, with_device c (m.host c) m)) (m.device.cells c) (x, n) e).2)
@@ -143,6 +150,11 @@ module _ (plan : Plan) (fill : Fill) (i : ℕ) (w : Work) (at : slice_get plan.i
     h,
     λ x m n same small e. subst (λ xs. InWalk plan fill i after ms xs (k x))
         (sym (cell_blocks plan.lengths fill (Store side c v) m n x tt e ∙ same)) (next x small),
+  )
+  cell_walks ms bs (Combine side op c v) k h next = (
+    h,
+    λ x m n same small e. subst (λ xs. InWalk plan fill i after ms xs (k x))
+        (sym (cell_blocks plan.lengths fill (Combine side op c v) m n x tt e ∙ same)) (next x small),
   )
   cell_walks ms bs (CopyIn c) k h next = (
     h,

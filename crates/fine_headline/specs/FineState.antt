@@ -11,7 +11,7 @@ use Rattle.base.specs.declared.tree.Program.{Program}
 use Rattle.base.specs.Items.{Plan, plan}
 use Rattle.base.specs.Map.{Fill}
 use Rattle.base.specs.Machine.{on_item}
-use Rattle.fine_machine.specs.Left.{Left, Finished, Asks, Request, Store, Enter, Leave, Answer}
+use Rattle.fine_machine.specs.Left.{Left, Finished, Asks, Request, Store, Combine, Enter, Leave, Answer}
 use Rattle.fine_machine.specs.Machine.{State, Condition, Untouched, Generated, Opened, Closed, Passed, as_whole, whole_condition, step, start, with_condition, moves_on, RunFrom, HasEnded}
 use Rattle.fine_machine.specs.Machine as fine
 use Rattle.base.specs.Actions.{rests}
@@ -22,8 +22,14 @@ use Rattle.machine.specs.Board.{Move, Board, Condition as Phase}
 use Rattle.machine.specs.Board.Condition.{Opened as opened}
 use Rattle.machine.specs.Board.Move.{Gen, Open, Step, Close, Wait}
 use Rattle.machine.specs.Machine.{Parts}
-use Rattle.two_memories.specs.Two.{Spot, Holding, Number, Entry, Fixed, Hosted, hosted, items_of, device_of, blocks_before, resting_maps, number_inside, sum_below, less, AllLawful, BoundedFill}
+use Rattle.two_memories.specs.Two.{Spot, Holding, Number, Entry, Hosted, hosted, items_of, device_of, blocks_before, resting_maps, number_inside, sum_below, less, AllLawful, BoundedFill}
 use Rattle.two_memories.specs.Two as two
+
+-- what a run does not change: the contents of the storage that each item creates, and the order of its turns
+pub record Fixed : Type 0 where
+  pub plan : Plan
+  pub fill : ℕ → Fill
+  pub order : ℕ → List ℕ
 
 -- a state, or one that a failure left, with the resting map items that each item has entered and not yet left
 pub record FineState : Type 0 where
@@ -122,7 +128,7 @@ result_of s e None = record s { state = failing s.fixed.plan s.state e; failed =
 result_of s e (Some t) = record s { state = t; entered = entered_after s.fixed.plan s.state s.entered e }
 
 abbrev pub next : FineState → Event → FineState
-next s e = result_of s e (step s.fixed.plan s.fixed.fill s.state e)
+next s e = result_of s e (step s.fixed.plan s.fixed.fill s.fixed.order s.state e)
 
 abbrev pub next_move : FineState → Move → FineState
 next_move s e = next s (event_of s.fixed.plan e)
@@ -136,6 +142,7 @@ pub record MayDo (s : FineState) (e : Move) : Type 0 where
 -- numbers below 2^64 in what an action stores, and in what is left of an item, whatever is loaded
 abbrev pub BoundedRequest : Request → Type 0
 BoundedRequest (Store side c n) = n < 2 ^ 64
+BoundedRequest (Combine side op c n) = n < 2 ^ 64
 BoundedRequest (Enter item) = 1 ≤ item.section.length
 BoundedRequest _ = Unit {0}
 
@@ -225,7 +232,7 @@ parts = record {
 -- a run of the fine-grained machine that has not ended can go on, whether its program is accepted or not
 abbrev pub AFineRunGoesOn : Type 0
 AFineRunGoesOn =
-    (p : Program) (input : List ℕ) (fill : ℕ → Fill) (events : List Event) (s : State) →
-    RunFrom (plan p) fill input events (Some s) →
+    (p : Program) (input : List ℕ) (fill : ℕ → Fill) (order : ℕ → List ℕ) (events : List Event) (s : State) →
+    RunFrom (plan p) fill order input events (Some s) →
     (HasEnded (plan p) s → ⊥) →
     (e : Event) × IsTrue (fine.enabled (plan p) s e)

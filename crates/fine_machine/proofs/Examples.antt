@@ -1,7 +1,7 @@
 -- What the fine-grained machine does with small programs.
 use Rattle.base.specs.declared.item.Event.TheVariants.{Gen, Open, Step, Close, Wait, End}
 use Rattle.std.proofs.Common.{◌≡◌, ℕ, ◌<◌, ◌^◌, List, [], ◌∷◌, refl, arith, Option, Some, None, lit<, lit≤, Box, Bool, false, true, zero, suc, map, length}
-use Rattle.std.specs.Prelude.{Vec, option_map, flat_map, ◌==◌}
+use Rattle.std.specs.Prelude.{Vec, not, option_map, flat_map, ◌==◌}
 use Rattle.std.specs.Cmp.Lexicographic.{pointwise}
 use Rattle.std.specs.List.{list_all, range_with_len}
 use Rattle.std.specs.declared.alloc.Global.{Global}
@@ -12,9 +12,10 @@ use Rattle.base.specs.declared.tree.Expr.{Expr}
 use Rattle.base.specs.declared.tree.Expr.TheVariants.{Number, Scalar, LoopName, Cell', Binary'}
 use Rattle.base.specs.declared.tree.Source.TheVariants.{Value, Read}
 use Rattle.base.specs.declared.tree.Stmt.{Stmt}
-use Rattle.base.specs.declared.tree.Stmt.TheVariants.{Store, Print, Declare}
+use Rattle.base.specs.declared.tree.Stmt.TheVariants.{Store, Combine, Print, Declare}
 use Rattle.base.specs.declared.tree.Bounds.{Bounds}
-use Rattle.base.specs.declared.tree.BinaryOp.TheVariants.{Add, Multiply}
+use Rattle.base.specs.declared.tree.BinaryOp.TheVariants.{BitXor, Add, Multiply}
+use Rattle.base.specs.declared.tree.CombineOp.TheVariants as combining
 use Rattle.base.specs.declared.tree.Part.{Part}
 use Rattle.base.specs.declared.tree.Part.TheVariants as part
 use Rattle.base.specs.declared.tree.Region.{Region}
@@ -31,7 +32,9 @@ use Rattle.base.specs.declared.tree.MapText.{MapText}
 use Rattle.base.specs.declared.tree.SectionText.{SectionText}
 use Rattle.base.specs.declared.tree.Bound.{Bound}
 use Rattle.base.specs.declared.tree.Term.TheVariants.{Literal}
+use Rattle.base.specs.declared.item.Cell.{Cell}
 use Rattle.base.specs.Items.{Plan, plan_of}
+use Rattle.base.specs.Turns.{turns_at, turns_meet}
 use Rattle.fine_machine.specs.Machine.{Played, run_by_choices}
 use Rattle.base.proofs.Trees.{vec_of, loop, choice}
 
@@ -52,7 +55,7 @@ module _ (v : Vec (Unit {0}) Global) (p : Box (Unit {0}) Global) where
   between m n h = record { first = m; end = n; step = 1; step_not_zero = lit≤ tt; no_wrap = omega arith }
 
   abbrev region : (xs : List Stmt) → length xs < 2 ^ 63 → Region
-  region xs h = record { place = here; body = vec_of v xs h }
+  region xs h = record { place = here; body = vec_of v xs h; depth = 0 }
 
   abbrev bound : ℕ → Bound
   bound n = record { terms = record { items = Literal n ∷ []; capacity = 2 } }
@@ -95,7 +98,7 @@ module _ (v : Vec (Unit {0}) Global) (p : Box (Unit {0}) Global) where
   wait_all = part.Alone here (directive.Wait (record { items = []; capacity = 2 }))
 
   abbrev played : Plan → List ℕ → List ℕ → Played
-  played plan input choices = run_by_choices plan (λ k c. 11936128518282651045) 1000 input choices
+  played plan input choices = run_by_choices plan (λ k c. 11936128518282651045) (λ k. []) 1000 input choices
 
   abbrev output : Played → Option (List ℕ)
   output r = option_map (λ s. s.output) r.state
@@ -308,3 +311,160 @@ module _ (v : Vec (Unit {0}) Global) (p : Box (Unit {0}) Global) where
 
   side_by_side_222 : list_all (λ w. shows_it (2 ∷ 2 ∷ 2 ∷ w)) (lists 3 3) ≡ true
   side_by_side_222 = refl
+
+  -- kernels whose turns may run in any order
+
+  abbrev unordered : ℕ → (xs : List Stmt) → length xs < 2 ^ 63 → Region
+  unordered depth xs h = record { place = here; body = vec_of v xs h; depth = depth }
+
+  abbrev printed_by : Plan → List ℕ → Option (List ℕ)
+  printed_by plan order =
+      output (run_by_choices plan (λ k c. 11936128518282651045) (λ k. order) 1000 [] [])
+
+  -- two turns that add 1 to the same cell, which is refused
+  abbrev counted : Plan
+  counted =
+      plan_of (1 ∷ []) (
+      part.Target (target false (map_item mapped.ToFrom (whole a) ∷ []))
+      (unordered 1 (loop v (between 0 2 (lit< tt)) (Store a here (Number 0)
+      (Value (Binary' Add p (at_a (Number 0)) p (Number 1))) ∷ []) (lit< tt) ∷ []) (lit< tt))
+      ∷ part.Host (region (Print (at_a (Number 0)) ∷ []) (lit< tt)) ∷ [])
+
+  turns_in_order : printed_by counted [] ≡ Some (2 ∷ [])
+  turns_in_order = refl
+
+  last_turn_first : printed_by counted (1 ∷ 1 ∷ []) ≡ Some (2 ∷ [])
+  last_turn_first = refl
+
+  -- both load before one stores
+  turns_between_each_other : printed_by counted (0 ∷ 1 ∷ 0 ∷ 1 ∷ []) ≡ Some (1 ∷ [])
+  turns_between_each_other = refl
+
+  -- a turn that assigns a scalar which the next one reads: no text spells it, and E510 is for it too
+  abbrev handed_on : ℕ → Plan
+  handed_on depth =
+      plan_of (2 ∷ []) (
+      part.Target (target false (map_item mapped.ToFrom (whole a) ∷ []))
+      (unordered depth (loop v (between 0 2 (lit< tt)) (Store a here i (Value (Scalar scalar)) ∷
+      Declare scalar (Value (Number 7)) ∷ []) (lit< tt) ∷ []) (lit< tt))
+      ∷ part.Host (region (loop v (between 0 2 (lit< tt)) (Print (at_a i) ∷ []) (lit< tt) ∷ []) (lit< tt)) ∷ [])
+
+  from_turn_to_turn : printed_by (handed_on 0) [] ≡ Some (0 ∷ 7 ∷ [])
+  from_turn_to_turn = refl
+
+  each_from_the_start : printed_by (handed_on 1) [] ≡ Some (0 ∷ 0 ∷ [])
+  each_from_the_start = refl
+
+  -- the turns of two loops, each with a scalar of its own and a cell of its own, in which it stores twice
+  abbrev at_both : Expr
+  at_both = Binary' Add p (Binary' Multiply p (LoopName 0) p (Number 2)) p (LoopName 1)
+
+  abbrev own_cells : Plan
+  own_cells =
+      plan_of (4 ∷ []) (
+      part.Target (target false (map_item mapped.ToFrom (whole a) ∷ []))
+      (unordered 2 (loop v (between 0 2 (lit< tt)) (loop v (between 0 2 (lit< tt))
+      (Declare scalar (Value at_both)
+      ∷ Store a here at_both (Value (Binary' Add p (Scalar scalar) p (Number 1)))
+      ∷ Store a here at_both (Value (Binary' Multiply p (at_a at_both) p (Scalar scalar))) ∷ []) (lit< tt) ∷ [])
+      (lit< tt) ∷ []) (lit< tt))
+      ∷ part.Host (region (loop v (between 0 4 (lit< tt)) (Print (at_a i) ∷ []) (lit< tt) ∷ []) (lit< tt)) ∷ [])
+
+  own_cells_in_order : printed_by own_cells [] ≡ Some (0 ∷ 2 ∷ 6 ∷ 12 ∷ [])
+  own_cells_in_order = refl
+
+  -- by every list of four numbers from 0 to 3
+  own_cells_in_any_order :
+      list_all (λ w. output_is (0 ∷ 2 ∷ 6 ∷ 12 ∷ []) (printed_by own_cells w)) (lists 4 4) ≡ true
+  own_cells_in_any_order = refl
+
+  -- turns that update one cell by commuting updates
+
+  -- A[0] += A[i + 1] for each i below 4
+  abbrev next_a : Expr
+  next_a = Binary' Add p i p (Number 1)
+
+  abbrev summing : List Stmt
+  summing =
+      loop v (between 0 4 (lit< tt)) (Combine combining.Add a here (Number 0) (at_a next_a) ∷ []) (lit< tt) ∷ []
+
+  -- with the array filled by the squares before
+  abbrev summed : Plan
+  summed =
+      plan_of (5 ∷ []) (
+      part.Host (region (loop v (between 0 4 (lit< tt)) (Store a here next_a (Value (Binary' Multiply p next_a p
+      next_a)) ∷ []) (lit< tt) ∷ []) (lit< tt))
+      ∷ part.Target (target false (map_item mapped.ToFrom (whole a) ∷ [])) (unordered 1 summing (lit< tt))
+      ∷ part.Host (region (Print (at_a (Number 0)) ∷ []) (lit< tt)) ∷ [])
+
+  summed_in_order : printed_by summed [] ≡ Some (30 ∷ [])
+  summed_in_order = refl
+
+  -- by every list of four numbers from 0 to 3, each turn being a load and an update
+  summed_in_any_order : list_all (λ w. output_is (30 ∷ []) (printed_by summed w)) (lists 4 4) ≡ true
+  summed_in_any_order = refl
+
+  -- the least and the greatest of them
+  abbrev sorted_out : Plan
+  sorted_out =
+      plan_of (6 ∷ []) (
+      part.Host (region (loop v (between 0 4 (lit< tt)) (Store a here (Binary' Add p i p (Number 2))
+      (Value (Binary' BitXor p i p (Number 5))) ∷ []) (lit< tt) ∷ Store a here (Number 0) (Value (Number 9)) ∷ [])
+      (lit< tt))
+      ∷ part.Target (target false (map_item mapped.ToFrom (whole a) ∷ []))
+      (unordered 1 (loop v (between 2 6 (lit< tt)) (Combine combining.Min a here (Number 0) (at_a i) ∷
+      Combine combining.Max a here (Number 1) (at_a i) ∷ []) (lit< tt) ∷ []) (lit< tt))
+      ∷ part.Host (region (Print (at_a (Number 0)) ∷ Print (at_a (Number 1)) ∷ []) (lit< tt)) ∷ [])
+
+  sorted_out_in_any_order : list_all (λ w. output_is (4 ∷ 7 ∷ []) (printed_by sorted_out w)) (lists 4 4) ≡ true
+  sorted_out_in_any_order = refl
+
+  abbrev cell_of_a : ℕ → Cell
+  cell_of_a n = record { array = a; index = n }
+
+  abbrev meet_on : List Stmt → ℕ → Bool
+  meet_on body n = turns_meet (turns_at 1 body []) (cell_of_a n)
+
+  sums_do_not_meet : list_all (λ n. not (meet_on summing n)) (range_with_len 0 6) ≡ true
+  sums_do_not_meet = refl
+
+  -- where the second of two turns multiplies the cell to which the first one adds, the order shows
+  abbrev two_turns : (second : Stmt) → List Stmt
+  two_turns second =
+      loop v (between 0 2 (lit< tt)) (choice v i (second ∷ [])
+      (Combine combining.Add a here (Number 0) (Number 1) ∷ []) (lit< tt) (lit< tt) ∷ []) (lit< tt) ∷ []
+
+  abbrev first_adds : Stmt → Plan
+  first_adds second =
+      plan_of (2 ∷ []) (
+      part.Target (target false (map_item mapped.ToFrom (whole a) ∷ [])) (unordered 1 (two_turns second) (lit< tt))
+      ∷ part.Host (region (Print (at_a (Number 0)) ∷ Print (at_a (Number 1)) ∷ []) (lit< tt)) ∷ [])
+
+  abbrev doubles : Stmt
+  doubles = Combine combining.Multiply a here (Number 0) (Number 2)
+
+  added_and_doubled : printed_by (first_adds doubles) [] ≡ Some (2 ∷ 0 ∷ [])
+  added_and_doubled = refl
+
+  doubled_and_added : printed_by (first_adds doubles) (1 ∷ []) ≡ Some (1 ∷ 0 ∷ [])
+  doubled_and_added = refl
+
+  operators_differ : meet_on (two_turns doubles) 0 ≡ true
+  operators_differ = refl
+
+  -- and so it does where the second turn reads it
+  abbrev looks : Stmt
+  looks = Store a here (Number 1) (Value (at_a (Number 0)))
+
+  seen_after : printed_by (first_adds looks) [] ≡ Some (1 ∷ 1 ∷ [])
+  seen_after = refl
+
+  seen_before : printed_by (first_adds looks) (1 ∷ []) ≡ Some (1 ∷ 0 ∷ [])
+  seen_before = refl
+
+  a_read_is_beside : meet_on (two_turns looks) 0 ≡ true
+  a_read_is_beside = refl
+
+  -- both add
+  operators_agree : meet_on (two_turns (Combine combining.Add a here (Number 0) (Number 5))) 0 ≡ false
+  operators_agree = refl

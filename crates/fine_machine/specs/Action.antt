@@ -4,8 +4,9 @@ use Rattle.base.specs.declared.item.Cell.{Cell}
 use Rattle.base.specs.declared.item.Section.{Section}
 use Rattle.base.specs.declared.item.MapItem.{MapItem}
 use Rattle.base.specs.Memory.{same_cell, is_cell}
+use Rattle.base.specs.Value.{combined}
 use Rattle.base.specs.Map.{Memories, Fill, Presence, Absent, Inside, InPart, presence, entry, exit_count, exit_copies, counted, without, when, with_blocks, with_cells}
-use Rattle.fine_machine.specs.Left.{OnHost, OnDevice, Request, Load, Store, Enter, Leave, Remove, CopyIn, CopyOut, Answer}
+use Rattle.fine_machine.specs.Left.{OnHost, OnDevice, Request, Load, Store, Combine, Enter, Leave, Remove, CopyIn, CopyOut, Answer}
 
 abbrev pub loaded : ℕ → Answer
 loaded n = record { number = n; copies = false; removes = false }
@@ -51,6 +52,10 @@ act lengths fill (Load OnHost c) m = on_cell (is_cell lengths c) (loaded (m.host
 act lengths fill (Load OnDevice c) m = option_map (λ n. (loaded n, m)) (m.device.cells c)
 act lengths fill (Store OnHost c n) m = on_cell (is_cell lengths c) (loaded 0, with_host c n m)
 act lengths fill (Store OnDevice c n) m = option_map (λ old. (loaded 0, with_device c n m)) (m.device.cells c)
+act lengths fill (Combine OnHost op c n) m =
+    on_cell (is_cell lengths c) (loaded 0, with_host c (combined op (m.host c) n) m)
+act lengths fill (Combine OnDevice op c n) m =
+    option_map (λ old. (loaded 0, with_device c (combined op old n) m)) (m.device.cells c)
 act lengths fill (Enter item) m =
     option_map
     (λ move. (

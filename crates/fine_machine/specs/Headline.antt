@@ -22,13 +22,13 @@ pub record FineShowsErased (p : Program) (input : List ℕ) (s : State) : Type 0
 
 -- every run that ends shows it; no run fails; and no run is stuck before its end
 pub record EveryFineRunIsRight (p : Program) : Type 0 where
-  pub shows : (input : List ℕ) (fill : ℕ → Fill) (events : List Event) (s : State) →
-      AreNumbers input → IsFill fill → RunFrom (plan p) fill input events (Some s) → HasEnded (plan p) s →
+  pub shows : (input : List ℕ) (fill : ℕ → Fill) (order : ℕ → List ℕ) (events : List Event) (s : State) →
+      AreNumbers input → IsFill fill → RunFrom (plan p) fill order input events (Some s) → HasEnded (plan p) s →
       FineShowsErased p input s
-  pub never_fails : (input : List ℕ) (fill : ℕ → Fill) (events : List Event) →
-      AreNumbers input → IsFill fill → RunFrom (plan p) fill input events None → ⊥
-  pub never_stuck : (input : List ℕ) (fill : ℕ → Fill) (events : List Event) (s : State) →
-      AreNumbers input → IsFill fill → RunFrom (plan p) fill input events (Some s) → (HasEnded (plan p) s → ⊥) →
+  pub never_fails : (input : List ℕ) (fill : ℕ → Fill) (order : ℕ → List ℕ) (events : List Event) →
+      AreNumbers input → IsFill fill → RunFrom (plan p) fill order input events None → ⊥
+  pub never_stuck : (input : List ℕ) (fill : ℕ → Fill) (order : ℕ → List ℕ) (events : List Event) (s : State) →
+      AreNumbers input → IsFill fill → RunFrom (plan p) fill order input events (Some s) → (HasEnded (plan p) s → ⊥) →
       (e : Event) × IsTrue (enabled (plan p) s e)
 
 -- the fine-grained headline

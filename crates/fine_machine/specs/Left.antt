@@ -1,7 +1,8 @@
 -- What is left of an open item, action by action: each load, each store, each copied cell and each action on the table
 -- comes by itself.
-use Rattle.std.specs.Prelude.{ℕ, zero, suc, ◌+◌, ◌%◌, Bool, true, false, not, List, [], ◌∷◌, ◌++◌, Option, Some, None, slice_index, if◌then◌else◌, option_map}
+use Rattle.std.specs.Prelude.{ℕ, zero, suc, ◌+◌, ◌%◌, Bool, true, false, not, List, [], ◌∷◌, ◌++◌, map, Option, Some, None, slice_index, if◌then◌else◌, option_map}
 use Rattle.base.specs.declared.tree.ArrayId.{ArrayId}
+use Rattle.base.specs.declared.tree.CombineOp.{CombineOp}
 use Rattle.base.specs.declared.tree.Expr.{Expr}
 use Rattle.base.specs.declared.tree.Expr.TheVariants.{Number, Scalar, LoopName, Cell', Unary', Binary', And', Or', Shift', Divide'}
 use Rattle.base.specs.declared.tree.Source.{Source}
@@ -18,6 +19,7 @@ use Rattle.base.specs.Memory.{Scalars}
 use Rattle.base.specs.Value.{modulus, flag, is_zero, unary, binary, shifted, divided}
 use Rattle.base.specs.Meaning.{Run as Region_run, turns_of, read_next, set_scalar, printed}
 use Rattle.base.specs.Items.{Work}
+use Rattle.base.specs.Turns.{Turn, turns_at}
 use Rattle.base.specs.Map.{Block, Presence, Absent, Inside, InPart, presence, copies_to, copies_from}
 
 -- the memory on which a region works
@@ -29,6 +31,8 @@ pub data Side : Type 0 where
 pub data Request : Type 0 where
   Load : (side : Side) (cell : Cell) → Request
   Store : (side : Side) (cell : Cell) (number : ℕ) → Request
+  -- a cell takes what the operator makes of its number and this one: at once, with nothing in between
+  Combine : (side : Side) (op : CombineOp) (cell : Cell) (number : ℕ) → Request
   -- an entry's action on the table: creation and count; an exit's: the count; and the removal
   Enter : (item : MapItem) → Request
   Leave : (item : MapItem) → Request
@@ -89,6 +93,10 @@ abbrev mutual
   stmt_left (stmt.Store a place e v) side loops s k =
       expr_left e side loops s.scalars
       (λ i. source_left v side loops s (λ n t. Asks (Store side (record { array = a; index = i }) n) (λ r. k t)))
+  stmt_left (stmt.Combine op a place e v) side loops s k =
+      expr_left e side loops s.scalars
+      (λ i. expr_left v side loops s.scalars
+      (λ n. Asks (Combine side op (record { array = a; index = i }) n) (λ r. k s)))
   stmt_left (stmt.Print e) side loops s k = expr_left e side loops s.scalars (λ n. k (printed s n))
   stmt_left (stmt.Block' shape all) side loops s k = row_left all side loops s k
   stmt_left (stmt.Loop' b shape all) side loops s k =
@@ -108,6 +116,57 @@ list_left (first ∷ rest) side loops s k = stmt_left first side loops s (λ t. 
 abbrev pub region_left : Option Region → Side → List ℕ → Region_run → (Region_run → Left) → Left
 region_left None side loops s k = k s
 region_left (Some r) side loops s k = list_left r.body.items side loops s k
+
+-- Turns that may run in any order.
+
+-- all that is left of one, and then another
+abbrev pub then_left : Left → Left → Left
+then_left (Finished t) after = after
+then_left (Asks r k) after = Asks r (λ a. then_left (k a) after)
+
+-- one after the other
+abbrev pub in_order : List Left → Left → Left
+in_order [] after = after
+in_order (l ∷ rest) after = then_left l (in_order rest after)
+
+-- how many of them have an action to do
+abbrev pub waiting : List Left → ℕ
+waiting [] = 0
+waiting (Finished t ∷ rest) = waiting rest
+waiting (Asks r k ∷ rest) = waiting rest + 1
+
+-- the action that is next in the n-th of those that have one, and then what follows from what is left of all; where fewer
+-- have one, something else
+abbrev pub act_of : ℕ → List Left → (List Left → Left) → Left → Left
+act_of n [] follow other = other
+act_of n (Finished t ∷ rest) follow other = act_of n rest (λ ls. follow (Finished t ∷ ls)) other
+act_of zero (Asks r k ∷ rest) follow other = Asks r (λ a. follow (k a ∷ rest))
+act_of (suc n) (Asks r k ∷ rest) follow other = act_of n rest (λ ls. follow (Asks r k ∷ ls)) other
+
+-- each number of the order picks, of those that have an action to do, the one that does it. Where the order is used up,
+-- or none has one, what is left goes one after the other
+abbrev pub together : List ℕ → List Left → Left → Left
+together [] lefts after = in_order lefts after
+together (n ∷ order) lefts after =
+    act_of (n % waiting lefts) lefts (λ ls. together order ls after) (in_order lefts after)
+
+-- what is left of one turn of a kernel, which begins where the region does and comes to its own end
+abbrev pub turn_left : Region_run → Turn → Left
+turn_left s t = list_left t.body OnDevice t.loops s Finished
+
+-- a kernel whose turns may run in any order: what comes after it goes on from where the region began, since a kernel's
+-- scalars are its own
+abbrev pub unordered_left : List ℕ → ℕ → List Stmt → List ℕ → Region_run → (Region_run → Left) → Left
+unordered_left order depth body loops s k = together order (map (turn_left s) (turns_at depth body loops)) (k s)
+
+-- a kernel, by the depth to which its turns may run in any order
+abbrev pub kernel_left : List ℕ → Option Region → List ℕ → Region_run → (Region_run → Left) → Left
+kernel_left order None loops s k = k s
+kernel_left order (Some r) loops s k = by r.depth
+  where
+    by : ℕ → Left
+    by zero = list_left r.body.items OnDevice loops s k
+    by (suc d) = unordered_left order (suc d) r.body.items loops s k
 
 -- an action on each of a section's cells, in ascending order
 abbrev pub cells_left : (Cell → Request) → ArrayId → ℕ → ℕ → (Unit {0} → Left) → Left
@@ -151,15 +210,15 @@ present_of blocks (item ∷ rest) = at (presence blocks item.section) (present_o
     at (Inside b) o = option_map (λ xs. item ∷ xs) o
     at InPart o = None
 
--- what is left of an item that is opened, or none where it fails
-abbrev pub item_left : Work → List Block → Region_run → Option Left
-item_left w blocks s = at w.kind
+-- what is left of an item that is opened, or none where it fails; by the order of its turns
+abbrev pub item_left : List ℕ → Work → List Block → Region_run → Option Left
+item_left order w blocks s = at w.kind
   where
     at : ItemKind → Option Left
     at kind.Host = Some (region_left w.region OnHost w.loops s Finished)
     at kind.Target =
         Some (each_left entry_left w.maps
-        (λ u. region_left w.region OnDevice w.loops s (λ t. each_left exit_left w.maps (λ u. Finished t))))
+        (λ u. kernel_left order w.region w.loops s (λ t. each_left exit_left w.maps (λ u. Finished t))))
     at kind.Begin = Some (each_left entry_left w.maps (λ u. Finished s))
     at kind.Enter = Some (each_left entry_left w.maps (λ u. Finished s))
     at kind.End = Some (each_left exit_left w.maps (λ u. Finished s))

@@ -116,10 +116,10 @@ input_of kind.Wait input = []
 abbrev pub begun : Work → Condition → State → Region_run
 begun w c s = record { scalars = captured_by c s.scalars; stores = []; input = input_of w.kind s.input; printed = [] }
 
-abbrev pub open_item : ℕ → Work → State → Option State
-open_item i w s =
+abbrev pub open_item : List ℕ → ℕ → Work → State → Option State
+open_item order i w s =
     option_map (λ left. with_condition i (Opened left) s)
-    (item_left w (s.memories.devices w.device).blocks (begun w (s.condition i) s))
+    (item_left order w (s.memories.devices w.device).blocks (begun w (s.condition i) s))
 
 -- the device on which an item works
 abbrev pub device_of : Plan → ℕ → ℕ
@@ -161,24 +161,24 @@ close_item i w Closed s = None
 close_item i w Passed s = None
 
 -- an event that may happen happens, or none where the run fails. fill i has the contents of the storage that item i
--- creates
-abbrev pub step : Plan → (ℕ → Fill) → State → Event → Option State
-step plan fill s (Gen i) = Some (moves_on false (with_condition i (Generated s.scalars) s))
-step plan fill s (Open i) = on_item plan i None (λ w. open_item i w s)
-step plan fill s (Step i) = step_item plan (fill i) i (s.condition i) s
-step plan fill s (Close i) = on_item plan i None (λ w. close_item i w (s.condition i) s)
-step plan fill s (Wait i) = Some (moves_on false (with_condition i Passed s))
-step plan fill s End = Some (moves_on false s)
+-- creates, and order i says in which order its turns go on
+abbrev pub step : Plan → (ℕ → Fill) → (ℕ → List ℕ) → State → Event → Option State
+step plan fill order s (Gen i) = Some (moves_on false (with_condition i (Generated s.scalars) s))
+step plan fill order s (Open i) = on_item plan i None (λ w. open_item (order i) i w s)
+step plan fill order s (Step i) = step_item plan (fill i) i (s.condition i) s
+step plan fill order s (Close i) = on_item plan i None (λ w. close_item i w (s.condition i) s)
+step plan fill order s (Wait i) = Some (moves_on false (with_condition i Passed s))
+step plan fill order s End = Some (moves_on false s)
 
 -- a run: from a state, or a failure (none), these events lead to the end. After a failure there is no event
-abbrev pub Run : Plan → (ℕ → Fill) → Option State → List Event → Option State → Type 0
-Run plan fill s [] end = end ≡ s
-Run plan fill (Some s) (e ∷ rest) end = IsTrue (enabled plan s e) × Run plan fill (step plan fill s e) rest end
-Run plan fill None (e ∷ rest) end = ⊥
+abbrev pub Run : Plan → (ℕ → Fill) → (ℕ → List ℕ) → Option State → List Event → Option State → Type 0
+Run plan fill order s [] end = end ≡ s
+Run plan fill order (Some s) (e ∷ rest) end = IsTrue (enabled plan s e) × Run plan fill order (step plan fill order s e) rest end
+Run plan fill order None (e ∷ rest) end = ⊥
 
 -- a run from the zero memory and no blocks, with this input
-abbrev pub RunFrom : Plan → (ℕ → Fill) → List ℕ → List Event → Option State → Type 0
-RunFrom plan fill input events end = Run plan fill (Some (start input)) events end
+abbrev pub RunFrom : Plan → (ℕ → Fill) → (ℕ → List ℕ) → List ℕ → List Event → Option State → Type 0
+RunFrom plan fill order input events end = Run plan fill order (Some (start input)) events end
 
 -- `End` was done
 abbrev pub HasEnded : Plan → State → Type 0
@@ -197,19 +197,19 @@ pub record Played : Type 0 where
   pub state : Option State
 
 -- at most n events of the run that follows the choices. It stops where no event may happen
-abbrev pub follow : Plan → (ℕ → Fill) → ℕ → List ℕ → List Event → Option State → Played
-follow plan fill n choices history None = record { history = history; state = None }
-follow plan fill zero choices history (Some s) = record { history = history; state = Some s }
-follow plan fill (suc n) choices history (Some s) =
+abbrev pub follow : Plan → (ℕ → Fill) → (ℕ → List ℕ) → ℕ → List ℕ → List Event → Option State → Played
+follow plan fill order n choices history None = record { history = history; state = None }
+follow plan fill order zero choices history (Some s) = record { history = history; state = Some s }
+follow plan fill order (suc n) choices history (Some s) =
     let next = all_enabled plan s in
     elim (slice_get next (first_or_zero choices % length next)) [
       | None ↦ record { history = history; state = Some s }
-      | Some e ↦ follow plan fill n (rest_of choices) (history ++ e ∷ []) (step plan fill s e)
+      | Some e ↦ follow plan fill order n (rest_of choices) (history ++ e ∷ []) (step plan fill order s e)
     ]
 
 -- the same from the start. A run has no more events than some number, which its loads may decide
-abbrev pub run_by_choices : Plan → (ℕ → Fill) → ℕ → List ℕ → List ℕ → Played
-run_by_choices plan fill most input choices = follow plan fill most choices [] (Some (start input))
+abbrev pub run_by_choices : Plan → (ℕ → Fill) → (ℕ → List ℕ) → ℕ → List ℕ → List ℕ → Played
+run_by_choices plan fill order most input choices = follow plan fill order most choices [] (Some (start input))
 
 -- of an open item either an action or the close comes next
 abbrev pub OneEventNext : Type 0

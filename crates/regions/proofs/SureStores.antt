@@ -8,23 +8,24 @@ use Rattle.base.specs.declared.item.Cell.{Cell}
 use Rattle.base.specs.declared.fault.Interval.{Interval}
 use Rattle.base.specs.declared.tree.ArrayId.{ArrayId}
 use Rattle.base.specs.declared.tree.Place.{Place}
+use Rattle.base.specs.declared.tree.CombineOp.{CombineOp}
 use Rattle.base.specs.declared.tree.Bounds.{Bounds}
 use Rattle.base.specs.declared.tree.Expr.{Expr}
 use Rattle.base.specs.declared.tree.Source.{Source}
 use Rattle.base.specs.declared.tree.Stmt.{Stmt, Row_of-Stmt, end_of-Stmt, more_of-Stmt}
-use Rattle.base.specs.declared.tree.Stmt.TheVariants.{Declare, Assign, Store, Print, Block', Loop', If'}
+use Rattle.base.specs.declared.tree.Stmt.TheVariants.{Declare, Assign, Store, Combine, Print, Block', Loop', If'}
 use Rattle.base.specs.Memory.{View, Stores, last_stored, same_cell}
 use Rattle.base.specs.Value.{value}
-use Rattle.base.specs.Meaning.{Run, names_in, run_stmt, run_row, run_list, source_of, set_scalar, assigned, stored, printed, turn, turns_of, turns_left, choose}
+use Rattle.base.specs.Meaning.{Run, names_in, run_stmt, run_row, run_list, source_of, set_scalar, assigned, stored, updated_by, printed, turn, turns_of, turns_left, choose}
 use Rattle.base.specs.Interval.{interval, is_known_zero, is_known_nonzero}
-use Rattle.base.specs.Footprint.{Touch, is_sure, surely_writes, expr_touches, source_touches, stmt_touches, row_touches, turns_touch, unless}
+use Rattle.base.specs.Footprint.{Touch, is_sure, surely_writes, expr_touches, source_touches, update_touch, stmt_touches, row_touches, turns_touch, unless}
 use Rattle.regions.specs.Certain.{IsStored, SureWritesAreStored}
 use Rattle.regions.proofs.Intervals.{Has}
 use Rattle.regions.proofs.Needs.{Every, Unsure, expr_reads}
 use Rattle.regions.proofs.ExprValues.{in_cells}
 use Rattle.regions.proofs.StatementsDone.{AllSmall, small_push, SmallView, small_list, last_push, sure_is}
-use Rattle.regions.proofs.StatementOutcomes.{Met, Sound, source_known, value_known}
-use Rattle.regions.proofs.RegionsDone.{reads_unsure, source_unsure, unless_unsure, row_unsure, turn_below}
+use Rattle.regions.proofs.StatementOutcomes.{Met, Sound, source_known, updated_known, value_known}
+use Rattle.regions.proofs.RegionsDone.{reads_unsure, source_unsure, update_reads, unless_unsure, row_unsure, turn_below}
 use Rattle.regions.proofs.FootprintsHold.{all_met, not_nonzero, not_zero, stmt_outcome, row_outcome}
 
 -- of touches of which none is sure, none is a sure write
@@ -118,75 +119,92 @@ module _ (view : View) (small_view : SmallView view) where
       go None h = absurd (none-some t h)
       go (Some n) h = ap (λ (y : Run). y.stores) (sym (same_Some (printed s n) t h))
 
-  module _ (loops : List ℕ) (a : ArrayId) (place : Place) (e : Expr) (src : Source) (certain : Bool) where
-    abbrev written : Touch
-    written = record { array = a; cells = interval e loops; is_write = true; certain = certain; place = place }
+  -- a store of what is given for its cell
+  module _ (loops : List ℕ) (a : ArrayId) (place : Place) (e : Expr) (mark : Option CombineOp) (ss : List Touch)
+      (unsure : Every Unsure ss) (given : Run → Cell → Option (ℕ × Run)) (certain : Bool)
+    where
+      abbrev written : Touch
+      written = record {
+        array = a;
+        cells = interval e loops;
+        is_write = true;
+        certain = certain;
+        combines = mark;
+        place = place;
+      }
 
-    abbrev cell_at : ℕ → Cell
-    cell_at i = record { array = a; index = i }
+      abbrev cell_at : ℕ → Cell
+      cell_at i = record { array = a; index = i }
 
-    -- of what a store touches only the store itself can be sure
-    only_written : (c : Cell) →
-        surely_writes (expr_touches e loops certain ++ (source_touches src loops certain ++ written ∷ [])) c ≡ true →
-        is_sure c written ≡ true
-    only_written c h =
-        let es = expr_touches e loops certain in
-        let ss = source_touches src loops certain in
-        ⊎_elim (λ k. absurd (none_sure es c (reads_unsure es (expr_reads e loops certain)) k))
-        (λ k. ⊎_elim (λ j. absurd (none_sure ss c (source_unsure src loops certain) j)) here (in_either ss _ c k))
-        (in_either es (ss ++ written ∷ []) c h)
-      where
-        here : surely_writes (written ∷ []) c ≡ true → is_sure c written ≡ true
-        here h = ⊎_elim (λ k. k) (λ k. absurd (false≢true k)) (or_cases (is_sure c written) false h)
+      -- of what a store touches only the store itself can be sure
+      only_written : (c : Cell) →
+          surely_writes (expr_touches e loops certain ++ (ss ++ written ∷ [])) c ≡ true →
+          is_sure c written ≡ true
+      only_written c h =
+          let es = expr_touches e loops certain in
+          ⊎_elim (λ k. absurd (none_sure es c (reads_unsure es (expr_reads e loops certain)) k))
+          (λ k. ⊎_elim (λ j. absurd (none_sure ss c unsure j)) here (in_either ss _ c k))
+          (in_either es (ss ++ written ∷ []) c h)
+        where
+          here : surely_writes (written ∷ []) c ≡ true → is_sure c written ≡ true
+          here h = ⊎_elim (λ k. k) (λ k. absurd (false≢true k)) (or_cases (is_sure c written) false h)
 
-    store_covered : AllSmall loops →
-        Covered (λ s. option_and_then (λ i. stored view (cell_at i) (source_of src view loops s))
-        (value e (names_in view loops s)))
-        (expr_touches e loops certain ++ (source_touches src loops certain ++ written ∷ []))
-    store_covered l s f t h =
-        let k = value_known view view anywhere small_view s loops e certain f.fine l (fits _) in
-        let j = source_known view view anywhere small_view s loops src certain f.fine l (fits _) in
-        indexed (value e (names_in view loops s)) k.has (source_of src view loops s) j.stores h
-      where
-        touches : List Touch
-        touches = expr_touches e loops certain ++ (source_touches src loops certain ++ written ∷ [])
+      store_covered : AllSmall loops →
+          ((s : Run) → Sound view view anywhere s → (i : ℕ) → Has (interval e loops) i → (r : ℕ × Run) → given s
+          (cell_at i) ≡ Some r → r.1.stores ≡ s.stores) →
+          Covered (λ s. option_and_then (λ i. stored view (cell_at i) (given s (cell_at i)))
+          (value e (names_in view loops s)))
+          (expr_touches e loops certain ++ (ss ++ written ∷ []))
+      store_covered l known s f t h =
+          let k = value_known view view anywhere small_view s loops e certain f.fine l (fits _) in
+          indexed (value e (names_in view loops s)) k.has (known s f) h
+        where
+          touches : List Touch
+          touches = expr_touches e loops certain ++ (ss ++ written ∷ [])
 
-        pushed : (i : ℕ) (r : ℕ × Run) → Has (interval e loops) i → r.1.stores ≡ s.stores →
-            t.stores ≡ r.1.stores ++ (cell_at i, r.0) ∷ [] → Covers touches s t
-        pushed i r has same eq =
-            record {
-              kept =
-                  λ c g. subst (λ (st : Stores). IsStored st c) (sym eq)
-                  (push_stored r.1.stores (cell_at i) r.0 c (subst (λ (st : Stores). IsStored st c) (sym same) g));
-              sure =
-                  λ c g. subst (λ (st : Stores). IsStored st c) (sym eq)
-                  (push_here r.1.stores (cell_at i) r.0 c (here c (only_written c g)));
-            }
-          where
-            here : (c : Cell) → is_sure c written ≡ true → same_cell (cell_at i) c ≡ true
-            here c g = go (same_cell (cell_at i) c) refl
-              where
-                go : (b : Bool) → same_cell (cell_at i) c ≡ b → b ≡ true
-                go true k = refl
-                go false k =
-                    absurd (false≢true (sym (sure_is view view small_view (cell_at i) c written
-                    (in_cells a (interval e loops) i written refl refl has) k) ∙ g))
+          pushed : (i : ℕ) (r : ℕ × Run) → Has (interval e loops) i → r.1.stores ≡ s.stores →
+              t.stores ≡ r.1.stores ++ (cell_at i, r.0) ∷ [] → Covers touches s t
+          pushed i r has same eq =
+              record {
+                kept =
+                    λ c g. subst (λ (st : Stores). IsStored st c) (sym eq)
+                    (push_stored r.1.stores (cell_at i) r.0 c (subst (λ (st : Stores). IsStored st c) (sym same) g));
+                sure =
+                    λ c g. subst (λ (st : Stores). IsStored st c) (sym eq)
+                    (push_here r.1.stores (cell_at i) r.0 c (here c (only_written c g)));
+              }
+            where
+              here : (c : Cell) → is_sure c written ≡ true → same_cell (cell_at i) c ≡ true
+              here c g = go (same_cell (cell_at i) c) refl
+                where
+                  go : (b : Bool) → same_cell (cell_at i) c ≡ b → b ≡ true
+                  go true k = refl
+                  go false k =
+                      absurd (false≢true (sym (sure_is view view small_view (cell_at i) c written
+                      (in_cells a (interval e loops) i written refl refl has) k) ∙ g))
 
-        viewed : (i : ℕ) (r : ℕ × Run) (old : Option ℕ) → Has (interval e loops) i → r.1.stores ≡ s.stores →
-            option_map (λ (x : ℕ). let next : Run = record (r.1) { stores = r.1.stores ++ (cell_at i, r.0) ∷ [] } in
-            next) old ≡ Some t → Covers touches s t
-        viewed i r None has same k = absurd (none-some t k)
-        viewed i r (Some x) has same k =
-            let next : Run = record (r.1) { stores = r.1.stores ++ (cell_at i, r.0) ∷ [] } in
-            pushed i r has same (ap (λ (y : Run). y.stores) (sym (same_Some next t k)))
+          viewed : (i : ℕ) (r : ℕ × Run) (old : Option ℕ) → Has (interval e loops) i → r.1.stores ≡ s.stores →
+              option_map (λ (x : ℕ). let next : Run = record (r.1) { stores = r.1.stores ++ (cell_at i, r.0) ∷ [] } in
+              next) old ≡ Some t → Covers touches s t
+          viewed i r None has same k = absurd (none-some t k)
+          viewed i r (Some x) has same k =
+              let next : Run = record (r.1) { stores = r.1.stores ++ (cell_at i, r.0) ∷ [] } in
+              pushed i r has same (ap (λ (y : Run). y.stores) (sym (same_Some next t k)))
 
-        indexed : (o : Option ℕ) → ((n : ℕ) → o ≡ Some n → Has (interval e loops) n) →
-            (q : Option (ℕ × Run)) → ((r : ℕ × Run) → q ≡ Some r → r.1.stores ≡ s.stores) →
-            option_and_then (λ i. stored view (cell_at i) q) o ≡ Some t →
-            Covers touches s t
-        indexed None has q same k = absurd (none-some t k)
-        indexed (Some i) has None same k = absurd (none-some t k)
-        indexed (Some i) has (Some r) same k = viewed i r (view (cell_at i)) (has i refl) (same r refl) k
+          at : (i : ℕ) → Has (interval e loops) i →
+              (q : Option (ℕ × Run)) → ((r : ℕ × Run) → q ≡ Some r → r.1.stores ≡ s.stores) →
+              stored view (cell_at i) q ≡ Some t →
+              Covers touches s t
+          at i has None same k = absurd (none-some t k)
+          at i has (Some r) same k = viewed i r (view (cell_at i)) has (same r refl) k
+
+          indexed : (o : Option ℕ) → ((n : ℕ) → o ≡ Some n → Has (interval e loops) n) →
+              ((i : ℕ) → Has (interval e loops) i → (r : ℕ × Run) → given s (cell_at i) ≡ Some r →
+              r.1.stores ≡ s.stores) →
+              option_and_then (λ i. stored view (cell_at i) (given s (cell_at i))) o ≡ Some t →
+              Covers touches s t
+          indexed None has same k = absurd (none-some t k)
+          indexed (Some i) has same k = at i (has i refl) (given s (cell_at i)) (same i (has i refl)) k
 
   if_covered : (o : Option ℕ) (i : Interval) (f g : Run → Option Run) (xs ys : List Touch) →
       ((n : ℕ) → o ≡ Some n → Has i n) →
@@ -241,7 +259,16 @@ module _ (view : View) (small_view : SmallView view) where
         Covered (run_stmt st view loops) (stmt_touches st loops certain)
     stmt_covered (Declare x src) loops certain l s h t e = assign_covered loops x.0 src certain l s h t e
     stmt_covered (Assign x src) loops certain l s h t e = assign_covered loops x.0 src certain l s h t e
-    stmt_covered (Store a place e' src) loops certain l s h t e = store_covered loops a place e' src certain l s h t e
+    stmt_covered (Store a place e' src) loops certain l s h t e =
+        store_covered loops a place e' None (source_touches src loops certain) (source_unsure src loops certain)
+        (λ s c. source_of src view loops s) certain l
+        (λ s f i _. (source_known view view anywhere small_view s loops src certain f.fine l (fits _)).stores) s h t e
+    stmt_covered (Combine op a place e' x) loops certain l s h t e =
+        let xs = expr_touches x loops certain ++ update_touch op a (interval e' loops) false certain place ∷ [] in
+        store_covered loops a place e' (Some op) xs (reads_unsure xs (update_reads op a e' x place loops certain))
+        (λ s c. updated_by op x c view loops s) certain l
+        (λ s f i k. (updated_known view view anywhere small_view s loops op a place e' x certain f.fine l (fits xs)
+        i k).stores) s h t e
     stmt_covered (Print e') loops certain l s h t e = print_covered loops e' certain s h t e
     stmt_covered (Block' shape all) loops certain l s h t e = row_covered all loops certain l s h t e
     stmt_covered (Loop' b shape all) loops certain l s h t e =

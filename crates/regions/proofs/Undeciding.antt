@@ -1,5 +1,5 @@
 -- What a region touches depends on the loops alone that it names in a subscript or a condition.
-use Rattle.std.proofs.Common.{◌≡◌, ℕ, zero, suc, ◌+◌, ◌<◌, ◌≤◌, Bool, true, false, List, [], ◌∷◌, ◌++◌, refl, sym, ap, ap₂, ◌∙◌, arith, length, Some, ⊎_elim, length-append}
+use Rattle.std.proofs.Common.{◌≡◌, ℕ, zero, suc, ◌+◌, ◌<◌, ◌≤◌, Bool, true, false, List, [], ◌∷◌, ◌++◌, refl, sym, ap, ap₂, ◌∙◌, arith, length, Some, None, ⊎_elim, length-append}
 use Rattle.std.specs.Prelude.{◌&&◌, ◌||◌, ◌==◌, nat_lt, flat_map, map, filter, slice_index, if◌then◌else◌}
 use Rattle.std.proofs.lemmas.Bool.{or_left, or_right, cases_lt}
 use Rattle.std.proofs.lemmas.Bool.Decides.{nat_tests}
@@ -9,12 +9,11 @@ use Rattle.base.specs.declared.tree.Expr.TheVariants.{Number, Scalar, LoopName, 
 use Rattle.base.specs.declared.tree.Source.{Source}
 use Rattle.base.specs.declared.tree.Source.TheVariants.{Value, Read}
 use Rattle.base.specs.declared.tree.Stmt.{Stmt, Row_of-Stmt, end_of-Stmt, more_of-Stmt}
-use Rattle.base.specs.declared.tree.Stmt.TheVariants.{Declare, Assign, Store, Print, Block', Loop', If'}
+use Rattle.base.specs.declared.tree.Stmt.TheVariants.{Declare, Assign, Store, Combine, Print, Block', Loop', If'}
 use Rattle.base.specs.Meaning.{turns_of}
 use Rattle.base.specs.Interval.{exactly, known, interval, interval_unary, interval_binary, interval_shift, interval_divide, is_known_zero, is_known_nonzero}
 use Rattle.base.specs.Footprint.{Touch, expr_touches, source_touches, turns_touch, stmt_touches, row_touches, turns_in, leaves_array}
-use Rattle.base.specs.Accepted.{most_turns, turns_fault, subscript_fault}
-use Rattle.regions.specs.Deciding.{expr_decides, source_decides, stmt_decides, row_decides, list_decides, AgreeWhere, UndecidingLoopsDecideNothing, MarkedValuesDecide, AgreeingItemsTouchAlike}
+use Rattle.regions.specs.Deciding.{expr_decides, source_decides, stmt_decides, row_decides, list_decides, AgreeWhere}
 
 -- lists that agree at a level that decides
 same_index : (p : ℕ → Bool) (xs ys : List ℕ) (i : ℕ) → AgreeWhere p xs ys → p i ≡ true →
@@ -81,7 +80,14 @@ expr_alike xs ys certain d (Number k) s = refl
 expr_alike xs ys certain d (Scalar x) s = refl
 expr_alike xs ys certain d (LoopName level) s = refl
 expr_alike xs ys certain d (Cell' a place p e) s =
-    ap₂ (λ ts i. ts ++ record { array = a; cells = i; is_write = false; certain = certain; place = place } ∷ [])
+    ap₂ (λ ts i. ts ++ record {
+      array = a;
+      cells = i;
+      is_write = false;
+      certain = certain;
+      combines = None;
+      place = place;
+    } ∷ [])
     (expr_alike xs ys certain true e s) (expr_interval xs ys e s)
 expr_alike xs ys certain d (Unary' op p e) s = expr_alike xs ys certain d e s
 expr_alike xs ys certain d (Binary' op p e q f) s =
@@ -122,6 +128,14 @@ mutual
         source_alike xs ys certain v source,
         expr_interval xs ys e subscript,
       ) refl
+  stmt_alike xs ys certain (Combine op a place e v) s =
+      let subscript = first_test (λ i. expr_decides true i e) (λ i. expr_decides false i v) xs ys s in
+      let source = second_test (λ i. expr_decides true i e) (λ i. expr_decides false i v) xs ys s in
+      rw (
+        expr_alike xs ys certain true e subscript,
+        expr_alike xs ys certain false v source,
+        expr_interval xs ys e subscript,
+      ) refl
   stmt_alike xs ys certain (Print e) s = expr_alike xs ys certain false e s
   stmt_alike xs ys certain (Block' shape all) s = row_alike xs ys certain all s
   stmt_alike xs ys certain (Loop' b shape all) s =
@@ -158,35 +172,3 @@ list_alike xs ys certain (first ∷ rest) s =
     ap₂ (λ (us vs : List Touch). us ++ vs)
     (stmt_alike xs ys certain first (first_test (λ i. stmt_decides i first) (λ i. list_decides i rest) xs ys s))
     (list_alike xs ys certain rest (second_test (λ i. stmt_decides i first) (λ i. list_decides i rest) xs ys s))
-
--- a region under loops of which those have the same values that it names in a subscript or a condition
-pub undeciding_loops_decide_nothing : UndecidingLoopsDecideNothing
-undeciding_loops_decide_nothing r loops other s =
-    let same = list_alike loops other true r.body.items s in
-    record {
-      touches = same;
-      faults =
-          λ lengths. ap
-          (λ ts. (if nat_lt most_turns (turns_in r) then turns_fault r ∷ [] else [])
-          ++ map subscript_fault (filter (leaves_array lengths) ts))
-          same;
-    }
-
--- the marked values of two lists are the same
-pub marked_values_decide : MarkedValuesDecide
-marked_values_decide r marks loops other values mark count these those =
-    undeciding_loops_decide_nothing r loops other (record {
-      count = sym count;
-      values = λ level inside h.
-          let marked = mark.each level inside ∙ ap (λ (b : Bool). Some b) h in
-          sym (these.each level true marked) ∙ those.each level true marked;
-    })
-
--- two items of one region
-pub agreeing_items_touch_alike : AgreeingItemsTouchAlike
-agreeing_items_touch_alike r v w first second agree =
-    let alike = undeciding_loops_decide_nothing r v.loops w.loops agree in
-    record {
-      touches = rw (first, second) alike.touches;
-      faults = λ lengths. rw (first, second) (alike.faults lengths);
-    }

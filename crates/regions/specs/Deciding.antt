@@ -6,12 +6,14 @@ use Rattle.base.specs.declared.tree.Expr.TheVariants.{Number, Scalar, LoopName, 
 use Rattle.base.specs.declared.tree.Source.{Source}
 use Rattle.base.specs.declared.tree.Source.TheVariants.{Value, Read}
 use Rattle.base.specs.declared.tree.Stmt.{Stmt, Row_of-Stmt, end_of-Stmt, more_of-Stmt}
-use Rattle.base.specs.declared.tree.Stmt.TheVariants.{Declare, Assign, Store, Print, Block', Loop', If'}
+use Rattle.base.specs.declared.tree.Stmt.TheVariants.{Declare, Assign, Store, Combine, Print, Block', Loop', If'}
 use Rattle.base.specs.declared.tree.Region.{Region}
 use Rattle.base.specs.Items.{Work}
 use Rattle.base.specs.Accepted.{region_faults}
 use Rattle.base.specs.Actions.{touches_in}
 use Rattle.base.specs.Footprint.{touches_of}
+use Rattle.base.specs.Turns.{turns_at, turns_in_work, turns_meet}
+use Rattle.base.specs.declared.item.Cell.{Cell}
 
 -- whether an expression names the loop at this level in a subscript, or anywhere where its own value decides
 abbrev pub expr_decides : Bool → ℕ → Expr → Bool
@@ -37,6 +39,7 @@ abbrev mutual
   stmt_decides level (Declare x v) = source_decides level v
   stmt_decides level (Assign x v) = source_decides level v
   stmt_decides level (Store a place e v) = expr_decides true level e || source_decides level v
+  stmt_decides level (Combine op a place e v) = expr_decides true level e || expr_decides false level v
   stmt_decides level (Print e) = expr_decides false level e
   stmt_decides level (Block' shape all) = row_decides level all
   stmt_decides level (Loop' b shape all) = row_decides level all
@@ -63,13 +66,16 @@ pub record AgreeWhere (test : ℕ → Bool) (loops other : List ℕ) : Type 0 wh
 abbrev pub AgreeWhereDeciding : Region → List ℕ → List ℕ → Type 0
 AgreeWhereDeciding r loops other = AgreeWhere (λ level. decides level r) loops other
 
--- a region touches the same, and has the same faults of range, at these and at the other values of the loops around it
+-- a region touches the same, has the same faults of range, and its turns meet on the same cells, at these and at the
+-- other values of the loops around it
 pub record TouchesAlike (r : Region) (loops other : List ℕ) : Type 0 where
   pub touches : touches_of r loops ≡ touches_of r other
   pub faults : (lengths : List ℕ) → region_faults lengths loops (Some r) ≡ region_faults lengths other (Some r)
+  pub turns : (c : Cell) →
+      turns_meet (turns_at r.depth r.body.items loops) c ≡ turns_meet (turns_at r.depth r.body.items other) c
 
--- what a region touches, and which faults of range it has, depends on the values alone of the loops around it that it
--- names in a subscript or a condition
+-- what a region touches, which faults of range it has, and where its turns meet depends on the values alone of the loops
+-- around it that it names in a subscript or a condition
 abbrev pub UndecidingLoopsDecideNothing : Type 0
 UndecidingLoopsDecideNothing =
     (r : Region) (loops other : List ℕ) → AgreeWhereDeciding r loops other → TouchesAlike r loops other
@@ -92,10 +98,11 @@ MarkedValuesDecide =
     length other ≡ length loops → AreMarkedValues marks loops values → AreMarkedValues marks other values →
     TouchesAlike r loops other
 
--- the regions of two items touch the same, and have the same faults of range
+-- the regions of two items touch the same, have the same faults of range, and their turns meet on the same cells
 pub record WorksAlike (v w : Work) : Type 0 where
   pub touches : touches_in v ≡ touches_in w
   pub faults : (lengths : List ℕ) → region_faults lengths v.loops v.region ≡ region_faults lengths w.loops w.region
+  pub turns : (c : Cell) → turns_meet (turns_in_work v) c ≡ turns_meet (turns_in_work w) c
 
 -- two items of one region touch alike where the loops that decide have the same values around both
 abbrev pub AgreeingItemsTouchAlike : Type 0

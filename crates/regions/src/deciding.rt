@@ -40,6 +40,7 @@ fn in_stmt(level: usize, s: &Stmt) -> bool
     match s {
         Stmt::Declare(_, v) | Stmt::Assign(_, v) => in_source(level, v),
         Stmt::Store(_, _, e, v) => in_expr(true, level, e) || in_source(level, v),
+        Stmt::Combine(_, _, _, e, v) => in_expr(true, level, e) || in_expr(false, level, v),
         Stmt::Print(e) => in_expr(false, level, e),
         Stmt::Block(all) => body_decides(level, all),
         Stmt::Loop(_, body) => body_decides(level, body),

@@ -1,4 +1,4 @@
-use Rattle.regions.proofs.Undeciding.{agreeing_items_touch_alike}
+use Rattle.regions.proofs.Alike.{agreeing_items_touch_alike}
 use Rattle.regions.proofs.agreeing_items_touch_alike.Goals as goal
 
 pub returns : goal.returns
