@@ -2,7 +2,7 @@
 use Rattle.std.proofs.Common.{◌≡◌, Bool, true, false, List, ◌∷◌, refl}
 use Rattle.c_grammar.specs.Grammar.{for}
 use Rattle.c_grammar.specs.Lexeme.{Lexeme}
-use Rattle.c_grammar.specs.Lines.{is_omp, holds}
+use Rattle.c_grammar.specs.Lines.{is_omp, holds, depth_of}
 use Rattle.c_grammar.specs.Machine.{run as machine_run}
 use Rattle.c_grammar.specs.Program.{Stack, Body, advance}
 use Rattle.c_grammar.specs.Rules.{Context}
@@ -18,14 +18,14 @@ use Rattle.c_constructs.specs.Steps.{act_of, followed}
 
 item_begins : (c : Context) (s : Stack) (i : Item Terminal) (is : Items) (ts : List Lexeme) (h : Bool) →
     is_omp ts ≡ true → holds ts ≡ h → run c (Body ∷ s) (put i (Line ts) ∷ is) ≡ took c (for (act_of h))
-    (followed h (Body ∷ s)) (put i (Line ts) ∷ is)
+    (followed h (depth_of ts) (Body ∷ s)) (put i (Line ts) ∷ is)
 unfolding run took machine_run advance
 item_begins c s i is ts true o e = rw (o, e) refl
 item_begins c s i is ts false o e = rw (o, e) refl
 
 begins : (c : Context) (s : Stack) (i : Item Terminal) (is : Items) (t : Terminal) → is_directive t ≡ true →
     run c (Body ∷ s) (put i t ∷ is) ≡ took c (for (act_of (holds (lexemes_on t))))
-    (followed (holds (lexemes_on t)) (Body ∷ s)) (put i t ∷ is)
+    (followed (holds (lexemes_on t)) (depth_of (lexemes_on t)) (Body ∷ s)) (put i t ∷ is)
 begins c s i is (Line ts) d = item_begins c s i is ts (holds ts) d refl
 begins c s i is (Fixed w) d = absurd cc
 begins c s i is (Mark x) d = absurd cc
@@ -37,5 +37,6 @@ begins c s i is End d = absurd cc
 -- the line is taken as one of a directive alone, or of one over a block or loop, which must follow
 pub directive_begins : (c : Context) (s : Stack) (t : Cursor) → is_directive (first_item t).terminal ≡ true →
     run c (Body ∷ s) (items t) ≡ took c (for (act_of (holds (lexemes_on (first_item t).terminal))))
-    (followed (holds (lexemes_on (first_item t).terminal)) (Body ∷ s)) (items t)
+    (followed (holds (lexemes_on (first_item t).terminal)) (depth_of (lexemes_on (first_item t).terminal)) (Body ∷ s))
+    (items t)
 directive_begins c s t d = begins c s (first_item t) (behind t) (first_item t).terminal d

@@ -3,6 +3,7 @@ pub mod NameSteps
 pub mod Terms
 pub mod LineFaults
 pub mod Taken
+pub mod FewLoops
 pub mod Growing
 pub mod SectionSteps
 pub mod Reading

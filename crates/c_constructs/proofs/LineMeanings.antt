@@ -15,6 +15,7 @@ use Rattle.c_expressions.specs.Means.{Items, Names, place_of}
 use Rattle.directives.specs.declared.tree.Directive.{Directive as Given}
 use Rattle.directives.specs.declared.tree.DirectiveKind.{DirectiveKind as GivenKind}
 use Rattle.directives.specs.declared.tree.DirectiveKind.TheVariants as kind
+use Rattle.directives.specs.declared.tree.Construct.TheVariants as construct
 use Rattle.directives.specs.Cursor.{item_of, line_items}
 use Rattle.directives.specs.Kinds.{seen_kind}
 use Rattle.directives.specs.Spells.{SpellsLine, kinds_of, columns_of}
@@ -56,6 +57,15 @@ len_head kind.TargetData = refl
 len_head kind.TargetEnterData = refl
 len_head kind.TargetExitData = refl
 len_head kind.TargetUpdate = refl
+len_head (kind.Combined construct.Simd) = refl
+len_head (kind.Combined construct.ParallelFor) = refl
+len_head (kind.Combined construct.ParallelForSimd) = refl
+len_head (kind.Combined construct.ParallelLoop) = refl
+len_head (kind.Combined construct.TeamsDistribute) = refl
+len_head (kind.Combined construct.TeamsDistributeSimd) = refl
+len_head (kind.Combined construct.TeamsDistributeParallelFor) = refl
+len_head (kind.Combined construct.TeamsDistributeParallelForSimd) = refl
+len_head (kind.Combined construct.TeamsLoop) = refl
 len_head kind.TaskWait = refl
 
 ends : Spelling

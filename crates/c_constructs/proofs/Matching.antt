@@ -1,5 +1,5 @@
 -- The sections of a line, placed by the numbers of their tokens.
-use Rattle.std.proofs.Common.{◌≡◌, ℕ, suc, ◌+◌, Bool, true, false, List, [], ◌∷◌, ◌++◌, length, map, drop, None, refl, sym, ap, ◌∙◌, append_assoc, subst}
+use Rattle.std.proofs.Common.{◌≡◌, ℕ, suc, ◌+◌, Bool, true, false, List, [], ◌∷◌, ◌++◌, length, map, drop, Some, None, refl, sym, ap, ◌∙◌, append_assoc, subst}
 use Rattle.std.specs.Prelude.{codes}
 use Rattle.c_tokens.specs.declared.kind.Sign.TheVariants as sign
 use Rattle.base.specs.declared.tree.MapText.{MapText}
@@ -15,7 +15,7 @@ use Rattle.c_grammar.specs.Terminal.{Terminal}
 use Rattle.c_grammar.specs.Source.{nth}
 use Rattle.c_expressions.specs.Means.{Items, Names, meaning_of}
 use Rattle.directives.specs.declared.tree.Clause.{Clause}
-use Rattle.directives.specs.declared.tree.Clause.TheVariants.{Map, Depend, Motion, NoWait, Device}
+use Rattle.directives.specs.declared.tree.Clause.TheVariants.{Map, Depend, Motion, NoWait, Device, Amount, Schedule}
 use Rattle.directives.specs.declared.tree.Modifier.{Modifier}
 use Rattle.directives.specs.declared.tree.Section.{Section}
 use Rattle.directives.specs.declared.tree.Sections.{Sections}
@@ -55,6 +55,9 @@ len_clause (Depend d) =
 len_clause (Motion m) = ap (λ (n : ℕ). suc (suc n)) (len_motion m.present m.sections)
 len_clause NoWait = refl
 len_clause (Device d) = refl
+len_clause (Amount a n) = refl
+len_clause (Schedule t None) = refl
+len_clause (Schedule t (Some n)) = refl
 
 -- the type and the sections of a map clause
 typed_marks : MapClause → Spelling
@@ -151,6 +154,10 @@ maps_written (NoWait ∷ xs) ys k cs p =
     maps_written xs ys (k + length (line.clause (clause_of NoWait))) cs (next_clause NoWait xs ys k cs p)
 maps_written (Device d ∷ xs) ys k cs p =
     maps_written xs ys (k + length (line.clause (clause_of (Device d)))) cs (next_clause (Device d) xs ys k cs p)
+maps_written (Amount a n ∷ xs) ys k cs p =
+    maps_written xs ys (k + length (line.clause (clause_of (Amount a n)))) cs (next_clause (Amount a n) xs ys k cs p)
+maps_written (Schedule t o ∷ xs) ys k cs p =
+    maps_written xs ys (k + length (line.clause (clause_of (Schedule t o)))) cs (next_clause (Schedule t o) xs ys k cs p)
 
 pub depends_written : (xs : List Clause) (ys : Spelling) (k : ℕ) (cs : List ℕ) →
     Placed (clauses_marks xs ++ ys) (drop k cs) →
@@ -170,6 +177,10 @@ depends_written (NoWait ∷ xs) ys k cs p =
     depends_written xs ys (k + length (line.clause (clause_of NoWait))) cs (next_clause NoWait xs ys k cs p)
 depends_written (Device d ∷ xs) ys k cs p =
     depends_written xs ys (k + length (line.clause (clause_of (Device d)))) cs (next_clause (Device d) xs ys k cs p)
+depends_written (Amount a n ∷ xs) ys k cs p =
+    depends_written xs ys (k + length (line.clause (clause_of (Amount a n)))) cs (next_clause (Amount a n) xs ys k cs p)
+depends_written (Schedule t o ∷ xs) ys k cs p =
+    depends_written xs ys (k + length (line.clause (clause_of (Schedule t o)))) cs (next_clause (Schedule t o) xs ys k cs p)
 
 pub motions_written : (xs : List Clause) (ys : Spelling) (k : ℕ) (cs : List ℕ) →
     Placed (clauses_marks xs ++ ys) (drop k cs) →
@@ -189,6 +200,10 @@ motions_written (NoWait ∷ xs) ys k cs p =
     motions_written xs ys (k + length (line.clause (clause_of NoWait))) cs (next_clause NoWait xs ys k cs p)
 motions_written (Device d ∷ xs) ys k cs p =
     motions_written xs ys (k + length (line.clause (clause_of (Device d)))) cs (next_clause (Device d) xs ys k cs p)
+motions_written (Amount a n ∷ xs) ys k cs p =
+    motions_written xs ys (k + length (line.clause (clause_of (Amount a n)))) cs (next_clause (Amount a n) xs ys k cs p)
+motions_written (Schedule t o ∷ xs) ys k cs p =
+    motions_written xs ys (k + length (line.clause (clause_of (Schedule t o)))) cs (next_clause (Schedule t o) xs ys k cs p)
 
 -- ---- what they mean
 

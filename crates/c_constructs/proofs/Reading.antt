@@ -1,5 +1,5 @@
 -- Clauses one after the other.
-use Rattle.std.proofs.Common.{◌≡◌, ℕ, zero, suc, ◌<◌, true, List, [], ◌∷◌, ◌++◌, length, map, get_or, refl, sym, ap, ◌∙◌, append_assoc, subst, arith}
+use Rattle.std.proofs.Common.{◌≡◌, ℕ, zero, suc, ◌<◌, true, List, [], ◌∷◌, ◌++◌, length, map, get_or, Option, refl, sym, ap, ◌∙◌, append_assoc, subst, arith}
 use Rattle.std.proofs.lemmas.List.{append-nil}
 use Rattle.std.specs.Prelude.{Bool, ◌||◌}
 use Rattle.std.specs.List.{list_any}
@@ -8,10 +8,12 @@ use Rattle.c_grammar.specs.LineGrammar as line
 use Rattle.c_grammar.specs.LineRules.{AreClauses}
 use Rattle.c_expressions.specs.Means.{Names}
 use Rattle.directives.specs.declared.tree.Clause.{Clause}
-use Rattle.directives.specs.declared.tree.Clause.TheVariants.{Map, Depend, Motion, NoWait, Device}
+use Rattle.directives.specs.declared.tree.Clause.TheVariants.{Map, Depend, Motion, NoWait, Device, Amount, Schedule}
 use Rattle.directives.specs.declared.tree.MapClause.{MapClause}
 use Rattle.directives.specs.declared.tree.Modifier.{Modifier}
 use Rattle.directives.specs.declared.tree.DependClause.{DependClause}
+use Rattle.directives.specs.declared.tree.Amount.{Amount as GivenAmount}
+use Rattle.directives.specs.declared.tree.ScheduleType.{ScheduleType}
 use Rattle.directives.specs.declared.tree.MotionClause.{MotionClause}
 use Rattle.directives.specs.Kinds.{seen_modifier, seen_map, seen_depend, seen_motion}
 use Rattle.directives.specs.Trees.{clause_of}
@@ -40,6 +42,8 @@ waits_both (Depend m ∷ xs) ys = waits_both xs ys
 waits_both (Motion m ∷ xs) ys = waits_both xs ys
 waits_both (NoWait ∷ xs) ys = refl
 waits_both (Device d ∷ xs) ys = waits_both xs ys
+waits_both (Amount a n ∷ xs) ys = waits_both xs ys
+waits_both (Schedule t o ∷ xs) ys = waits_both xs ys
 
 pub device_both : (d : ℕ) (xs ys : List Clause) → device_from d (map clause_of (xs ++ ys)) ≡ device_from
     (device_from d (map clause_of xs)) (map clause_of ys)
@@ -49,6 +53,8 @@ device_both d (Depend m ∷ xs) ys = device_both d xs ys
 device_both d (Motion m ∷ xs) ys = device_both d xs ys
 device_both d (NoWait ∷ xs) ys = device_both d xs ys
 device_both d (Device e ∷ xs) ys = device_both e.number xs ys
+device_both d (Amount a n ∷ xs) ys = device_both d xs ys
+device_both d (Schedule t o ∷ xs) ys = device_both d xs ys
 
 none_more : {X : Type 0} → {Y : Type 0} → (R : X → Y → Type 0) (old new : List Y) → new ≡ old → Grows R [] old new
 none_more R old new e = subst (λ ys. Grows R [] old ys) (sym e) (grows_none R old)
@@ -146,6 +152,27 @@ reads_device seen names at e old new m u d w v = record {
   device = ap (λ (x : DeviceId). x.number) v;
 }
 
+-- clauses that say nothing of what is mapped, moved or waited for
+pub reads_amount : {K : Type 0} → (seen : K → line.MapType) (names : Names) (at : ℕ) (a : GivenAmount) (n : ℕ)
+    (r : Clauses K) → Reads seen names at (Amount a n ∷ []) r r
+reads_amount seen names at a n r = record {
+  maps = grows_none (IsMapAt seen names at) r.maps.items;
+  updates = grows_none (IsUpdateAt names at) r.updates.items;
+  depends = grows_none (IsDependAt names at) r.tasking.depends.items;
+  nowait = sym (or-false r.tasking.nowait);
+  device = refl;
+}
+
+pub reads_schedule : {K : Type 0} → (seen : K → line.MapType) (names : Names) (at : ℕ) (t : ScheduleType)
+    (o : Option ℕ) (r : Clauses K) → Reads seen names at (Schedule t o ∷ []) r r
+reads_schedule seen names at t o r = record {
+  maps = grows_none (IsMapAt seen names at) r.maps.items;
+  updates = grows_none (IsUpdateAt names at) r.updates.items;
+  depends = grows_none (IsDependAt names at) r.tasking.depends.items;
+  nowait = sym (or-false r.tasking.nowait);
+  device = refl;
+}
+
 -- ---- the types of map clauses
 
 pub type_at : (types : List line.MapType) (xs ys : List Clause) (k : ℕ) (d : Clause) → ys ≡ xs → HaveTypes types xs →
@@ -167,3 +194,5 @@ types_fit k types (Depend d ∷ xs) e h = (tt, types_fit k types xs e h.1)
 types_fit k types (Motion m ∷ xs) e h = (tt, types_fit k types xs e h.1)
 types_fit k types (NoWait ∷ xs) e h = (tt, types_fit k types xs e h.1)
 types_fit k types (Device d ∷ xs) e h = (tt, types_fit k types xs e h.1)
+types_fit k types (Amount a n ∷ xs) e h = (tt, types_fit k types xs e h.1)
+types_fit k types (Schedule t o ∷ xs) e h = (tt, types_fit k types xs e h.1)

@@ -4,7 +4,7 @@ use Rattle.c_grammar.specs.LineGrammar as line
 use Rattle.c_grammar.specs.LineRules.{IsAmong}
 use Rattle.c_expressions.specs.Means.{Names}
 use Rattle.directives.specs.declared.tree.Clause.{Clause}
-use Rattle.directives.specs.declared.tree.Clause.TheVariants.{Map, Depend, Motion, NoWait, Device}
+use Rattle.directives.specs.declared.tree.Clause.TheVariants.{Map, Depend, Motion, NoWait, Device, Amount, Schedule}
 use Rattle.directives.specs.Kinds.{seen_map}
 use Rattle.directives.specs.Trees.{clause_of}
 use Rattle.c_constructs.specs.declared.clauses.Clauses.{Clauses}
@@ -18,6 +18,8 @@ HasType types (Depend d) = Unit {0}
 HasType types (Motion m) = Unit {0}
 HasType types NoWait = Unit {0}
 HasType types (Device d) = Unit {0}
+HasType types (Amount a n) = Unit {0}
+HasType types (Schedule t o) = Unit {0}
 
 abbrev pub HaveTypes : List line.MapType → List Clause → Type 0
 HaveTypes types [] = Unit {0}

@@ -1,5 +1,5 @@
 -- What the directive of a line means, whose # stands at a place: each section at the column of its array's name.
-use Rattle.std.specs.Prelude.{◌≡◌, ℕ, List, map}
+use Rattle.std.specs.Prelude.{◌≡◌, ℕ, true, List, map}
 use Rattle.base.specs.declared.tree.MapText.{MapText}
 use Rattle.base.specs.declared.tree.RegionKind.{RegionKind}
 use Rattle.base.specs.declared.tree.Tasking.{Tasking}
@@ -9,11 +9,12 @@ use Rattle.base.specs.declared.tree.Data.{Data}
 use Rattle.base.specs.declared.tree.Directive.{Directive}
 use Rattle.base.specs.declared.tree.Directive.TheVariants as directive
 use Rattle.c_grammar.specs.LineGrammar as line
+use Rattle.c_grammar.specs.Lines.{is_target_kind, line_depth}
 use Rattle.c_expressions.specs.Means.{Names}
 use Rattle.directives.specs.declared.tree.Clause.{Clause}
 use Rattle.directives.specs.declared.tree.Directive.{Directive as Given}
 use Rattle.directives.specs.Kinds.{seen_kind}
-use Rattle.directives.specs.Trees.{clause_of}
+use Rattle.directives.specs.Trees.{clause_of, text_of}
 use Rattle.c_constructs.specs.declared.resolved.Construct.{Construct}
 use Rattle.c_constructs.specs.declared.resolved.Construct.TheVariants as construct
 use Rattle.c_constructs.specs.declared.resolved.Resolved.{Resolved}
@@ -47,7 +48,7 @@ IsAloneAt names at d (directive.Wait depends) =
     Pairs (IsDependAt names at) (all_given depend_given d.clauses.items) depends.items
 
 pub record IsTargetAt (names : Names) (at : Place) (d : Given) (g : Target) : Type 0 where
-  pub kind : seen_kind d.kind ≡ line.Target
+  pub kind : is_target_kind (seen_kind d.kind) ≡ true
   pub place : g.place ≡ at
   pub maps : AreRegionMapsAt names at.line d.clauses.items g.maps.items
   pub tasking : IsTaskingAt names at.line d.clauses.items g.tasking
@@ -59,7 +60,7 @@ pub record IsDataAt (names : Names) (at : Place) (d : Given) (g : Data) : Type 0
   pub device : g.device.number ≡ device_in (map clause_of d.clauses.items)
 
 abbrev pub IsConstructAt : Names → Place → Given → Construct → Type 0
-IsConstructAt names at d (construct.Target g) = IsTargetAt names at d g
+IsConstructAt names at d (construct.Target g depth) = (line_depth (text_of d) ≡ depth) × IsTargetAt names at d g
 IsConstructAt names at d (construct.Data g) = IsDataAt names at d g
 
 abbrev pub IsResolvedAt : Names → Place → Given → Resolved → Type 0

@@ -10,7 +10,7 @@ use Rattle.c_expressions.specs.Means.{Names, meaning_of}
 use Rattle.directives.specs.declared.tree.Section.{Section}
 use Rattle.directives.specs.declared.tree.Sections.{Sections}
 use Rattle.directives.specs.declared.tree.Clause.{Clause}
-use Rattle.directives.specs.declared.tree.Clause.TheVariants.{Map, Depend, Motion, NoWait, Device}
+use Rattle.directives.specs.declared.tree.Clause.TheVariants.{Map, Depend, Motion, NoWait, Device, Amount, Schedule}
 use Rattle.directives.specs.Kinds.{seen_modifier, seen_map, seen_depend, seen_motion}
 use Rattle.directives.specs.Trees.{bounds_of}
 use Rattle.c_constructs.specs.Written.{AreBounds, Mapping, mapping_of, seen_update, seen_depend as depend_kind}
@@ -39,6 +39,8 @@ map_given (Depend d) = []
 map_given (Motion m) = []
 map_given NoWait = []
 map_given (Device d) = []
+map_given (Amount a n) = []
+map_given (Schedule t o) = []
 
 abbrev pub depend_given : Clause → List (Given line.DependType)
 depend_given (Map m) = []
@@ -46,6 +48,8 @@ depend_given (Depend d) = given (seen_depend d.depend_type) d.sections
 depend_given (Motion m) = []
 depend_given NoWait = []
 depend_given (Device d) = []
+depend_given (Amount a n) = []
+depend_given (Schedule t o) = []
 
 abbrev pub motion_given : Clause → List (Given (Bool × line.MotionType))
 motion_given (Map m) = []
@@ -53,6 +57,8 @@ motion_given (Depend d) = []
 motion_given (Motion m) = given (m.present, seen_motion m.motion_type) m.sections
 motion_given NoWait = []
 motion_given (Device d) = []
+motion_given (Amount a n) = []
+motion_given (Schedule t o) = []
 
 abbrev pub all_given : {X : Type 0} → (Clause → List X) → List Clause → List X
 all_given f [] = []

@@ -17,10 +17,10 @@ abbrev pub act_of : Bool → Act
 act_of false = Alone
 act_of true = Over
 
--- a block or loop must follow it, or nothing
-abbrev pub followed : Bool → Stack → Stack
-followed false s = s
-followed true s = Under ∷ s
+-- a block or loop must follow it, or a nest of so many loops; or nothing
+abbrev pub followed : Bool → ℕ → Stack → Stack
+followed false depth s = s
+followed true depth s = Under depth ∷ s
 
 -- a fault of a line of the source
 abbrev pub seen_error : ℕ → DirectiveFault → ReadError

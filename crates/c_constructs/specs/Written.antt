@@ -25,6 +25,7 @@ use Rattle.base.specs.declared.tree.Data.{Data}
 use Rattle.base.specs.declared.tree.Directive.{Directive}
 use Rattle.base.specs.declared.tree.Directive.TheVariants as directive
 use Rattle.c_grammar.specs.Source.{nth}
+use Rattle.c_grammar.specs.Lines.{is_target_kind}
 use Rattle.c_grammar.specs.LineGrammar as line
 use Rattle.c_grammar.specs.LineGrammar.{Literal, Variable, Product as Times', MapOf, DependOf, MotionOf, NoWait, DeviceOf, Always, Present, To, From, ToFrom, Alloc, Release, Delete, In, Out, InOut, ToDevice, FromDevice, LineText, clause, item, head, Maps, Depends}
 use Rattle.c_expressions.specs.declared.scope.Meaning.TheVariants as meaning
@@ -194,7 +195,8 @@ abbrev pub AreRegionMaps : Names → Items → LineText → List (MapText Region
 AreRegionMaps names is t ms = AreMaps seen_region names is (maps_from (clauses_at t) t.clauses) ms
 
 pub record IsTarget (names : Names) (is : Items) (t : LineText) (g : Target) : Type 0 where
-  pub kind : t.kind ≡ line.Target
+  -- alone or combined
+  pub kind : is_target_kind t.kind ≡ true
   -- that of the line's #
   pub place : g.place ≡ place_of is
   pub maps : AreRegionMaps names is t g.maps.items

@@ -129,6 +129,8 @@ fn clause<K: MapKind>(
         Clause::Device(device) => {
             read.tasking.device = *device;
         }
+        Clause::Amount(_, _) => {}
+        Clause::Schedule(_, _) => {}
     }
     Ok(())
 }

@@ -3,6 +3,8 @@
 ghost use Rattle.std.specs.Prelude.{◌≡◌, ◌<◌, ◌≤◌, ◌^◌, Bool, IfOk, IfErr, OnOk, Some, None, true, false};
 ghost use Rattle.c_grammar.specs.Grammar.{for};
 ghost use Rattle.c_grammar.specs.Lexeme.{lexemes_of};
+ghost use Rattle.c_grammar.specs.LineRules.{max_collapse};
+ghost use Rattle.c_grammar.specs.Lines.{line_depth};
 ghost use Rattle.c_grammar.specs.Program.{Stack};
 ghost use Rattle.c_grammar.specs.Rules.{inside, under_if};
 ghost use Rattle.c_grammar.specs.Terminal.{Line};
@@ -12,6 +14,7 @@ ghost use Rattle.c_expressions.specs.Scopes.{context_of};
 ghost use Rattle.c_expressions.specs.Seen.{columns_on, kinds_on};
 ghost use Rattle.directives.specs.Names.{IsInSource};
 ghost use Rattle.directives.specs.Spells.{SpellsLine, line_answer};
+ghost use Rattle.directives.specs.Trees.{text_of};
 ghost use Rattle.c_tokens.specs.declared.limits.TheConstants.{MAX_STATEMENTS};
 ghost use Rattle.c_constructs.specs.Steps.{act_of, seen_error};
 
@@ -54,6 +57,7 @@ pub fn directive_at<'a>(
     ensures found { IfOk result (λ d. SpellsLine line.now column d) }
     ensures sound { OnOk result (line_answer line.now column ≡ None) }
     ensures source { IfOk result (λ d. IsInSource line.now column d) }
+    ensures depth { IfOk result (λ d. line_depth (text_of d) ≤ max_collapse) }
 {
     if scope.statements >= MAX_STATEMENTS {
         return Err(ReadError::Fault(tokens.fault(ReadCode::TooMany)));

@@ -3,8 +3,8 @@
 ghost use Rattle.std.specs.Prelude.{◌≡◌, ◌<◌, ◌≤◌, ◌^◌, Bool, IfOk, IfErr, OnOk, OnErr, None, true, false};
 ghost use Rattle.c_grammar.specs.Grammar.{for};
 ghost use Rattle.c_grammar.specs.Lexeme.{lexemes_of};
-ghost use Rattle.c_grammar.specs.LineRules.{IsLine};
-ghost use Rattle.c_grammar.specs.Lines.{holds, holds_kind};
+ghost use Rattle.c_grammar.specs.LineRules.{IsLine, max_collapse};
+ghost use Rattle.c_grammar.specs.Lines.{holds, holds_kind, line_depth};
 ghost use Rattle.c_grammar.specs.Program.{Stack};
 ghost use Rattle.c_grammar.specs.Rules.{inside, under_if};
 ghost use Rattle.c_grammar.specs.Terminal.{Line};
@@ -36,6 +36,7 @@ fn has_block(kind: DirectiveKind) -> bool
     match kind {
         DirectiveKind::Target => true,
         DirectiveKind::TargetData => true,
+        DirectiveKind::Combined(_) => true,
         _ => false,
     }
 }
@@ -46,7 +47,8 @@ fn resolved_at(
     place: Place,
     directive: &Directive<'_>,
 ) -> Result<Resolved, DirectiveFault>
-    requires { IsLine (text_of directive.now) }
+    requires line { IsLine (text_of directive.now) }
+    requires depth { line_depth (text_of directive.now) ≤ max_collapse }
     ensures told { Outcome result (fault_in scope.now (names_in directive.now)) None }
     ensures means { IfOk result (λ r. IsResolvedAt (names_of scope.now) place directive.now r) }
 {
@@ -89,7 +91,7 @@ fn is_target(construct: &Construct) -> bool
     ensures { result ≡ is_target construct.now }
 {
     match construct {
-        Construct::Target(_) => true,
+        Construct::Target(_, _) => true,
         Construct::Data(_) => false,
     }
 }

@@ -1,9 +1,10 @@
 -- The end of a source stands only behind a whole text.
-use Rattle.std.proofs.Common.{◌≡◌, false, List, [], ◌∷◌, ◌++◌, refl, sym, ap, subst, ◌∙◌, append_assoc}
+use Rattle.std.proofs.Common.{◌≡◌, ℕ, false, List, [], ◌∷◌, ◌++◌, refl, sym, ap, subst, ◌∙◌, append_assoc}
 use Rattle.c_tokens.specs.declared.kind.Sign.TheVariants as sign
 use Rattle.c_grammar.specs.Lexeme.{Else, Int, Main, Void}
 use Rattle.c_grammar.specs.Terminal.{Terminal, Fixed, Mark, End, same}
-use Rattle.c_grammar.specs.Grammar.{Plain, MakesScalar, Otherwise, Slot, Slots, for, mark, word, inner, closing, Term, Literal, Named, Element, Group, Prefixed, Both, By, operator_sign, fraction_sign, value_of, term, Source, Input, Value, source, Head, Stmt, Declare, Assign, Store, Repeat, Choose, ChooseElse, Show, Block, Directive, OverBlock, OverLoop, Stmts, Done, Then, head_slots, body_opening, body_closing, end_mark, stmt, stmts, Global, Scalar, Array, global, globals, Text, slots}
+use Rattle.c_grammar.specs.Lines.{depth_of}
+use Rattle.c_grammar.specs.Grammar.{Plain, MakesScalar, Otherwise, Slot, Slots, for, mark, word, inner, closing, Term, Literal, Named, Element, Group, Prefixed, Both, By, operator_sign, fraction_sign, value_of, term, Source, Input, Value, source, Head, Stmt, Declare, Assign, Store, Repeat, Choose, ChooseElse, Show, Block, Directive, OverBlock, OverLoop, Stmts, Done, Then, head_slots, body_opening, body_closing, end_mark, deeper, stmt_in, stmts_in, stmts, Global, Scalar, Array, global, globals, Text, slots}
 
 abbrev NoEnd : Slots → Type 0
 NoEnd [] = Unit {0}
@@ -30,35 +31,35 @@ in_head : (h : Head) → NoEnd (head_slots h)
 in_head h =
     (refl, (refl, (refl, (refl, (refl, (refl, (refl, (refl, (refl, (refl, (refl, (refl, (refl, (refl, tt))))))))))))))
 
-in_body : (ss : Stmts) → NoEnd (stmts ss) → NoEnd (stmts ss ++ body_closing ∷ [])
-in_body ss h = both (stmts ss) (body_closing ∷ []) h (refl, tt)
+in_body : (xs : Slots) → NoEnd xs → NoEnd (xs ++ body_closing ∷ [])
+in_body xs h = both xs (body_closing ∷ []) h (refl, tt)
 
 mutual
-  in_stmt : (s : Stmt) → NoEnd (stmt s)
-  in_stmt (Declare x v) =
+  in_stmt : (s : Stmt) (d : ℕ) → NoEnd (stmt_in s d)
+  in_stmt (Declare x v) d =
       (refl, (refl, (refl, both (source v) ((Mark sign.Semicolon, for MakesScalar) ∷ []) (in_source v) (refl, tt))))
-  in_stmt (Assign x v) = (refl, (refl, both (source v) (end_mark ∷ []) (in_source v) (refl, tt)))
-  in_stmt (Store x i v) =
+  in_stmt (Assign x v) d = (refl, (refl, both (source v) (end_mark ∷ []) (in_source v) (refl, tt)))
+  in_stmt (Store x i v) d =
       let last : Slots = source v ++ end_mark ∷ [] in
       let ends : NoEnd last = both (source v) (end_mark ∷ []) (in_source v) (refl, tt) in
       (refl, (refl, both (term i) (mark sign.CloseBracket ∷ mark sign.Equal ∷ last) (in_term i) (refl, (refl, ends))))
-  in_stmt (Repeat h b) = (
+  in_stmt (Repeat h b) d = (
     refl,
-    both (head_slots h) (body_opening ∷ (stmts b ++ body_closing ∷ [])) (in_head h)
-        (refl, in_body b (in_stmts b)),
+    both (head_slots h) (body_opening ∷ (stmts_in b (deeper d) ++ body_closing ∷ [])) (in_head h)
+        (refl, in_body (stmts_in b (deeper d)) (in_stmts b (deeper d))),
   )
-  in_stmt (Choose e a) = (
+  in_stmt (Choose e a) d = (
     refl,
     (
       refl,
       both (term e) (mark sign.CloseParen ∷ body_opening ∷ (stmts a ++ body_closing ∷ [])) (in_term e)
-          (refl, (refl, in_body a (in_stmts a))),
+          (refl, (refl, in_body (stmts a) (in_stmts a 0))),
     ),
   )
-  in_stmt (ChooseElse e a b) =
+  in_stmt (ChooseElse e a b) d =
       let second : Slots = body_closing ∷ (Fixed Else, for Otherwise) ∷ body_opening ∷ (stmts b ++ body_closing ∷ []) in
       let rest : NoEnd (stmts a ++ second) =
-      both (stmts a) second (in_stmts a) (refl, (refl, (refl, in_body b (in_stmts b)))) in (
+      both (stmts a) second (in_stmts a 0) (refl, (refl, (refl, in_body (stmts b) (in_stmts b 0)))) in (
         refl,
         (
           refl,
@@ -66,22 +67,22 @@ mutual
               (refl, (refl, rest)),
         ),
       )
-  in_stmt (Show e) = (refl, (refl, both (term e) (mark sign.CloseParen ∷ end_mark ∷ []) (in_term e) (refl, (refl, tt))))
-  in_stmt (Block b) = (refl, in_body b (in_stmts b))
-  in_stmt (Directive l) = (refl, tt)
-  in_stmt (OverBlock l b) = (refl, (refl, in_body b (in_stmts b)))
-  in_stmt (OverLoop l h b) = (
+  in_stmt (Show e) d = (refl, (refl, both (term e) (mark sign.CloseParen ∷ end_mark ∷ []) (in_term e) (refl, (refl, tt))))
+  in_stmt (Block b) d = (refl, in_body (stmts b) (in_stmts b 0))
+  in_stmt (Directive l) d = (refl, tt)
+  in_stmt (OverBlock l b) d = (refl, (refl, in_body (stmts b) (in_stmts b 0)))
+  in_stmt (OverLoop l h b) d = (
     refl,
     (
       refl,
-      both (head_slots h) (body_opening ∷ (stmts b ++ body_closing ∷ [])) (in_head h)
-          (refl, in_body b (in_stmts b)),
+      both (head_slots h) (body_opening ∷ (stmts_in b (deeper (depth_of l)) ++ body_closing ∷ [])) (in_head h)
+          (refl, in_body (stmts_in b (deeper (depth_of l))) (in_stmts b (deeper (depth_of l)))),
     ),
   )
 
-  in_stmts : (ss : Stmts) → NoEnd (stmts ss)
-  in_stmts Done = tt
-  in_stmts (Then s ss) = both (stmt s) (stmts ss) (in_stmt s) (in_stmts ss)
+  in_stmts : (ss : Stmts) (d : ℕ) → NoEnd (stmts_in ss d)
+  in_stmts Done d = tt
+  in_stmts (Then s ss) d = both (stmt_in s d) (stmts_in ss d) (in_stmt s d) (in_stmts ss d)
 
 in_global : (g : Global) → NoEnd (global g)
 in_global (Scalar x) = (refl, (refl, (refl, tt)))
@@ -100,7 +101,7 @@ unended t =
 in_unended : (t : Text) → NoEnd (unended t)
 in_unended t =
     both (globals t.globals) _ (in_globals t.globals)
-    (refl, (refl, (refl, (refl, (refl, (refl, in_body t.body (in_stmts t.body)))))))
+    (refl, (refl, (refl, (refl, (refl, (refl, in_body (stmts t.body) (in_stmts t.body 0)))))))
 
 abbrev the_end : Slot
 the_end = (End, for Plain)

@@ -4,24 +4,25 @@ use Rattle.c_tokens.specs.declared.kind.Sign.TheVariants as sign
 use Rattle.base.specs.declared.fault.ReadCode.TheVariants.{NoBody}
 use Rattle.c_grammar.specs.Lexeme.{Lexeme, For, Else}
 use Rattle.c_grammar.specs.Terminal.{Mark, Num, Fixed, Line}
-use Rattle.c_grammar.specs.Grammar.{Plain, MakesArray, MakesScalar, Length, Opens, Otherwise, Over, for, Slots, mark, opening, closing, Term, term, Source, source, Head, Stmt, OverBlock, OverLoop, stmt, head_slots, Stmts, stmts, body_opening, body_closing, end_mark}
+use Rattle.c_grammar.specs.Lines.{depth_of}
+use Rattle.c_grammar.specs.Grammar.{Plain, MakesArray, MakesScalar, Length, Opens, Otherwise, Over, for, Slots, mark, opening, closing, Term, term, Source, source, Head, Stmt, OverBlock, OverLoop, deeper, stmt, nest_slots, Stmts, stmts, body_opening, body_closing, end_mark}
 
 -- a bracket with its index, or nothing
 abbrev pub index : Option Term → Slots
 index None = []
 index (Some i) = opening sign.OpenBracket ∷ (term i ++ closing sign.CloseBracket ∷ [])
 
--- a block, or a loop with that head
-abbrev pub held : Option Head → Stmts → Slots
-held None b = (Mark sign.OpenBrace, (Some NoBody, Opens)) ∷ (stmts b ++ body_closing ∷ [])
-held (Some h) b = (Fixed For, (Some NoBody, Plain)) ∷ (head_slots h ++ (body_opening ∷ (stmts b ++ body_closing ∷ [])))
+-- a block, or a loop with that head, the outermost of a nest of d
+abbrev pub held : ℕ → Option Head → Stmts → Slots
+held d None b = (Mark sign.OpenBrace, (Some NoBody, Opens)) ∷ (stmts b ++ body_closing ∷ [])
+held d (Some h) b = (Fixed For, (Some NoBody, Plain)) ∷ nest_slots h b (deeper d)
 
 -- the statement that a line and what follows it are
 unfoldable pub over : List Lexeme → Option Head → Stmts → Stmt
 over l None b = OverBlock l b
 over l (Some h) b = OverLoop l h b
 
-pub over_slots : (l : List Lexeme) (o : Option Head) (b : Stmts) → stmt (over l o b) ≡ (Line l, for Over) ∷ held o b
+pub over_slots : (l : List Lexeme) (o : Option Head) (b : Stmts) → stmt (over l o b) ≡ (Line l, for Over) ∷ held (depth_of l) o b
 unfolding over
 over_slots l None b = refl
 over_slots l (Some h) b = refl

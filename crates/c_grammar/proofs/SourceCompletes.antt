@@ -1,53 +1,53 @@
 -- Where the machine for sources has come, a text of the grammar goes on.
-use Rattle.std.proofs.Common.{◌≡◌, ℕ, true, cond, List, [], ◌∷◌, ◌++◌, Option, Some, None, refl, sym, ap, subst, ◌∙◌, append_assoc, inl, inr}
+use Rattle.std.proofs.Common.{◌≡◌, ℕ, zero, suc, true, cond, List, [], ◌∷◌, ◌++◌, Option, Some, None, refl, sym, ap, subst, ◌∙◌, append_assoc, inl, inr}
 use Rattle.std.proofs.lemmas.List.{append-nil}
 use Rattle.c_tokens.specs.declared.kind.Sign.TheVariants as sign
 use Rattle.base.specs.declared.fault.ReadCode.TheVariants.{NoBody}
 use Rattle.c_grammar.specs.Lexeme.{Lexeme, Uint64, Int, Main, Void, For, If, Else, Print}
 use Rattle.c_grammar.specs.Terminal.{Terminal, Fixed, Mark, Name, Num, Line, Unknown, End, same}
-use Rattle.c_grammar.specs.Lines.{is_omp, holds}
-use Rattle.c_grammar.specs.Grammar.{Plain, DeclaresGlobal, MakesArray, MakesScalar, Length, Starts, StartsIf, Prints, Assigned, StartsBlock, Otherwise, Opens, Closes, Alone, Over, Slots, for, mark, word, Directive, stmt, IsStmt, Head, Stmts, Done, Then, stmts, AreStmts, body_opening, body_closing, end_mark, Global, Scalar, Array, Text, slots, IsText}
-use Rattle.c_grammar.specs.Program.{Want, WantName, WantNum, Globals, AfterGlobal, Body, OrElse, Under, Turn, AfterName, Value, Atom, Behind, Tail, Fractional, Stack, m, body, loop, other_step, stmt_step, under_step, main_rest, globals_step, after_global, advance, start}
+use Rattle.c_grammar.specs.Lines.{is_omp, holds, depth_of}
+use Rattle.c_grammar.specs.Grammar.{Plain, DeclaresGlobal, MakesArray, MakesScalar, Length, Starts, StartsIf, Prints, Assigned, StartsBlock, Otherwise, Opens, Closes, Alone, Over, Slots, for, mark, word, Directive, stmt, IsStmt, Head, deeper, Stmts, Done, Then, stmts, AreStmts, body_opening, body_closing, end_mark, Global, Scalar, Array, Text, slots, IsText}
+use Rattle.c_grammar.specs.Program.{Want, WantName, WantNum, Globals, AfterGlobal, Body, OrElse, Under, Nested, Turn, AfterName, Value, Atom, Behind, Tail, Fractional, Stack, m, body, loop, other_step, stmt_step, under_step, nested_step, main_rest, globals_step, after_global, advance, start}
 use Rattle.c_grammar.proofs.Ways.{some_of}
 use Rattle.c_grammar.proofs.Lexemes.{chosen, some_is}
 use Rattle.c_grammar.proofs.Terminals.{tested}
 use Rattle.c_grammar.proofs.Goes.{Goes}
 use Rattle.c_grammar.proofs.Parts.{made, over, over_slots}
-use Rattle.c_grammar.proofs.SourceFits.{Fits, default}
+use Rattle.c_grammar.proofs.SourceFits.{IsHeld, Fits, default}
 use Rattle.c_grammar.proofs.SourceBack.{Taken, Back, BackBelow, none, back_want, back_name, back_num, back_fractional, back_atom, back_behind, back_tail, back_value}
-use Rattle.c_grammar.proofs.SourceStatements.{HasStmt, StmtBack, declare_fits, assign_fits, repeat_fits, choose_fits, show_fits, block_fits, loop_fits, back_after_name, back_turn}
+use Rattle.c_grammar.proofs.SourceStatements.{HasStmt, StmtBack, declare_fits, assign_fits, repeat_fits, choose_fits, show_fits, block_fits, loop_fits, nested_fits, back_after_name, back_turn}
 
 -- ---- lines, and what follows them
 
 over_is : (l : List Lexeme) (o : Option Head) (b : Stmts) → is_omp l ≡ true → holds l ≡ true → AreStmts b
-    → IsStmt (over l o b)
+    → IsHeld (depth_of l) o b → IsStmt (over l o b)
 unfolding over
-over_is l None b h k r = (h, k, r)
-over_is l (Some a) b h k r = (h, k, r)
+over_is l None b h k r n = (h, k, r, n)
+over_is l (Some a) b h k r n = (h, k, r, n)
 
 over_fits : (l : List Lexeme) (s : Stack) → is_omp l ≡ true → holds l ≡ true
-    → StmtBack s (Line l) (for Over, Under ∷ s)
+    → StmtBack s (Line l) (for Over, Under (depth_of l) ∷ s)
 over_fits l s h k ws f = (
   over l f.0 f.1,
-  over_is l f.0 f.1 h k f.2,
-  f.3,
-  ap (λ (v : Slots). (Line l, for Over) ∷ v) f.4
-      ∙ ap (λ (v : Slots). v ++ f.3) (sym (over_slots l f.0 f.1)),
-  f.5,
+  over_is l f.0 f.1 h k f.2 f.3,
+  f.4,
+  ap (λ (v : Slots). (Line l, for Over) ∷ v) f.5
+      ∙ ap (λ (v : Slots). v ++ f.4) (sym (over_slots l f.0 f.1)),
+  f.6,
 )
 
 back_held : (l : List Lexeme) (s : Stack) (q : Taken) → is_omp l ≡ true
-    → cond (holds l) (some_of (for Over, Under ∷ s)) (some_of (for Alone, s)) ≡ some_of q → StmtBack s (Line l) q
+    → cond (holds l) (some_of (for Over, Under (depth_of l) ∷ s)) (some_of (for Alone, s)) ≡ some_of q → StmtBack s (Line l) q
 back_held l s q h e =
-    elim (chosen (holds l) (some_of (for Over, Under ∷ s)) (some_of (for Alone, s)) (some_of q) e) [
-      | inl k ↦ some_is (for Over, Under ∷ s) q (λ p. StmtBack s (Line l) p) k.1 (over_fits l s h k.0)
+    elim (chosen (holds l) (some_of (for Over, Under (depth_of l) ∷ s)) (some_of (for Alone, s)) (some_of q) e) [
+      | inl k ↦ some_is (for Over, Under (depth_of l) ∷ s) q (λ p. StmtBack s (Line l) p) k.1 (over_fits l s h k.0)
       | inr k ↦ some_is (for Alone, s) q (λ p. StmtBack s (Line l) p) k.1
           (λ ws f. (Directive l, (h, k.0), ws, refl, f))
     ]
 
 back_line : (l : List Lexeme) (s : Stack) (q : Taken) → other_step s (Line l) ≡ some_of q → StmtBack s (Line l) q
 back_line l s q e =
-    elim (chosen (is_omp l) (cond (holds l) (some_of (for Over, Under ∷ s)) (some_of (for Alone, s))) None (some_of q)
+    elim (chosen (is_omp l) (cond (holds l) (some_of (for Over, Under (depth_of l) ∷ s)) (some_of (for Alone, s))) None (some_of q)
     e) [
       | inl h ↦ back_held l s q h.0 h.1
       | inr h ↦ absurd cc
@@ -64,34 +64,44 @@ back_other s Unknown q e = absurd cc
 back_other s End q e = absurd cc
 
 held_block : (s : Stack) (ws : Slots) → Fits (Body ∷ s) ws
-    → Fits (Under ∷ s) ((Mark sign.OpenBrace, (Some NoBody, Opens)) ∷ ws)
+    → Fits (Under 0 ∷ s) ((Mark sign.OpenBrace, (Some NoBody, Opens)) ∷ ws)
 held_block s ws f = (
   None,
   f.0,
   f.1,
+  refl,
   f.2,
   ap (λ (v : Slots). (Mark sign.OpenBrace, (Some NoBody, Opens)) ∷ v)
       (f.3 ∙ sym (append_assoc (stmts f.0) (body_closing ∷ []) f.2)),
   f.4,
 )
 
-held_loop : (s : Stack) (ws : Slots) → Fits (loop s) ws → Fits (Under ∷ s) ((Fixed For, (Some NoBody, Plain)) ∷ ws)
-held_loop s ws f =
-    let h = loop_fits s ws f in
-    (Some h.0, h.1, h.2, h.3, ap (λ (v : Slots). (Fixed For, (Some NoBody, Plain)) ∷ v) h.4, h.5)
+held_loop : (d : ℕ) (s : Stack) (ws : Slots) → Fits (loop (deeper d) s) ws
+    → Fits (Under d ∷ s) ((Fixed For, (Some NoBody, Plain)) ∷ ws)
+held_loop d s ws f =
+    let h = loop_fits (deeper d) s ws f in
+    (Some h.0, h.1, h.2, h.3, h.4, ap (λ (v : Slots). (Fixed For, (Some NoBody, Plain)) ∷ v) h.5, h.6)
 
-back_under : (s : Stack) (t : Terminal) (q : Taken) → under_step s t ≡ some_of q → Back Under s t q
-back_under s t q e =
-    tested (Mark sign.OpenBrace) t ((Some NoBody, Opens), Body ∷ s) q _ (Back Under s) (held_block s)
-    (λ e. tested (Fixed For) t ((Some NoBody, Plain), loop s) q None (Back Under s) (held_loop s) (none Under s t q) e)
-    e
+back_under : (d : ℕ) (s : Stack) (t : Terminal) (q : Taken) → under_step d s t ≡ some_of q → Back (Under d) s t q
+back_under zero s t q e =
+    tested (Mark sign.OpenBrace) t ((Some NoBody, Opens), Body ∷ s) q _ (Back (Under 0) s) (held_block s)
+    (λ e. tested (Fixed For) t ((Some NoBody, Plain), loop 0 s) q None (Back (Under 0) s) (held_loop 0 s)
+    (none (Under 0) s t q) e) e
+back_under (suc d) s t q e =
+    tested (Fixed For) t ((Some NoBody, Plain), loop d s) q None (Back (Under (suc d)) s) (held_loop (suc d) s)
+    (none (Under (suc d)) s t q) e
+
+back_nested : (d : ℕ) (s : Stack) (t : Terminal) (q : Taken) → nested_step d s t ≡ some_of q → Back (Nested d) s t q
+back_nested d s t q e =
+    tested (Fixed For) t ((Some NoBody, Starts), loop d s) q None (Back (Nested d) s) (nested_fits d s)
+    (none (Nested d) s t q) e
 
 -- ---- bodies
 
 back_stmt : (s : Stack) (t : Terminal) (q : Taken) → stmt_step s t ≡ some_of q → StmtBack s t q
 back_stmt s t q e =
     tested (Fixed Uint64) t (for Starts, _) q _ (StmtBack s) (declare_fits s)
-    (λ e. tested (Fixed For) t (for Starts, loop s) q _ (StmtBack s) (repeat_fits s)
+    (λ e. tested (Fixed For) t (for Starts, loop 0 s) q _ (StmtBack s) (repeat_fits s)
     (λ e. tested (Fixed If) t (for StartsIf, _) q _ (StmtBack s) (choose_fits s)
     (λ e. tested (Fixed Print) t (for Prints, _) q _ (StmtBack s) (show_fits s)
     (λ e. tested (Mark sign.OpenBrace) t (for StartsBlock, Body ∷ s) q (other_step s t) (StmtBack s) (block_fits s)
@@ -219,8 +229,9 @@ back (Globals ∷ s) t q e = back_globals s t q e
 back (AfterGlobal ∷ s) t q e = back_after_global s t q e
 back (Body ∷ s) t q e = back_body s t q e
 back (OrElse ∷ s) t q e = back_or_else s t q (back s t q) e
-back (Under ∷ s) t q e = back_under s t q e
-back (Turn ∷ s) t q e = back_turn s t q e
+back (Under d ∷ s) t q e = back_under d s t q e
+back (Nested d ∷ s) t q e = back_nested d s t q e
+back (Turn d ∷ s) t q e = back_turn d s t q e
 back (AfterName ∷ s) t q e = back_after_name s t q e
 back (Value ∷ s) t q e = back_value s t q e
 back (Atom ∷ s) t q e = back_atom s t q e

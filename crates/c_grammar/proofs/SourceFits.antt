@@ -1,8 +1,8 @@
 -- Where the machine for sources has come, a text goes on: what a stack stands for.
-use Rattle.std.proofs.Common.{◌≡◌, ℕ, List, [], ◌∷◌, ◌++◌, Option, Some, None, refl}
+use Rattle.std.proofs.Common.{◌≡◌, ℕ, zero, suc, List, [], ◌∷◌, ◌++◌, Option, Some, None, refl}
 use Rattle.c_grammar.specs.Terminal.{Name, Num}
-use Rattle.c_grammar.specs.Grammar.{DeclaresLoop, for, Slots, value_of, Term, Literal, term, IsRanked, Source, Input, source, IsRankedSource, Head, head_rest, Stmts, Done, stmts, AreStmts, body_opening, body_closing, Text, slots, IsText}
-use Rattle.c_grammar.specs.Program.{Want, WantName, WantNum, Globals, AfterGlobal, Body, OrElse, Under, Turn, AfterName, Value, Atom, Behind, Tail, Fractional, Stack, expr}
+use Rattle.c_grammar.specs.Grammar.{DeclaresLoop, for, Slots, value_of, Term, Literal, term, IsRanked, Source, Input, source, IsRankedSource, Head, head_rest, deeper, stmt_in, stmts_in, Repeat, Stmts, Done, Then, stmts, IsNest, AreStmts, body_opening, body_closing, Text, slots, IsText}
+use Rattle.c_grammar.specs.Program.{Want, WantName, WantNum, Globals, AfterGlobal, Body, OrElse, Under, Nested, Turn, AfterName, Value, Atom, Behind, Tail, Fractional, Stack, expr}
 use Rattle.c_grammar.proofs.Operands.{IsAtom, Operations, operations, AreOperations, attach_all, ranked_behind, term_behind}
 use Rattle.c_grammar.proofs.Parts.{index, held, branch, assigned, made}
 
@@ -14,6 +14,11 @@ abbrev pub IsBranch : Option Stmts → Type 0
 IsBranch None = Unit {0}
 IsBranch (Some b) = AreStmts b
 
+-- what may follow a line that wants a nest of d loops
+abbrev pub IsHeld : ℕ → Option Head → Stmts → Type 0
+IsHeld d None b = d ≡ 0
+IsHeld d (Some h) b = IsNest b (deeper d)
+
 abbrev pub Fits : Stack → Slots → Type 0
 Fits [] ws = ws ≡ []
 Fits (Want t r ∷ s) ws = (v : Slots) × (ws ≡ (t, r) ∷ v) × Fits s v
@@ -23,10 +28,13 @@ Fits (Globals ∷ s) ws = (t : Text) × IsText t × (v : Slots) × (ws ≡ slots
 Fits (AfterGlobal ∷ s) ws = (n : Option (Option ℕ)) × (v : Slots) × (ws ≡ made n ++ v) × Fits s v
 Fits (Body ∷ s) ws = (ss : Stmts) × AreStmts ss × (v : Slots) × (ws ≡ stmts ss ++ (body_closing ∷ v)) × Fits s v
 Fits (OrElse ∷ s) ws = (o : Option Stmts) × IsBranch o × (v : Slots) × (ws ≡ branch o ++ v) × Fits s v
-Fits (Under ∷ s) ws = (o : Option Head) × (b : Stmts) × AreStmts b × (v : Slots) × (ws ≡ held o b ++ v) × Fits s v
-Fits (Turn ∷ s) ws =
-    (h : Head) × (b : Stmts) × AreStmts b × (v : Slots)
-    × (ws ≡ (Name h.name, for DeclaresLoop) ∷ (head_rest h ++ (body_opening ∷ (stmts b ++ (body_closing ∷ v)))))
+Fits (Under d ∷ s) ws =
+    (o : Option Head) × (b : Stmts) × AreStmts b × IsHeld d o b × (v : Slots) × (ws ≡ held d o b ++ v) × Fits s v
+Fits (Nested d ∷ s) ws =
+    (h : Head) × (b : Stmts) × AreStmts b × IsNest b d × (v : Slots) × (ws ≡ stmt_in (Repeat h b) (suc d) ++ v) × Fits s v
+Fits (Turn d ∷ s) ws =
+    (h : Head) × (b : Stmts) × AreStmts b × IsNest b d × (v : Slots)
+    × (ws ≡ (Name h.name, for DeclaresLoop) ∷ (head_rest h ++ (body_opening ∷ (stmts_in b d ++ (body_closing ∷ v)))))
     × Fits s v
 Fits (AfterName ∷ s) ws =
     (o : Option Term) × IsIndex o × (e : Source) × IsRankedSource e × (v : Slots) × (ws ≡ assigned o e ++ v) × Fits s v
@@ -53,6 +61,11 @@ has_term s ws f =
 abbrev some_head : Head
 some_head = record { name = []; first = None; limit = None; step = None }
 
+-- some nest of d loops
+some_nest : (d : ℕ) → (b : Stmts) × AreStmts b × IsNest b d
+some_nest zero = (Done, tt, tt)
+some_nest (suc d) = (let n = some_nest d in (Then (Repeat some_head n.0) Done, (n.1, tt), n.2))
+
 -- each stack stands for some tokens
 pub default : (s : Stack) → (ws : Slots) × Fits s ws
 default [] = ([], refl)
@@ -68,12 +81,21 @@ default (Globals ∷ s) =
 default (AfterGlobal ∷ s) = (let d = default s in (made None ++ d.0, (None, d.0, refl, d.1)))
 default (Body ∷ s) = (let d = default s in (body_closing ∷ d.0, (Done, tt, d.0, refl, d.1)))
 default (OrElse ∷ s) = (let d = default s in (d.0, (None, tt, d.0, refl, d.1)))
-default (Under ∷ s) = (let d = default s in (held None Done ++ d.0, (None, Done, tt, d.0, refl, d.1)))
-default (Turn ∷ s) =
-    (let d = default s in (
+default (Under k ∷ s) =
+    (let d = default s in let n = some_nest (deeper k) in (
+      held k (Some some_head) n.0 ++ d.0,
+      (Some some_head, n.0, n.1, n.2, d.0, refl, d.1),
+    ))
+default (Nested k ∷ s) =
+    (let d = default s in let n = some_nest k in (
+      stmt_in (Repeat some_head n.0) (suc k) ++ d.0,
+      (some_head, n.0, n.1, n.2, d.0, refl, d.1),
+    ))
+default (Turn k ∷ s) =
+    (let d = default s in let n = some_nest k in (
       (Name [], for DeclaresLoop)
-          ∷ (head_rest some_head ++ (body_opening ∷ body_closing ∷ d.0)),
-      (some_head, Done, tt, d.0, refl, d.1),
+          ∷ (head_rest some_head ++ (body_opening ∷ (stmts_in n.0 k ++ (body_closing ∷ d.0)))),
+      (some_head, n.0, n.1, n.2, d.0, refl, d.1),
     ))
 default (AfterName ∷ s) = (let d = default s in (assigned None Input ++ d.0, (None, tt, Input, tt, d.0, refl, d.1)))
 default (Value ∷ s) = (let d = default s in (source Input ++ d.0, (Input, tt, d.0, refl, d.1)))

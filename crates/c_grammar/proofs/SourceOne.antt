@@ -1,7 +1,10 @@
 -- The tokens of a source tell its text.
-use Rattle.std.proofs.Common.{◌≡◌, [], ◌∷◌, ◌++◌, refl, sym, ap, ◌∙◌, append_assoc}
+use Rattle.std.proofs.Common.{◌≡◌, ℕ, zero, suc, [], ◌∷◌, ◌++◌, List, refl, sym, ap, subst, ◌∙◌, append_assoc}
+use Rattle.std.proofs.lemmas.List.{append-nil}
+use Rattle.c_grammar.specs.Lexeme.{Lexeme}
+use Rattle.c_grammar.specs.Lines.{depth_of}
 use Rattle.c_grammar.specs.Terminal.{End}
-use Rattle.c_grammar.specs.Grammar.{Plain, Slots, for, Stmt, Declare, Assign, Store, Repeat, Choose, ChooseElse, Show, Block, Directive, OverBlock, OverLoop, Stmts, Done, Then, body_closing, stmt, stmts, IsStmt, AreStmts, Text, main_part, slots, IsText}
+use Rattle.c_grammar.specs.Grammar.{Plain, Slots, for, Stmt, Declare, Assign, Store, Repeat, Choose, ChooseElse, Show, Block, Directive, OverBlock, OverLoop, Stmts, Done, Then, body_closing, deeper, stmt_in, stmts_in, stmt, stmts, IsNest, IsLoopNest, IsStmt, AreStmts, Text, main_part, slots, IsText}
 use Rattle.c_grammar.specs.Texts.{kinds}
 use Rattle.c_grammar.specs.Rules.{source_grammar}
 use Rattle.c_grammar.specs.Program.{start, source_machine}
@@ -9,7 +12,7 @@ use Rattle.c_grammar.specs.SourceClaims.{OneText}
 use Rattle.c_grammar.proofs.Ways.{same_way}
 use Rattle.c_grammar.proofs.GoesOn.{NoElse, no_else, passes_text}
 use Rattle.c_grammar.proofs.Views.{one_declare, one_assign, one_store, one_show, one_globals, text_is}
-use Rattle.c_grammar.proofs.SourceViews.{apart, scalar_or_cell, block_or_loop, no_stmt, one_choose, one_choose_else, choose_clash, one_repeat, one_block, one_directive, one_over_block, one_over_loop}
+use Rattle.c_grammar.proofs.SourceViews.{apart, scalar_or_cell, block_or_loop, no_stmt, one_choose, one_choose_else, choose_clash, one_repeat, one_block, one_directive, one_over_block, one_nested, same_line, one_over_loop}
 
 swapped : (b a : Stmts) (us vs : Slots) → (a ≡ b) × (vs ≡ us) → (b ≡ a) × (us ≡ vs)
 swapped b a us vs h = (sym h.0, sym h.1)
@@ -22,42 +25,81 @@ mutual
   one_stmt (Assign x v) (Store y j w) p q xs ys n k e = absurd (scalar_or_cell x y v w j xs ys e)
   one_stmt (Store x i v) (Assign y w) p q xs ys n k e = absurd (scalar_or_cell y x w v i ys xs (sym e))
   one_stmt (Store x i v) (Store y j w) p q xs ys n k e = one_store x y i j v w p.0 q.0 p.1 q.1 xs ys e
-  one_stmt (Repeat h b) (Repeat a c) p q xs ys n k e = one_repeat h a b c (one_stmts b c p q) xs ys e
-  one_stmt (Choose i a) (Choose j b) p q xs ys n k e = one_choose i j a b p.0 q.0 (one_stmts a b p.1 q.1) xs ys e
+  one_stmt (Repeat h b) (Repeat a c) p q xs ys n k e = one_repeat h a b c (one_stmts b c p q 0 tt tt) xs ys e
+  one_stmt (Choose i a) (Choose j b) p q xs ys n k e = one_choose i j a b p.0 q.0 (one_stmts a b p.1 q.1 0 tt tt) xs ys e
   one_stmt (Choose i a) (ChooseElse j b c) p q xs ys n k e =
-      absurd (choose_clash i j a b c p.0 q.0 (one_stmts a b p.1 q.1) xs ys n e)
+      absurd (choose_clash i j a b c p.0 q.0 (one_stmts a b p.1 q.1 0 tt tt) xs ys n e)
   one_stmt (ChooseElse i a c) (Choose j b) p q xs ys n k e =
-      absurd (choose_clash j i b a c q.0 p.0 (λ us vs f. swapped b a us vs (one_stmts a b p.1 q.1 vs us (sym f))) ys xs k (sym e))
+      absurd (choose_clash j i b a c q.0 p.0 (λ us vs f. swapped b a us vs (one_stmts a b p.1 q.1 0 tt tt vs us (sym f))) ys xs k (sym e))
   one_stmt (ChooseElse i a c) (ChooseElse j b d) p q xs ys n k e =
-      one_choose_else i j a c b d p.0 q.0 (one_stmts a b p.1 q.1) (one_stmts c d p.2 q.2) xs ys e
+      one_choose_else i j a c b d p.0 q.0 (one_stmts a b p.1 q.1 0 tt tt) (one_stmts c d p.2 q.2 0 tt tt) xs ys e
   one_stmt (Show a) (Show b) p q xs ys n k e = one_show a b p q xs ys e
-  one_stmt (Block b) (Block c) p q xs ys n k e = one_block b c (one_stmts b c p q) xs ys e
+  one_stmt (Block b) (Block c) p q xs ys n k e = one_block b c (one_stmts b c p q 0 tt tt) xs ys e
   one_stmt (Directive l) (Directive m) p q xs ys n k e = one_directive l m xs ys e
-  one_stmt (OverBlock l b) (OverBlock m c) p q xs ys n k e = one_over_block l m b c (one_stmts b c p.2 q.2) xs ys e
+  one_stmt (OverBlock l b) (OverBlock m c) p q xs ys n k e = one_over_block l m b c (one_stmts b c p.2 q.2 0 tt tt) xs ys e
   one_stmt (OverBlock l b) (OverLoop m h c) p q xs ys n k e = absurd (block_or_loop l m b c h xs ys e)
   one_stmt (OverLoop l h b) (OverBlock m c) p q xs ys n k e = absurd (block_or_loop m l c b h ys xs (sym e))
   one_stmt (OverLoop l h b) (OverLoop m a c) p q xs ys n k e =
-      one_over_loop l m h a b c (one_stmts b c p.2 q.2) xs ys e
+      let d : ℕ = deeper (depth_of l) in
+      let lines : m ≡ l = sym (same_line l m h a b c xs ys e) in
+      one_over_loop l m h a b c
+      (one_stmts b c p.2 q.2 d p.3 (subst (λ (u : List Lexeme). IsNest c (deeper (depth_of u))) lines q.3)) xs ys e
   one_stmt s u p q xs ys n k e = absurd (apart s u xs ys refl e)
 
-  one_stmts : (ss us : Stmts) → AreStmts ss → AreStmts us → (xs ys : Slots)
-      → stmts ss ++ (body_closing ∷ xs) ≡ stmts us ++ (body_closing ∷ ys) → (ss ≡ us) × (xs ≡ ys)
-  one_stmts Done Done p q xs ys e = (refl, cc)
-  one_stmts Done (Then u us) p q xs ys e =
+  -- of two bodies that are nests of d loops
+  one_stmts : (ss us : Stmts) → AreStmts ss → AreStmts us → (d : ℕ) → IsNest ss d → IsNest us d → (xs ys : Slots)
+      → stmts_in ss d ++ (body_closing ∷ xs) ≡ stmts_in us d ++ (body_closing ∷ ys) → (ss ≡ us) × (xs ≡ ys)
+  one_stmts Done Done p q zero n k xs ys e = (refl, cc)
+  one_stmts Done (Then u us) p q zero n k xs ys e =
       let right : Slots = stmts us ++ (body_closing ∷ ys) in
       absurd (no_stmt u xs right (e ∙ append_assoc (stmt u) (stmts us) (body_closing ∷ ys)))
-  one_stmts (Then s ss) Done p q xs ys e =
+  one_stmts (Then s ss) Done p q zero n k xs ys e =
       let left : Slots = stmts ss ++ (body_closing ∷ xs) in
       absurd (no_stmt s ys left (sym e ∙ append_assoc (stmt s) (stmts ss) (body_closing ∷ xs)))
-  one_stmts (Then s ss) (Then u us) p q xs ys e =
+  one_stmts (Then s ss) (Then u us) p q zero n k xs ys e =
       let left : Slots = stmts ss ++ (body_closing ∷ xs) in
       let right : Slots = stmts us ++ (body_closing ∷ ys) in
       let here =
       one_stmt s u p.0 q.0 left right (no_else ss xs) (no_else us ys)
       (sym (append_assoc (stmt s) (stmts ss) (body_closing ∷ xs)) ∙ e
       ∙ append_assoc (stmt u) (stmts us) (body_closing ∷ ys)) in
-      let more = one_stmts ss us p.1 q.1 xs ys here.1 in
+      let more = one_stmts ss us p.1 q.1 0 tt tt xs ys here.1 in
       (ap (λ (v : Stmt). Then v ss) here.0 ∙ ap (λ (v : Stmts). Then u v) more.0, more.1)
+  one_stmts (Then s Done) (Then u Done) p q (suc d) n k xs ys e =
+      let whole : stmt_in s (suc d) ++ (body_closing ∷ xs) ≡ stmt_in u (suc d) ++ (body_closing ∷ ys) =
+      ap (λ (v : Slots). v ++ (body_closing ∷ xs)) (sym (append-nil (stmt_in s (suc d)))) ∙ e
+      ∙ ap (λ (v : Slots). v ++ (body_closing ∷ ys)) (append-nil (stmt_in u (suc d))) in
+      let one = one_loop s u p.0 q.0 d n k (body_closing ∷ xs) (body_closing ∷ ys) whole in
+      let rest : body_closing ∷ xs ≡ body_closing ∷ ys = one.1 in
+      (ap (λ (v : Stmt). Then v Done) one.0, cc)
+  one_stmts Done us p q (suc d) n k xs ys e = absurd n
+  one_stmts (Then s (Then t ss)) us p q (suc d) n k xs ys e = absurd n
+  one_stmts (Then s Done) Done p q (suc d) n k xs ys e = absurd k
+  one_stmts (Then s Done) (Then u (Then t us)) p q (suc d) n k xs ys e = absurd k
+
+  one_loop : (s u : Stmt) → IsStmt s → IsStmt u → (d : ℕ) → IsLoopNest s d → IsLoopNest u d → (xs ys : Slots)
+      → stmt_in s (suc d) ++ xs ≡ stmt_in u (suc d) ++ ys → (s ≡ u) × (xs ≡ ys)
+  one_loop (Repeat h b) (Repeat a c) p q d n k xs ys e = one_nested d h a b c (one_stmts b c p q d n k) xs ys e
+  one_loop (Repeat h b) (Declare x v) p q d n k xs ys e = absurd k
+  one_loop (Repeat h b) (Assign x v) p q d n k xs ys e = absurd k
+  one_loop (Repeat h b) (Store x i v) p q d n k xs ys e = absurd k
+  one_loop (Repeat h b) (Choose i a) p q d n k xs ys e = absurd k
+  one_loop (Repeat h b) (ChooseElse i a c) p q d n k xs ys e = absurd k
+  one_loop (Repeat h b) (Show i) p q d n k xs ys e = absurd k
+  one_loop (Repeat h b) (Block c) p q d n k xs ys e = absurd k
+  one_loop (Repeat h b) (Directive l) p q d n k xs ys e = absurd k
+  one_loop (Repeat h b) (OverBlock l c) p q d n k xs ys e = absurd k
+  one_loop (Repeat h b) (OverLoop l a c) p q d n k xs ys e = absurd k
+  one_loop (Declare x v) u p q d n k xs ys e = absurd n
+  one_loop (Assign x v) u p q d n k xs ys e = absurd n
+  one_loop (Store x i v) u p q d n k xs ys e = absurd n
+  one_loop (Choose i a) u p q d n k xs ys e = absurd n
+  one_loop (ChooseElse i a c) u p q d n k xs ys e = absurd n
+  one_loop (Show i) u p q d n k xs ys e = absurd n
+  one_loop (Block c) u p q d n k xs ys e = absurd n
+  one_loop (Directive l) u p q d n k xs ys e = absurd n
+  one_loop (OverBlock l c) u p q d n k xs ys e = absurd n
+  one_loop (OverLoop l a c) u p q d n k xs ys e = absurd n
 
 -- ---- the whole
 
@@ -67,7 +109,7 @@ last = (End, for Plain) ∷ []
 one_main : (b c : Stmts) → AreStmts b → AreStmts c → main_part b ≡ main_part c → b ≡ c
 one_main b c p q e =
     let tail : stmts b ++ (body_closing ∷ last) ≡ stmts c ++ (body_closing ∷ last) = cc in
-    (one_stmts b c p q last last tail).0
+    (one_stmts b c p q 0 tt tt last last tail).0
 
 same_slots : (t u : Text) → IsText t → IsText u → slots t ≡ slots u → t ≡ u
 same_slots t u p q e =

@@ -1,10 +1,12 @@
 -- What goes on from where the machine for sources has come goes on from where it was: statements.
-use Rattle.std.proofs.Common.{◌≡◌, ℕ, List, [], ◌∷◌, ◌++◌, Some, None, sym, ap, ◌∙◌, append_assoc}
+use Rattle.std.proofs.Common.{◌≡◌, ℕ, zero, suc, List, [], ◌∷◌, ◌++◌, Some, None, sym, ap, ◌∙◌, append_assoc}
+use Rattle.std.proofs.lemmas.List.{append-nil}
+use Rattle.base.specs.declared.fault.ReadCode.TheVariants.{NoBody}
 use Rattle.c_tokens.specs.declared.kind.Sign.TheVariants as sign
 use Rattle.c_grammar.specs.Lexeme.{Uint64, For, If, Print}
 use Rattle.c_grammar.specs.Terminal.{Terminal, Fixed, Mark, Name, Num, Line, Unknown, End}
-use Rattle.c_grammar.specs.Grammar.{Plain, DeclaresLocal, DeclaresLoop, MakesScalar, Limit, Step, Starts, StartsIf, Prints, Assigned, StartsBlock, Slots, for, mark, word, term, source, Stmt, Declare, Assign, Store, Repeat, Choose, ChooseElse, Show, Block, stmt, IsStmt, Head, head_rest, head_slots, Stmts, stmts, AreStmts, body_opening, body_closing, end_mark}
-use Rattle.c_grammar.specs.Program.{Want, WantName, Body, OrElse, Turn, AfterName, Value, Stack, m, expr, body, head_of, turn_step, loop, after_name}
+use Rattle.c_grammar.specs.Grammar.{Plain, DeclaresLocal, DeclaresLoop, MakesScalar, Limit, Step, Starts, StartsIf, Prints, Assigned, StartsBlock, Slots, for, mark, word, term, source, Stmt, Declare, Assign, Store, Repeat, Choose, ChooseElse, Show, Block, stmt_in, stmts_in, stmt, IsStmt, IsNest, Done, Then, nest_slots, Head, head_rest, Stmts, stmts, AreStmts, body_opening, body_closing, end_mark}
+use Rattle.c_grammar.specs.Program.{Want, WantName, Body, OrElse, Nested, Turn, AfterName, Value, Stack, m, expr, body, inner_body, loop_body, head_of, turn_step, loop, after_name}
 use Rattle.c_grammar.proofs.Ways.{some_of}
 use Rattle.c_grammar.proofs.Lexemes.{some_is}
 use Rattle.c_grammar.proofs.Terminals.{tested}
@@ -80,9 +82,28 @@ back_after_name s t q e =
 
 -- ---- loops
 
-head_fits : (x : List ℕ) (s : Stack) (ws : Slots) → Fits (head_of x s) ws
-    → Fits (Turn ∷ s) ((Name x, for DeclaresLoop) ∷ ws)
-head_fits x s ws f =
+-- the rest of a body with a nest of d loops, and what follows it
+abbrev HasInner : ℕ → Stack → Slots → Type 0
+HasInner d s ws =
+    (b : Stmts) × AreStmts b × IsNest b d × (v : Slots) × (ws ≡ stmts_in b d ++ (body_closing ∷ v)) × Fits s v
+
+inner_fits : (d : ℕ) (s : Stack) (ws : Slots) → Fits (inner_body d s) ws → HasInner d s ws
+inner_fits zero s ws f = (f.0, f.1, tt, f.2, f.3, f.4)
+inner_fits (suc d) s ws f =
+    let last = f.6 in
+    let one : Slots = stmt_in (Repeat f.0 f.1) (suc d) in (
+      Then (Repeat f.0 f.1) Done,
+      (f.2, tt),
+      f.3,
+      last.0,
+      f.5 ∙ ap (λ (v : Slots). one ++ v) last.1
+          ∙ ap (λ (u : Slots). u ++ (body_closing ∷ last.0)) (sym (append-nil one)),
+      last.2,
+    )
+
+head_fits : (x : List ℕ) (d : ℕ) (s : Stack) (ws : Slots) → Fits (head_of x (loop_body d s)) ws
+    → Fits (Turn d ∷ s) ((Name x, for DeclaresLoop) ∷ ws)
+head_fits x d s ws f =
     let e0 : ws ≡ mark sign.Equal ∷ f.0 = f.1 in
     let a1 = f.2 in
     let e1 : f.0 ≡ (Num a1.0, for Plain) ∷ a1.1 = a1.2 in
@@ -106,48 +127,60 @@ head_fits x s ws f =
     let e10 : a9.1 ≡ mark sign.CloseParen ∷ a10.0 = a10.1 in
     let a11 = a10.2 in
     let e11 : a10.0 ≡ body_opening ∷ a11.0 = a11.1 in
-    let a12 = a11.2 in
-    let e12 : a11.0 ≡ stmts a12.0 ++ (body_closing ∷ a12.2) = a12.3 in
+    let a12 = inner_fits d s a11.0 a11.2 in
+    let e12 : a11.0 ≡ stmts_in a12.0 d ++ (body_closing ∷ a12.3) = a12.4 in
     let h : Head = record { name = x; first = a1.0; limit = a5.0; step = a9.0 } in
-    (h, a12.0, a12.1, a12.2, cc, a12.4)
+    (h, a12.0, a12.1, a12.2, a12.3, cc, a12.5)
 
-pub back_turn : (s : Stack) (t : Terminal) (q : Taken) → turn_step s t ≡ some_of q → Back Turn s t q
-back_turn s (Name x) q e =
-    some_is (for DeclaresLoop, head_of x s) q (λ p. Back Turn s (Name x) p) e (head_fits x s)
-back_turn s (Num a) q e = absurd cc
-back_turn s (Fixed a) q e = absurd cc
-back_turn s (Mark a) q e = absurd cc
-back_turn s (Line a) q e = absurd cc
-back_turn s Unknown q e = absurd cc
-back_turn s End q e = absurd cc
+pub back_turn : (d : ℕ) (s : Stack) (t : Terminal) (q : Taken) → turn_step d s t ≡ some_of q → Back (Turn d) s t q
+back_turn d s (Name x) q e =
+    some_is (for DeclaresLoop, head_of x (loop_body d s)) q (λ p. Back (Turn d) s (Name x) p) e (head_fits x d s)
+back_turn d s (Num a) q e = absurd cc
+back_turn d s (Fixed a) q e = absurd cc
+back_turn d s (Mark a) q e = absurd cc
+back_turn d s (Line a) q e = absurd cc
+back_turn d s Unknown q e = absurd cc
+back_turn d s End q e = absurd cc
 
 -- a loop behind its first word, and what follows it
-abbrev pub HasLoop : Stack → Slots → Type 0
-HasLoop s ws =
-    (h : Head) × (b : Stmts) × AreStmts b × (v : Slots)
-    × (ws ≡ (head_slots h ++ (body_opening ∷ (stmts b ++ body_closing ∷ []))) ++ v) × Fits s v
+abbrev pub HasLoop : ℕ → Stack → Slots → Type 0
+HasLoop d s ws =
+    (h : Head) × (b : Stmts) × AreStmts b × IsNest b d × (v : Slots) × (ws ≡ nest_slots h b d ++ v) × Fits s v
 
-pub loop_fits : (s : Stack) (ws : Slots) → Fits (loop s) ws → HasLoop s ws
-loop_fits s ws f =
+pub loop_fits : (d : ℕ) (s : Stack) (ws : Slots) → Fits (loop d s) ws → HasLoop d s ws
+loop_fits d s ws f =
     let a = f.2 in
     let b = a.2 in
     let h : Head = b.0 in
     let e0 : ws ≡ mark sign.OpenParen ∷ f.0 = f.1 in
     let e1 : f.0 ≡ word Uint64 ∷ a.0 = a.1 in
-    let rest : Slots = body_opening ∷ (stmts b.1 ++ (body_closing ∷ b.3)) in
-    let e2 : a.0 ≡ (Name h.name, for DeclaresLoop) ∷ (head_rest h ++ rest) = b.4 in
-    let g : (stmts b.1 ++ body_closing ∷ []) ++ b.3 ≡ stmts b.1 ++ (body_closing ∷ b.3) =
-    append_assoc (stmts b.1) (body_closing ∷ []) b.3 in
-    (h, b.1, b.2, b.3, cc, b.5)
+    let rest : Slots = body_opening ∷ (stmts_in b.1 d ++ (body_closing ∷ b.4)) in
+    let e2 : a.0 ≡ (Name h.name, for DeclaresLoop) ∷ (head_rest h ++ rest) = b.5 in
+    let g : (stmts_in b.1 d ++ body_closing ∷ []) ++ b.4 ≡ stmts_in b.1 d ++ (body_closing ∷ b.4) =
+    append_assoc (stmts_in b.1 d) (body_closing ∷ []) b.4 in
+    (h, b.1, b.2, b.3, b.4, cc, b.6)
 
-pub repeat_fits : (s : Stack) (ws : Slots) → Fits (loop s) ws → HasStmt s ((Fixed For, for Starts) ∷ ws)
+pub repeat_fits : (s : Stack) (ws : Slots) → Fits (loop 0 s) ws → HasStmt s ((Fixed For, for Starts) ∷ ws)
 repeat_fits s ws f =
-    (let h = loop_fits s ws f in (
+    (let h = loop_fits 0 s ws f in (
       Repeat h.0 h.1,
       h.2,
+      h.4,
+      ap (λ (v : Slots). (Fixed For, for Starts) ∷ v) h.5,
+      h.6,
+    ))
+
+pub nested_fits : (d : ℕ) (s : Stack) (ws : Slots) → Fits (loop d s) ws
+    → Fits (Nested d ∷ s) ((Fixed For, (Some NoBody, Starts)) ∷ ws)
+nested_fits d s ws f =
+    (let h = loop_fits d s ws f in (
+      h.0,
+      h.1,
+      h.2,
       h.3,
-      ap (λ (v : Slots). (Fixed For, for Starts) ∷ v) h.4,
-      h.5,
+      h.4,
+      ap (λ (v : Slots). (Fixed For, (Some NoBody, Starts)) ∷ v) h.5,
+      h.6,
     ))
 
 -- ---- branches, prints, blocks

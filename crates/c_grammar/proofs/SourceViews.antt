@@ -1,13 +1,14 @@
 -- A statement is known from its tokens where its bodies are.
-use Rattle.std.proofs.Common.{◌≡◌, ℕ, false, eqb, List, [], ◌∷◌, ◌++◌, refl, sym, ap, subst, ◌∙◌, append_assoc}
+use Rattle.std.proofs.Common.{◌≡◌, ℕ, suc, false, eqb, List, [], ◌∷◌, ◌++◌, refl, sym, ap, subst, ◌∙◌, append_assoc}
 use Rattle.std.proofs.lemmas.Bool.{eqb-false}
 use Rattle.c_tokens.specs.declared.kind.Sign.TheVariants as sign
 use Rattle.c_grammar.specs.Lexeme.{Lexeme, For, If, Else}
 use Rattle.c_grammar.specs.Terminal.{Terminal, Fixed, same}
-use Rattle.c_grammar.specs.Grammar.{Act, Starts, StartsIf, Prints, Assigned, StartsBlock, Otherwise, Alone, Over, Slots, for, mark, Term, term, IsRanked, Source, Head, Stmt, Declare, Assign, Store, Repeat, Choose, ChooseElse, Show, Block, Directive, OverBlock, OverLoop, Stmts, body_opening, body_closing, stmt, stmts, loop_slots}
+use Rattle.c_grammar.specs.Lines.{depth_of}
+use Rattle.c_grammar.specs.Grammar.{Act, Starts, StartsIf, Prints, Assigned, StartsBlock, Otherwise, Alone, Over, Slots, for, mark, Term, term, IsRanked, Source, Head, Stmt, Declare, Assign, Store, Repeat, Choose, ChooseElse, Show, Block, Directive, OverBlock, OverLoop, Stmts, body_opening, body_closing, deeper, stmt_in, stmt, stmts, nest_slots, loop_slots}
 use Rattle.c_grammar.proofs.GoesOn.{NoElse}
 use Rattle.c_grammar.proofs.TermReader.{one_term}
-use Rattle.c_grammar.proofs.Views.{tokens_too, OneBody, one_body, one_turns}
+use Rattle.c_grammar.proofs.Views.{tokens_too, OneNest, OneBody, one_body, one_turns}
 
 -- ---- how a statement begins
 
@@ -150,7 +151,7 @@ pub one_repeat : (h k : Head) (b c : Stmts) → OneBody b c → (xs ys : Slots)
     → stmt (Repeat h b) ++ xs ≡ stmt (Repeat k c) ++ ys → (Repeat h b ≡ Repeat k c) × (xs ≡ ys)
 one_repeat h k b c one xs ys e =
     let tail : loop_slots h b ++ xs ≡ loop_slots k c ++ ys = cc in
-    let all = one_turns h k b c one xs ys tail in
+    let all = one_turns 0 h k b c one xs ys tail in
     (ap (λ (u : Head). Repeat u b) all.0 ∙ ap (λ (u : Stmts). Repeat k u) all.1, all.2)
 
 pub one_block : (b c : Stmts) → OneBody b c → (xs ys : Slots) → stmt (Block b) ++ xs ≡ stmt (Block c) ++ ys
@@ -176,13 +177,27 @@ one_over_block l k b c one xs ys e =
     let bodies = one_body b c one xs ys tail in
     (ap (λ (u : List Lexeme). OverBlock u b) lines ∙ ap (λ (u : Stmts). OverBlock k u) bodies.0, bodies.1)
 
-pub one_over_loop : (l m : List Lexeme) (h k : Head) (b c : Stmts) → OneBody b c → (xs ys : Slots)
+-- the next loop of a nest
+pub one_nested : (d : ℕ) (h k : Head) (b c : Stmts) → OneNest d b c → (xs ys : Slots)
+    → stmt_in (Repeat h b) (suc d) ++ xs ≡ stmt_in (Repeat k c) (suc d) ++ ys → (Repeat h b ≡ Repeat k c) × (xs ≡ ys)
+one_nested d h k b c one xs ys e =
+    let tail : nest_slots h b d ++ xs ≡ nest_slots k c d ++ ys = cc in
+    let all = one_turns d h k b c one xs ys tail in
+    (ap (λ (u : Head). Repeat u b) all.0 ∙ ap (λ (u : Stmts). Repeat k u) all.1, all.2)
+
+pub same_line : (l m : List Lexeme) (h k : Head) (b c : Stmts) (xs ys : Slots)
+    → stmt (OverLoop l h b) ++ xs ≡ stmt (OverLoop m k c) ++ ys → l ≡ m
+same_line l m h k b c xs ys e = (let all = tokens_too _ _ e in cc)
+
+pub one_over_loop : (l m : List Lexeme) (h k : Head) (b c : Stmts) → OneNest (deeper (depth_of l)) b c → (xs ys : Slots)
     → stmt (OverLoop l h b) ++ xs ≡ stmt (OverLoop m k c) ++ ys → (OverLoop l h b ≡ OverLoop m k c) × (xs ≡ ys)
 one_over_loop l m h k b c one xs ys e =
-    let all = tokens_too _ _ e in
-    let lines : l ≡ m = cc in
-    let tail : loop_slots h b ++ xs ≡ loop_slots k c ++ ys = cc in
-    let rest = one_turns h k b c one xs ys tail in (
+    let lines : l ≡ m = same_line l m h k b c xs ys e in
+    let d : ℕ = deeper (depth_of l) in
+    let here : stmt (OverLoop l h b) ++ xs ≡ stmt (OverLoop l k c) ++ ys =
+    e ∙ ap (λ (u : List Lexeme). stmt (OverLoop u k c) ++ ys) (sym lines) in
+    let tail : nest_slots h b d ++ xs ≡ nest_slots k c d ++ ys = cc in
+    let rest = one_turns d h k b c one xs ys tail in (
       ap (λ (u : List Lexeme). OverLoop u h b) lines ∙ ap (λ (u : Head). OverLoop m u b) rest.0
           ∙ ap (λ (u : Stmts). OverLoop m k u) rest.1,
       rest.2,

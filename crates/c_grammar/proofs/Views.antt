@@ -3,7 +3,7 @@ use Rattle.std.proofs.Common.{◌≡◌, ℕ, false, List, [], ◌∷◌, ◌++�
 use Rattle.c_tokens.specs.declared.kind.Sign.TheVariants as sign
 use Rattle.c_grammar.specs.Lexeme.{Read}
 use Rattle.c_grammar.specs.Terminal.{Fixed, Mark, same}
-use Rattle.c_grammar.specs.Grammar.{MakesScalar, Slot, Slots, for, mark, Term, term, IsRanked, Source, Input, Value, source, IsRankedSource, Head, Declare, Assign, Store, Show, Stmts, head_slots, body_opening, body_closing, end_mark, stmt, stmts, Global, Scalar, Array, globals, Text, main_part, loop_slots}
+use Rattle.c_grammar.specs.Grammar.{MakesScalar, Slot, Slots, for, mark, Term, term, IsRanked, Source, Input, Value, source, IsRankedSource, Head, Declare, Assign, Store, Show, Stmts, head_slots, body_opening, body_closing, end_mark, stmt, stmts_in, Global, Scalar, Array, globals, Text, main_part, nest_slots}
 use Rattle.c_grammar.specs.Rules.{source_grammar}
 use Rattle.c_grammar.specs.Texts.{kinds}
 use Rattle.c_grammar.proofs.GoesOn.{NoRead, term_no_read}
@@ -104,25 +104,34 @@ one_show a b h k xs ys e =
 
 -- ---- bodies
 
+-- two bodies, which are nests of d loops, are one where their tokens are
+abbrev pub OneNest : ℕ → Stmts → Stmts → Type 0
+OneNest d b c =
+    (xs ys : Slots) → stmts_in b d ++ (body_closing ∷ xs) ≡ stmts_in c d ++ (body_closing ∷ ys) → (b ≡ c) × (xs ≡ ys)
+
 abbrev pub OneBody : Stmts → Stmts → Type 0
-OneBody b c = (xs ys : Slots) → stmts b ++ (body_closing ∷ xs) ≡ stmts c ++ (body_closing ∷ ys) → (b ≡ c) × (xs ≡ ys)
+OneBody b c = OneNest 0 b c
 
-abbrev ended : Stmts → Slots
-ended b = stmts b ++ body_closing ∷ []
+abbrev ended : Stmts → ℕ → Slots
+ended b d = stmts_in b d ++ body_closing ∷ []
 
-pub one_body : (b c : Stmts) → OneBody b c → (xs ys : Slots) → ended b ++ xs ≡ ended c ++ ys → (b ≡ c) × (xs ≡ ys)
-one_body b c one xs ys e =
+pub one_nest : (d : ℕ) (b c : Stmts) → OneNest d b c → (xs ys : Slots) → ended b d ++ xs ≡ ended c d ++ ys
+    → (b ≡ c) × (xs ≡ ys)
+one_nest d b c one xs ys e =
     one xs ys
-    (sym (append_assoc (stmts b) (body_closing ∷ []) xs) ∙ e ∙ append_assoc (stmts c) (body_closing ∷ []) ys)
+    (sym (append_assoc (stmts_in b d) (body_closing ∷ []) xs) ∙ e ∙ append_assoc (stmts_in c d) (body_closing ∷ []) ys)
+
+pub one_body : (b c : Stmts) → OneBody b c → (xs ys : Slots) → ended b 0 ++ xs ≡ ended c 0 ++ ys → (b ≡ c) × (xs ≡ ys)
+one_body b c one xs ys e = one_nest 0 b c one xs ys e
 
 -- a loop behind its first word
-pub one_turns : (h k : Head) (b c : Stmts) → OneBody b c → (xs ys : Slots) → loop_slots h b ++ xs ≡ loop_slots k c ++ ys
-    → (h ≡ k) × (b ≡ c) × (xs ≡ ys)
-one_turns h k b c one xs ys e =
-    let heads = one_head h k (body_opening ∷ (ended b ++ xs)) (body_opening ∷ (ended c ++ ys)) e in
-    let rest : body_opening ∷ (ended b ++ xs) ≡ body_opening ∷ (ended c ++ ys) = heads.1 in
-    let tail : ended b ++ xs ≡ ended c ++ ys = cc in
-    let bodies = one_body b c one xs ys tail in
+pub one_turns : (d : ℕ) (h k : Head) (b c : Stmts) → OneNest d b c → (xs ys : Slots)
+    → nest_slots h b d ++ xs ≡ nest_slots k c d ++ ys → (h ≡ k) × (b ≡ c) × (xs ≡ ys)
+one_turns d h k b c one xs ys e =
+    let heads = one_head h k (body_opening ∷ (ended b d ++ xs)) (body_opening ∷ (ended c d ++ ys)) e in
+    let rest : body_opening ∷ (ended b d ++ xs) ≡ body_opening ∷ (ended c d ++ ys) = heads.1 in
+    let tail : ended b d ++ xs ≡ ended c d ++ ys = cc in
+    let bodies = one_nest d b c one xs ys tail in
     (heads.0, bodies.0, bodies.1)
 
 -- ---- globals

@@ -1,21 +1,20 @@
 -- The directives of main that were read.
 use Rattle.std.proofs.Common.{◌≡◌, ℕ, ◌+◌, Bool, true, false, List, [], ◌∷◌, ◌++◌, length, drop, Vec, Global, refl, sym, ap, subst, ◌∙◌, arith, inl, inr, ◌⊎◌}
 use Rattle.c_tokens.specs.declared.kind.Sign.TheVariants as sign
-use Rattle.base.specs.declared.tree.Bounds.{Bounds}
 use Rattle.base.specs.declared.tree.Data.{Data}
 use Rattle.base.specs.declared.tree.Place.{Place}
 use Rattle.base.specs.declared.tree.Region.{Region}
 use Rattle.base.specs.declared.tree.Directive.{Directive as Alone}
 use Rattle.base.specs.declared.tree.Target.{Target}
 use Rattle.base.specs.declared.tree.Stmt.{Stmt as Statement}
-use Rattle.base.specs.declared.tree.Stmt.TheVariants as statement
 use Rattle.base.specs.declared.tree.Part.{Part, Data as DataOf, items_hidden-the_row-Part-0}
 use Rattle.base.specs.declared.tree.Part.TheVariants as part
 use Rattle.c_grammar.specs.Lexeme.{Lexeme, For}
 use Rattle.c_grammar.specs.Texts.{Item}
 use Rattle.c_grammar.specs.Terminal.{Terminal, Fixed, Mark, Name, Num, Line, Unknown, End}
 use Rattle.c_grammar.specs.Rules.{inside}
-use Rattle.c_grammar.specs.Grammar.{Head, Stmt, Stmts, Done, Then, Declare, Assign, Store, Repeat, Choose, ChooseElse, Show, Block, Directive, OverBlock, OverLoop, stmt, stmts, IsStmt as IsText, loop_slots}
+use Rattle.c_grammar.specs.Lines.{depth_of}
+use Rattle.c_grammar.specs.Grammar.{Head, Stmt, Stmts, Done, Then, Repeat, Directive, OverBlock, OverLoop, stmt, stmts, IsStmt as IsText, IsNest, deeper, loop_slots, nest_slots}
 use Rattle.c_expressions.specs.declared.cursor.Cursor.{Cursor}
 use Rattle.c_expressions.specs.declared.scope.Scope.{Scope}
 use Rattle.c_expressions.specs.Means.{Items, place_of}
@@ -24,7 +23,7 @@ use Rattle.c_expressions.specs.Reading.{terminals, kinds, is_directive}
 use Rattle.c_expressions.specs.Scopes.{context_of}
 use Rattle.c_expressions.proofs.Expressions.{first_then, behind_less, drops, drop_by, drop_one}
 use Rattle.c_statements.specs.Bodies.{IsBodyRead}
-use Rattle.c_statements.specs.Simple.{env_of, IsStmtRead}
+use Rattle.c_statements.specs.Simple.{env_of}
 use Rattle.c_statements.specs.Statements.{Env, stmt_size, head_size, declared_in, more, in_loop, IsHead, IsStatement, AreStatements, behind as behind_of}
 use Rattle.c_statements.proofs.Wholes.{kinds_ended, size_ended}
 use Rattle.c_constructs.specs.declared.resolved.Construct.TheVariants as construct
@@ -33,8 +32,9 @@ use Rattle.c_constructs.specs.LineMeaning.{IsRead, lexemes_on, scope_behind}
 use Rattle.c_read.specs.declared.piece.Piece.{Piece}
 use Rattle.c_read.specs.declared.piece.Piece.TheVariants as piece
 use Rattle.c_read.specs.Parts.{in_target, pieces_of, AreLongest, AreMixed, ArePieces, IsHostLoop, IsPiece, OneLoop}
-use Rattle.c_read.specs.Read.{AreAlone, IsBlockRead, IsLoop, IsLoopRead, IsPieceRead}
+use Rattle.c_read.specs.Read.{AreAlone, IsBlockRead, IsLoopRead, IsNestRead, IsPieceRead}
 use Rattle.c_statements.proofs.Prints.{more_none}
+use Rattle.c_read.proofs.Nests.{nest_kinds, nest_length, nest_text}
 
 line_is : (t : Terminal) → is_directive t ≡ true → t ≡ Line (lexemes_on t)
 line_is (Line ts) d = refl
@@ -63,34 +63,6 @@ read_alone old new u u' at d e b s r =
       next_is = ap env_of s ∙ more_none (env_of old);
     }
 
--- ---- a loop in a target
-
-abbrev Repeats : Stmt → Type 0
-Repeats s = (h : Head) × (b : Stmts) × (s ≡ Repeat h b)
-
-looped_text : (env : Env) (is : Items) (s : Stmt) (bounds : Bounds) (shape : _) (row : _) →
-    IsStatement env is s (statement.Loop' bounds shape row) → Repeats s
-looped_text env is (Repeat h b) bounds shape row m = (h, b, refl)
-looped_text env is (Declare y v) bounds shape row m = absurd m
-looped_text env is (Assign y v) bounds shape row m = absurd m
-looped_text env is (Store y i v) bounds shape row m = absurd m
-looped_text env is (Choose e a) bounds shape row m = absurd m
-looped_text env is (ChooseElse e a c) bounds shape row m = absurd m
-looped_text env is (Show e) bounds shape row m = absurd m
-looped_text env is (Block c) bounds shape row m = absurd m
-looped_text env is (Directive k) bounds shape row m = absurd m
-looped_text env is (OverBlock k c) bounds shape row m = absurd m
-looped_text env is (OverLoop k h c) bounds shape row m = absurd m
-
-loop_text : (env : Env) (is : Items) (s : Stmt) (x : Statement) → IsLoop x → IsStatement env is s x → Repeats s
-loop_text env is s (statement.Loop' bounds shape row) l m = looped_text env is s bounds shape row m
-loop_text env is s (statement.Declare y v) l m = absurd l
-loop_text env is s (statement.Assign y v) l m = absurd l
-loop_text env is s (statement.Store y place i v) l m = absurd l
-loop_text env is s (statement.Print e) l m = absurd l
-loop_text env is s (statement.Block' shape row) l m = absurd l
-loop_text env is s (statement.If' e shape row shape' row') l m = absurd l
-
 -- ---- a directive over a block
 
 -- behind the line of a directive: these tokens and then the block in braces
@@ -111,12 +83,13 @@ loop_rest l u u' n after d r = drops 1 n (items u) (items u') after (drop_one u 
 
 -- ---- a target
 
-pub read_region_block : (old mid new : Scope) (u u' : Cursor) (after : Items) (g : Target) (r : Region) →
+pub read_region_block : (depth : ℕ) (old mid new : Scope) (u u' : Cursor) (after : Items) (g : Target) (r : Region) →
     is_directive (first_item u).terminal ≡ true → behind u ≡ items u' → env_of mid ≡ env_of old →
-    IsRead (env_of old).names (first_item u) (behind u) (resolved.Over (construct.Target g)) → r.place ≡ place_of (items u') →
+    IsRead (env_of old).names (first_item u) (behind u) (resolved.Over (construct.Target g depth)) →
+    r.place ≡ place_of (items u') → depth ≡ 0 → r.depth ≡ depth →
     IsBodyRead (env_of mid) (in_target (env_of mid)) (env_of new) (items u') after r.body.items →
     IsPieceRead (env_of old) (env_of new) (items u) after (piece.Part (part.Target g r))
-read_region_block old mid new u u' after g r e d same line place q0 =
+read_region_block depth old mid new u u' after g r e d same line place flat deep q0 =
     let l = lexemes_on (first_item u).terminal in
     let q : IsBodyRead (env_of old) (in_target (env_of old)) (env_of new) (items u') after r.body.items =
     subst (λ (v : Env). IsBodyRead v (in_target v) (env_of new) (items u') after r.body.items) same q0 in
@@ -124,13 +97,14 @@ read_region_block old mid new u u' after g r e d same line place q0 =
       text = OverBlock l q.texts;
       tokens = block_tokens l u u' q.texts after (line_is (first_item u).terminal e) d q.tokens;
       rest = block_rest l u u' q.texts after d q.rest;
-      is_text = (line.words, line.over, q.are_texts);
+      is_text = (line.words, line.over, q.are_texts, line.depth ∙ flat);
       fewer = omega (arith, behind_less u u' d, q.fewer);
       means = (
         line.line,
         line.means,
         place ∙ ap place_of (sym d),
         subst (λ (is : Items). AreStatements (in_target (env_of old)) (drop 1 is) q.texts r.body.items) (sym d) q.means,
+        deep ∙ flat,
       );
       next_is = q.next_is;
     }
@@ -139,25 +113,35 @@ more_of : (n : ℕ) (env next : Env) → in_target next ≡ more n (in_target en
 more_of n env next e i = ap (λ (v : Env). (let w : Env = record v { inside = next.inside } in w)) e
     ∙ ap (λ (b : Bool). (let w : Env = record (more n env) { inside = b } in w)) i
 
-pub read_region_loop : (old mid new : Scope) (u u' : Cursor) (after : Items) (g : Target) (r : Region) (x : Statement) →
+pub read_region_loop : (depth : ℕ) (old mid new : Scope) (u u' : Cursor) (after : Items) (g : Target) (r : Region) (x : Statement) →
     is_directive (first_item u).terminal ≡ true → behind u ≡ items u' → env_of mid ≡ env_of old →
-    IsRead (env_of old).names (first_item u) (behind u) (resolved.Over (construct.Target g)) → r.place ≡ place_of (items u') →
-    r.body.items ≡ x ∷ [] → IsLoop x → inside (context_of new 0 0) ≡ inside (context_of mid 0 0) →
-    IsStmtRead (in_target (env_of mid)) (in_target (env_of new)) (items u') after x →
+    IsRead (env_of old).names (first_item u) (behind u) (resolved.Over (construct.Target g depth)) →
+    r.place ≡ place_of (items u') → r.body.items ≡ x ∷ [] → r.depth ≡ depth →
+    inside (context_of new 0 0) ≡ inside (context_of mid 0 0) →
+    IsNestRead (deeper depth) (in_target (env_of mid)) (in_target (env_of new)) (items u') after x →
     IsPieceRead (env_of old) (env_of new) (items u) after (piece.Part (part.Target g r))
-read_region_loop old mid new u u' after g r x e d same line place one loops within q0 =
+read_region_loop depth old mid new u u' after g r x e d same line place one deep within q0 =
     let l = lexemes_on (first_item u).terminal in
-    let q : IsStmtRead (in_target (env_of old)) (in_target (env_of new)) (items u') after x =
-    subst (λ (v : Env). IsStmtRead (in_target v) (in_target (env_of new)) (items u') after x) same q0 in
-    let t = loop_text (in_target (env_of old)) (items u') q.text x loops q.means in
+    let nest : IsNestRead (deeper depth) (in_target (env_of old)) (in_target (env_of new)) (items u') after x =
+    subst (λ (v : Env). IsNestRead (deeper depth) (in_target v) (in_target (env_of new)) (items u') after x) same q0 in
+    let q = nest.read in
+    let t = nest_text q.text (deeper depth) nest.nest in
     let is_loop : q.text ≡ Repeat t.0 t.1 = t.2 in
     let text : Stmt = Repeat t.0 t.1 in
+    let n = deeper (depth_of l) in
+    let whole : length (nest_slots t.0 t.1 n) ≡ length (nest_slots t.0 t.1 0) = nest_length t.0 t.1 n in
     record {
       text = OverLoop l t.0 t.1;
       tokens = first_then (Line l) u u' (line_is (first_item u).terminal e) d
-          ∙ ap (λ (ts : List Terminal). Line l ∷ ts) (q.tokens ∙ ap (λ (s : Stmt). kinds (stmt s) ++ terminals after) is_loop);
-      rest = drop_by (1 + stmt_size text) (stmt_size (OverLoop l t.0 t.1)) (items u) after (omega arith) (loop_rest l u u' (stmt_size text) after d (q.rest ∙ ap (λ (s : Stmt). drop (stmt_size s) (items u')) is_loop));
-      is_text = (line.words, line.over, subst (λ (s : Stmt). IsText s) is_loop q.is_text);
+          ∙ ap (λ (ts : List Terminal). Line l ∷ ts) (q.tokens ∙ ap (λ (s : Stmt). kinds (stmt s) ++ terminals after) is_loop
+          ∙ ap (λ (ts : List Terminal). Fixed For ∷ (ts ++ terminals after)) (sym (nest_kinds t.0 t.1 n)));
+      rest = drop_by (1 + stmt_size text) (stmt_size (OverLoop l t.0 t.1)) (items u) after (omega (arith, whole)) (loop_rest l u u' (stmt_size text) after d (q.rest ∙ ap (λ (s : Stmt). drop (stmt_size s) (items u')) is_loop));
+      is_text = (
+        line.words,
+        line.over,
+        subst (λ (s : Stmt). IsText s) is_loop q.is_text,
+        subst (λ (k : ℕ). IsNest t.1 (deeper k)) (sym line.depth) t.3,
+      );
       fewer = omega (arith, behind_less u u' d, q.fewer);
       means = (
         line.line,
@@ -168,6 +152,7 @@ read_region_loop old mid new u u' after g r x e d same line place one loops with
               (subst (λ (s : Stmt). IsStatement (in_target (env_of old)) (items u') s x) is_loop q.means),
           tt,
         ),
+        deep ∙ sym line.depth,
       );
       next_is = more_of (declared_in t.1) (env_of old) (env_of new)
           (q.next_is ∙ ap (λ (s : Stmt). behind_of s (in_target (env_of old))) is_loop)
@@ -190,7 +175,7 @@ read_data_block old mid new u u' after g v e d same line longest q0 =
       text = OverBlock l q.texts;
       tokens = block_tokens l u u' q.texts after (line_is (first_item u).terminal e) d q.tokens;
       rest = block_rest l u u' q.texts after d q.rest;
-      is_text = (line.words, line.over, q.are_texts);
+      is_text = (line.words, line.over, q.are_texts, line.depth);
       fewer = omega (arith, behind_less u u' d, q.fewer);
       means = (
         line.line,
@@ -209,7 +194,7 @@ data_loop : (env : Env) (i : Item Terminal) (is : Items) (h : Head) (b : Stmts) 
     ArePieces (in_loop h.name env) (drop (1 + head_size h) (i ∷ is)) b (pieces_of qs)) ps
 data_loop env i is h b (piece.Statement x) ps a m =
     inl (subst (λ (qs : List Part). IsHostLoop env is h b qs) (sym a.1)
-    (a.2, subst (λ (xs : List Statement). AreStatements env is (Then (Repeat h b) Done) xs) (sym a.3) (m, tt)))
+    (a.2, subst (λ (xs : List Statement). AreStatements env is (Then (Repeat h b) Done) xs) (sym a.3) (m, tt), a.4))
 data_loop env i is h b (piece.Part (part.Loop' bounds shape row)) ps a m =
     inr (subst (λ (qs : List Part). OneLoop (λ bounds us. IsHead h bounds × AreMixed us ×
     ArePieces (in_loop h.name env) (drop (1 + head_size h) (i ∷ is)) b (pieces_of us)) qs) (sym a) m)
@@ -231,13 +216,21 @@ read_data_loop old mid new u u' after g v p e d same line one word q0 =
     let q : IsLoopRead (env_of old) (env_of new) (behind u') after p =
     subst (λ (w : Env). IsLoopRead w (env_of new) (behind u') after p) same q0 in
     let n = length (loop_slots q.head q.texts) in
+    let k = deeper (depth_of l) in
+    let whole : length (nest_slots q.head q.texts k) ≡ length (nest_slots q.head q.texts 0) = nest_length q.head q.texts k in
     record {
       text = OverLoop l q.head q.texts;
       tokens = first_then (Line l) u u' (line_is (first_item u).terminal e) d
-          ∙ ap (λ (ts : List Terminal). Line l ∷ ts) (word ∙ ap (λ (ts : List Terminal). Fixed For ∷ ts) q.tokens);
-      rest = drop_by (1 + (1 + n)) (stmt_size (OverLoop l q.head q.texts)) (items u) after (omega arith)
+          ∙ ap (λ (ts : List Terminal). Line l ∷ ts) (word ∙ ap (λ (ts : List Terminal). Fixed For ∷ ts) (q.tokens
+          ∙ ap (λ (ts : List Terminal). ts ++ terminals after) (sym (nest_kinds q.head q.texts k))));
+      rest = drop_by (1 + (1 + n)) (stmt_size (OverLoop l q.head q.texts)) (items u) after (omega (arith, whole))
           (loop_rest l u u' (1 + n) after d (drops 1 n (items u') (behind u') after refl q.rest));
-      is_text = (line.words, line.over, q.are_texts);
+      is_text = (
+        line.words,
+        line.over,
+        q.are_texts,
+        subst (λ (j : ℕ). IsNest q.texts (deeper j)) (sym line.depth) tt,
+      );
       fewer = omega (arith, behind_less u u' d, q.fewer);
       means = (
         line.line,

@@ -41,7 +41,7 @@ piece_alone (part.Alone at d) e = refl
 longest_then : (follows : Bool) (ps qs : List Part) → AreLongest follows ps → AreLongest (ends_host follows ps) qs →
     AreLongest follows (ps ++ qs)
 longest_then follows [] qs h k = k
-longest_then follows (part.Host r ∷ ps) qs h k = (h.0, h.1, longest_then true ps qs h.2 k)
+longest_then follows (part.Host r ∷ ps) qs h k = (h.0, h.1, longest_then true ps qs h.2 k, h.3)
 longest_then follows (part.Block' shape row ∷ ps) qs h k = longest_then false ps qs h k
 longest_then follows (part.Loop' b shape row ∷ ps) qs h k = longest_then false ps qs h k
 longest_then follows (part.Target t r ∷ ps) qs h k = longest_then false ps qs h k
@@ -109,16 +109,16 @@ closes_none g e = record {
   mixed = λ h. h;
 }
 
-pub closes_run : (g h : Gathered) (r : Region) → r.place ≡ g.place → r.body.items ≡ g.run.items → (g.run.items ≡ [] → ⊥) →
+pub closes_run : (g h : Gathered) (r : Region) → r.place ≡ g.place → r.body.items ≡ g.run.items → r.depth ≡ 0 → (g.run.items ≡ [] → ⊥) →
     h.parts.items ≡ g.parts.items ++ part.Host r ∷ [] → h.run.items ≡ [] → Closes g h
-closes_run g h r p b n e f = record {
+closes_run g h r p b o n e f = record {
   run = f;
   pieces = ap pieces_of e ∙ pieces_append g.parts.items (part.Host r ∷ [])
       ∙ ap (λ (us : List Placed). pieces_of g.parts.items ++ us) (append-nil (pieces_in r.place r.body.items))
       ∙ ap (λ (q : Place). pieces_of g.parts.items ++ pieces_in q r.body.items) p
       ∙ ap (λ (xs : List Statement). pieces_of g.parts.items ++ pieces_in g.place xs) b;
   longest = λ s. subst (λ (ps : List Part). AreLongest false ps) (sym e)
-      (longest_then false g.parts.items (part.Host r ∷ []) s.longest (s.ends, (λ k. n (sym b ∙ k)), tt));
+      (longest_then false g.parts.items (part.Host r ∷ []) s.longest (s.ends, (λ k. n (sym b ∙ k)), tt, o));
   mixed = λ m. ap are_mixed e ∙ mixed_more g.parts.items (part.Host r ∷ []) m;
 }
 

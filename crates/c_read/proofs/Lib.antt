@@ -6,6 +6,7 @@ pub mod Fronts
 pub mod Emptiness
 pub mod Gathering
 pub mod Unders
+pub mod Nests
 pub mod Regions
 pub mod Pieces
 pub mod Wraps

@@ -66,8 +66,8 @@ loop_part g v bounds env is h b s n e l k i m =
 -- ---- one alone
 
 pub alone_host : (place : Place) (x : Statement) (body : Vec Statement Global) (ps : List Part) → body.items ≡ x ∷ [] →
-    ps ≡ part.Host (record { place = place; body = body }) ∷ [] → AreAlone place (piece.Statement x) ps
-alone_host place x body ps e f = (record { place = place; body = body }, f, refl, e)
+    ps ≡ part.Host (record { place = place; body = body; depth = 0 }) ∷ [] → AreAlone place (piece.Statement x) ps
+alone_host place x body ps e f = (record { place = place; body = body; depth = 0 }, f, refl, e, refl)
 
 pub alone_part : (place : Place) (p : Part) (ps : List Part) → ps ≡ p ∷ [] → AreAlone place (piece.Part p) ps
 alone_part place p ps e = e
@@ -76,9 +76,9 @@ some_item : (xs : List Statement) (x : Statement) → xs ≡ x ∷ [] → xs ≡
 some_item xs x e n = absurd cc
 
 pub longest_host : (place : Place) (x : Statement) (body : Vec Statement Global) (ps : List Part) → body.items ≡ x ∷ [] →
-    ps ≡ part.Host (record { place = place; body = body }) ∷ [] → AreLongest false ps
+    ps ≡ part.Host (record { place = place; body = body; depth = 0 }) ∷ [] → AreLongest false ps
 longest_host place x body ps e f =
-    subst (λ (qs : List Part). AreLongest false qs) (sym f) (refl, some_item body.items x e, tt)
+    subst (λ (qs : List Part). AreLongest false qs) (sym f) (refl, some_item body.items x e, tt, refl)
 
 pub longest_part : (p : Part) (ps : List Part) → is_host p ≡ false → ps ≡ p ∷ [] → AreLongest false ps
 longest_part p ps n e = subst (λ (qs : List Part). AreLongest false qs) (sym e) (longest_alone false p n)

@@ -5,6 +5,7 @@ use Rattle.base.specs.declared.tree.Place.{Place}
 use Rattle.base.specs.declared.tree.Stmt.{Stmt as Statement}
 use Rattle.base.specs.declared.tree.Part.{Part, items-the_row-Part}
 use Rattle.base.specs.declared.tree.Part.TheVariants as part
+use Rattle.c_grammar.specs.Lines.{depth_of}
 use Rattle.c_grammar.specs.Grammar.{Head, Stmt, Repeat, Block, Directive, OverBlock, OverLoop, Stmts, Done, Then}
 use Rattle.c_expressions.specs.Means.{Items, place_of}
 use Rattle.c_statements.specs.Statements.{Env, IsHead, IsStatement, AreStatements, behind, in_loop, stmt_size, head_size}
@@ -46,10 +47,11 @@ are_mixed [] = false
 are_mixed (part.Host r ∷ ps) = are_mixed ps
 are_mixed (p ∷ ps) = true
 
--- no region of the host is empty, and none follows another; the first follows one or not
+-- no region of the host is empty, none has turns that may run in any order, and none follows another; the first follows
+-- one or not
 abbrev pub AreLongest : Bool → List Part → Type 0
 AreLongest follows [] = Unit {0}
-AreLongest follows (part.Host r ∷ ps) = (follows ≡ false) × (r.body.items ≢ []) × AreLongest true ps
+AreLongest follows (part.Host r ∷ ps) = (follows ≡ false) × (r.body.items ≢ []) × AreLongest true ps × (r.depth ≡ 0)
 AreLongest follows (p ∷ ps) = AreLongest false ps
 
 -- the parts of a block or loop with a directive
@@ -63,7 +65,7 @@ IsPlaceAt is (Some place) = place ≡ place_of is
 -- a loop without a directive is a region of the host
 abbrev pub IsHostLoop : Env → Items → Head → Stmts → List Part → Type 0
 IsHostLoop env is h b (part.Host r ∷ []) =
-    (r.place ≡ place_of is) × AreStatements env is (Then (Repeat h b) Done) r.body.items
+    (r.place ≡ place_of is) × AreStatements env is (Then (Repeat h b) Done) r.body.items × (r.depth ≡ 0)
 IsHostLoop env is h b _ = ⊥
 
 -- one loop, of whose bounds and parts this holds
@@ -93,10 +95,10 @@ abbrev mutual
       (u : LineOf l) × (place ≡ place_of is) × IsAlone env.names is u.text d
   IsPart env is (OverBlock l b) (part.Target t r) =
       (u : LineOf l) × IsTarget env.names is u.text t × (r.place ≡ place_of (drop 1 is)) ×
-      AreStatements (in_target env) (drop 2 is) b r.body.items
+      AreStatements (in_target env) (drop 2 is) b r.body.items × (r.depth ≡ 0)
   IsPart env is (OverLoop l h b) (part.Target t r) =
       (u : LineOf l) × IsTarget env.names is u.text t × (r.place ≡ place_of (drop 1 is)) ×
-      AreStatements (in_target env) (drop 1 is) (Then (Repeat h b) Done) r.body.items
+      AreStatements (in_target env) (drop 1 is) (Then (Repeat h b) Done) r.body.items × (r.depth ≡ depth_of l)
   IsPart env is (OverBlock l b) (part.Data' d shape row) =
       (u : LineOf l) × IsData env.names is u.text d ×
       AreLongest false (items-the_row-Part _ row) × ArePieces env (drop 2 is) b (pieces_of (items-the_row-Part _ row))

@@ -1,5 +1,5 @@
 -- What was read of the statements and directives of main.
-use Rattle.std.specs.Prelude.{◌≡◌, ℕ, ◌+◌, ◌<◌, ◌≤◌, true, false, List, [], ◌∷◌, ◌++◌, length, drop, ◌⊎◌, Vec}
+use Rattle.std.specs.Prelude.{◌≡◌, ℕ, suc, ◌+◌, ◌<◌, ◌≤◌, true, false, List, [], ◌∷◌, ◌++◌, length, drop, ◌⊎◌, Vec}
 use Rattle.std.specs.declared.alloc.Global.{Global}
 use Rattle.c_tokens.specs.declared.kind.Sign.TheVariants as sign
 use Rattle.base.specs.declared.tree.Place.{Place}
@@ -7,10 +7,9 @@ use Rattle.base.specs.declared.tree.Region.{Region}
 use Rattle.base.specs.declared.tree.Part.{Part, Data as DataOf}
 use Rattle.base.specs.declared.tree.Part.TheVariants as part
 use Rattle.base.specs.declared.tree.Stmt.{Stmt as Statement}
-use Rattle.base.specs.declared.tree.Stmt.TheVariants as statement
 use Rattle.c_grammar.specs.Lexeme.{For}
 use Rattle.c_grammar.specs.Terminal.{Fixed, Mark}
-use Rattle.c_grammar.specs.Grammar.{Head, Stmt, Stmts, Repeat, stmt, stmts, IsStmt, AreStmts, loop_slots}
+use Rattle.c_grammar.specs.Grammar.{Head, Stmt, Stmts, Repeat, stmt, stmts, IsStmt, AreStmts, IsNest, IsLoopNest, deeper, loop_slots}
 use Rattle.c_grammar.specs.Rules.{inside, under_if}
 use Rattle.c_expressions.specs.declared.scope.Scope.{Scope}
 use Rattle.c_expressions.specs.Means.{Items, place_of}
@@ -18,7 +17,7 @@ use Rattle.c_expressions.specs.Reading.{terminals, kinds}
 use Rattle.c_expressions.specs.Scopes.{context_of, names_of}
 use Rattle.c_statements.specs.Statements.{Env, stmt_size, behind, declared_in, more}
 use Rattle.c_statements.specs.Simple.{loops_in, IsStmtRead}
-use Rattle.c_statements.specs.Bodies.{IsReady, IsBodyRead}
+use Rattle.c_statements.specs.Bodies.{IsReady, IsBodyRead, AreStmtsRead}
 use Rattle.c_constructs.specs.declared.resolved.Construct.{Construct}
 use Rattle.c_constructs.specs.declared.resolved.Construct.TheVariants as construct
 use Rattle.c_read.specs.declared.piece.Piece.{Piece}
@@ -42,9 +41,20 @@ pub record IsPieceRead (env next : Env) (before after : Items) (p : Piece) : Typ
   pub means : IsPiece env before text p
   pub next_is : next ≡ behind text env
 
-abbrev pub IsLoop : Statement → Type 0
-IsLoop (statement.Loop' b shape row) = Unit {0}
-IsLoop _ = ⊥
+-- a loop of a target, with a nest of so many loops in it
+pub record IsNestRead (depth : ℕ) (env next : Env) (before after : Items) (x : Statement) : Type 0 where
+  pub read : IsStmtRead env next before after x
+  pub nest : IsLoopNest read.text depth
+
+-- the body of such a loop
+pub record IsNestBodyRead (depth : ℕ) (env inner next : Env) (before after : Items) (xs : List Statement) : Type 0 where
+  pub read : IsBodyRead env inner next before after xs
+  pub nest : IsNest read.texts depth
+
+-- a loop with a nest of so many in it, and the brace that ends the body around it
+pub record AreNestRead (depth : ℕ) (env : Env) (next : ℕ) (before after : Items) (xs : List Statement) : Type 0 where
+  pub read : AreStmtsRead env next before after xs
+  pub nest : IsNest read.texts (suc depth)
 
 -- the statements and parts of a block and the brace that ends it; next is how many scalars are declared behind them
 pub record AreInnerRead (env : Env) (next : ℕ) (before after : Items) (ps : List Placed) : Type 0 where
@@ -81,14 +91,14 @@ pub record IsLoopRead (env next : Env) (before after : Items) (p : Piece) : Type
 -- one statement or part alone, which stands at the place
 abbrev pub AreAlone : Place → Piece → List Part → Type 0
 AreAlone place (piece.Statement x) ps =
-    (r : Region) × (ps ≡ part.Host r ∷ []) × (r.place ≡ place) × (r.body.items ≡ x ∷ [])
+    (r : Region) × (ps ≡ part.Host r ∷ []) × (r.place ≡ place) × (r.body.items ≡ x ∷ []) × (r.depth ≡ 0)
 AreAlone place (piece.Part p) ps = ps ≡ p ∷ []
 
--- the region of a target: a block, or a loop
-abbrev pub IsRegionRead : Env → Env → Items → Items → List Statement → Type 0
-IsRegionRead env next before after xs =
-    IsBodyRead env (in_target env) next before after xs ⊎ ((x : Statement) × (xs ≡ x ∷ []) × IsLoop x ×
-    IsStmtRead (in_target env) (in_target next) before after x)
+-- the region of a target: a block, or so many nested loops, or any one loop
+abbrev pub IsRegionRead : ℕ → Env → Env → Items → Items → List Statement → Type 0
+IsRegionRead depth env next before after xs =
+    ((depth ≡ 0) × IsBodyRead env (in_target env) next before after xs) ⊎ ((x : Statement) × (xs ≡ x ∷ []) ×
+    IsNestRead (deeper depth) (in_target env) (in_target next) before after x)
 
 -- the parts of a target data: those of a block, or of a loop
 abbrev pub AreDataRead : Env → Env → Items → Items → List Part → Type 0
@@ -103,12 +113,13 @@ pub record IsTargetNext (s : Scope) : Type 0 where
 
 -- behind the line of a directive that a block or loop must follow
 abbrev pub IsOverNext : Construct → Scope → Type 0
-IsOverNext (construct.Target g) s = IsTargetNext s
+IsOverNext (construct.Target g depth) s = IsTargetNext s
 IsOverNext (construct.Data d) s = IsOutside s
 
 -- the part of such a directive, from behind its line on
 abbrev pub IsOverRead : Env → Env → Construct → Items → Items → Part → Type 0
-IsOverRead env next (construct.Target g) before after p =
-    (r : Region) × (p ≡ part.Target g r) × (r.place ≡ place_of before) × IsRegionRead env next before after r.body.items
+IsOverRead env next (construct.Target g depth) before after p =
+    (r : Region) × (p ≡ part.Target g r) × (r.place ≡ place_of before) ×
+    IsRegionRead depth env next before after r.body.items × (r.depth ≡ depth)
 IsOverRead env next (construct.Data d) before after p =
     (v : Vec Part Global) × (p ≡ DataOf d v) × AreLongest false v.items × AreDataRead env next before after v.items

@@ -48,6 +48,7 @@ impl Gathered {
         self.parts.push(Part::Host(Region {
             place: self.place,
             body,
+            depth: 0,
         }))?;
         Ok(())
     }

@@ -4,6 +4,7 @@
 mod array;
 mod gathered;
 mod globals;
+mod nest;
 mod parts;
 mod piece;
 mod plain;

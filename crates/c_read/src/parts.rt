@@ -10,6 +10,7 @@ ghost use Rattle.c_expressions.specs.Cursor.{items, first_item};
 ghost use Rattle.c_expressions.specs.Reading.{run, took, is_directive, Outcome};
 ghost use Rattle.c_expressions.specs.Scopes.{context_of};
 ghost use Rattle.c_statements.specs.Bodies.{IsSameBlock, IsLeft};
+ghost use Rattle.c_constructs.specs.LineMeaning.{depth_over};
 ghost use Rattle.c_statements.specs.Simple.{env_of};
 ghost use Rattle.c_read.specs.Gathering.{so_far, IsGathered, IsNoHost};
 ghost use Rattle.c_read.specs.Parts.{AreLongest};
@@ -62,7 +63,7 @@ fn piece<'a>(scope: &mut Scope<'a>, tokens: &mut Cursor<'a>) -> Result<Piece, Re
 fn looped<'a>(scope: &mut Scope<'a>, tokens: &mut Cursor<'a>) -> Result<Piece, ReadError>
     requires outside { IsOutside scope.old }
     requires word { (first_item tokens.old).terminal ≡ Fixed For }
-    ensures read { (s : Stack) → Outcome result (took (context_of scope.old 0 0) (for Starts) (loop s)
+    ensures read { (s : Stack) → Outcome result (took (context_of scope.old 0 0) (for Starts) (loop 0 s)
         (items tokens.old)) (run (context_of scope.new 0 0) s (items tokens.new)) }
     ensures scope { OnOk result (IsSameBlock scope.old scope.new) }
     ensures tree { IfOk result (λ p. IsPieceRead (env_of scope.old) (env_of scope.new) (items tokens.old)
@@ -79,7 +80,7 @@ fn looped<'a>(scope: &mut Scope<'a>, tokens: &mut Cursor<'a>) -> Result<Piece, R
 #[tactic(auto, using(c_expressions::proofs::Outcomes::on_from))]
 fn turns<'a>(scope: &mut Scope<'a>, tokens: &mut Cursor<'a>) -> Result<Piece, ReadError>
     requires { IsOutside scope.old }
-    ensures read { (s : Stack) → Outcome result (run (context_of scope.old 0 0) (loop s) (items tokens.old))
+    ensures read { (s : Stack) → Outcome result (run (context_of scope.old 0 0) (loop 0 s) (items tokens.old))
         (run (context_of scope.new 0 0) s (items tokens.new)) }
     ensures scope { OnOk result (IsSameBlock scope.old scope.new) }
     ensures tree { IfOk result (λ p. IsLoopRead (env_of scope.old) (env_of scope.new) (items tokens.old)
@@ -146,16 +147,16 @@ fn over<'a>(
     construct: Construct,
 ) -> Result<Part, ReadError>
     requires { IsOverNext construct scope.old }
-    ensures read { (s : Stack) → Outcome result (run (context_of scope.old 0 0) (Under ∷ s) (items tokens.old))
-        (run (context_of scope.new 0 0) s (items tokens.new)) }
+    ensures read { (s : Stack) → Outcome result (run (context_of scope.old 0 0) (Under (depth_over construct) ∷ s)
+        (items tokens.old)) (run (context_of scope.new 0 0) s (items tokens.new)) }
     ensures scope { OnOk result (IsSameBlock scope.old scope.new) }
     ensures target { OnOk result (scope.new.target ≡ false) }
     ensures tree { IfOk result (λ p. IsOverRead (env_of scope.old) (env_of scope.new) construct (items tokens.old)
         (items tokens.new) p) }
 {
     match construct {
-        Construct::Target(target) => {
-            let region = region(scope, tokens)?;
+        Construct::Target(target, depth) => {
+            let region = region(scope, tokens, depth)?;
             Ok(Part::Target(target, region))
         }
         Construct::Data(data) => {
@@ -170,7 +171,7 @@ fn over<'a>(
 #[tactic(auto, using(c_expressions::proofs::Outcomes::on_from, crate::proofs::Unders::under_brace, crate::proofs::Unders::under_loop, crate::proofs::Unders::stop_under))]
 fn data_parts<'a>(scope: &mut Scope<'a>, tokens: &mut Cursor<'a>) -> Result<Vec<Part>, ReadError>
     requires { IsOutside scope.old }
-    ensures read { (s : Stack) → Outcome result (run (context_of scope.old 0 0) (Under ∷ s) (items tokens.old))
+    ensures read { (s : Stack) → Outcome result (run (context_of scope.old 0 0) (Under 0 ∷ s) (items tokens.old))
         (run (context_of scope.new 0 0) s (items tokens.new)) }
     ensures scope { OnOk result (IsSameBlock scope.old scope.new) }
     ensures tree { IfOk result (λ v. AreDataRead (env_of scope.old) (env_of scope.new) (items tokens.old)

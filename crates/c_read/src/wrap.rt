@@ -56,7 +56,11 @@ pub fn alone(alloc: Global, place: Place, piece: Piece) -> Result<Vec<Part>, All
         Piece::Statement(stmt) => {
             let mut body = Vec::new(alloc);
             body.push(stmt)?;
-            parts.push(Part::Host(Region { place, body }))?;
+            parts.push(Part::Host(Region {
+                place,
+                body,
+                depth: 0,
+            }))?;
             Ok(parts)
         }
         Piece::Part(part) => {

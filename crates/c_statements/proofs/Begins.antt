@@ -25,7 +25,7 @@ body_declaration : (s : Stack) → advance (Body ∷ s) (Fixed Uint64) ≡ Some 
 unfolding advance
 body_declaration s = refl
 
-body_loop : (s : Stack) → advance (Body ∷ s) (Fixed For) ≡ Some (for Starts, loop (Body ∷ s))
+body_loop : (s : Stack) → advance (Body ∷ s) (Fixed For) ≡ Some (for Starts, loop 0 (Body ∷ s))
 unfolding advance
 body_loop s = refl
 
@@ -52,8 +52,8 @@ at_declaration c s t e = item_took c (Body ∷ s) (declaration s) (for Starts) (
     (ap (advance (Body ∷ s)) e ∙ body_declaration s)
 
 pub at_loop : (c : Context) (s : Stack) (t : Cursor) → (first_item t).terminal ≡ Fixed For →
-    run c (Body ∷ s) (items t) ≡ took c (for Starts) (loop (Body ∷ s)) (items t)
-at_loop c s t e = item_took c (Body ∷ s) (loop (Body ∷ s)) (for Starts) (first_item t) (behind t)
+    run c (Body ∷ s) (items t) ≡ took c (for Starts) (loop 0 (Body ∷ s)) (items t)
+at_loop c s t e = item_took c (Body ∷ s) (loop 0 (Body ∷ s)) (for Starts) (first_item t) (behind t)
     (ap (advance (Body ∷ s)) e ∙ body_loop s)
 
 pub at_choice : (c : Context) (s : Stack) (t : Cursor) → (first_item t).terminal ≡ Fixed If →

@@ -12,7 +12,7 @@ use Rattle.c_grammar.specs.Terminal.{Terminal, Fixed, Mark, Name, Num, Line, Unk
 use Rattle.c_grammar.specs.Texts.{Item}
 use Rattle.c_grammar.specs.Machine.{run as machine_run}
 use Rattle.c_grammar.specs.Rules.{Context, breaks, enter, out, is_visible, sort_of, max_scalars, rule_here}
-use Rattle.c_grammar.specs.Program.{Stack, Turn, advance, place_code, first_broken, head_of}
+use Rattle.c_grammar.specs.Program.{Stack, Turn, advance, place_code, first_broken, head_of, loop_body}
 use Rattle.c_expressions.specs.declared.cursor.Cursor.{Cursor}
 use Rattle.c_expressions.specs.declared.scope.Meaning.{Meaning}
 use Rattle.c_expressions.specs.declared.scope.Scope.{Scope}
@@ -30,80 +30,80 @@ visible_is (Some m) = refl
 
 -- ---- the name of a loop
 
-item_visible : (c : Context) (s : Stack) (x : List ℕ) (i : Item Terminal) (is : Items) → is_visible (sort_of c x) ≡
-    true → run c (Turn ∷ s) (put i (Name x) ∷ is) ≡ Some (fault_at i AlreadyDeclared)
+item_visible : (c : Context) (d : ℕ) (s : Stack) (x : List ℕ) (i : Item Terminal) (is : Items) → is_visible (sort_of c x) ≡
+    true → run c (Turn d ∷ s) (put i (Name x) ∷ is) ≡ Some (fault_at i AlreadyDeclared)
 unfolding run machine_run advance first_broken breaks
-item_visible c s x i is h = rw h refl
+item_visible c d s x i is h = rw h refl
 
-item_many : (c : Context) (s : Stack) (x : List ℕ) (i : Item Terminal) (is : Items) → is_visible (sort_of c x) ≡
+item_many : (c : Context) (d : ℕ) (s : Stack) (x : List ℕ) (i : Item Terminal) (is : Items) → is_visible (sort_of c x) ≡
     false → (nat_lt max_name (length x) || nat_le max_scalars c.scalars) ≡ true →
-    run c (Turn ∷ s) (put i (Name x) ∷ is) ≡ Some (fault_at i TooMany)
+    run c (Turn d ∷ s) (put i (Name x) ∷ is) ≡ Some (fault_at i TooMany)
 unfolding run machine_run advance first_broken breaks
-item_many c s x i is h k = rw (h, k) refl
+item_many c d s x i is h k = rw (h, k) refl
 
 abbrev named_in : List ℕ → Context → Context
 named_in x c = record (out c) { turn = Some x; scalars = c.scalars + 1 }
 
-item_turn : (c : Context) (s : Stack) (x : List ℕ) (i : Item Terminal) (is : Items) → is_visible (sort_of c x) ≡
+item_turn : (c : Context) (d : ℕ) (s : Stack) (x : List ℕ) (i : Item Terminal) (is : Items) → is_visible (sort_of c x) ≡
     false → (nat_lt max_name (length x) || nat_le max_scalars c.scalars) ≡ false →
-    run c (Turn ∷ s) (put i (Name x) ∷ is) ≡ run (named_in x c) (head_of x s) is
+    run c (Turn d ∷ s) (put i (Name x) ∷ is) ≡ run (named_in x c) (head_of x (loop_body d s)) is
 unfolding run machine_run advance first_broken breaks enter
-item_turn c s x i is h k = rw (h, k) refl
+item_turn c d s x i is h k = rw (h, k) refl
 
-pub bad_turn : (sc : Scope) (s : Stack) (x : List ℕ) (t : Cursor) → (first_item t).terminal ≡ Name x →
-    is_visible (sort_of (context_of sc 0 0) x) ≡ true → run (context_of sc 0 0) (Turn ∷ s) (items t) ≡
+pub bad_turn : (sc : Scope) (d : ℕ) (s : Stack) (x : List ℕ) (t : Cursor) → (first_item t).terminal ≡ Name x →
+    is_visible (sort_of (context_of sc 0 0) x) ≡ true → run (context_of sc 0 0) (Turn d ∷ s) (items t) ≡
     Some (fault_at (first_item t) AlreadyDeclared)
-bad_turn sc s x t e h = ap (λ (i : Item Terminal). run (context_of sc 0 0) (Turn ∷ s) (i ∷ behind t))
-    (put_is (first_item t) (Name x) e) ∙ item_visible (context_of sc 0 0) s x (first_item t) (behind t) h
+bad_turn sc d s x t e h = ap (λ (i : Item Terminal). run (context_of sc 0 0) (Turn d ∷ s) (i ∷ behind t))
+    (put_is (first_item t) (Name x) e) ∙ item_visible (context_of sc 0 0) d s x (first_item t) (behind t) h
 
-pub long_turn : (sc : Scope) (s : Stack) (x : List ℕ) (t : Cursor) → (first_item t).terminal ≡ Name x →
+pub long_turn : (sc : Scope) (d : ℕ) (s : Stack) (x : List ℕ) (t : Cursor) → (first_item t).terminal ≡ Name x →
     is_visible (sort_of (context_of sc 0 0) x) ≡ false → max_name < length x →
-    run (context_of sc 0 0) (Turn ∷ s) (items t) ≡ Some (fault_at (first_item t) TooMany)
-long_turn sc s x t e h k =
+    run (context_of sc 0 0) (Turn d ∷ s) (items t) ≡ Some (fault_at (first_item t) TooMany)
+long_turn sc d s x t e h k =
     let long : nat_lt max_name (length x) ≡ true = grind (arith, nat_tests) in
-    ap (λ (i : Item Terminal). run (context_of sc 0 0) (Turn ∷ s) (i ∷ behind t)) (put_is (first_item t) (Name x) e)
-    ∙ item_many (context_of sc 0 0) s x (first_item t) (behind t) h
+    ap (λ (i : Item Terminal). run (context_of sc 0 0) (Turn d ∷ s) (i ∷ behind t)) (put_is (first_item t) (Name x) e)
+    ∙ item_many (context_of sc 0 0) d s x (first_item t) (behind t) h
     (or_left (nat_lt max_name (length x)) (nat_le max_scalars sc.scalars) long)
 
-pub many_turn : (sc : Scope) (s : Stack) (x : List ℕ) (t : Cursor) → (first_item t).terminal ≡ Name x →
+pub many_turn : (sc : Scope) (d : ℕ) (s : Stack) (x : List ℕ) (t : Cursor) → (first_item t).terminal ≡ Name x →
     is_visible (sort_of (context_of sc 0 0) x) ≡ false → max_scalars ≤ sc.scalars →
-    run (context_of sc 0 0) (Turn ∷ s) (items t) ≡ Some (fault_at (first_item t) TooMany)
-many_turn sc s x t e h k =
+    run (context_of sc 0 0) (Turn d ∷ s) (items t) ≡ Some (fault_at (first_item t) TooMany)
+many_turn sc d s x t e h k =
     let many : nat_le max_scalars sc.scalars ≡ true = grind (arith, nat_tests) in
-    ap (λ (i : Item Terminal). run (context_of sc 0 0) (Turn ∷ s) (i ∷ behind t)) (put_is (first_item t) (Name x) e)
-    ∙ item_many (context_of sc 0 0) s x (first_item t) (behind t) h
+    ap (λ (i : Item Terminal). run (context_of sc 0 0) (Turn d ∷ s) (i ∷ behind t)) (put_is (first_item t) (Name x) e)
+    ∙ item_many (context_of sc 0 0) d s x (first_item t) (behind t) h
     (or_right (nat_lt max_name (length x)) (nat_le max_scalars sc.scalars) many)
 
-pub go_turn : (sc : Scope) (s : Stack) (x : List ℕ) (t t' : Cursor) → (first_item t).terminal ≡ Name x →
+pub go_turn : (sc : Scope) (d : ℕ) (s : Stack) (x : List ℕ) (t t' : Cursor) → (first_item t).terminal ≡ Name x →
     is_visible (sort_of (context_of sc 0 0) x) ≡ false → length x ≤ max_name → sc.scalars < max_scalars → behind t ≡
-    items t' → run (context_of sc 0 0) (Turn ∷ s) (items t) ≡
-    run (waiting x (one_scalar_more (context_of sc 0 0))) (head_of x s) (items t')
-go_turn sc s x t t' e h k l d =
+    items t' → run (context_of sc 0 0) (Turn d ∷ s) (items t) ≡
+    run (waiting x (one_scalar_more (context_of sc 0 0))) (head_of x (loop_body d s)) (items t')
+go_turn sc d s x t t' e h k l b =
     let short : nat_lt max_name (length x) ≡ false = grind (arith, nat_tests) in
     let few : nat_le max_scalars sc.scalars ≡ false = grind (arith, nat_tests) in
-    ap (λ (i : Item Terminal). run (context_of sc 0 0) (Turn ∷ s) (i ∷ behind t)) (put_is (first_item t) (Name x) e)
-    ∙ item_turn (context_of sc 0 0) s x (first_item t) (behind t) h
+    ap (λ (i : Item Terminal). run (context_of sc 0 0) (Turn d ∷ s) (i ∷ behind t)) (put_is (first_item t) (Name x) e)
+    ∙ item_turn (context_of sc 0 0) d s x (first_item t) (behind t) h
     (or_from (nat_lt max_name (length x)) (nat_le max_scalars sc.scalars) short few)
-    ∙ ap (run (waiting x (one_scalar_more (context_of sc 0 0))) (head_of x s)) d
+    ∙ ap (run (waiting x (one_scalar_more (context_of sc 0 0))) (head_of x (loop_body d s))) b
 
 abbrev pub NoName : Terminal → Type 0
 NoName (Name x) = ⊥
 NoName _ = Unit {0}
 
-turn_none : (s : Stack) (t : Terminal) → NoName t → advance (Turn ∷ s) t ≡ None
+turn_none : (d : ℕ) (s : Stack) (t : Terminal) → NoName t → advance (Turn d ∷ s) t ≡ None
 unfolding advance
-turn_none s (Fixed w) h = refl
-turn_none s (Mark x) h = refl
-turn_none s (Name x) h = absurd h
-turn_none s (Num n) h = refl
-turn_none s (Line ts) h = refl
-turn_none s Unknown h = refl
-turn_none s End h = refl
+turn_none d s (Fixed w) h = refl
+turn_none d s (Mark x) h = refl
+turn_none d s (Name x) h = absurd h
+turn_none d s (Num n) h = refl
+turn_none d s (Line ts) h = refl
+turn_none d s Unknown h = refl
+turn_none d s End h = refl
 
-pub stop_turn : (c : Context) (s : Stack) (t : Cursor) → NoName (first_item t).terminal →
-    run c (Turn ∷ s) (items t) ≡ Some (misfit_at (Some (rule_here Unexpected)) (first_item t))
+pub stop_turn : (c : Context) (d : ℕ) (s : Stack) (t : Cursor) → NoName (first_item t).terminal →
+    run c (Turn d ∷ s) (items t) ≡ Some (misfit_at (Some (rule_here Unexpected)) (first_item t))
 unfolding place_code
-stop_turn c s t h = stop c (Turn ∷ s) (first_item t) (behind t) (turn_none s (first_item t).terminal h) refl
+stop_turn c d s t h = stop c (Turn d ∷ s) (first_item t) (behind t) (turn_none d s (first_item t).terminal h) refl
 
 -- ---- tokens that are gone
 

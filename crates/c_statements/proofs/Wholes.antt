@@ -31,24 +31,34 @@ size_ended ss = length-append (stmts ss) (body_closing ∷ [])
 
 -- ---- in braces
 
+-- with the statements of which it is
+pub told_body : (env inner next first : Env) (n : ℕ) (t t' : Cursor) (after : Items) (xs : List Statement) →
+    (first_item t).terminal ≡ Mark sign.OpenBrace → behind t ≡ items t' → first ≡ inner →
+    (r : AreStmtsRead first n (items t') after xs) → ((k : ℕ) → n ≡ first.scalars + k → next ≡ more k env) →
+    (q : IsBodyRead env inner next (items t) after xs) × (q.texts ≡ r.texts)
+told_body env inner next first n t t' after xs e b f r h =
+    let k = length (stmts r.texts) in (
+      record {
+        texts = r.texts;
+        tokens = first_then (Mark sign.OpenBrace) t t' e b ∙ ap (λ (ts : List Terminal). Mark sign.OpenBrace ∷ ts)
+            r.tokens;
+        rest = drop_by (1 + (k + 1)) (k + 2) (items t) after (omega arith)
+            (drops 1 (k + 1) (items t) (items t') after (drop_one t t' b) r.rest);
+        are_texts = r.are_texts;
+        fewer = omega (arith, behind_less t t' b, r.fewer);
+        means = subst (λ (is : Items). AreStatements inner is r.texts xs) (drop_one t t' b)
+            (subst (λ (v : Env). AreStatements v (items t') r.texts xs) f r.means);
+        next_is = h (declared_in r.texts) r.scalars;
+      },
+      refl,
+    )
+
 pub read_body : (env inner next first : Env) (n : ℕ) (t t' : Cursor) (after : Items) (xs : List Statement) →
     (first_item t).terminal ≡ Mark sign.OpenBrace → behind t ≡ items t' → first ≡ inner →
     AreStmtsRead first n (items t') after xs →
     ((k : ℕ) → n ≡ first.scalars + k → next ≡ more k env) → IsBodyRead env inner next (items t) after xs
 read_body env inner next first n t t' after xs e b f r h =
-    let k = length (stmts r.texts) in
-    record {
-      texts = r.texts;
-      tokens = first_then (Mark sign.OpenBrace) t t' e b ∙ ap (λ (ts : List Terminal). Mark sign.OpenBrace ∷ ts)
-          r.tokens;
-      rest = drop_by (1 + (k + 1)) (k + 2) (items t) after (omega arith)
-          (drops 1 (k + 1) (items t) (items t') after (drop_one t t' b) r.rest);
-      are_texts = r.are_texts;
-      fewer = omega (arith, behind_less t t' b, r.fewer);
-      means = subst (λ (is : Items). AreStatements inner is r.texts xs) (drop_one t t' b)
-          (subst (λ (v : Env). AreStatements v (items t') r.texts xs) f r.means);
-      next_is = h (declared_in r.texts) r.scalars;
-    }
+    (told_body env inner next first n t t' after xs e b f r h).0
 
 -- ---- a block
 
@@ -103,13 +113,15 @@ gone_less us a b g = omega (
   length-append us (terminals b),
 )
 
-pub read_loop : (env mid inner next : Env) (x : List ℕ) (b : Bounds) (t t' : Cursor) (i2 i3 after : Items)
+-- with the text of which it is
+pub told_loop : (env mid inner next : Env) (x : List ℕ) (b : Bounds) (t t' : Cursor) (i2 i3 after : Items)
     (all : Vec Statement Global) →
     (first_item t).terminal ≡ Fixed For → behind t ≡ items t' →
     IsGone (Mark sign.OpenParen ∷ Fixed Uint64 ∷ Name x ∷ []) (items t') i2 → IsGone (bounds_tokens x b) i2 i3 →
-    mid ≡ env → inner ≡ in_loop x env → IsBodyRead mid inner next i3 after all.items →
-    IsStmtRead env next (items t) after (LoopOf b all)
-read_loop env mid inner next x b t t' i2 i3 after all e d g h m f r =
+    mid ≡ env → inner ≡ in_loop x env → (r : IsBodyRead mid inner next i3 after all.items) →
+    (q : IsStmtRead env next (items t) after (LoopOf b all)) ×
+    (q.text ≡ Repeat (record { name = x; first = Some b.first; limit = Some b.end; step = Some b.step }) r.texts)
+told_loop env mid inner next x b t t' i2 i3 after all e d g h m f r =
     let head : Head = record { name = x; first = Some b.first; limit = Some b.end; step = Some b.step } in
     let text : Stmt = Repeat head r.texts in
     let k = length (stmts r.texts) in
@@ -122,25 +134,36 @@ read_loop env mid inner next x b t t' i2 i3 after all e d g h m f r =
     ∙ ap (λ (ts : List Terminal). kinds (head_slots head) ++ (Mark sign.OpenBrace ∷ ts)) (kinds_ended r.texts rest) in
     let at2 : i2 ≡ drop 4 (items t) = drops 1 3 (items t) (items t') i2 (drop_one t t' d) g.rest in
     let at3 : i3 ≡ drop 15 (items t) = drops 4 11 (items t) i2 i3 at2 h.rest in
-    let back : drop 1 i3 ≡ drop 16 (items t) = drops 15 1 (items t) i3 (drop 1 i3) at3 refl in
-    record {
-      text = text;
-      tokens = first_then (Fixed For) t t' e d ∙ ap (λ (ts : List Terminal). Fixed For ∷ ts)
-          (g.tokens ∙ ap (λ (ts : List Terminal). Mark sign.OpenParen ∷ Fixed Uint64 ∷ Name x ∷ ts)
-          (h.tokens ∙ ap (λ (ts : List Terminal). bounds_tokens x b ++ ts) r.tokens) ∙ sym split);
-      rest = drop_by (15 + (k + 2)) (stmt_size text) (items t) after (omega (arith, size_ended r.texts))
-          (drops 15 (k + 2) (items t) i3 after at3 r.rest);
-      is_text = r.are_texts;
-      fewer = omega (
-        arith,
-        behind_less t t' d,
-        gone_less (Mark sign.OpenParen ∷ Fixed Uint64 ∷ Name x ∷ [])
-            (items t') i2 g,
-        gone_less (bounds_tokens x b) i2 i3 h,
-        r.fewer,
-      );
-      means = loop_at env (items t) head r.texts b all (record { first = refl; limit = refl; step = refl })
-          (subst (λ (is : Items). AreStatements (in_loop x env) is r.texts all.items) back
-          (subst (λ (v : Env). AreStatements v (drop 1 i3) r.texts all.items) f r.means));
-      next_is = r.next_is ∙ ap (more (declared_in r.texts)) m;
-    }
+    let back : drop 1 i3 ≡ drop 16 (items t) = drops 15 1 (items t) i3 (drop 1 i3) at3 refl in (
+      record {
+        text = text;
+        tokens = first_then (Fixed For) t t' e d ∙ ap (λ (ts : List Terminal). Fixed For ∷ ts)
+            (g.tokens ∙ ap (λ (ts : List Terminal). Mark sign.OpenParen ∷ Fixed Uint64 ∷ Name x ∷ ts)
+            (h.tokens ∙ ap (λ (ts : List Terminal). bounds_tokens x b ++ ts) r.tokens) ∙ sym split);
+        rest = drop_by (15 + (k + 2)) (stmt_size text) (items t) after (omega (arith, size_ended r.texts))
+            (drops 15 (k + 2) (items t) i3 after at3 r.rest);
+        is_text = r.are_texts;
+        fewer = omega (
+          arith,
+          behind_less t t' d,
+          gone_less (Mark sign.OpenParen ∷ Fixed Uint64 ∷ Name x ∷ [])
+              (items t') i2 g,
+          gone_less (bounds_tokens x b) i2 i3 h,
+          r.fewer,
+        );
+        means = loop_at env (items t) head r.texts b all (record { first = refl; limit = refl; step = refl })
+            (subst (λ (is : Items). AreStatements (in_loop x env) is r.texts all.items) back
+            (subst (λ (v : Env). AreStatements v (drop 1 i3) r.texts all.items) f r.means));
+        next_is = r.next_is ∙ ap (more (declared_in r.texts)) m;
+      },
+      refl,
+    )
+
+pub read_loop : (env mid inner next : Env) (x : List ℕ) (b : Bounds) (t t' : Cursor) (i2 i3 after : Items)
+    (all : Vec Statement Global) →
+    (first_item t).terminal ≡ Fixed For → behind t ≡ items t' →
+    IsGone (Mark sign.OpenParen ∷ Fixed Uint64 ∷ Name x ∷ []) (items t') i2 → IsGone (bounds_tokens x b) i2 i3 →
+    mid ≡ env → inner ≡ in_loop x env → IsBodyRead mid inner next i3 after all.items →
+    IsStmtRead env next (items t) after (LoopOf b all)
+read_loop env mid inner next x b t t' i2 i3 after all e d g h m f r =
+    (told_loop env mid inner next x b t t' i2 i3 after all e d g h m f r).0

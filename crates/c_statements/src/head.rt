@@ -1,12 +1,12 @@
 //! The heads of loops.
 
-ghost use Rattle.std.specs.Prelude.{◌≡◌, ◌<◌, ◌≤◌, ◌+◌, ◌^◌, ◌∷◌, [], length, OnOk, IfOk, Some, None};
+ghost use Rattle.std.specs.Prelude.{ℕ, ◌≡◌, ◌<◌, ◌≤◌, ◌+◌, ◌^◌, ◌∷◌, [], length, OnOk, IfOk, Some, None};
 ghost use Rattle.c_tokens.specs.declared.kind.Sign.TheVariants as sign;
 ghost use Rattle.c_grammar.specs.Lexeme.{Uint64};
 ghost use Rattle.c_grammar.specs.Terminal.{Fixed, Mark, Name, Num};
 ghost use Rattle.c_grammar.specs.Grammar.{Plain, Limit, Step, Opens, for};
 ghost use Rattle.c_grammar.specs.Rules.{Context, out, is_visible, sort_of};
-ghost use Rattle.c_grammar.specs.Program.{Stack, Want, WantNum, Turn, m, head_of, body, loop};
+ghost use Rattle.c_grammar.specs.Program.{Stack, Want, WantNum, Turn, m, head_of, loop, loop_body};
 ghost use Rattle.c_expressions.specs.Cursor.{items};
 ghost use Rattle.c_expressions.specs.Reading.{run, Outcome, OutcomeBy};
 ghost use Rattle.c_expressions.specs.Scopes.{context_of, limited};
@@ -31,8 +31,8 @@ pub fn is_visible(scope: &Scope<'_>, name: &[u8]) -> bool
 /// The name of a loop, where it is declared.
 #[tactic(auto, using(crate::proofs::Heads::bad_turn, crate::proofs::Heads::long_turn, crate::proofs::Heads::many_turn, crate::proofs::Heads::go_turn, crate::proofs::Heads::stop_turn, crate::proofs::Heads::gone_one))]
 fn turn_name<'a>(scope: &mut Scope<'a>, tokens: &mut Cursor<'a>) -> Result<&'a [u8], ReadError>
-    ensures read { (s : Stack) → OutcomeBy result (run (context_of scope.old 0 0) (Turn ∷ s) (items tokens.old))
-        (λ x. run (waiting x.now (context_of scope.new 0 0)) (head_of x.now s) (items tokens.new)) }
+    ensures read { (d : ℕ) (s : Stack) → OutcomeBy result (run (context_of scope.old 0 0) (Turn d ∷ s) (items tokens.old))
+        (λ x. run (waiting x.now (context_of scope.new 0 0)) (head_of x.now (loop_body d s)) (items tokens.new)) }
     ensures scope { OnOk result (IsNamedMore scope.old scope.new) }
     ensures few { OnOk result (scope.old.scalars < MAX_SCALARS) }
     ensures short { IfOk result (λ x. length x.now ≤ MAX_NAME) }
@@ -116,7 +116,7 @@ pub fn bounds(
 ) -> Result<Bounds, ReadError>
     requires { length name.now ≤ MAX_NAME }
     ensures read { (s : Stack) → Outcome result (run (waiting name.now (context_of scope.old 0 0))
-        (head_of name.now s) (items tokens.old)) (run (waiting name.now (context_of scope.new 0 0)) (body s)
+        (head_of name.now s) (items tokens.old)) (run (waiting name.now (context_of scope.new 0 0)) s
         (items tokens.new)) }
     ensures scope { IfOk result (λ b. scope.new ≡ with_limit scope.old b.end) }
     ensures gone { IfOk result (λ b. IsGone (bounds_tokens name.now b) (items tokens.old) (items tokens.new)) }
@@ -131,8 +131,8 @@ pub fn bounds(
 /// The head of a loop behind its word, up to its name.
 #[tactic(auto, using(c_expressions::proofs::Outcomes::on_from_by, crate::proofs::Heads::gone_head))]
 pub fn head_name<'a>(scope: &mut Scope<'a>, tokens: &mut Cursor<'a>) -> Result<&'a [u8], ReadError>
-    ensures read { (s : Stack) → OutcomeBy result (run (context_of scope.old 0 0) (loop s) (items tokens.old))
-        (λ x. run (waiting x.now (context_of scope.new 0 0)) (head_of x.now s) (items tokens.new)) }
+    ensures read { (d : ℕ) (s : Stack) → OutcomeBy result (run (context_of scope.old 0 0) (loop d s) (items tokens.old))
+        (λ x. run (waiting x.now (context_of scope.new 0 0)) (head_of x.now (loop_body d s)) (items tokens.new)) }
     ensures scope { OnOk result (IsNamedMore scope.old scope.new) }
     ensures few { OnOk result (scope.old.scalars < MAX_SCALARS) }
     ensures short { IfOk result (λ x. length x.now ≤ MAX_NAME) }

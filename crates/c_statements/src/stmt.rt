@@ -61,7 +61,7 @@ fn looped<'a>(scope: &mut Scope<'a>, tokens: &mut Cursor<'a>) -> Result<Stmt, Re
     requires ready { IsReady scope.old }
     requires within { (inside (context_of scope.old 0 0) || under_if (context_of scope.old 0 0)) ≡ true }
     requires word { (first_item tokens.old).terminal ≡ Fixed For }
-    ensures read { (s : Stack) → Outcome result (took (context_of scope.old 0 0) (for Starts) (loop s)
+    ensures read { (s : Stack) → Outcome result (took (context_of scope.old 0 0) (for Starts) (loop 0 s)
         (items tokens.old)) (run (context_of scope.new 0 0) s (items tokens.new)) }
     ensures scope { OnOk result (IsSameBlock scope.old scope.new) }
     ensures tree { IfOk result (λ x. IsStmtRead (env_of scope.old) (env_of scope.new) (items tokens.old)

@@ -11,16 +11,16 @@ use Rattle.directives.specs.declared.tree.MapClause.{MapClause}
 use Rattle.directives.specs.declared.tree.DependClause.{DependClause}
 use Rattle.directives.specs.declared.tree.MotionClause.{MotionClause}
 use Rattle.directives.specs.declared.tree.Clause.{Clause}
-use Rattle.directives.specs.declared.tree.Clause.TheVariants.{Map, Depend, Motion, NoWait, Device}
-use Rattle.directives.specs.Kinds.{seen_map, seen_depend, seen_motion}
+use Rattle.directives.specs.declared.tree.Clause.TheVariants.{Map, Depend, Motion, NoWait, Device, Amount, Schedule}
+use Rattle.directives.specs.Kinds.{seen_amount, seen_schedule, seen_map, seen_depend, seen_motion}
 use Rattle.directives.specs.Cursor.{Items, first_item, behind, items}
 use Rattle.directives.specs.Reading.{IsSpelled}
-use Rattle.directives.specs.Trees.{Spelling, word_mark, sign_mark, number_mark, modifiers_marks, present_marks, type_marks, sections_marks, clause_of, clause_marks, clauses_marks}
+use Rattle.directives.specs.Trees.{Spelling, word_mark, sign_mark, number_mark, modifiers_marks, present_marks, type_marks, sections_marks, chunk_marks, clause_of, clause_marks, clauses_marks}
 use Rattle.directives.proofs.Clausing.{end_is}
 use Rattle.directives.proofs.Spellings.{spelled_one, spelled_first, spelled_then, spelled_as, spelled_less}
 
 -- a word and the bracket behind it
-read_word : (l l1 l2 : Line) (x : List ℕ) → (first_item l).terminal ≡ Worded x → behind l ≡ items l1 →
+pub read_word : (l l1 l2 : Line) (x : List ℕ) → (first_item l).terminal ≡ Worded x → behind l ≡ items l1 →
     (first_item l1).terminal ≡ Signed sign.OpenParen → behind l1 ≡ items l2 →
     IsSpelled (word_mark x ∷ sign_mark sign.OpenParen ∷ []) (items l) (items l2)
 read_word l l1 l2 x e b f d = spelled_first l l1 (Worded x) None (sign_mark sign.OpenParen ∷ []) (items l2) e tt b
@@ -98,6 +98,10 @@ clause_less (Motion m) a b r = spelled_less (word_mark (grammar.motion_word (see
 clause_less NoWait a b r = spelled_less (word_mark (codes "nowait")) [] a b r.fits
 clause_less (Device d) a b r = spelled_less (word_mark (codes "device"))
     (sign_mark sign.OpenParen ∷ number_mark d.number ∷ sign_mark sign.CloseParen ∷ []) a b r.fits
+clause_less (Amount x n) a b r = spelled_less (word_mark (grammar.amount_word (seen_amount x)))
+    (sign_mark sign.OpenParen ∷ number_mark n ∷ sign_mark sign.CloseParen ∷ []) a b r.fits
+clause_less (Schedule t o) a b r = spelled_less (word_mark (codes "schedule"))
+    (sign_mark sign.OpenParen ∷ word_mark (grammar.schedule_word (seen_schedule t)) ∷ chunk_marks o) a b r.fits
 
 -- ---- clauses
 

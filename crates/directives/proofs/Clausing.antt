@@ -10,7 +10,7 @@ use Rattle.c_grammar.specs.LineMachine.{LineStack, Clauses, MapHead, DependHead,
 use Rattle.directives.specs.declared.line.Line.{Line}
 use Rattle.directives.specs.Cursor.{first_item}
 use Rattle.directives.specs.Reading.{rest, took, misfit_at}
-use Rattle.directives.specs.Clauses.{is_map, is_depend, is_nowait, is_device, IsNoMotion}
+use Rattle.directives.specs.Clauses.{is_map, is_depend, is_nowait, is_device, is_schedule, IsNoAmount, IsNoMotion}
 use Rattle.c_grammar.proofs.Lexemes.{same-true}
 use Rattle.directives.proofs.Moves.{goes, stops, word_is}
 use Rattle.c_grammar.proofs.LineGoes.{map_step, depend_step, motion_step, nowait_step, device_step, end_step}
@@ -82,19 +82,19 @@ at_device l k s e = goes l (Clauses k ∷ s) (w sign.OpenParen ∷ DeviceNumber 
 -- ---- no clause
 
 clause_none : (k : DirectiveKind) (s : LineStack) (t : Lexeme) → same Ended t ≡ false → is_map k t ≡ false →
-    is_depend k t ≡ false → IsNoMotion k t → is_nowait k t ≡ false → is_device k t ≡ false →
-    line_advance (Clauses k ∷ s) t ≡ None
+    is_depend k t ≡ false → IsNoMotion k t → is_nowait k t ≡ false → is_device k t ≡ false → is_schedule k t ≡ false →
+    IsNoAmount k t → line_advance (Clauses k ∷ s) t ≡ None
 unfolding line_advance
-clause_none k s t e m d o n v = rw (e, m, d, o.0, o.1, n, v) refl
+clause_none k s t e m d o n v c a = rw (e, m, d, o.0, o.1, n, v, c, a.0, a.1, a.2, a.3, a.4, a.5) refl
 
 pub stop_clause : (l : Line) (k : DirectiveKind) (s : LineStack) → same Ended (first_item l).terminal ≡ false →
     is_map k (first_item l).terminal ≡ false → is_depend k (first_item l).terminal ≡ false →
     IsNoMotion k (first_item l).terminal → is_nowait k (first_item l).terminal ≡ false →
-    is_device k (first_item l).terminal ≡ false →
-    rest l (Clauses k ∷ s) ≡ Some (misfit_at UnknownClause (first_item l))
+    is_device k (first_item l).terminal ≡ false → is_schedule k (first_item l).terminal ≡ false →
+    IsNoAmount k (first_item l).terminal → rest l (Clauses k ∷ s) ≡ Some (misfit_at UnknownClause (first_item l))
 unfolding line_place
-stop_clause l k s e m d o n v =
-    stops l (Clauses k ∷ s) UnknownClause (clause_none k s (first_item l).terminal e m d o n v) refl
+stop_clause l k s e m d o n v c a =
+    stops l (Clauses k ∷ s) UnknownClause (clause_none k s (first_item l).terminal e m d o n v c a) refl
 
 pub no_motion : (k : DirectiveKind) (t : Lexeme) → takes_motion k ≡ false → IsNoMotion k t
 no_motion k t h = (rw h refl, rw h refl)

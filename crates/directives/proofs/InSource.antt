@@ -5,8 +5,9 @@ use Rattle.c_grammar.specs.Texts.{terminals, kinds}
 use Rattle.c_grammar.specs.LineGrammar as grammar
 use Rattle.c_grammar.specs.LineRules.{line_grammar}
 use Rattle.c_grammar.specs.LineMachine.{LineStack, line_start}
-use Rattle.c_grammar.specs.Lines.{Use, use_of, with_use, first_of, uses_from, uses_of, is_omp, kind_of}
+use Rattle.c_grammar.specs.Lines.{Use, use_of, with_use, first_of, uses_from, uses_of, is_omp, kind_of, depth_of}
 use Rattle.c_grammar.proofs.LineGoes.{Goes, line_passes_text}
+use Rattle.c_grammar.proofs.LineKinds.{kind_is, depth_is}
 use Rattle.directives.specs.declared.tree.Directive.{Directive}
 use Rattle.directives.specs.Cursor.{Items, item_of, line_items}
 use Rattle.directives.specs.Kinds.{seen_kind}
@@ -76,27 +77,6 @@ words_are : (t : grammar.LineText) → is_omp (kinds line_grammar (grammar.line_
 unfolding is_omp
 words_are t = refl
 
-target_is : (cs : List grammar.Clause) →
-    kind_of (kinds line_grammar (grammar.line_slots (record { kind = grammar.Target; clauses = cs }))) ≡ grammar.Target
-unfolding kind_of
-target_is [] = refl
-target_is (grammar.MapOf a t is ∷ cs) = refl
-target_is (grammar.DependOf t is ∷ cs) = refl
-target_is (grammar.MotionOf grammar.ToDevice p is ∷ cs) = refl
-target_is (grammar.MotionOf grammar.FromDevice p is ∷ cs) = refl
-target_is (grammar.NoWait ∷ cs) = refl
-target_is (grammar.DeviceOf n ∷ cs) = refl
-
-kind_is : (k : grammar.DirectiveKind) (cs : List grammar.Clause) →
-    kind_of (kinds line_grammar (grammar.line_slots (record { kind = k; clauses = cs }))) ≡ k
-unfolding kind_of
-kind_is grammar.Target cs = target_is cs
-kind_is grammar.Data cs = refl
-kind_is grammar.Enter cs = refl
-kind_is grammar.Exit cs = refl
-kind_is grammar.Update cs = refl
-kind_is grammar.Wait cs = refl
-
 pub in_source : (line : List ℕ) (column : ℕ) (d : Directive) → SpellsLine line column d → IsInSource line column d
 unfolding uses_of
 in_source line column d s =
@@ -108,6 +88,7 @@ in_source line column d s =
     record {
       words = ap is_omp same ∙ words_are t;
       kind = ap kind_of same ∙ kind_is (seen_kind d.kind) t.clauses;
+      depth = ap depth_of same ∙ depth_is t s.spelled.is_text;
       names = ap (λ (ts : List Lexeme). map (at_column (columns_of ps)) (uses_of ts)) same
           ∙ ap (λ (us : Uses). map (at_column (columns_of ps)) us) pass
           ∙ placed_uses (columns_of ps) 0 (line_marks d) (grammar.line_slots t) (line_items line column) (names_in d)

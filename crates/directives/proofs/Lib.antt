@@ -12,6 +12,7 @@ pub mod Motions
 pub mod Devices
 pub mod Clausing
 pub mod ClausesRead
+pub mod Sharing
 pub mod Heading
 pub mod SameKinds
 pub mod Answering

@@ -3,7 +3,7 @@ use Rattle.std.proofs.Common.{◌≡◌, ◌≢◌, ℕ, Bool, true, false, List
 use Rattle.c_tokens.specs.declared.kind.Sign.{Sign}
 use Rattle.base.specs.declared.fault.ReadCode.{ReadCode as Code}
 use Rattle.base.specs.declared.fault.ReadCode.TheVariants.{Unexpected, UnknownDirective}
-use Rattle.c_grammar.specs.Lexeme.{Lexeme, Reserved, Signed, Worded, Numbered, Strange, Ended, same}
+use Rattle.c_grammar.specs.Lexeme.{Lexeme, For, Reserved, Signed, Worded, Numbered, Strange, Ended, same}
 use Rattle.c_grammar.specs.Code.{lower_code}
 use Rattle.c_grammar.specs.Texts.{Item, next_of}
 use Rattle.c_grammar.specs.Machine.{lower, own_rule, run as machine_run}
@@ -112,6 +112,17 @@ pub stop_named : (l : Line) (x : List ℕ) (a : LineAct) (s : LineStack) →
     is_word x (first_item l).terminal ≡ false →
     rest l (Want (Worded x) (of UnknownDirective a) ∷ s) ≡ Some (misfit_at UnknownDirective (first_item l))
 stop_named l x a s e = stop_want l (Worded x) (of UnknownDirective a) s e
+
+pub at_for : (l : Line) (r : Option Code × LineAct) (s : LineStack) → same (Reserved For) (first_item l).terminal ≡ true →
+    rest l (Want (Reserved For) r ∷ s) ≡ took l r s
+at_for l r s e = at_want l (Reserved For) r s e
+
+pub stop_for : (l : Line) (a : LineAct) (s : LineStack) → same (Reserved For) (first_item l).terminal ≡ false →
+    rest l (Want (Reserved For) (of UnknownDirective a) ∷ s) ≡ Some (misfit_at UnknownDirective (first_item l))
+stop_for l a s e = stop_want l (Reserved For) (of UnknownDirective a) s e
+
+pub for_is : (l : Line) → same (Reserved For) (first_item l).terminal ≡ true → (first_item l).terminal ≡ Reserved For
+for_is l e = sym (same-true (Reserved For) (first_item l).terminal e)
 
 pub sign_is : (l : Line) (x : Sign) → same (Signed x) (first_item l).terminal ≡ true →
     (first_item l).terminal ≡ Signed x

@@ -15,10 +15,11 @@ use Rattle.directives.specs.declared.tree.Bound.{Bound}
 use Rattle.directives.specs.declared.tree.Section.{Section}
 use Rattle.directives.specs.declared.tree.Sections.{Sections}
 use Rattle.directives.specs.declared.tree.Clause.{Clause}
-use Rattle.directives.specs.declared.tree.Clause.TheVariants.{Map, Depend, Motion, NoWait, Device}
+use Rattle.directives.specs.declared.tree.Clause.TheVariants.{Map, Depend, Motion, NoWait, Device, Amount, Schedule}
 use Rattle.directives.specs.declared.tree.Directive.{Directive}
 use Rattle.directives.specs.declared.tree.DirectiveKind.{DirectiveKind as GivenKind}
 use Rattle.directives.specs.declared.tree.DirectiveKind.TheVariants as kind
+use Rattle.directives.specs.declared.tree.Construct.TheVariants as construct
 use Rattle.directives.specs.Kinds.{seen_kind, seen_modifier, seen_map, seen_depend, seen_motion}
 use Rattle.directives.specs.Trees.{Spelling, sign_mark, each_behind, term_of, bound_of, bounds_of, section_of, sections_of, clause_of, text_of, term_marks, bound_marks, second_marks, bounds_marks, section_marks, sections_marks, modifiers_marks, present_marks, type_marks, clause_marks, clauses_marks, kind_marks, line_marks}
 
@@ -124,6 +125,9 @@ clause_same (Motion m) = ap (λ (zs : List Lexeme). (Worded (grammar.motion_word
     Signed sign.OpenParen ∷ zs) (motion_same m.present m.sections)
 clause_same NoWait = refl
 clause_same (Device d) = refl
+clause_same (Amount a n) = refl
+clause_same (Schedule t None) = refl
+clause_same (Schedule t (Some n)) = refl
 
 clauses_same : (cs : List Clause) →
     ks (clauses_marks cs ++ (Ended, None) ∷ []) ≡ ss (grammar.clauses (map clause_of cs))
@@ -141,6 +145,15 @@ kind_same kind.TargetData = refl
 kind_same kind.TargetEnterData = refl
 kind_same kind.TargetExitData = refl
 kind_same kind.TargetUpdate = refl
+kind_same (kind.Combined construct.Simd) = refl
+kind_same (kind.Combined construct.ParallelFor) = refl
+kind_same (kind.Combined construct.ParallelForSimd) = refl
+kind_same (kind.Combined construct.ParallelLoop) = refl
+kind_same (kind.Combined construct.TeamsDistribute) = refl
+kind_same (kind.Combined construct.TeamsDistributeSimd) = refl
+kind_same (kind.Combined construct.TeamsDistributeParallelFor) = refl
+kind_same (kind.Combined construct.TeamsDistributeParallelForSimd) = refl
+kind_same (kind.Combined construct.TeamsLoop) = refl
 kind_same kind.TaskWait = refl
 
 pub line_same : (d : Directive) → ks (line_marks d) ≡ ss (grammar.line_slots (text_of d))

@@ -15,10 +15,11 @@ use Rattle.directives.specs.declared.tree.Bound.{Bound}
 use Rattle.directives.specs.declared.tree.Section.{Section}
 use Rattle.directives.specs.declared.tree.Sections.{Sections}
 use Rattle.directives.specs.declared.tree.Clause.{Clause}
-use Rattle.directives.specs.declared.tree.Clause.TheVariants.{Map, Depend, Motion, NoWait, Device}
+use Rattle.directives.specs.declared.tree.Clause.TheVariants.{Map, Depend, Motion, NoWait, Device, Amount, Schedule}
 use Rattle.directives.specs.declared.tree.Directive.{Directive}
 use Rattle.directives.specs.declared.tree.DirectiveKind.{DirectiveKind as GivenKind}
 use Rattle.directives.specs.declared.tree.DirectiveKind.TheVariants as kind
+use Rattle.directives.specs.declared.tree.Construct.TheVariants as construct
 use Rattle.directives.specs.Kinds.{seen_kind, seen_modifier, seen_map}
 use Rattle.directives.specs.Names.{Uses, each_names, term_names, bound_names, bounds_names, section_names, sections_names, clause_names, names_in}
 use Rattle.directives.specs.Trees.{Spelling, sign_mark, each_behind, term_of, bound_of, bounds_of, section_of, sections_of, clause_of, text_of, term_marks, bound_marks, second_marks, bounds_marks, section_marks, sections_marks, modifiers_marks, present_marks, type_marks, clause_marks, clauses_marks, kind_marks, line_marks}
@@ -134,6 +135,8 @@ section_tells grammar.Ends n s h = absurd h
 section_tells grammar.Heads n s h = absurd h
 section_tells grammar.Modifies n s h = absurd h
 section_tells grammar.Numbers n s h = absurd h
+section_tells (grammar.Amounts a) n s h = absurd h
+section_tells grammar.Chunks n s h = absurd h
 section_tells grammar.Opens n s h = absurd h
 section_tells grammar.Begins n s h = absurd h
 section_tells grammar.BeginsNamed n s h = absurd h
@@ -215,6 +218,9 @@ clause_tells n (Depend d) = sections_tell grammar.Depends n d.sections tt
 clause_tells n (Motion m) = motion_tells m.present n m.sections
 clause_tells n NoWait = refl
 clause_tells n (Device d) = refl
+clause_tells n (Amount a k) = refl
+clause_tells n (Schedule t None) = refl
+clause_tells n (Schedule t (Some k)) = refl
 
 clauses_tell : (cs : List Clause) →
     Tells (clauses_marks cs ++ (Ended, None) ∷ []) (grammar.clauses (map clause_of cs)) Ended (each_names clause_names cs)
@@ -233,6 +239,15 @@ kind_tells n kind.TargetData = refl
 kind_tells n kind.TargetEnterData = refl
 kind_tells n kind.TargetExitData = refl
 kind_tells n kind.TargetUpdate = refl
+kind_tells n (kind.Combined construct.Simd) = refl
+kind_tells n (kind.Combined construct.ParallelFor) = refl
+kind_tells n (kind.Combined construct.ParallelForSimd) = refl
+kind_tells n (kind.Combined construct.ParallelLoop) = refl
+kind_tells n (kind.Combined construct.TeamsDistribute) = refl
+kind_tells n (kind.Combined construct.TeamsDistributeSimd) = refl
+kind_tells n (kind.Combined construct.TeamsDistributeParallelFor) = refl
+kind_tells n (kind.Combined construct.TeamsDistributeParallelForSimd) = refl
+kind_tells n (kind.Combined construct.TeamsLoop) = refl
 kind_tells n kind.TaskWait = refl
 
 pub line_tells : (d : Directive) → Tells (line_marks d) (grammar.line_slots (text_of d)) Ended (names_in d)

@@ -2,20 +2,23 @@
 use Rattle.std.specs.Prelude.{ℕ, nat_le, if◌then◌else◌, List, [], ◌∷◌, Option, Some, None}
 use Rattle.std.specs.Borrow.{Bor}
 use Rattle.base.specs.declared.fault.ReadCode.{ReadCode as Code}
-use Rattle.base.specs.declared.fault.ReadCode.TheVariants.{UnknownByte, BadNumber, TooMany, ClauseCount, ArrayTwice, BadDevice}
+use Rattle.base.specs.declared.fault.ReadCode.TheVariants.{UnknownByte, BadNumber, BadOperand, TooMany, ClauseCount, ArrayTwice, BadDevice}
 use Rattle.c_grammar.specs.Lexeme.{Lexeme}
 use Rattle.c_grammar.specs.LineGrammar as grammar
-use Rattle.c_grammar.specs.LineRules.{LineContext, max_depends, max_terms, has_single, is_name_among, is_no_device, is_strange, is_bad_number, is_long}
+use Rattle.c_grammar.specs.LineRules.{LineContext, max_depends, max_terms, has_single, is_name_among, is_no_device, is_no_amount, is_no_chunk, is_strange, is_bad_number, is_long}
 use Rattle.directives.specs.declared.known.Act.{Act}
 use Rattle.directives.specs.declared.known.Act.TheVariants as act
 use Rattle.directives.specs.declared.known.Single.{Single}
 use Rattle.directives.specs.declared.known.Single.TheVariants as single
 use Rattle.directives.specs.declared.known.Known.{Known}
-use Rattle.directives.specs.Kinds.{seen_modifier}
+use Rattle.directives.specs.declared.tree.Amount.{Amount}
+use Rattle.directives.specs.Kinds.{seen_amount, seen_modifier}
 
 abbrev pub seen_single : Single → grammar.Single
 seen_single single.NoWaits = grammar.NoWaits
 seen_single single.OnDevice = grammar.OnDevice
+seen_single single.OnSchedule = grammar.OnSchedule
+seen_single (single.OnAmount a) = grammar.OnAmount (seen_amount a)
 seen_single (single.Modified m) = grammar.Modified (seen_modifier m)
 
 abbrev pub seen_act : Act → grammar.LineAct
@@ -27,6 +30,8 @@ seen_act act.Ends = grammar.Ends
 seen_act act.Maps = grammar.Maps
 seen_act act.Depends = grammar.Depends
 seen_act act.Numbers = grammar.Numbers
+seen_act (act.Amounts a) = grammar.Amounts (seen_amount a)
+seen_act act.Chunks = grammar.Chunks
 seen_act act.Opens = grammar.Opens
 seen_act act.Begins = grammar.Begins
 seen_act act.BeginsNamed = grammar.BeginsNamed
@@ -37,11 +42,18 @@ abbrev pub names_onto : List (Bor (List ℕ)) → List (List ℕ) → List (List
 names_onto [] ys = ys
 names_onto (x ∷ xs) ys = names_onto xs (x.now ∷ ys)
 
+-- the same of amounts
+abbrev pub amounts_onto : List Amount → List grammar.Amount → List grammar.Amount
+amounts_onto [] ys = ys
+amounts_onto (x ∷ xs) ys = amounts_onto xs (seen_amount x ∷ ys)
+
 abbrev pub known_of : Known → LineContext
 known_of k = record {
   missing = k.missing;
   waits = k.waits;
   device = k.device;
+  schedule = k.schedule;
+  amounts = amounts_onto k.amounts.items [];
   always = k.always;
   present = k.present;
   arrays = names_onto k.arrays.items [];
@@ -66,6 +78,8 @@ act_code c t grammar.Depends = if nat_le max_depends c.depends then Some TooMany
 act_code c t grammar.Begins = if nat_le max_terms c.terms then Some TooMany else None
 act_code c t grammar.BeginsNamed = if nat_le max_terms c.terms then Some TooMany else None
 act_code c t grammar.Numbers = if is_no_device t then Some BadDevice else None
+act_code c t (grammar.Amounts a) = if is_no_amount a t then Some BadOperand else None
+act_code c t grammar.Chunks = if is_no_chunk t then Some BadOperand else None
 act_code c t _ = None
 
 abbrev pub first_some : Option Code → Option Code → Option Code

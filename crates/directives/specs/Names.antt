@@ -1,7 +1,7 @@
 -- The names of a directive, and what a source's rules ask of its line.
 use Rattle.std.specs.Prelude.{◌≡◌, ℕ, true, List, [], ◌∷◌, ◌++◌, map, Option, Some, None}
 use Rattle.c_grammar.specs.Lexeme.{lexemes_of}
-use Rattle.c_grammar.specs.Lines.{Use, OfArray, OfLoop, is_omp, kind_of, uses_of}
+use Rattle.c_grammar.specs.Lines.{Use, OfArray, OfLoop, is_omp, kind_of, depth_of, line_depth, uses_of}
 use Rattle.c_grammar.specs.Source.{nth}
 use Rattle.directives.specs.declared.tree.Term.{Term}
 use Rattle.directives.specs.declared.tree.Term.TheVariants.{Literal, Variable, Product}
@@ -9,10 +9,11 @@ use Rattle.directives.specs.declared.tree.Bound.{Bound}
 use Rattle.directives.specs.declared.tree.Section.{Section}
 use Rattle.directives.specs.declared.tree.Sections.{Sections}
 use Rattle.directives.specs.declared.tree.Clause.{Clause}
-use Rattle.directives.specs.declared.tree.Clause.TheVariants.{Map, Depend, Motion, NoWait, Device}
+use Rattle.directives.specs.declared.tree.Clause.TheVariants.{Map, Depend, Motion, NoWait, Device, Amount, Schedule}
 use Rattle.directives.specs.declared.tree.Directive.{Directive}
 use Rattle.directives.specs.Kinds.{seen_kind}
 use Rattle.directives.specs.Spells.{kinds_of, columns_of}
+use Rattle.directives.specs.Trees.{text_of}
 
 -- names with their columns: an array's, or that of a loop in a bound
 abbrev pub Uses : Type 0
@@ -47,6 +48,8 @@ clause_names (Depend d) = sections_names d.sections
 clause_names (Motion m) = sections_names m.sections
 clause_names NoWait = []
 clause_names (Device d) = []
+clause_names (Amount a n) = []
+clause_names (Schedule t o) = []
 
 -- from left to right
 unfoldable pub names_in : Directive → Uses
@@ -56,10 +59,11 @@ names_in d = each_names clause_names d.clauses.items
 abbrev pub at_column : List ℕ → ℕ × Use → ℕ × Use
 at_column columns u = (nth columns u.0, u.1)
 
--- what a source's rules find on the line is what the directive says: its words, its kind, and its names with their
--- columns
+-- what a source's rules find on the line is what the directive says: its words, its kind, how many of its loops are
+-- unordered, and its names with their columns
 pub record IsInSource (line : List ℕ) (column : ℕ) (d : Directive) : Type 0 where
   pub words : is_omp (kinds_of (lexemes_of line column)) ≡ true
   pub kind : kind_of (kinds_of (lexemes_of line column)) ≡ seen_kind d.kind
+  pub depth : depth_of (kinds_of (lexemes_of line column)) ≡ line_depth (text_of d)
   pub names : map (at_column (columns_of (lexemes_of line column))) (uses_of (kinds_of (lexemes_of line column))) ≡
       names_in d

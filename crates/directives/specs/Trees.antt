@@ -2,7 +2,7 @@
 use Rattle.std.specs.Prelude.{ℕ, Bool, true, false, List, [], ◌∷◌, ◌++◌, map, Option, Some, None, codes}
 use Rattle.c_tokens.specs.declared.kind.Sign.{Sign}
 use Rattle.c_tokens.specs.declared.kind.Sign.TheVariants as sign
-use Rattle.c_grammar.specs.Lexeme.{Lexeme, Signed, Worded, Numbered, Ended}
+use Rattle.c_grammar.specs.Lexeme.{Lexeme, For, Reserved, Signed, Worded, Numbered, Ended}
 use Rattle.c_grammar.specs.LineGrammar as grammar
 use Rattle.directives.specs.declared.tree.Modifier.{Modifier}
 use Rattle.directives.specs.declared.tree.Name.{Name}
@@ -12,11 +12,13 @@ use Rattle.directives.specs.declared.tree.Bound.{Bound}
 use Rattle.directives.specs.declared.tree.Section.{Section}
 use Rattle.directives.specs.declared.tree.Sections.{Sections}
 use Rattle.directives.specs.declared.tree.Clause.{Clause}
-use Rattle.directives.specs.declared.tree.Clause.TheVariants.{Map, Depend, Motion, NoWait, Device}
+use Rattle.directives.specs.declared.tree.Clause.TheVariants.{Map, Depend, Motion, NoWait, Device, Amount, Schedule}
 use Rattle.directives.specs.declared.tree.Directive.{Directive}
+use Rattle.directives.specs.declared.tree.Construct.{Construct}
+use Rattle.directives.specs.declared.tree.Construct.TheVariants as construct
 use Rattle.directives.specs.declared.tree.DirectiveKind.{DirectiveKind as GivenKind}
 use Rattle.directives.specs.declared.tree.DirectiveKind.TheVariants as kind
-use Rattle.directives.specs.Kinds.{seen_kind, seen_modifier, seen_map, seen_depend, seen_motion}
+use Rattle.directives.specs.Kinds.{seen_amount, seen_schedule, seen_construct, seen_kind, seen_modifier, seen_map, seen_depend, seen_motion}
 
 -- ---- the tree
 
@@ -38,6 +40,10 @@ section_of s = (s.array.text.now, bounds_of s.bounds)
 abbrev pub sections_of : Sections → grammar.Items
 sections_of s = (section_of s.first, map section_of s.more.items)
 
+abbrev pub chunk_of : Option ℕ → Option (Option ℕ)
+chunk_of None = None
+chunk_of (Some n) = Some (Some n)
+
 abbrev pub clause_of : Clause → grammar.Clause
 clause_of (Map m) = grammar.MapOf (map seen_modifier m.modifiers.items) (seen_map m.map_type)
     (sections_of m.sections)
@@ -45,6 +51,8 @@ clause_of (Depend d) = grammar.DependOf (seen_depend d.depend_type) (sections_of
 clause_of (Motion m) = grammar.MotionOf (seen_motion m.motion_type) m.present (sections_of m.sections)
 clause_of NoWait = grammar.NoWait
 clause_of (Device d) = grammar.DeviceOf (Some d.number)
+clause_of (Amount a n) = grammar.AmountOf (seen_amount a) (Some n)
+clause_of (Schedule t o) = grammar.ScheduleOf (seen_schedule t) (chunk_of o)
 
 abbrev pub text_of : Directive → grammar.LineText
 text_of d = record { kind = seen_kind d.kind; clauses = map clause_of d.clauses.items }
@@ -116,6 +124,11 @@ present_marks true = word_mark (grammar.modifier_word grammar.Present) ∷ sign_
 abbrev pub type_marks : List ℕ → Spelling
 type_marks x = word_mark x ∷ sign_mark sign.Colon ∷ []
 
+-- what stands behind the type of a schedule, with the closing bracket
+abbrev pub chunk_marks : Option ℕ → Spelling
+chunk_marks None = sign_mark sign.CloseParen ∷ []
+chunk_marks (Some n) = sign_mark sign.Comma ∷ number_mark n ∷ sign_mark sign.CloseParen ∷ []
+
 unfoldable pub clause_marks : Clause → Spelling
 clause_marks (Map m) = (word_mark (codes "map") ∷ sign_mark sign.OpenParen ∷ []) ++ (modifiers_marks m.modifiers.items ++
     (type_marks (grammar.map_word (seen_map m.map_type)) ++ sections_marks m.sections))
@@ -126,10 +139,60 @@ clause_marks (Motion m) = (word_mark (grammar.motion_word (seen_motion m.motion_
 clause_marks NoWait = word_mark (codes "nowait") ∷ []
 clause_marks (Device d) = (word_mark (codes "device") ∷ sign_mark sign.OpenParen ∷ []) ++
     (number_mark d.number ∷ sign_mark sign.CloseParen ∷ [])
+clause_marks (Amount a n) = (word_mark (grammar.amount_word (seen_amount a)) ∷ sign_mark sign.OpenParen ∷ []) ++
+    (number_mark n ∷ sign_mark sign.CloseParen ∷ [])
+clause_marks (Schedule t o) = (word_mark (codes "schedule") ∷ sign_mark sign.OpenParen ∷ []) ++
+    (word_mark (grammar.schedule_word (seen_schedule t)) ∷ chunk_marks o)
 
 abbrev pub clauses_marks : List Clause → Spelling
 clauses_marks [] = []
 clauses_marks (c ∷ cs) = clause_marks c ++ clauses_marks cs
+
+abbrev pub for_mark : Lexeme × Option ℕ
+for_mark = (Reserved For, None)
+
+-- the word simd, or nothing
+abbrev pub simd_marks : Bool → Spelling
+simd_marks true = word_mark (codes "simd") ∷ []
+simd_marks false = []
+
+-- the words of a construct behind parallel, behind teams distribute, behind teams, and all of them
+abbrev pub parallel_marks : Construct → Spelling
+parallel_marks construct.ParallelFor = for_mark ∷ []
+parallel_marks construct.ParallelForSimd = for_mark ∷ word_mark (codes "simd") ∷ []
+parallel_marks construct.ParallelLoop = word_mark (codes "loop") ∷ []
+parallel_marks _ = []
+
+abbrev pub distribute_marks : Construct → Spelling
+distribute_marks construct.TeamsDistributeSimd = word_mark (codes "simd") ∷ []
+distribute_marks construct.TeamsDistributeParallelFor = word_mark (codes "parallel") ∷ for_mark ∷ []
+distribute_marks construct.TeamsDistributeParallelForSimd =
+    word_mark (codes "parallel") ∷ for_mark ∷ word_mark (codes "simd") ∷ []
+distribute_marks _ = []
+
+abbrev pub teams_marks : Construct → Spelling
+teams_marks construct.TeamsDistribute = word_mark (codes "distribute") ∷ distribute_marks construct.TeamsDistribute
+teams_marks construct.TeamsDistributeSimd =
+    word_mark (codes "distribute") ∷ distribute_marks construct.TeamsDistributeSimd
+teams_marks construct.TeamsDistributeParallelFor =
+    word_mark (codes "distribute") ∷ distribute_marks construct.TeamsDistributeParallelFor
+teams_marks construct.TeamsDistributeParallelForSimd =
+    word_mark (codes "distribute") ∷ distribute_marks construct.TeamsDistributeParallelForSimd
+teams_marks construct.TeamsLoop = word_mark (codes "loop") ∷ []
+teams_marks _ = []
+
+abbrev pub construct_marks : Construct → Spelling
+construct_marks construct.Simd = word_mark (codes "simd") ∷ []
+construct_marks construct.ParallelFor = word_mark (codes "parallel") ∷ parallel_marks construct.ParallelFor
+construct_marks construct.ParallelForSimd = word_mark (codes "parallel") ∷ parallel_marks construct.ParallelForSimd
+construct_marks construct.ParallelLoop = word_mark (codes "parallel") ∷ parallel_marks construct.ParallelLoop
+construct_marks construct.TeamsDistribute = word_mark (codes "teams") ∷ teams_marks construct.TeamsDistribute
+construct_marks construct.TeamsDistributeSimd = word_mark (codes "teams") ∷ teams_marks construct.TeamsDistributeSimd
+construct_marks construct.TeamsDistributeParallelFor =
+    word_mark (codes "teams") ∷ teams_marks construct.TeamsDistributeParallelFor
+construct_marks construct.TeamsDistributeParallelForSimd =
+    word_mark (codes "teams") ∷ teams_marks construct.TeamsDistributeParallelForSimd
+construct_marks construct.TeamsLoop = word_mark (codes "teams") ∷ teams_marks construct.TeamsLoop
 
 -- the words behind the word target
 abbrev pub target_marks : GivenKind → Spelling
@@ -138,6 +201,7 @@ target_marks kind.TargetData = word_mark (codes "data") ∷ []
 target_marks kind.TargetEnterData = word_mark (codes "enter") ∷ word_mark (codes "data") ∷ []
 target_marks kind.TargetExitData = word_mark (codes "exit") ∷ word_mark (codes "data") ∷ []
 target_marks kind.TargetUpdate = word_mark (codes "update") ∷ []
+target_marks (kind.Combined c) = construct_marks c
 target_marks kind.TaskWait = []
 
 abbrev pub kind_marks : GivenKind → Spelling
@@ -146,6 +210,7 @@ kind_marks kind.TargetData = word_mark (codes "target") ∷ target_marks kind.Ta
 kind_marks kind.TargetEnterData = word_mark (codes "target") ∷ target_marks kind.TargetEnterData
 kind_marks kind.TargetExitData = word_mark (codes "target") ∷ target_marks kind.TargetExitData
 kind_marks kind.TargetUpdate = word_mark (codes "target") ∷ target_marks kind.TargetUpdate
+kind_marks (kind.Combined c) = word_mark (codes "target") ∷ target_marks (kind.Combined c)
 kind_marks kind.TaskWait = word_mark (codes "taskwait") ∷ []
 
 abbrev pub head_marks : GivenKind → Spelling

@@ -143,7 +143,31 @@ impl<'a> Line<'a> {
         Ok(device)
     }
 
-    /// A `to`, `from`, `nowait` or `device` clause.
+    /// A schedule, or the clause of an amount.
+    fn sharing_clause(&mut self, kind: DirectiveKind) -> Result<Clause<'a>, DirectiveFault>
+        requires going { same Ended (first_item self.old).terminal ≡ false }
+        requires no_map { is_map (seen_kind kind) (first_item self.old).terminal ≡ false }
+        requires no_depend { is_depend (seen_kind kind) (first_item self.old).terminal ≡ false }
+        requires no_motion { IsNoMotion (seen_kind kind) (first_item self.old).terminal }
+        requires no_nowait { is_nowait (seen_kind kind) (first_item self.old).terminal ≡ false }
+        requires no_device { is_device (seen_kind kind) (first_item self.old).terminal ≡ false }
+        ensures read { (s : LineStack) → Outcome result (rest self.old (Clauses (seen_kind kind) ∷ s))
+            (rest self.new (Clauses (seen_kind kind) ∷ s)) }
+        ensures tree { IfOk result (λ c. IsSpelled (clause_marks c) (items self.old) (items self.new)) }
+        ensures takes { IfOk result (λ c. IsClause (seen_kind kind) (clause_of c)) }
+    {
+        if self.at_schedule(kind) {
+            let (schedule, chunk) = self.schedule_clause(kind)?;
+            return Ok(Clause::Schedule(schedule, chunk));
+        }
+        if let Some(amount) = self.amount_word(kind) {
+            let number = self.amount_clause(kind, amount)?;
+            return Ok(Clause::Amount(amount, number));
+        }
+        Err(DirectiveFault::Line(self.misfit(ReadCode::UnknownClause)))
+    }
+
+    /// A `to`, `from`, `nowait` or `device` clause, or one that says how turns are shared out.
     fn short_clause(&mut self, kind: DirectiveKind) -> Result<Clause<'a>, DirectiveFault>
         requires going { same Ended (first_item self.old).terminal ≡ false }
         requires no_map { is_map (seen_kind kind) (first_item self.old).terminal ≡ false }
@@ -164,7 +188,7 @@ impl<'a> Line<'a> {
             let device = self.device_clause(kind)?;
             return Ok(Clause::Device(device));
         }
-        Err(DirectiveFault::Line(self.misfit(ReadCode::UnknownClause)))
+        self.sharing_clause(kind)
     }
 
     /// A clause that the directive takes.

@@ -12,18 +12,127 @@ ghost use Rattle.directives.specs.Trees.{line_marks, text_of};
 use crate::fault::DirectiveFault;
 use crate::known::Act;
 use crate::line::Line;
-use crate::tree::{Directive, DirectiveKind};
+use crate::tree::{Construct, Directive, DirectiveKind};
 use base::fault::ReadCode;
 use std::alloc::Global;
 
 impl<'a> Line<'a> {
-    ghost use Rattle.std.specs.Prelude.{◌≡◌, ◌∷◌, ◌++◌, [], IfOk, None, codes};
+    ghost use Rattle.std.specs.Prelude.{◌≡◌, ◌∷◌, ◌++◌, [], false, IfOk, None, codes, if◌then◌else◌};
+    ghost use Rattle.c_grammar.specs.LineGrammar as grammar;
     ghost use Rattle.c_grammar.specs.LineRules.{IsLine};
-    ghost use Rattle.c_grammar.specs.LineMachine.{LineStack, AfterTarget, Begin, Clauses, line_start};
-    ghost use Rattle.directives.specs.Kinds.{seen_kind};
-    ghost use Rattle.directives.specs.Cursor.{items};
+    ghost use Rattle.c_grammar.specs.LineMachine.{LineStack, AfterDistribute, AfterFor, AfterParallel, AfterTarget, AfterTeams, Begin, Clauses, is_word, line_start};
+    ghost use Rattle.directives.specs.Kinds.{seen_construct, seen_kind};
+    ghost use Rattle.directives.specs.Cursor.{first_item, items};
     ghost use Rattle.directives.specs.Reading.{IsSpelled, Outcome, OutcomeBy, rest};
-    ghost use Rattle.directives.specs.Trees.{head_marks, kind_marks, line_marks, target_marks, text_of, word_mark};
+    ghost use Rattle.directives.specs.Trees.{construct_marks, distribute_marks, head_marks, kind_marks, line_marks, parallel_marks, simd_marks, target_marks, teams_marks, text_of, word_mark};
+
+    /// Whether the word `simd` stands behind a construct that ends with `for`, and goes past it.
+    fn simd_word(&mut self) -> Result<bool, DirectiveFault>
+        ensures read { (c d : grammar.Construct) (s : LineStack) → OutcomeBy result (rest self.old (AfterFor c d ∷ s))
+            (λ x. rest self.new (Clauses (grammar.Combined (if x then d else c)) ∷ s)) }
+        ensures tree { IfOk result (λ x. IsSpelled (simd_marks x) (items self.old) (items self.new)) }
+    {
+        if self.at_word(b"simd".as_slice()) {
+            self.enter(Act::Plain)?;
+            return Ok(true);
+        }
+        Ok(false)
+    }
+
+    /// The construct behind the words `target parallel`.
+    fn parallel_kind(&mut self) -> Result<Construct, DirectiveFault>
+        ensures read { (s : LineStack) → OutcomeBy result (rest self.old (AfterParallel ∷ s))
+            (λ c. rest self.new (Clauses (grammar.Combined (seen_construct c)) ∷ s)) }
+        ensures tree { IfOk result (λ c. IsSpelled (parallel_marks c) (items self.old) (items self.new)) }
+        ensures named { IfOk result (λ c. construct_marks c ≡ word_mark (codes "parallel") ∷ parallel_marks c) }
+    {
+        if self.at_for() {
+            self.enter(Act::Plain)?;
+            let simd = self.simd_word()?;
+            return if simd {
+                Ok(Construct::ParallelForSimd)
+            } else {
+                Ok(Construct::ParallelFor)
+            };
+        }
+        if self.at_word(b"loop".as_slice()) {
+            self.enter(Act::Plain)?;
+            return Ok(Construct::ParallelLoop);
+        }
+        Err(DirectiveFault::Line(self.misfit(ReadCode::UnknownDirective)))
+    }
+
+    /// The construct behind the words `target teams distribute`.
+    fn distribute_kind(&mut self) -> Result<Construct, DirectiveFault>
+        ensures read { (s : LineStack) → OutcomeBy result (rest self.old (AfterDistribute ∷ s))
+            (λ c. rest self.new (Clauses (grammar.Combined (seen_construct c)) ∷ s)) }
+        ensures tree { IfOk result (λ c. IsSpelled (distribute_marks c) (items self.old) (items self.new)) }
+        ensures named { IfOk result (λ c. teams_marks c ≡ word_mark (codes "distribute") ∷ distribute_marks c) }
+        ensures teams { IfOk result (λ c. construct_marks c ≡ word_mark (codes "teams") ∷ teams_marks c) }
+    {
+        if self.at_word(b"simd".as_slice()) {
+            self.enter(Act::Plain)?;
+            return Ok(Construct::TeamsDistributeSimd);
+        }
+        if self.at_word(b"parallel".as_slice()) {
+            self.enter(Act::Plain)?;
+            self.expect_for()?;
+            let simd = self.simd_word()?;
+            return if simd {
+                Ok(Construct::TeamsDistributeParallelForSimd)
+            } else {
+                Ok(Construct::TeamsDistributeParallelFor)
+            };
+        }
+        Ok(Construct::TeamsDistribute)
+    }
+
+    /// The construct behind the words `target teams`.
+    fn teams_kind(&mut self) -> Result<Construct, DirectiveFault>
+        ensures read { (s : LineStack) → OutcomeBy result (rest self.old (AfterTeams ∷ s))
+            (λ c. rest self.new (Clauses (grammar.Combined (seen_construct c)) ∷ s)) }
+        ensures tree { IfOk result (λ c. IsSpelled (teams_marks c) (items self.old) (items self.new)) }
+        ensures named { IfOk result (λ c. construct_marks c ≡ word_mark (codes "teams") ∷ teams_marks c) }
+    {
+        if self.at_word(b"distribute".as_slice()) {
+            self.enter(Act::Plain)?;
+            let construct = self.distribute_kind()?;
+            return Ok(construct);
+        }
+        if self.at_word(b"loop".as_slice()) {
+            self.enter(Act::Plain)?;
+            return Ok(Construct::TeamsLoop);
+        }
+        Err(DirectiveFault::Line(self.misfit(ReadCode::UnknownDirective)))
+    }
+
+    /// The construct that is combined with `target`, if its first word stands next.
+    fn construct(&mut self) -> Result<DirectiveKind, DirectiveFault>
+        requires data { is_word (codes "data") (first_item self.old).terminal ≡ false }
+        requires update { is_word (codes "update") (first_item self.old).terminal ≡ false }
+        requires enter { is_word (codes "enter") (first_item self.old).terminal ≡ false }
+        requires exit { is_word (codes "exit") (first_item self.old).terminal ≡ false }
+        ensures read { (s : LineStack) → OutcomeBy result (rest self.old (AfterTarget ∷ s))
+            (λ k. rest self.new (Clauses (seen_kind k) ∷ s)) }
+        ensures tree { IfOk result (λ k. IsSpelled (target_marks k) (items self.old) (items self.new)) }
+        ensures named { IfOk result (λ k. kind_marks k ≡ word_mark (codes "target") ∷ target_marks k) }
+    {
+        if self.at_word(b"simd".as_slice()) {
+            self.enter(Act::Plain)?;
+            return Ok(DirectiveKind::Combined(Construct::Simd));
+        }
+        if self.at_word(b"parallel".as_slice()) {
+            self.enter(Act::Plain)?;
+            let construct = self.parallel_kind()?;
+            return Ok(DirectiveKind::Combined(construct));
+        }
+        if self.at_word(b"teams".as_slice()) {
+            self.enter(Act::Plain)?;
+            let construct = self.teams_kind()?;
+            return Ok(DirectiveKind::Combined(construct));
+        }
+        Ok(DirectiveKind::Target)
+    }
 
     /// The kind of a directive behind the word `target`.
     fn target_kind(&mut self) -> Result<DirectiveKind, DirectiveFault>
@@ -50,7 +159,7 @@ impl<'a> Line<'a> {
             self.expect_word(b"data".as_slice(), Act::Demands)?;
             return Ok(DirectiveKind::TargetExitData);
         }
-        Ok(DirectiveKind::Target)
+        self.construct()
     }
 
     /// The kind of the directive.

@@ -4,17 +4,21 @@ ghost use Rattle.std.specs.Prelude.{◌≡◌};
 ghost use Rattle.std.specs.List.{list_any};
 ghost use Rattle.std.specs.Str.{bytes_eq};
 ghost use Rattle.directives.specs.Seen.{seen_lexeme};
-ghost use Rattle.c_grammar.specs.LineRules.{is_no_device};
+ghost use Rattle.c_grammar.specs.LineRules.{is_no_amount, is_no_chunk, is_no_device, same_amount};
+ghost use Rattle.directives.specs.Kinds.{seen_amount};
 ghost use Rattle.directives.specs.Known.{own_code};
 
 use crate::lexeme::Lexeme;
-use crate::tree::Modifier;
+use crate::tree::{Amount, Modifier};
 use base::fault::ReadCode;
 use c_tokens::limits::{MAX_DEPENDS, MAX_NAME, MAX_TERMS};
 use std::alloc::{AllocError, Global};
 
 /// The highest number of a device.
 const MAX_DEVICE: u64 = 3;
+
+/// So many loops are collapsed at most.
+const MAX_COLLAPSE: u64 = 4;
 
 /// What stands once at most.
 #[derive(Clone, Copy)]
@@ -23,6 +27,10 @@ pub enum Single {
     NoWaits,
     /// A device clause.
     OnDevice,
+    /// A schedule.
+    OnSchedule,
+    /// The clause of an amount.
+    OnAmount(Amount),
     /// A modifier, in its map clause.
     Modified(Modifier),
 }
@@ -45,6 +53,10 @@ pub enum Act {
     Depends,
     /// The number of a device.
     Numbers,
+    /// The number of an amount.
+    Amounts(Amount),
+    /// The number of a chunk's turns.
+    Chunks,
     /// A sign behind which a bound begins.
     Opens,
     /// The number that begins a term.
@@ -64,6 +76,10 @@ pub struct Known<'a> {
     pub waits: bool,
     /// A device clause was there.
     pub device: bool,
+    /// A schedule was there.
+    pub schedule: bool,
+    /// The amounts whose clauses were there.
+    pub amounts: Vec<Amount>,
     /// `always` was there in the last map clause.
     pub always: bool,
     /// `present` was there in the last map clause.
@@ -102,6 +118,33 @@ fn is_no_device(lexeme: Lexeme<'_>) -> bool
     }
 }
 
+/// Whether it is a number that the amount may not have.
+fn is_no_amount(amount: Amount, lexeme: Lexeme<'_>) -> bool
+    ensures { result ≡ is_no_amount (seen_amount amount) (seen_lexeme lexeme.entry) }
+{
+    match lexeme {
+        Lexeme::Number(number) => { number == 0 || (amount.number() == 0 && number > MAX_COLLAPSE) }
+        _ => false,
+    }
+}
+
+/// Whether it is a number that no chunk has.
+fn is_no_chunk(lexeme: Lexeme<'_>) -> bool
+    ensures { result ≡ is_no_chunk (seen_lexeme lexeme.entry) }
+{
+    match lexeme {
+        Lexeme::Number(number) => number == 0,
+        _ => false,
+    }
+}
+
+/// Whether the amount is one of those.
+fn has_amount(amounts: &[Amount], amount: Amount) -> bool
+    ensures { result ≡ list_any (λ x. same_amount (seen_amount amount) (seen_amount x)) amounts.now }
+{
+    amounts.iter().any(|one| amount.number() == one.number())
+}
+
 /// Whether the name is one of those.
 fn is_among(names: &[&[u8]], name: &[u8]) -> bool
     ensures { result ≡ list_any (λ x. bytes_eq x.now name.now) names.now }
@@ -122,6 +165,8 @@ impl<'a> Known<'a> {
             missing: false,
             waits: false,
             device: false,
+            schedule: false,
+            amounts: Vec::new(alloc),
             always: false,
             present: false,
             arrays: Vec::new(alloc),
@@ -142,27 +187,34 @@ impl<'a> Known<'a> {
     }
 
     /// Whether that was there.
+    #[tactic(auto, using(crate::proofs::Knowing::any_is_amount))]
     fn has_single(&self, what: Single) -> bool
         ensures { result ≡ has_single (seen_single what) (known_of self.now) }
     {
         match what {
             Single::NoWaits => self.waits,
             Single::OnDevice => self.device,
+            Single::OnSchedule => self.schedule,
+            Single::OnAmount(amount) => has_amount(&self.amounts, amount),
             Single::Modified(Modifier::Always) => self.always,
             Single::Modified(Modifier::Present) => self.present,
         }
     }
 
     /// Takes note that it was there.
-    fn note_single(&mut self, what: Single)
-        ensures { known_of self.new ≡ with_single (seen_single what) (known_of self.old) }
+    #[tactic(auto, using(crate::proofs::Knowing::amounts_one_more))]
+    fn note_single(&mut self, what: Single) -> Result<(), AllocError>
+        ensures { OnOk result (known_of self.new ≡ with_single (seen_single what) (known_of self.old)) }
     {
         match what {
             Single::NoWaits => self.waits = true,
             Single::OnDevice => self.device = true,
+            Single::OnSchedule => self.schedule = true,
+            Single::OnAmount(amount) => self.amounts.push(amount)?,
             Single::Modified(Modifier::Always) => self.always = true,
             Single::Modified(Modifier::Present) => self.present = true,
         }
+        Ok(())
     }
 
     /// The code that the token has for what it does.
@@ -175,6 +227,8 @@ impl<'a> Known<'a> {
             Act::Maps => (self.has(lexeme), ReadCode::ArrayTwice),
             Act::Depends => (self.depends >= MAX_DEPENDS, ReadCode::TooMany),
             Act::Numbers => (is_no_device(lexeme), ReadCode::BadDevice),
+            Act::Amounts(amount) => (is_no_amount(amount, lexeme), ReadCode::BadOperand),
+            Act::Chunks => (is_no_chunk(lexeme), ReadCode::BadOperand),
             Act::Begins | Act::BeginsNamed => (self.terms >= MAX_TERMS, ReadCode::TooMany),
             _ => return None,
         };
@@ -199,14 +253,14 @@ impl<'a> Known<'a> {
         ensures { OnOk result (known_of self.new ≡ line_act (known_of self.old) (seen_lexeme lexeme.entry) (seen_act act)) }
     {
         match act {
-            Act::Plain | Act::Ends | Act::Numbers | Act::Times => {}
+            Act::Plain | Act::Ends | Act::Numbers | Act::Amounts(_) | Act::Chunks | Act::Times => {}
             Act::Demands => self.missing = true,
             Act::Meets => {
                 self.missing = false;
                 self.always = false;
                 self.present = false;
             }
-            Act::Once(what) => self.note_single(what),
+            Act::Once(what) => self.note_single(what)?,
             Act::Maps => {
                 if let Lexeme::Name(name) = lexeme {
                     self.arrays.push(name)?;

@@ -1,6 +1,7 @@
 //! From a line of a source that begins with `#` to its directive.
 #![tactic(auto)]
 
+mod amounts;
 mod bounds;
 mod clauses;
 mod code;
@@ -24,7 +25,8 @@ pub use heads::{read_directive, read_directive_at};
 pub use lexeme::{Lexeme, PlacedLexeme, same_lexeme};
 pub use lexemes::Lexemes;
 pub use tree::{
-    Bound, Clause, DependClause, DependType, Directive, DirectiveKind, MapClause, MapType,
-    Modifier, MotionClause, MotionType, Name, Section, Sections, Term,
+    Amount, Bound, Clause, Construct, DependClause, DependType, Directive, DirectiveKind,
+    MapClause, MapType, Modifier, MotionClause, MotionType, Name, ScheduleType, Section, Sections,
+    Term,
 };
 pub use word::{Word, word_of};

@@ -8,6 +8,7 @@ use crate::fault::{DirectiveFault, LineFault};
 use crate::known::{Act, Known, own_code};
 use crate::lexeme::{Lexeme, PlacedLexeme, same_lexeme};
 use crate::lexemes::Lexemes;
+use crate::word::Word;
 use base::fault::ReadCode;
 use c_tokens::Sign;
 use std::alloc::Global;
@@ -27,8 +28,8 @@ impl<'a> Line<'a> {
     ghost use Rattle.std.specs.Prelude.{◌≡◌, ◌≢◌, ◌≤◌, ◌^◌, ◌∷◌, [], OnOk, Option, None};
     ghost use Rattle.base.specs.declared.fault.ReadCode.{ReadCode};
     ghost use Rattle.base.specs.declared.fault.ReadCode.TheVariants.{Unexpected, UnknownDirective};
-    ghost use Rattle.c_grammar.specs.Lexeme.{Signed, Worded, Ended, same};
-    ghost use Rattle.c_grammar.specs.LineGrammar.{Ends, of};
+    ghost use Rattle.c_grammar.specs.Lexeme.{For, Reserved, Signed, Worded, Ended, same};
+    ghost use Rattle.c_grammar.specs.LineGrammar.{Ends, Plain, of};
     ghost use Rattle.c_grammar.specs.LineRules.{line_begin};
     ghost use Rattle.c_grammar.specs.LineMachine.{LineStack, Want, w, is_word};
     ghost use Rattle.directives.specs.Seen.{seen_lexeme};
@@ -91,6 +92,13 @@ impl<'a> Line<'a> {
         same_lexeme(Lexeme::Name(word), self.token.lexeme)
     }
 
+    /// Whether the next token is the word `for`.
+    pub fn at_for(&self) -> bool
+        ensures { result ≡ same (Reserved For) (first_item self.now).terminal }
+    {
+        same_lexeme(Lexeme::Reserved(Word::For), self.token.lexeme)
+    }
+
     /// Whether the line is over.
     pub fn at_end(&self) -> bool
         ensures { result ≡ same Ended (first_item self.now).terminal }
@@ -136,6 +144,19 @@ impl<'a> Line<'a> {
     {
         if !self.at(sign) {
             return Err(DirectiveFault::Line(self.misfit(ReadCode::Unexpected)));
+        }
+        self.enter(Act::Plain)
+    }
+
+    /// Goes past the word `for` of the directive's name.
+    #[tactic(auto, using(crate::proofs::Outcomes::on_from, crate::proofs::Moves::at_for, crate::proofs::Moves::stop_for, crate::proofs::Moves::for_is))]
+    pub fn expect_for(&mut self) -> Result<(), DirectiveFault>
+        ensures read { (s : LineStack) → Outcome result (rest self.old (Want (Reserved For) (of UnknownDirective Plain) ∷ s)) (rest self.new s) }
+        ensures first { OnOk result ((first_item self.old).terminal ≡ Reserved For) }
+        ensures taken { OnOk result (behind self.old ≡ items self.new) }
+    {
+        if !self.at_for() {
+            return Err(DirectiveFault::Line(self.misfit(ReadCode::UnknownDirective)));
         }
         self.enter(Act::Plain)
     }

@@ -69,6 +69,26 @@ pub enum MotionType {
     From,
 }
 
+/// What a clause with a number says how many there are of.
+#[derive(Clone, Copy)]
+pub enum Amount {
+    Collapse,
+    NumTeams,
+    ThreadLimit,
+    NumThreads,
+    SimdLen,
+    SafeLen,
+}
+
+#[derive(Clone, Copy)]
+pub enum ScheduleType {
+    Static,
+    Dynamic,
+    Guided,
+    Auto,
+    Runtime,
+}
+
 #[derive(Drop)]
 pub struct MapClause<'a> {
     /// In the order of the source.
@@ -97,6 +117,23 @@ pub enum Clause<'a> {
     Motion(MotionClause<'a>),
     NoWait,
     Device(DeviceId),
+    Amount(Amount, u64),
+    /// With the turns of a chunk.
+    Schedule(ScheduleType, Option<u64>),
+}
+
+/// A construct that is combined with `target`.
+#[derive(Clone, Copy, PartialEq, Eq)]
+pub enum Construct {
+    Simd,
+    ParallelFor,
+    ParallelForSimd,
+    ParallelLoop,
+    TeamsDistribute,
+    TeamsDistributeSimd,
+    TeamsDistributeParallelFor,
+    TeamsDistributeParallelForSimd,
+    TeamsLoop,
 }
 
 #[derive(Clone, Copy, PartialEq, Eq)]
@@ -106,6 +143,7 @@ pub enum DirectiveKind {
     TargetEnterData,
     TargetExitData,
     TargetUpdate,
+    Combined(Construct),
     TaskWait,
 }
 

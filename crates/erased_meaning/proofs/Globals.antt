@@ -73,4 +73,4 @@ main_safe t k =
     let s = globals_stand t.globals begin no_front (record { names = refl; inside_is = refl; target = refl; turn = refl }) in
     let st = opens_block (out c) env false (record { names = s.names; inside_is = s.inside_is; target = s.target; turn = s.turn }) in
     let body = (keeps_split (opened (out c)) (stmts t.body) rest End main.1.1.1.1.1.1).0 in
-    (known_within env t.body (stmts_known t.body (opened (out c)) (within env false) (next_in rest End) st body).0).0 (main_outside t.globals).outside
+    (known_within env t.body (stmts_known t.body 0 (opened (out c)) (within env false) (next_in rest End) st body).0).0 (main_outside t.globals).outside

@@ -13,9 +13,9 @@ use Rattle.base.specs.Memory.{Memory, View, view_of}
 use Rattle.base.specs.Meaning.{Run, Plain, turn, turns_of, all_turns, run_stmt, run_row, run_list, after_region, run_kernel, erased_part, erased_row}
 use Rattle.c_grammar.specs.Lexeme.{Lexeme}
 use Rattle.c_grammar.specs.LineGrammar as line
-use Rattle.c_grammar.specs.LineGrammar.{LineText, line_slots, Clause, MapOf, DependOf, MotionOf, NoWait, DeviceOf, ToDevice, FromDevice}
-use Rattle.c_grammar.specs.Lines.{kind_of, is_target}
+use Rattle.c_grammar.specs.Lines.{is_target, is_target_kind}
 use Rattle.c_grammar.specs.Grammar.{Head, Stmt, Declare, Assign, Store, Repeat, Choose, ChooseElse, Show, Block, Directive, OverBlock, OverLoop, Stmts, Done, Then}
+use Rattle.c_grammar.proofs.LineKinds.{kind_is}
 use Rattle.c_expressions.specs.declared.scope.Meaning.TheVariants as meaning
 use Rattle.c_expressions.specs.Means.{Items, Names}
 use Rattle.c_statements.specs.Statements.{Env, stmt_size, head_size, behind, more, declared_in, in_loop, IsHead, IsStatement, AreStatements}
@@ -29,32 +29,15 @@ use Rattle.erased_meaning.proofs.Parts.{Ended, BothEnd, fresh, fresh_same, regio
 
 -- ---- the kind of a line
 
-abbrev lexemes : LineText → List Lexeme
-lexemes t = map (λ x. x.0) (line_slots t)
-
-target_line : (cs : List Clause) → is_target (lexemes (record { kind = line.Target; clauses = cs })) ≡ true
-unfolding is_target kind_of
-target_line [] = refl
-target_line (MapOf ms t is ∷ cs) = refl
-target_line (DependOf t is ∷ cs) = refl
-target_line (MotionOf ToDevice p is ∷ cs) = refl
-target_line (MotionOf FromDevice p is ∷ cs) = refl
-target_line (NoWait ∷ cs) = refl
-target_line (DeviceOf n ∷ cs) = refl
-
-data_line : (cs : List Clause) → is_target (lexemes (record { kind = line.Data; clauses = cs })) ≡ false
-unfolding is_target kind_of
-data_line cs = refl
-
-is_target_line : (l : List Lexeme) (u : LineOf l) → u.text.kind ≡ line.Target → is_target l ≡ true
+is_target_line : (l : List Lexeme) (u : LineOf l) → is_target_kind u.text.kind ≡ true → is_target l ≡ true
+unfolding is_target
 is_target_line l u e =
-    ap is_target (sym u.tokens) ∙ ap (λ (k : line.DirectiveKind). is_target (lexemes (record { kind = k; clauses = u.text.clauses }))) e
-    ∙ target_line u.text.clauses
+    ap is_target (sym u.tokens) ∙ ap is_target_kind (kind_is u.text.kind u.text.clauses) ∙ e
 
 is_data_line : (l : List Lexeme) (u : LineOf l) → u.text.kind ≡ line.Data → is_target l ≡ false
+unfolding is_target
 is_data_line l u e =
-    ap is_target (sym u.tokens) ∙ ap (λ (k : line.DirectiveKind). is_target (lexemes (record { kind = k; clauses = u.text.clauses }))) e
-    ∙ data_line u.text.clauses
+    ap is_target (sym u.tokens) ∙ ap is_target_kind (kind_is u.text.kind u.text.clauses ∙ e)
 
 -- ---- what is known of a text's targets
 

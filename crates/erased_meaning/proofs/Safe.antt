@@ -1,13 +1,13 @@
 -- A text that keeps the rules reads and prints nothing in a target, and assigns no scalar from outside there.
-use Rattle.std.proofs.Common.{◌≡◌, ℕ, ◌+◌, Bool, true, false, List, [], ◌∷◌, ◌++◌, Option, Some, None, refl, sym, ap, subst, ◌∙◌, append_assoc}
+use Rattle.std.proofs.Common.{◌≡◌, ℕ, zero, suc, ◌+◌, Bool, true, false, List, [], ◌∷◌, ◌++◌, Option, Some, None, refl, sym, ap, subst, ◌∙◌, append_assoc}
 use Rattle.std.specs.Prelude.{◌||◌, ◌&&◌, not}
 use Rattle.std.proofs.Math.Bool.{or-false}
 use Rattle.base.specs.declared.fault.ReadCode.TheVariants.{Undeclared, LoopNameAssigned, DirectiveInTarget, OuterAssigned, HostOnly, NoBody}
 use Rattle.c_tokens.specs.declared.kind.Sign.TheVariants as sign
 use Rattle.c_grammar.specs.Lexeme.{Lexeme, For, If, Else, Uint64}
-use Rattle.c_grammar.specs.Lines.{is_target}
+use Rattle.c_grammar.specs.Lines.{depth_of, is_target}
 use Rattle.c_grammar.specs.Terminal.{Terminal, Fixed, Mark, Name, Line}
-use Rattle.c_grammar.specs.Grammar.{Plain, DeclaresLocal, MakesScalar, Starts, StartsIf, StartsBlock, Assigned, Otherwise, Opens, Over, for, mark, Slot, Slots, Term, term, Source, Input, Value, source, Head, head_slots, body_opening, body_closing, end_mark, Stmt, Declare, Assign, Store, Repeat, Choose, ChooseElse, Show, Block, Directive, OverBlock, OverLoop, Stmts, Done, Then, stmt, stmts}
+use Rattle.c_grammar.specs.Grammar.{Plain, DeclaresLocal, MakesScalar, Starts, StartsIf, StartsBlock, Assigned, Otherwise, Opens, Over, for, mark, Slot, Slots, Term, term, Source, Input, Value, source, Head, head_slots, body_opening, body_closing, end_mark, Stmt, Declare, Assign, Store, Repeat, Choose, ChooseElse, Show, Block, Directive, OverBlock, OverLoop, Stmts, Done, Then, deeper, loop_role, stmt, stmt_in, stmts, stmts_in}
 use Rattle.c_grammar.specs.Rules.{Context, begun, out, with_name, Frame, Rule, Sort, AScalar, top, below, inside, act, enter, breaks, sort_of, is_array, is_scalar, is_visible, is_loop, is_outer}
 use Rattle.c_expressions.specs.declared.scope.Meaning.{Meaning}
 use Rattle.c_expressions.specs.declared.scope.Meaning.TheVariants as meaning
@@ -29,24 +29,26 @@ abbrev Left : Context → Context → Type 0
 Left c d = (below d.frames ≡ below c.frames) × (d.target ≡ false) × (d.turn ≡ None)
 
 abbrev pub StmtsKnown : Stmts → Type 0
-StmtsKnown b = (c : Context) (env : Env) (n : Terminal) → Stands c env → Keeps c (stmts b) n → KnownAll env b × Left c (entered c (stmts b))
+StmtsKnown b = (depth : ℕ) (c : Context) (env : Env) (n : Terminal) → Stands c env → Keeps c (stmts_in b depth) n →
+    KnownAll env b × Left c (entered c (stmts_in b depth))
 
 abbrev StmtKnown : Stmt → Type 0
-StmtKnown s = (c : Context) (env : Env) (n : Terminal) → Stands c env → Keeps c (stmt s) n →
-    Known env s × Stands (entered c (stmt s)) (behind s env) × (below (entered c (stmt s)).frames ≡ below c.frames)
+StmtKnown s = (depth : ℕ) (c : Context) (env : Env) (n : Terminal) → Stands c env → Keeps c (stmt_in s depth) n →
+    Known env s × Stands (entered c (stmt_in s depth)) (behind s env) ×
+    (below (entered c (stmt_in s depth)).frames ≡ below c.frames)
 
 abbrev close : Slots
 close = body_closing ∷ []
 
 -- ---- in braces
 
-closes : (b : Stmts) → StmtsKnown b → (c : Context) (env : Env) (n : Terminal) (fs : List Frame) → below c.frames ≡ fs → Stands c env →
-    Keeps c (stmts b ++ close) n → KnownAll env b × Closed (entered c (stmts b ++ close)) fs
+closes : (b : Stmts) (depth : ℕ) → StmtsKnown b → (c : Context) (env : Env) (n : Terminal) (fs : List Frame) → below c.frames ≡ fs → Stands c env →
+    Keeps c (stmts_in b depth ++ close) n → KnownAll env b × Closed (entered c (stmts_in b depth ++ close)) fs
 unfolding enter
-closes b known c env n fs e s k =
-    let parts = keeps_split c (stmts b) close n k in
-    let inner = known c env (next_in close n) s parts.0 in
-    let same = sym (entered_append c (stmts b) close) in
+closes b depth known c env n fs e s k =
+    let parts = keeps_split c (stmts_in b depth) close n k in
+    let inner = known depth c env (next_in close n) s parts.0 in
+    let same = sym (entered_append c (stmts_in b depth) close) in
     (inner.0, subst (λ (d : Context). Closed d fs) same (record { frames = inner.1.0 ∙ e; target = inner.1.1; turn = inner.1.2 }))
 
 pub known_within : (env : Env) (b : Stmts) → KnownAll (within env false) b → KnownAll env b
@@ -57,19 +59,20 @@ braces : (b : Stmts) → StmtsKnown b → (c : Context) (env : Env) (n : Termina
     KnownAll env b × Closed (entered c (body_opening ∷ (stmts b ++ close))) c.frames
 unfolding enter
 braces b known c env n s k =
-    let inner = closes b known (enter c body_opening) (within env false) n c.frames refl
+    let inner = closes b 0 known (enter c body_opening) (within env false) n c.frames refl
     (opens_block (act c (Mark sign.OpenBrace) Plain) env false (record { names = s.names; inside_is = s.inside_is; target = s.target; turn = s.turn })) k.1 in
     (known_within env b inner.0, inner.1)
 
 -- from the first token of a loop's head on
-turns : (h : Head) (b : Stmts) → StmtsKnown b → (c : Context) (env : Env) (i : Bool) (n : Terminal) → IsBefore c env None i →
-    Keeps c (head_slots h ++ (body_opening ∷ (stmts b ++ close))) n →
-    KnownAll (within (in_loop h.name env) i) b × Closed (entered c (head_slots h ++ (body_opening ∷ (stmts b ++ close)))) c.frames
+turns : (h : Head) (b : Stmts) (depth : ℕ) → StmtsKnown b → (c : Context) (env : Env) (i : Bool) (n : Terminal) → IsBefore c env None i →
+    Keeps c (head_slots h ++ (body_opening ∷ (stmts_in b depth ++ close))) n →
+    KnownAll (within (in_loop h.name env) i) b ×
+    Closed (entered c (head_slots h ++ (body_opening ∷ (stmts_in b depth ++ close)))) c.frames
 unfolding enter
-turns h b known c env i n s k =
+turns h b depth known c env i n s k =
     let d : Context = entered c (head_slots h) in
-    let parts = keeps_split c (head_slots h) (body_opening ∷ (stmts b ++ close)) n k in
-    closes b known (enter d body_opening) (within (in_loop h.name env) i) n c.frames refl
+    let parts = keeps_split c (head_slots h) (body_opening ∷ (stmts_in b depth ++ close)) n k in
+    closes b depth known (enter d body_opening) (within (in_loop h.name env) i) n c.frames refl
     (opens_loop (act d (Mark sign.OpenBrace) Plain) env h.name i (record { names = s.names; inside_is = s.inside_is; target = s.target; turn = refl })) parts.1.1
 
 -- ---- what the rules say
@@ -147,7 +150,7 @@ declares x c d env s f t u g =
 
 declare_known : (x : List ℕ) (v : Source) → StmtKnown (Declare x v)
 unfolding enter
-declare_known x v c env n s k =
+declare_known x v depth c env n s k =
     let last : Slots = (Mark sign.Semicolon, for MakesScalar) ∷ [] in
     let front : Slots = (Fixed Uint64, for Starts) ∷ (Name x, for DeclaresLocal) ∷ mark sign.Equal ∷ [] in
     let d : Context = entered c front in
@@ -162,7 +165,7 @@ declare_known x v c env n s k =
 
 assign_known : (x : List ℕ) (v : Source) → StmtKnown (Assign x v)
 unfolding enter
-assign_known x v c env n s k =
+assign_known x v depth c env n s k =
     let last : Slots = end_mark ∷ [] in
     let d : Context = entered c ((Name x, for Assigned) ∷ mark sign.Equal ∷ []) in
     let parts = keeps_split d (source v) last n k.1.1 in
@@ -174,7 +177,7 @@ assign_known x v c env n s k =
 
 store_known : (x : List ℕ) (i : Term) (v : Source) → StmtKnown (Store x i v)
 unfolding enter
-store_known x i v c env n s k =
+store_known x i v depth c env n s k =
     let last : Slots = end_mark ∷ [] in
     let value : Slots = mark sign.CloseBracket ∷ mark sign.Equal ∷ (source v ++ last) in
     let first : Context = entered c ((Name x, for Assigned) ∷ mark sign.OpenBracket ∷ []) in
@@ -189,13 +192,13 @@ store_known x i v c env n s k =
 
 show_known : (e : Term) → StmtKnown (Show e)
 unfolding breaks
-show_known e c env n s k =
+show_known e depth c env n s k =
     let after = after_still (stmt (Show e)) c env 0 (still_append (term e) (mark sign.CloseParen ∷ end_mark ∷ []) (term_still e) refl) s in
     ((λ i. tt {0}, λ i. true_false (inside c) (inside_at c env s i) (k.0 (record { part = 0; code = HostOnly }))), after.0, after.1)
 
 alone_known : (l : List Lexeme) → StmtKnown (Directive l)
 unfolding breaks
-alone_known l c env n s k =
+alone_known l depth c env n s k =
     let after = after_still (stmt (Directive l)) c env 0 refl s in
     ((λ i. tt {0}, λ i. true_false (inside c) (inside_at c env s i) (k.0 (record { part = 0; code = DirectiveInTarget }))), after.0, after.1)
 
@@ -206,19 +209,25 @@ closed_behind c d env n k s = (stands_more d env n (stands_closed c d env k s), 
 
 block_known : (b : Stmts) → StmtsKnown b → StmtKnown (Block b)
 unfolding enter
-block_known b known c env n s k =
+block_known b known depth c env n s k =
     let x : Slot = (Mark sign.OpenBrace, for StartsBlock) in
-    let inner = closes b known (enter c x) (within env false) n c.frames refl
+    let inner = closes b 0 known (enter c x) (within env false) n c.frames refl
     (opens_block (begun (out c)) env false (record { names = s.names; inside_is = s.inside_is; target = s.target; turn = s.turn })) k.1 in
     let after = closed_behind c (entered c (stmt (Block b))) env (declared_in b) inner.1 s in
     (known_within env b inner.0, after.0, after.1)
 
 repeat_known : (h : Head) (b : Stmts) → StmtsKnown b → StmtKnown (Repeat h b)
 unfolding enter
-repeat_known h b known c env n s k =
-    let d : Context = enter c (Fixed For, for Starts) in
-    let inner = turns h b known d env false n (record { names = s.names; inside_is = s.inside_is; target = s.target; turn = s.turn }) k.1 in
-    let after = closed_behind c (entered c (stmt (Repeat h b))) env (declared_in b)
+repeat_known h b known zero c env n s k =
+    let d : Context = enter c (Fixed For, loop_role 0) in
+    let inner = turns h b 0 known d env false n (record { names = s.names; inside_is = s.inside_is; target = s.target; turn = s.turn }) k.1 in
+    let after = closed_behind c (entered c (stmt_in (Repeat h b) 0)) env (declared_in b)
+    (record { frames = inner.1.frames; target = inner.1.target; turn = inner.1.turn }) s in
+    (known_within (in_loop h.name env) b inner.0, after.0, after.1)
+repeat_known h b known (suc e) c env n s k =
+    let d : Context = enter c (Fixed For, loop_role (suc e)) in
+    let inner = turns h b e known d env false n (record { names = s.names; inside_is = s.inside_is; target = s.target; turn = s.turn }) k.1 in
+    let after = closed_behind c (entered c (stmt_in (Repeat h b) (suc e))) env (declared_in b)
     (record { frames = inner.1.frames; target = inner.1.target; turn = inner.1.turn }) s in
     (known_within (in_loop h.name env) b inner.0, after.0, after.1)
 
@@ -233,23 +242,24 @@ abbrev Behind : Stmt → Slots → Type 0
 Behind s ys = (c : Context) (env : Env) (n : Terminal) → Stands c env → Keeps c ys n → Known env s × Closed (entered c ys) c.frames
 
 asked_known : (e : Term) (ys : Slots) (s : Stmt) (j : ℕ) → ((env : Env) → behind s env ≡ more j env) →
-    stmt s ≡ (Fixed If, for StartsIf) ∷ mark sign.OpenParen ∷ (term e ++ (mark sign.CloseParen ∷ ys)) → Behind s ys → StmtKnown s
-asked_known e ys s j more_is is next c env n st k =
-    let whole : stmt s ≡ asks e ++ ys = is ∙ sym (asked e ys) in
+    ((depth : ℕ) → stmt_in s depth ≡ (Fixed If, for StartsIf) ∷ mark sign.OpenParen ∷ (term e ++ (mark sign.CloseParen ∷ ys))) →
+    Behind s ys → StmtKnown s
+asked_known e ys s j more_is is next depth c env n st k =
+    let whole : stmt_in s depth ≡ asks e ++ ys = is depth ∙ sym (asked e ys) in
     let d : Context = entered c (asks e) in
     let kept = kept_all (asks e) c (still_append (term e) (mark sign.CloseParen ∷ []) (term_still e) refl) in
     let parts = keeps_split c (asks e) ys n (subst (λ (xs : Slots). Keeps c xs n) whole k) in
     let inner = next d env n (stands_kept c d env kept st) parts.1 in
-    let end : entered c (stmt s) ≡ entered d ys = ap (entered c) whole ∙ entered_append c (asks e) ys in
-    let closed : Closed (entered c (stmt s)) c.frames =
+    let end : entered c (stmt_in s depth) ≡ entered d ys = ap (entered c) whole ∙ entered_append c (asks e) ys in
+    let closed : Closed (entered c (stmt_in s depth)) c.frames =
     subst (λ (u : Context). Closed u c.frames) (sym end)
     (record { frames = inner.1.frames ∙ kept.frames; target = inner.1.target; turn = inner.1.turn }) in
-    let after = closed_behind c (entered c (stmt s)) env j closed st in
-    (inner.0, subst (λ (v : Env). Stands (entered c (stmt s)) v) (sym (more_is env)) after.0, after.1)
+    let after = closed_behind c (entered c (stmt_in s depth)) env j closed st in
+    (inner.0, subst (λ (v : Env). Stands (entered c (stmt_in s depth)) v) (sym (more_is env)) after.0, after.1)
 
 choose_known : (e : Term) (a : Stmts) → StmtsKnown a → StmtKnown (Choose e a)
 choose_known e a known =
-    asked_known e (body_opening ∷ (stmts a ++ close)) (Choose e a) (declared_in a) (λ env. refl) refl
+    asked_known e (body_opening ∷ (stmts a ++ close)) (Choose e a) (declared_in a) (λ env. refl) (λ depth. refl)
     (λ c env n s k. let inner = braces a known c env n s k in ((λ i. tt {0}, inner.0.1), inner.1))
 
 abbrev otherwise : Stmts → Slots
@@ -278,7 +288,7 @@ branches e a b first second c env n s k =
 else_known : (e : Term) (a b : Stmts) → StmtsKnown a → StmtsKnown b → StmtKnown (ChooseElse e a b)
 else_known e a b first second =
     asked_known e (body_opening ∷ (stmts a ++ (body_closing ∷ otherwise b))) (ChooseElse e a b)
-    (declared_in a + declared_in b) (λ env. refl) refl (branches e a b first second)
+    (declared_in a + declared_in b) (λ env. refl) (λ depth. refl) (branches e a b first second)
 
 -- ---- directives over a block or a loop
 
@@ -294,9 +304,9 @@ over_known env b i k e = (
 
 over_block_known : (l : List Lexeme) (b : Stmts) → StmtsKnown b → StmtKnown (OverBlock l b)
 unfolding enter breaks
-over_block_known l b known c env n s k =
+over_block_known l b known depth c env n s k =
     let d : Context = enter c (Line l, for Over) in
-    let inner = closes b known (enter d (Mark sign.OpenBrace, (Some NoBody, Opens))) (within env (is_target l)) n c.frames refl
+    let inner = closes b 0 known (enter d (Mark sign.OpenBrace, (Some NoBody, Opens))) (within env (is_target l)) n c.frames refl
     (opens_block (act d (Mark sign.OpenBrace) Plain) env (is_target l)
     (record { names = s.names; inside_is = s.inside_is; target = refl; turn = s.turn })) k.1.1 in
     let after = closed_behind c (entered c (stmt (OverBlock l b))) env (declared_in b) inner.1 s in (
@@ -310,9 +320,9 @@ over_block_known l b known c env n s k =
 
 over_loop_known : (l : List Lexeme) (h : Head) (b : Stmts) → StmtsKnown b → StmtKnown (OverLoop l h b)
 unfolding enter breaks
-over_loop_known l h b known c env n s k =
+over_loop_known l h b known depth c env n s k =
     let d : Context = entered c ((Line l, for Over) ∷ (Fixed For, (Some NoBody, Plain)) ∷ []) in
-    let inner = turns h b known d env (is_target l) n
+    let inner = turns h b (deeper (depth_of l)) known d env (is_target l) n
     (record { names = s.names; inside_is = s.inside_is; target = refl; turn = s.turn }) k.1.1 in
     let after = closed_behind c (entered c (stmt (OverLoop l h b))) env (declared_in b)
     (record { frames = inner.1.frames; target = inner.1.target; turn = inner.1.turn }) s in (
@@ -341,12 +351,12 @@ behind_inside (OverLoop l h b) env = refl
 
 mutual
   pub stmts_known : (b : Stmts) → StmtsKnown b
-  stmts_known Done c env n s k = ((λ e. tt {0}, λ e. tt {0}), (refl, s.target, s.turn))
-  stmts_known (Then t ss) c env n s k =
-      let parts = keeps_split c (stmt t) (stmts ss) n k in
-      let one = stmt_known t c env (next_in (stmts ss) n) s parts.0 in
-      let rest = stmts_known ss (entered c (stmt t)) (behind t env) n one.1 parts.1 in
-      let same = sym (entered_append c (stmt t) (stmts ss)) in
+  stmts_known Done depth c env n s k = ((λ e. tt {0}, λ e. tt {0}), (refl, s.target, s.turn))
+  stmts_known (Then t ss) depth c env n s k =
+      let parts = keeps_split c (stmt_in t depth) (stmts_in ss depth) n k in
+      let one = stmt_known t depth c env (next_in (stmts_in ss depth) n) s parts.0 in
+      let rest = stmts_known ss depth (entered c (stmt_in t depth)) (behind t env) n one.1 parts.1 in
+      let same = sym (entered_append c (stmt_in t depth) (stmts_in ss depth)) in
       let kept = behind_inside t env in (
         (λ e. (one.0.0 e, rest.0.0 (kept ∙ e)), λ e. (one.0.1 e, rest.0.1 (kept ∙ e))),
         subst (λ (d : Context). Left c d) same (rest.1.0 ∙ one.2, rest.1.1, rest.1.2),

@@ -1,9 +1,10 @@
 -- The tokens of a tree without its directives are those of the tree that are no lines.
-use Rattle.std.proofs.Common.{◌≡◌, Bool, true, false, cond, List, [], ◌∷◌, ◌++◌, refl, sym, ap, ◌∙◌}
+use Rattle.std.proofs.Common.{◌≡◌, ℕ, Bool, true, false, cond, List, [], ◌∷◌, ◌++◌, refl, sym, ap, ◌∙◌}
 use Rattle.c_tokens.specs.declared.kind.Sign.TheVariants as sign
 use Rattle.c_grammar.specs.Lexeme.{For, If, Else, Int, Main, Void}
 use Rattle.c_grammar.specs.Terminal.{Terminal, Mark, Fixed, End}
-use Rattle.c_grammar.specs.Grammar.{Slots, Plain, StartsIf, Otherwise, for, mark, Term, Literal, Named, Element, Group, Prefixed, Both, By, term, Source, Input, Value, source, Head, head_slots, body_opening, body_closing, Stmt, Declare, Assign, Store, Repeat, Choose, ChooseElse, Show, Block, Directive, OverBlock, OverLoop, Stmts, Done, Then, stmt, stmts, Global, Scalar, Array, global, globals, Text, main_part, slots}
+use Rattle.c_grammar.specs.Lines.{depth_of}
+use Rattle.c_grammar.specs.Grammar.{Slots, Plain, StartsIf, Otherwise, for, mark, Term, Literal, Named, Element, Group, Prefixed, Both, By, term, Source, Input, Value, source, Head, head_slots, body_opening, body_closing, Stmt, Declare, Assign, Store, Repeat, Choose, ChooseElse, Show, Block, Directive, OverBlock, OverLoop, Stmts, Done, Then, deeper, stmt_in, stmts_in, stmt, stmts, Global, Scalar, Array, global, globals, Text, main_part, slots}
 use Rattle.c_grammar.specs.Rules.{source_grammar}
 use Rattle.c_grammar.specs.Texts.{Item, kinds, terminals}
 use Rattle.erasure.specs.Erased.{is_line_terminal, unlined}
@@ -79,17 +80,17 @@ bares_join xs us ys vs p q =
 abbrev close : Slots
 close = body_closing ∷ []
 
-bares_body : (b : Stmts) → Bares (stmts b) (stmts (plain_stmts b)) → Bares (stmts b ++ close) (stmts (plain_stmts b) ++ close)
-bares_body b p = bares_join (stmts b) (stmts (plain_stmts b)) close close p refl
+bares_body : (xs ys : Slots) → Bares xs ys → Bares (xs ++ close) (ys ++ close)
+bares_body xs ys p = bares_join xs ys close close p refl
 
 -- behind tokens of no directive
 bares_behind : (xs ys vs : Slots) → NoLines xs → Bares ys vs → Bares (xs ++ ys) (xs ++ vs)
 bares_behind xs ys vs l q = bares_join xs xs ys vs (bares_same xs l) q
 
-bares_loop : (h : Head) (b : Stmts) → Bares (stmts b) (stmts (plain_stmts b)) →
-    Bares (head_slots h ++ (body_opening ∷ (stmts b ++ close))) (head_slots h ++ (body_opening ∷ (stmts (plain_stmts b) ++ close)))
-bares_loop h b p =
-    bares_behind (head_slots h ++ body_opening ∷ []) (stmts b ++ close) (stmts (plain_stmts b) ++ close) (head_no_lines h (body_opening ∷ []) refl) (bares_body b p)
+bares_loop : (h : Head) (xs ys : Slots) → Bares xs ys →
+    Bares (head_slots h ++ (body_opening ∷ (xs ++ close))) (head_slots h ++ (body_opening ∷ (ys ++ close)))
+bares_loop h xs ys p =
+    bares_behind (head_slots h ++ body_opening ∷ []) (xs ++ close) (ys ++ close) (head_no_lines h (body_opening ∷ []) refl) (bares_body xs ys p)
 
 bares_choice : (e : Term) (ys vs : Slots) → Bares ys vs →
     Bares ((Fixed If, for StartsIf) ∷ mark sign.OpenParen ∷ (term e ++ (mark sign.CloseParen ∷ body_opening ∷ ys)))
@@ -102,45 +103,49 @@ abbrev otherwise : Stmts → Slots
 otherwise b = body_closing ∷ (Fixed Else, for Otherwise) ∷ body_opening ∷ (stmts b ++ close)
 
 mutual
-  pub bares_stmts : (b : Stmts) → Bares (stmts b) (stmts (plain_stmts b))
-  bares_stmts Done = refl
-  bares_stmts (Then s ss) = bares_stmt s (stmts ss) (plain_stmts ss) (bares_stmts ss)
+  -- whether they are a nest of loops or not
+  pub bares_stmts : (b : Stmts) (d : ℕ) → Bares (stmts_in b d) (stmts (plain_stmts b))
+  bares_stmts Done d = refl
+  bares_stmts (Then s ss) d = bares_stmt s d (stmts_in ss d) (plain_stmts ss) (bares_stmts ss d)
 
-  bares_stmt : (s : Stmt) (xs : Slots) (ss : Stmts) → Bares xs (stmts ss) → Bares (stmt s ++ xs) (stmts (plain_before s ss))
-  bares_stmt (Declare x v) xs ss p =
+  bares_stmt : (s : Stmt) (d : ℕ) (xs : Slots) (ss : Stmts) → Bares xs (stmts ss) →
+      Bares (stmt_in s d ++ xs) (stmts (plain_before s ss))
+  bares_stmt (Declare x v) d xs ss p =
       bares_join (stmt (Declare x v)) (stmt (Declare x v)) xs (stmts ss)
       (bares_same (stmt (Declare x v)) (no_lines_append (source v) _ (source_no_lines v) refl)) p
-  bares_stmt (Assign x v) xs ss p =
+  bares_stmt (Assign x v) d xs ss p =
       bares_join (stmt (Assign x v)) (stmt (Assign x v)) xs (stmts ss)
       (bares_same (stmt (Assign x v)) (no_lines_append (source v) _ (source_no_lines v) refl)) p
-  bares_stmt (Store x i v) xs ss p =
+  bares_stmt (Store x i v) d xs ss p =
       bares_join (stmt (Store x i v)) (stmt (Store x i v)) xs (stmts ss)
       (bares_same (stmt (Store x i v))
       (no_lines_append (term i) _ (term_no_lines i) (no_lines_append (source v) _ (source_no_lines v) refl))) p
-  bares_stmt (Repeat h b) xs ss p =
-      bares_join (stmt (Repeat h b)) (stmt (Repeat h (plain_stmts b))) xs (stmts ss)
-      (ap (λ (ts : List Terminal). Fixed For ∷ ts) (bares_loop h b (bares_stmts b))) p
-  bares_stmt (Choose e a) xs ss p =
+  bares_stmt (Repeat h b) d xs ss p =
+      bares_join (stmt_in (Repeat h b) d) (stmt (Repeat h (plain_stmts b))) xs (stmts ss)
+      (ap (λ (ts : List Terminal). Fixed For ∷ ts)
+      (bares_loop h (stmts_in b (deeper d)) (stmts (plain_stmts b)) (bares_stmts b (deeper d)))) p
+  bares_stmt (Choose e a) d xs ss p =
       bares_join (stmt (Choose e a)) (stmt (Choose e (plain_stmts a))) xs (stmts ss)
-      (bares_choice e (stmts a ++ close) (stmts (plain_stmts a) ++ close) (bares_body a (bares_stmts a))) p
-  bares_stmt (ChooseElse e a b) xs ss p =
+      (bares_choice e (stmts a ++ close) (stmts (plain_stmts a) ++ close) (bares_body (stmts a) (stmts (plain_stmts a)) (bares_stmts a 0))) p
+  bares_stmt (ChooseElse e a b) d xs ss p =
       bares_join (stmt (ChooseElse e a b)) (stmt (ChooseElse e (plain_stmts a) (plain_stmts b))) xs (stmts ss)
       (bares_choice e (stmts a ++ otherwise b) (stmts (plain_stmts a) ++ otherwise (plain_stmts b))
-      (bares_join (stmts a) (stmts (plain_stmts a)) (otherwise b) (otherwise (plain_stmts b)) (bares_stmts a)
-      (ap (λ (ts : List Terminal). Mark sign.CloseBrace ∷ Fixed Else ∷ Mark sign.OpenBrace ∷ ts) (bares_body b (bares_stmts b))))) p
-  bares_stmt (Show e) xs ss p =
+      (bares_join (stmts a) (stmts (plain_stmts a)) (otherwise b) (otherwise (plain_stmts b)) (bares_stmts a 0)
+      (ap (λ (ts : List Terminal). Mark sign.CloseBrace ∷ Fixed Else ∷ Mark sign.OpenBrace ∷ ts) (bares_body (stmts b) (stmts (plain_stmts b)) (bares_stmts b 0))))) p
+  bares_stmt (Show e) d xs ss p =
       bares_join (stmt (Show e)) (stmt (Show e)) xs (stmts ss)
       (bares_same (stmt (Show e)) (no_lines_append (term e) _ (term_no_lines e) refl)) p
-  bares_stmt (Block b) xs ss p =
+  bares_stmt (Block b) d xs ss p =
       bares_join (stmt (Block b)) (stmt (Block (plain_stmts b))) xs (stmts ss)
-      (ap (λ (ts : List Terminal). Mark sign.OpenBrace ∷ ts) (bares_body b (bares_stmts b))) p
-  bares_stmt (Directive l) xs ss p = p
-  bares_stmt (OverBlock l b) xs ss p =
+      (ap (λ (ts : List Terminal). Mark sign.OpenBrace ∷ ts) (bares_body (stmts b) (stmts (plain_stmts b)) (bares_stmts b 0))) p
+  bares_stmt (Directive l) d xs ss p = p
+  bares_stmt (OverBlock l b) d xs ss p =
       bares_join (stmt (OverBlock l b)) (stmt (Block (plain_stmts b))) xs (stmts ss)
-      (ap (λ (ts : List Terminal). Mark sign.OpenBrace ∷ ts) (bares_body b (bares_stmts b))) p
-  bares_stmt (OverLoop l h b) xs ss p =
+      (ap (λ (ts : List Terminal). Mark sign.OpenBrace ∷ ts) (bares_body (stmts b) (stmts (plain_stmts b)) (bares_stmts b 0))) p
+  bares_stmt (OverLoop l h b) d xs ss p =
       bares_join (stmt (OverLoop l h b)) (stmt (Repeat h (plain_stmts b))) xs (stmts ss)
-      (ap (λ (ts : List Terminal). Fixed For ∷ ts) (bares_loop h b (bares_stmts b))) p
+      (ap (λ (ts : List Terminal). Fixed For ∷ ts)
+      (bares_loop h (stmts_in b (deeper (depth_of l))) (stmts (plain_stmts b)) (bares_stmts b (deeper (depth_of l))))) p
 
 pub global_no_lines : (g : Global) → NoLines (global g)
 global_no_lines (Scalar x) = refl
@@ -155,4 +160,4 @@ bares_slots t =
     bares_behind (globals t.globals) (main_part t.body) (main_part (plain_stmts t.body)) (globals_no_lines t.globals)
     (ap (λ (ts : List Terminal). Fixed Int ∷ Fixed Main ∷ Mark sign.OpenParen ∷ Fixed Void ∷ Mark sign.CloseParen ∷ Mark sign.OpenBrace ∷ ts)
     (bares_join (stmts t.body) (stmts (plain_stmts t.body)) (body_closing ∷ (End, for Plain) ∷ []) (body_closing ∷ (End, for Plain) ∷ [])
-    (bares_stmts t.body) refl))
+    (bares_stmts t.body 0) refl))

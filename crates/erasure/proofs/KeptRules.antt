@@ -6,7 +6,8 @@ use Rattle.base.specs.declared.fault.ReadCode.TheVariants.{TooDeep, TooMany, NoB
 use Rattle.c_tokens.specs.declared.kind.Sign.TheVariants as sign
 use Rattle.c_grammar.specs.Lexeme.{Lexeme, For, If, Else, Int, Main, Void, Uint64, Print}
 use Rattle.c_grammar.specs.Terminal.{Terminal, Mark, Fixed, Name, Line, End}
-use Rattle.c_grammar.specs.Grammar.{Slot, Slots, Plain, DeclaresLocal, MakesScalar, Starts, StartsIf, StartsBlock, Prints, Assigned, Otherwise, Opens, Alone, Over, for, mark, word, Term, term, source, Head, head_slots, body_opening, body_closing, end_mark, Stmt, Declare, Assign, Store, Repeat, Choose, ChooseElse, Show, Block, Directive, OverBlock, OverLoop, Stmts, Done, Then, stmt, stmts, IsStmt, AreStmts, Global, Scalar, Array, global, globals, Text, main_part, slots, IsText}
+use Rattle.c_grammar.specs.Lines.{depth_of}
+use Rattle.c_grammar.specs.Grammar.{Slot, Slots, Plain, DeclaresLocal, MakesScalar, Starts, StartsIf, StartsBlock, Prints, Assigned, Otherwise, Opens, Alone, Over, for, mark, word, Term, term, source, Head, head_slots, body_opening, body_closing, end_mark, Stmt, Declare, Assign, Store, Repeat, Choose, ChooseElse, Show, Block, Directive, OverBlock, OverLoop, Stmts, Done, Then, deeper, loop_role, stmt_in, stmts_in, stmt, stmts, IsStmt, AreStmts, Global, Scalar, Array, global, globals, Text, main_part, slots, IsText}
 use Rattle.c_grammar.specs.Rules.{Context, Rule, begin, begun, out, enter, breaks, breaks_part, source_grammar, max_statements, max_braces}
 use Rattle.c_grammar.specs.Texts.{KeepsRules}
 use Rattle.erasure.specs.Plain.{plain_before, plain_stmts, plain_tree}
@@ -100,17 +101,22 @@ close = body_closing ∷ []
 keeping_close : Keeping close close
 keeping_close = keeping_same body_closing [] refl tt
 
-keeping_body : (b : Stmts) → Keeping (stmts b) (stmts (plain_stmts b)) → Keeping (stmts b ++ close) (stmts (plain_stmts b) ++ close)
-keeping_body b k = keeping_join (stmts b) (stmts (plain_stmts b)) close close k keeping_close
+keeping_body : (xs ys : Slots) → Keeping xs ys → Keeping (xs ++ close) (ys ++ close)
+keeping_body xs ys k = keeping_join xs ys close close k keeping_close
 
-abbrev turns : Head → Stmts → Slots
-turns h b = head_slots h ++ (body_opening ∷ (stmts b ++ close))
+abbrev turns : Head → Slots → Slots
+turns h xs = head_slots h ++ (body_opening ∷ (xs ++ close))
 
-keeping_turns : (h : Head) (b : Stmts) → Keeping (stmts b) (stmts (plain_stmts b)) →
-    Keeping (turns h b) (turns h (plain_stmts b))
-keeping_turns h b k =
-    keeping_join (head_slots h ++ body_opening ∷ []) (head_slots h ++ body_opening ∷ []) (stmts b ++ close) (stmts (plain_stmts b) ++ close)
-    (keeping_all (head_slots h ++ body_opening ∷ []) (head_no_lines h (body_opening ∷ []) refl) tt) (keeping_body b k)
+keeping_turns : (h : Head) (xs ys : Slots) → Keeping xs ys → Keeping (turns h xs) (turns h ys)
+keeping_turns h xs ys k =
+    keeping_join (head_slots h ++ body_opening ∷ []) (head_slots h ++ body_opening ∷ []) (xs ++ close) (ys ++ close)
+    (keeping_all (head_slots h ++ body_opening ∷ []) (head_no_lines h (body_opening ∷ []) refl) tt) (keeping_body xs ys k)
+
+-- the first word of a loop, in a nest or not
+keeping_first : (d : ℕ) → Keeping ((Fixed For, loop_role d) ∷ []) ((Fixed For, for Starts) ∷ [])
+unfolding breaks enter
+keeping_first zero = keeping_same (Fixed For, for Starts) [] refl tt
+keeping_first (suc d) = keeping_same (Fixed For, for Starts) [] refl tt
 
 abbrev choice_begins : Term → Slots
 choice_begins e = (Fixed If, for StartsIf) ∷ mark sign.OpenParen ∷ (term e ++ (mark sign.CloseParen ∷ body_opening ∷ []))
@@ -140,57 +146,61 @@ keeping_simple : (x : Slot) (xs : Slots) (y : Slot) (ys : Slots) → NoLines (x 
 keeping_simple x xs y ys l e = keeping_same x (xs ++ (y ∷ ys)) l (ends_free (x ∷ xs) y ys e)
 
 mutual
-  keeping_stmts : (b : Stmts) → Keeping (stmts b) (stmts (plain_stmts b))
-  keeping_stmts Done = keeping_none
-  keeping_stmts (Then s ss) = keeping_stmt s (stmts ss) (plain_stmts ss) (keeping_stmts ss)
+  keeping_stmts : (b : Stmts) (d : ℕ) → Keeping (stmts_in b d) (stmts (plain_stmts b))
+  keeping_stmts Done d = keeping_none
+  keeping_stmts (Then s ss) d = keeping_stmt s d (stmts_in ss d) (plain_stmts ss) (keeping_stmts ss d)
 
-  keeping_stmt : (s : Stmt) (xs : Slots) (ss : Stmts) → Keeping xs (stmts ss) → Keeping (stmt s ++ xs) (stmts (plain_before s ss))
-  keeping_stmt (Declare x v) xs ss k =
+  keeping_stmt : (s : Stmt) (d : ℕ) (xs : Slots) (ss : Stmts) → Keeping xs (stmts ss) →
+      Keeping (stmt_in s d ++ xs) (stmts (plain_before s ss))
+  keeping_stmt (Declare x v) d xs ss k =
       let last : Slot = (Mark sign.Semicolon, for MakesScalar) in
       keeping_join (stmt (Declare x v)) (stmt (Declare x v)) xs (stmts ss)
       (keeping_simple (Fixed Uint64, for Starts) ((Name x, for DeclaresLocal) ∷ mark sign.Equal ∷ source v) last []
       (no_lines_append (source v) (last ∷ []) (source_no_lines v) refl) tt) k
-  keeping_stmt (Assign x v) xs ss k =
+  keeping_stmt (Assign x v) d xs ss k =
       keeping_join (stmt (Assign x v)) (stmt (Assign x v)) xs (stmts ss)
       (keeping_simple (Name x, for Assigned) (mark sign.Equal ∷ source v) end_mark []
       (no_lines_append (source v) (end_mark ∷ []) (source_no_lines v) refl) tt) k
-  keeping_stmt (Store x i v) xs ss k =
+  keeping_stmt (Store x i v) d xs ss k =
       let value : Slots = mark sign.CloseBracket ∷ mark sign.Equal ∷ (source v ++ end_mark ∷ []) in
       keeping_join (stmt (Store x i v)) (stmt (Store x i v)) xs (stmts ss)
       (keeping_simple (Name x, for Assigned) (mark sign.OpenBracket ∷ term i) (mark sign.CloseBracket) (mark sign.Equal ∷ (source v ++ end_mark ∷ []))
       (no_lines_append (term i) value (term_no_lines i) (no_lines_append (source v) (end_mark ∷ []) (source_no_lines v) refl))
       (ends_free (mark sign.CloseBracket ∷ mark sign.Equal ∷ source v) end_mark [] tt)) k
-  keeping_stmt (Repeat h b) xs ss k =
-      keeping_join (stmt (Repeat h b)) (stmt (Repeat h (plain_stmts b))) xs (stmts ss)
-      (keeping_join ((Fixed For, for Starts) ∷ []) ((Fixed For, for Starts) ∷ []) (turns h b) (turns h (plain_stmts b))
-      (keeping_same (Fixed For, for Starts) [] refl tt) (keeping_turns h b (keeping_stmts b))) k
-  keeping_stmt (Choose e a) xs ss k =
+  keeping_stmt (Repeat h b) d xs ss k =
+      let inner : Slots = stmts_in b (deeper d) in
+      keeping_join (stmt_in (Repeat h b) d) (stmt (Repeat h (plain_stmts b))) xs (stmts ss)
+      (keeping_join ((Fixed For, loop_role d) ∷ []) ((Fixed For, for Starts) ∷ []) (turns h inner) (turns h (stmts (plain_stmts b)))
+      (keeping_first d) (keeping_turns h inner (stmts (plain_stmts b)) (keeping_stmts b (deeper d)))) k
+  keeping_stmt (Choose e a) d xs ss k =
       keeping_join (stmt (Choose e a)) (stmt (Choose e (plain_stmts a))) xs (stmts ss)
-      (keeping_choice e (stmts a ++ close) (stmts (plain_stmts a) ++ close) (keeping_body a (keeping_stmts a))) k
-  keeping_stmt (ChooseElse e a b) xs ss k =
+      (keeping_choice e (stmts a ++ close) (stmts (plain_stmts a) ++ close) (keeping_body (stmts a) (stmts (plain_stmts a)) (keeping_stmts a 0))) k
+  keeping_stmt (ChooseElse e a b) d xs ss k =
       keeping_join (stmt (ChooseElse e a b)) (stmt (ChooseElse e (plain_stmts a) (plain_stmts b))) xs (stmts ss)
       (keeping_choice e (stmts a ++ (else_begins ++ (stmts b ++ close))) (stmts (plain_stmts a) ++ (else_begins ++ (stmts (plain_stmts b) ++ close)))
       (keeping_join (stmts a) (stmts (plain_stmts a)) (else_begins ++ (stmts b ++ close)) (else_begins ++ (stmts (plain_stmts b) ++ close))
-      (keeping_stmts a)
+      (keeping_stmts a 0)
       (keeping_join else_begins else_begins (stmts b ++ close) (stmts (plain_stmts b) ++ close)
-      (keeping_same body_closing ((Fixed Else, for Otherwise) ∷ body_opening ∷ []) refl tt) (keeping_body b (keeping_stmts b))))) k
-  keeping_stmt (Show e) xs ss k =
+      (keeping_same body_closing ((Fixed Else, for Otherwise) ∷ body_opening ∷ []) refl tt) (keeping_body (stmts b) (stmts (plain_stmts b)) (keeping_stmts b 0))))) k
+  keeping_stmt (Show e) d xs ss k =
       keeping_join (stmt (Show e)) (stmt (Show e)) xs (stmts ss)
       (keeping_simple (Fixed Print, for Prints) (mark sign.OpenParen ∷ term e) (mark sign.CloseParen) (end_mark ∷ [])
       (no_lines_append (term e) (mark sign.CloseParen ∷ end_mark ∷ []) (term_no_lines e) refl) tt) k
-  keeping_stmt (Block b) xs ss k =
+  keeping_stmt (Block b) d xs ss k =
       keeping_join (stmt (Block b)) (stmt (Block (plain_stmts b))) xs (stmts ss)
       (keeping_join ((Mark sign.OpenBrace, for StartsBlock) ∷ []) ((Mark sign.OpenBrace, for StartsBlock) ∷ []) (stmts b ++ close) (stmts (plain_stmts b) ++ close)
-      (keeping_same (Mark sign.OpenBrace, for StartsBlock) [] refl tt) (keeping_body b (keeping_stmts b))) k
-  keeping_stmt (Directive l) xs ss k = keeping_join ((Line l, for Alone) ∷ []) [] xs (stmts ss) (keeping_alone l) k
-  keeping_stmt (OverBlock l b) xs ss k =
+      (keeping_same (Mark sign.OpenBrace, for StartsBlock) [] refl tt) (keeping_body (stmts b) (stmts (plain_stmts b)) (keeping_stmts b 0))) k
+  keeping_stmt (Directive l) d xs ss k = keeping_join ((Line l, for Alone) ∷ []) [] xs (stmts ss) (keeping_alone l) k
+  keeping_stmt (OverBlock l b) d xs ss k =
       keeping_join (stmt (OverBlock l b)) (stmt (Block (plain_stmts b))) xs (stmts ss)
       (keeping_join (line_slot l ∷ (Mark sign.OpenBrace, (Some NoBody, Opens)) ∷ []) ((Mark sign.OpenBrace, for StartsBlock) ∷ [])
-      (stmts b ++ close) (stmts (plain_stmts b) ++ close) (keeping_block l) (keeping_body b (keeping_stmts b))) k
-  keeping_stmt (OverLoop l h b) xs ss k =
+      (stmts b ++ close) (stmts (plain_stmts b) ++ close) (keeping_block l) (keeping_body (stmts b) (stmts (plain_stmts b)) (keeping_stmts b 0))) k
+  keeping_stmt (OverLoop l h b) d xs ss k =
+      let inner : Slots = stmts_in b (deeper (depth_of l)) in
       keeping_join (stmt (OverLoop l h b)) (stmt (Repeat h (plain_stmts b))) xs (stmts ss)
       (keeping_join (line_slot l ∷ (Fixed For, (Some NoBody, Plain)) ∷ []) ((Fixed For, for Starts) ∷ [])
-      (turns h b) (turns h (plain_stmts b)) (keeping_loop l) (keeping_turns h b (keeping_stmts b))) k
+      (turns h inner) (turns h (stmts (plain_stmts b))) (keeping_loop l)
+      (keeping_turns h inner (stmts (plain_stmts b)) (keeping_stmts b (deeper (depth_of l))))) k
 
 -- ---- the whole
 
@@ -212,7 +222,7 @@ keeping_slots t =
     keeping_join (globals t.globals) (globals t.globals) (main_part t.body) (main_part (plain_stmts t.body)) (keeping_globals t.globals)
     (keeping_join main_begins main_begins (stmts t.body ++ main_ends) (stmts (plain_stmts t.body) ++ main_ends)
     (keeping_all main_begins refl tt)
-    (keeping_join (stmts t.body) (stmts (plain_stmts t.body)) main_ends main_ends (keeping_stmts t.body) (keeping_all main_ends refl tt)))
+    (keeping_join (stmts t.body) (stmts (plain_stmts t.body)) main_ends main_ends (keeping_stmts t.body 0) (keeping_all main_ends refl tt)))
 
 pub plain_keeps : (t : Text) → KeepsRules source_grammar (slots t) → KeepsRules source_grammar (slots (plain_tree t))
 plain_keeps t k front x more r e =

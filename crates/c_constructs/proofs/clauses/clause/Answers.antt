@@ -1,6 +1,6 @@
 use Rattle.std.proofs.Common.{arith, refl}
 use Rattle.c_expressions.specs.Scopes.{names_of}
-use Rattle.c_constructs.proofs.Reading.{reads_maps, reads_depends, reads_updates, reads_nowait, reads_device}
+use Rattle.c_constructs.proofs.Reading.{reads_maps, reads_depends, reads_updates, reads_nowait, reads_device, reads_amount, reads_schedule}
 use Rattle.std.proofs.lemmas.Grind.{common_steps}
 use Rattle.c_constructs.proofs.clauses.clause.Goals as goal
 
@@ -26,6 +26,14 @@ returns-in-NoWait-clause-means g c = rw c.in-NoWait.is (reads_nowait g.K.MapKind
 pub returns-in-Device-clause-means : goal.returns-in-Device-clause-means
 returns-in-Device-clause-means g c = rw c.in-Device.is (reads_device g.K.MapKind.seen (names_of c.args.scope.now)
     c.args.line c.in-Device.device c.args.read.now _ refl refl refl refl refl)
+
+pub returns-in-Amount-clause-means : goal.returns-in-Amount-clause-means
+returns-in-Amount-clause-means g c = rw c.in-Amount.is (reads_amount g.K.MapKind.seen (names_of c.args.scope.now)
+    c.args.line _ _ c.args.read.now)
+
+pub returns-in-Schedule-clause-means : goal.returns-in-Schedule-clause-means
+returns-in-Schedule-clause-means g c = rw c.in-Schedule.is (reads_schedule g.K.MapKind.seen
+    (names_of c.args.scope.now) c.args.line _ _ c.args.read.now)
 
 pub returns-in_err-map_clause-in-Map-clause-told : goal.returns-in_err-map_clause-in-Map-clause-told
 returns-in_err-map_clause-in-Map-clause-told g c = grind (arith, common_steps)

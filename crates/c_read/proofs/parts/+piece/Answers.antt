@@ -2,7 +2,7 @@ use Rattle.std.proofs.Common.{◌∙◌, List, ◌∷◌, None, Some, refl, sym,
 use Rattle.std.proofs.lemmas.Result.{err_from_is_err_and}
 use Rattle.c_tokens.specs.declared.kind.Sign.TheVariants as sign
 use Rattle.base.specs.declared.tree.Place.{Place}
-use Rattle.c_grammar.specs.Program.{Body}
+use Rattle.c_grammar.specs.Program.{Body, body}
 use Rattle.c_grammar.specs.Terminal.{Terminal}
 use Rattle.c_expressions.specs.Means.{Items}
 use Rattle.c_expressions.specs.Reading.{terminals}
@@ -69,8 +69,13 @@ directed-returns-in_ok-part-in-Over-clause-tree t c =
 pub over-returns-in_ok-region-in-Target-clause-tree : goal.over-returns-in_ok-region-in-Target-clause-tree
 over-returns-in_ok-region-in-Target-clause-tree t c =
     subst (λ (k : Construct). IsOverRead (env_of c.args.scope.now) (env_of c.region.new.scope) k (items c.args.tokens.now)
-    (items c.region.new.tokens) (part.Target c.in-Target.target c.in_ok-region-in-Target.region)) (sym c.in-Target.is)
-    (c.in_ok-region-in-Target.region, refl, c.in_ok-region-in-Target.ensures.place, c.in_ok-region-in-Target.ensures.tree)
+    (items c.region.new.tokens) (part.Target c.in-Target.target c.in_ok-region-in-Target.region)) (sym c.in-Target.is) (
+      c.in_ok-region-in-Target.region,
+      refl,
+      c.in_ok-region-in-Target.ensures.place,
+      c.in_ok-region-in-Target.ensures.tree,
+      c.in_ok-region-in-Target.ensures.depth,
+    )
 
 pub over-returns-in_ok-parts-in-Data-clause-tree : goal.over-returns-in_ok-parts-in-Data-clause-tree
 over-returns-in_ok-parts-in-Data-clause-tree t c =
@@ -143,23 +148,23 @@ data_parts-returns-then-at_word-clause-tree t c =
 pub turns-returns-in_err-bounds-clause-read : goal.turns-returns-in_err-bounds-clause-read
 turns-returns-in_err-bounds-clause-read t c = λ s.
     let p = err_from_is_err_and c.from_residual-in_err-bounds.result c.from_residual-in_err-bounds.ensures.1 in
-    rw (p.1, p.2) (failed_from _ _ _ (c.in_ok-name.ensures.read s) (c.in_err-bounds.ensures.read s))
+    rw (p.1, p.2) (failed_from _ _ _ (c.in_ok-name.ensures.read 0 s) (c.in_err-bounds.ensures.read (body s)))
 
 pub turns-returns-in_err-open_body-clause-read : goal.turns-returns-in_err-open_body-clause-read
 turns-returns-in_err-open_body-clause-read t c = λ s.
     let p = err_from_is_err_and c.from_residual-in_err-open_body.result c.from_residual-in_err-open_body.ensures.1 in
-    rw (p.1, p.2) (failed_from _ _ _ (c.in_ok-name.ensures.read s ∙ c.in_ok-bounds.ensures.read s)
+    rw (p.1, p.2) (failed_from _ _ _ (c.in_ok-name.ensures.read 0 s ∙ c.in_ok-bounds.ensures.read (body s))
     (c.in_err-open_body.ensures.read (Body ∷ s)))
 
 pub turns-returns-in_err-gathered-clause-read : goal.turns-returns-in_err-gathered-clause-read
 turns-returns-in_err-gathered-clause-read t c = λ s.
     let p = err_from_is_err_and c.from_residual-in_err-gathered.result c.from_residual-in_err-gathered.ensures.1 in
-    rw (p.1, p.2) (failed_from _ _ _ (c.in_ok-name.ensures.read s ∙ c.in_ok-bounds.ensures.read s
+    rw (p.1, p.2) (failed_from _ _ _ (c.in_ok-name.ensures.read 0 s ∙ c.in_ok-bounds.ensures.read (body s)
     ∙ c.in_ok-open_body.ensures.read (Body ∷ s)) (c.in_err-gathered.ensures.read s))
 
 pub turns-returns-clause-read : goal.turns-returns-clause-read
 turns-returns-clause-read t c = λ s.
-    c.in_ok-name.ensures.read s ∙ c.in_ok-bounds.ensures.read s ∙ c.in_ok-open_body.ensures.read (Body ∷ s)
+    c.in_ok-name.ensures.read 0 s ∙ c.in_ok-bounds.ensures.read (body s) ∙ c.in_ok-open_body.ensures.read (Body ∷ s)
     ∙ c.in_ok-gathered.ensures.read s
 
 pub turns-returns-clause-scope : goal.turns-returns-clause-scope

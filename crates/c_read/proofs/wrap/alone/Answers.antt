@@ -12,4 +12,4 @@ returns-in_ok-push-in-Statement-2-clause-parts c =
     subst (λ (q : Piece). AreAlone c.args.place q c.push-in-Statement.new.self.items) (sym c.in-Statement.is)
     (alone_host c.args.place c.in-Statement.stmt c.push.new.self c.push-in-Statement.new.self.items
     (c.in_ok-push-in-Statement.ensures.items ∙ ap (λ (xs : List Statement). xs ++ c.in-Statement.stmt ∷ []) c.new-body.ensures.items)
-    (c.in_ok-push-in-Statement-2.ensures.items ∙ ap (λ (ps : List Part). ps ++ part.Host (record { place = c.args.place; body = c.push.new.self }) ∷ []) c.new-parts.ensures.items))
+    (c.in_ok-push-in-Statement-2.ensures.items ∙ ap (λ (ps : List Part). ps ++ part.Host (record { place = c.args.place; body = c.push.new.self; depth = 0 }) ∷ []) c.new-parts.ensures.items))

@@ -1,7 +1,7 @@
 use Rattle.std.proofs.Common.{◌∙◌, ◌∷◌, refl, sym, arith}
 use Rattle.std.proofs.lemmas.Result.{err_from_is_err_and}
 use Rattle.c_tokens.specs.declared.kind.Sign.TheVariants as sign
-use Rattle.c_grammar.specs.Program.{Body, OrElse}
+use Rattle.c_grammar.specs.Program.{Body, OrElse, body}
 use Rattle.c_expressions.specs.Cursor.{items}
 use Rattle.c_expressions.specs.Scopes.{context_of}
 use Rattle.c_expressions.proofs.Going.{was_mark, went}
@@ -61,8 +61,13 @@ choice-returns-clause-tree t c = if_else_tree c.args.scope.now c.begin_choice.ne
 pub looped-returns-in_err-bounds-clause-read : goal.looped-returns-in_err-bounds-clause-read
 looped-returns-in_err-bounds-clause-read t c = λ s.
     let p = err_from_is_err_and c.from_residual-in_err-bounds.result c.from_residual-in_err-bounds.ensures.1 in
-    rw (p.1, p.2) (failed_from _ _ _ (c.in_ok-begin_loop.ensures.read _ ∙ c.in_ok-name.ensures.read s)
-    (c.in_err-bounds.ensures.read s))
+    rw (p.1, p.2) (failed_from _ _ _ (c.in_ok-begin_loop.ensures.read _ ∙ c.in_ok-name.ensures.read 0 s)
+    (c.in_err-bounds.ensures.read (body s)))
+
+pub looped-returns-clause-read : goal.looped-returns-clause-read
+looped-returns-clause-read t c = λ s.
+    c.in_ok-begin_loop.ensures.read _ ∙ c.in_ok-name.ensures.read 0 s ∙ c.in_ok-bounds.ensures.read (body s)
+    ∙ c.in_ok-body.ensures.read s
 
 pub looped-returns-clause-tree : goal.looped-returns-clause-tree
 looped-returns-clause-tree t c = loop_tree c.args.scope.now c.begin_loop.new.scope c.head_name.new.scope
@@ -126,9 +131,6 @@ looped-body-requires t c = grind (arith, common_steps)
 
 pub looped-returns-in_err-body-clause-read : goal.looped-returns-in_err-body-clause-read
 looped-returns-in_err-body-clause-read t c = grind (arith, on_from)
-
-pub looped-returns-clause-read : goal.looped-returns-clause-read
-looped-returns-clause-read t c = grind (arith, common_steps)
 
 pub statement-returns-in-Word-For-clause-read : goal.statement-returns-in-Word-For-clause-read
 statement-returns-in-Word-For-clause-read t c = grind (arith, at_loop)

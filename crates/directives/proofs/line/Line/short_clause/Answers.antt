@@ -1,4 +1,4 @@
-use Rattle.directives.proofs.Clausing.{stop_clause, at_nowait, nowait_is}
+use Rattle.directives.proofs.Clausing.{at_nowait, nowait_is}
 use Rattle.directives.proofs.ClausesRead.{read_nowait}
 use Rattle.std.proofs.Common.{arith}
 use Rattle.directives.proofs.line.Line.short_clause.Goals as goal
@@ -11,6 +11,3 @@ returns-then-at_nowait-clause-read c = grind (arith, at_nowait)
 
 pub returns-then-at_nowait-clause-tree : goal.returns-then-at_nowait-clause-tree
 returns-then-at_nowait-clause-tree c = grind (arith, nowait_is, read_nowait)
-
-pub returns-clause-read : goal.returns-clause-read
-returns-clause-read c = grind (arith, stop_clause)

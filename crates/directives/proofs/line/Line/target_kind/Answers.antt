@@ -1,4 +1,4 @@
-use Rattle.directives.proofs.Heading.{no_more, at_update, at_exit, at_enter, at_data}
+use Rattle.directives.proofs.Heading.{at_update, at_exit, at_enter, at_data}
 use Rattle.std.proofs.Common.{arith}
 use Rattle.directives.proofs.line.Line.target_kind.Goals as goal
 
@@ -31,6 +31,3 @@ returns-in_err-expect_word-2-clause-read c = grind (arith, at_exit)
 
 pub returns-then-at_word-4-clause-read : goal.returns-then-at_word-4-clause-read
 returns-then-at_word-4-clause-read c = grind (arith, at_exit)
-
-pub returns-clause-read : goal.returns-clause-read
-returns-clause-read c = grind (arith, no_more)

@@ -1,0 +1,24 @@
+use Rattle.directives.proofs.Heading.{at_parallel_for, at_parallel_loop, stop_parallel}
+use Rattle.std.proofs.Common.{arith}
+use Rattle.directives.proofs.line.Line.parallel_kind.Goals as goal
+
+pub returns-in_err-enter-clause-read : goal.returns-in_err-enter-clause-read
+returns-in_err-enter-clause-read c = grind (arith, at_parallel_for)
+
+pub returns-in_err-simd-clause-read : goal.returns-in_err-simd-clause-read
+returns-in_err-simd-clause-read c = grind (arith, at_parallel_for)
+
+pub returns-then-simd-clause-read : goal.returns-then-simd-clause-read
+returns-then-simd-clause-read c = grind (arith, at_parallel_for)
+
+pub returns-else-simd-clause-read : goal.returns-else-simd-clause-read
+returns-else-simd-clause-read c = grind (arith, at_parallel_for)
+
+pub returns-in_err-enter-2-clause-read : goal.returns-in_err-enter-2-clause-read
+returns-in_err-enter-2-clause-read c = grind (arith, at_parallel_loop)
+
+pub returns-then-at_word-clause-read : goal.returns-then-at_word-clause-read
+returns-then-at_word-clause-read c = grind (arith, at_parallel_loop)
+
+pub returns-clause-read : goal.returns-clause-read
+returns-clause-read c = grind (arith, stop_parallel)
