@@ -20,7 +20,11 @@ const MOST_TURNS: u64 = 4_194_304;
 #[cycle(statements)]
 fn in_stmt(s: &Stmt) -> u64 {
     match s {
-        Stmt::Declare(_, _) | Stmt::Assign(_, _) | Stmt::Store(_, _, _, _) | Stmt::Print(_) => 1,
+        Stmt::Declare(_, _)
+        | Stmt::Assign(_, _)
+        | Stmt::Store(_, _, _, _)
+        | Stmt::Combine(_, _, _, _, _)
+        | Stmt::Print(_) => 1,
         Stmt::Block(all) | Stmt::Loop(_, all) => in_all(all).saturating_add(1),
         Stmt::If(_, first, second) => in_all(first)
             .saturating_add(in_all(second))

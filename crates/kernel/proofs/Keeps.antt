@@ -7,7 +7,7 @@ use Rattle.base.specs.declared.tree.ScalarId.{ScalarId}
 use Rattle.base.specs.declared.tree.Expr.{Expr}
 use Rattle.base.specs.declared.tree.Source.TheVariants.{Value, Read}
 use Rattle.base.specs.declared.tree.Stmt.{Stmt, Row_of-Stmt, end_of-Stmt, more_of-Stmt}
-use Rattle.base.specs.declared.tree.Stmt.TheVariants.{Declare, Assign, Store, Print, Block', Loop', If'}
+use Rattle.base.specs.declared.tree.Stmt.TheVariants.{Declare, Assign, Store, Combine, Print, Block', Loop', If'}
 use Rattle.base.specs.Memory.{View, Scalars}
 use Rattle.base.specs.Meaning.{Run, turn}
 use Rattle.lanes.specs.Apart.{Set, Kept, Places, NamesPlaces, assigned_in, body_apart, is_apart, loose_after, row_apart, stmt_apart}
@@ -32,6 +32,7 @@ mutual
   stmt_assigns (Store a place e (Value f)) taken own loose here h = refl
   stmt_assigns (Store a place e Read) taken own loose here h =
       let p = and_parts (taken a.0) (here e && false) h in absurd (false≢true (sym (never (here e)) ∙ p.1))
+  stmt_assigns (Combine op a place e v) taken own loose here h = absurd (false≢true h)
   stmt_assigns (Print e) taken own loose here h = absurd (false≢true h)
   stmt_assigns (Block' shape all) taken own loose here h = absurd (false≢true h)
   stmt_assigns (Loop' b shape all) taken own loose here h = absurd (false≢true h)

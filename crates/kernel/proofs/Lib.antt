@@ -17,6 +17,7 @@ pub mod Stepping
 pub mod SeenStores
 pub mod SourceRuns
 pub mod EffectRuns
+pub mod UpdateRuns
 pub mod ChoiceRuns
 pub mod LoopRuns
 pub mod StmtRuns

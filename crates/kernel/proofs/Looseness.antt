@@ -6,7 +6,7 @@ use Rattle.std.proofs.lemmas.List.{take_more, drop_more, drop_all}
 use mathlib.Core.Path.{fun_ext}
 use Rattle.base.specs.declared.tree.Expr.{Expr}
 use Rattle.base.specs.declared.tree.Stmt.{Stmt}
-use Rattle.base.specs.declared.tree.Stmt.TheVariants.{Declare, Assign, Store, Print, Block', Loop', If'}
+use Rattle.base.specs.declared.tree.Stmt.TheVariants.{Declare, Assign, Store, Combine, Print, Block', Loop', If'}
 use Rattle.lanes.specs.Apart.{Set, assigned_by, assigned_in, loose_after, loose_body, body_apart, stmt_apart}
 use Rattle.kernel.specs.Loops.{AreApart, AreApartFor, AreSettled, IsApartFor, certain_by, certain_in, stored_in, loose_in}
 
@@ -15,6 +15,7 @@ after_is : (loose : Set) (s : Stmt) (x : ℕ) → loose_after loose s x ≡ (not
 after_is loose (Declare y v) x = refl
 after_is loose (Assign y v) x = refl
 after_is loose (Store a place e v) x = refl
+after_is loose (Combine op a place e v) x = refl
 after_is loose (Print e) x = refl
 after_is loose (Block' shape all) x = refl
 after_is loose (Loop' b shape all) x = refl

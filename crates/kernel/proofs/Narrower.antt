@@ -8,7 +8,7 @@ use Rattle.base.specs.declared.tree.Expr.TheVariants.{Number, Scalar, LoopName, 
 use Rattle.base.specs.declared.tree.Source.{Source}
 use Rattle.base.specs.declared.tree.Source.TheVariants.{Value, Read}
 use Rattle.base.specs.declared.tree.Stmt.{Stmt, Row_of-Stmt, end_of-Stmt, more_of-Stmt}
-use Rattle.base.specs.declared.tree.Stmt.TheVariants.{Declare, Assign, Store, Print, Block', Loop', If'}
+use Rattle.base.specs.declared.tree.Stmt.TheVariants.{Declare, Assign, Store, Combine, Print, Block', Loop', If'}
 use Rattle.lanes.specs.Apart.{Set, is_apart, source_apart, stmt_apart, row_apart, body_apart, loose_after}
 
 -- of these scalars the others are no more
@@ -27,6 +27,7 @@ after_less : (loose : Set) (s : Stmt) → Within (loose_after loose s) loose
 after_less loose (Declare x v) y h = (and_parts (not (x.0 == y)) (loose y) h).1
 after_less loose (Assign x v) y h = (and_parts (not (x.0 == y)) (loose y) h).1
 after_less loose (Store a place e v) y h = h
+after_less loose (Combine op a place e v) y h = h
 after_less loose (Print e) y h = h
 after_less loose (Block' shape all) y h = h
 after_less loose (Loop' b shape all) y h = h
@@ -38,6 +39,7 @@ after_within fewer loose (Declare x v) w y h =
 after_within fewer loose (Assign x v) w y h =
     let l = and_parts (not (x.0 == y)) (fewer y) h in ap₂ (λ a b. a && b) l.0 (w y l.1)
 after_within fewer loose (Store a place e v) w y h = w y h
+after_within fewer loose (Combine op a place e v) w y h = w y h
 after_within fewer loose (Print e) w y h = w y h
 after_within fewer loose (Block' shape all) w y h = w y h
 after_within fewer loose (Loop' b shape all) w y h = w y h
@@ -69,6 +71,7 @@ module _ (stored own : Set) (here : Expr → Bool) where
     stmt_less (Assign x v) fewer loose w h = both _ _ _ _ (λ k. k) (source_less fewer loose v w) h
     stmt_less (Store a place e v) fewer loose w h =
         both _ _ _ _ (λ k. k) (both _ _ _ _ (λ k. k) (source_less fewer loose v w)) h
+    stmt_less (Combine op a place e v) fewer loose w h = h
     stmt_less (Print e) fewer loose w h = h
     stmt_less (Block' shape all) fewer loose w h = h
     stmt_less (Loop' b shape all) fewer loose w h = h

@@ -7,7 +7,7 @@ use Rattle.base.specs.declared.item.Cell.{Cell}
 use Rattle.base.specs.declared.tree.Expr.{Expr}
 use Rattle.base.specs.declared.tree.Source.TheVariants.{Value, Read}
 use Rattle.base.specs.declared.tree.Stmt.{Stmt, Row_of-Stmt, end_of-Stmt, more_of-Stmt}
-use Rattle.base.specs.declared.tree.Stmt.TheVariants.{Declare, Assign, Store, Print, Block', Loop', If'}
+use Rattle.base.specs.declared.tree.Stmt.TheVariants.{Declare, Assign, Store, Combine, Print, Block', Loop', If'}
 use Rattle.base.specs.Memory.{View, Scalars}
 use Rattle.base.specs.Value.{is_zero}
 use Rattle.base.specs.Meaning.{set_scalar}
@@ -50,6 +50,7 @@ module _ (at : Places) (loops : List ℕ) where
     none_stmt (Assign x Read) inside b none = refl
     none_stmt (Store a place e (Value f)) inside b none = none_store at inside a.0 (numbers f b loops) b none
     none_stmt (Store a place e Read) inside b none = refl
+    none_stmt (Combine op a place e v) inside b none = refl
     none_stmt (Print e) inside b none = refl
     none_stmt (Block' shape all) inside b none = refl
     none_stmt (Loop' c shape all) inside b none = refl

@@ -7,7 +7,7 @@ use Rattle.base.specs.declared.tree.ScalarId.{ScalarId}
 use Rattle.base.specs.declared.tree.Expr.{Expr}
 use Rattle.base.specs.declared.tree.Source.TheVariants.{Value}
 use Rattle.base.specs.declared.tree.Stmt.{Stmt}
-use Rattle.base.specs.declared.tree.Stmt.TheVariants.{Declare, Assign, Store, Print, Block', Loop', If'}
+use Rattle.base.specs.declared.tree.Stmt.TheVariants.{Declare, Assign, Store, Combine, Print, Block', Loop', If'}
 use Rattle.lanes.specs.Apart.{Set, assigned_by, assigned_in, is_apart, loose_after, loose_body, body_apart, stmt_apart}
 use Rattle.lanes.specs.Sums.{ended}
 use Rattle.kernel.specs.Forms.{HasSum, IsCarriedBy, IsSum}
@@ -84,6 +84,7 @@ not_certain (s ∷ rest) x h =
     one (Declare y v) h = h
     one (Assign y v) h = h
     one (Store a place e v) h = refl
+    one (Combine op a place e v) h = refl
     one (Print e) h = refl
     one (Block' shape all) h = refl
     one (Loop' b shape all) h = refl

@@ -1,7 +1,7 @@
 -- A loop whose turns are done in blocks.
 use Rattle.std.specs.Prelude.{ℕ, ◌≡◌, ◌-◌, ◌==◌, Bool, true, false, not, ◌&&◌, ◌||◌, List, [], ◌∷◌, ◌++◌, Option, Some, IsSome, slice_index}
 use Rattle.base.specs.declared.tree.Stmt.{Stmt, Row_of-Stmt, end_of-Stmt, more_of-Stmt}
-use Rattle.base.specs.declared.tree.Stmt.TheVariants.{Declare, Assign, Store, Print, Block', Loop', If'}
+use Rattle.base.specs.declared.tree.Stmt.TheVariants.{Declare, Assign, Store, Combine, Print, Block', Loop', If'}
 use Rattle.base.specs.Memory.{View, last_stored}
 use Rattle.base.specs.Meaning.{Run, seen, turn, run_list}
 use Rattle.base.specs.declared.tree.Expr.{Expr}
@@ -15,6 +15,7 @@ abbrev mutual
   stored_by (Declare y v) a = false
   stored_by (Assign y v) a = false
   stored_by (Store b place e v) a = b.0 == a
+  stored_by (Combine op b place e v) a = b.0 == a
   stored_by (Print e) a = false
   stored_by (Block' shape all) a = false
   stored_by (Loop' b shape all) a = false
@@ -33,6 +34,7 @@ abbrev pub certain_by : Stmt → Set
 certain_by (Declare y v) x = y.0 == x
 certain_by (Assign y v) x = y.0 == x
 certain_by (Store a place e v) x = false
+certain_by (Combine op a place e v) x = false
 certain_by (Print e) x = false
 certain_by (Block' shape all) x = false
 certain_by (Loop' b shape all) x = false

@@ -5,7 +5,7 @@ use Rattle.base.specs.declared.tree.Expr.TheVariants.{Number, Scalar, LoopName, 
 use Rattle.base.specs.declared.tree.Source.{Source}
 use Rattle.base.specs.declared.tree.Source.TheVariants.{Value, Read}
 use Rattle.base.specs.declared.tree.Stmt.{Stmt, Row_of-Stmt, end_of-Stmt, more_of-Stmt}
-use Rattle.base.specs.declared.tree.Stmt.TheVariants.{Declare, Assign, Store, Print, Block', Loop', If'}
+use Rattle.base.specs.declared.tree.Stmt.TheVariants.{Declare, Assign, Store, Combine, Print, Block', Loop', If'}
 
 -- of an expression
 abbrev pub IsNamed : Expr → Type 0
@@ -30,6 +30,7 @@ abbrev mutual
   IsStmtNamed (Declare x v) = (x.0 < 256) × IsSourceNamed v
   IsStmtNamed (Assign x v) = (x.0 < 256) × IsSourceNamed v
   IsStmtNamed (Store a place e v) = IsNamed e × IsSourceNamed v
+  IsStmtNamed (Combine op a place e v) = IsNamed e × IsNamed v
   IsStmtNamed (Print e) = IsNamed e
   IsStmtNamed (Block' shape all) = IsRowNamed all
   IsStmtNamed (Loop' b shape all) = IsRowNamed all

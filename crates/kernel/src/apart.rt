@@ -142,7 +142,7 @@ fn is_stored_by(s: &Stmt, array: ArrayId) -> bool
     ensures { result ≡ stored_by s.now array.0 }
 {
     match s {
-        Stmt::Store(other, _, _, _) => other.0 == array.0,
+        Stmt::Store(other, _, _, _) | Stmt::Combine(_, other, _, _, _) => other.0 == array.0,
         Stmt::If(_, first, second) => is_stored(first, array) | is_stored(second, array),
         _ => false,
     }

@@ -5,9 +5,10 @@ ghost use Rattle.base.specs.Value.{value};
 ghost use Rattle.kernel.specs.Machine.{names_of};
 ghost use Rattle.kernel.specs.States.{at_rest};
 
-use crate::state::{Machine, flag, load, loop_value, of_both, of_division, of_one, of_shift};
+use crate::state::{Machine, load, loop_value};
 use base::item::Cell;
 use base::tree::Expr;
+use operators::{flag, of_both, of_division, of_one, of_shift};
 
 /// The value of an expression. The right side of `&&` and `||` may have none where the left one decides.
 #[inline(never)]

@@ -6,7 +6,6 @@ pub use crate::execute::{Done, run};
 pub use crate::frames::{Frame, KeptRow, Row};
 pub use crate::runnable::frame_runs;
 pub use crate::scalars::Scalars;
-pub use crate::state::{flag, loop_value, of_both, of_division, of_one, of_shift};
 
 mod apart;
 mod block;

@@ -6,9 +6,9 @@ ghost use Rattle.lanes.specs.Apart.{assigned_in};
 ghost use Rattle.lanes.specs.Moved as moved;
 
 use crate::apart::{is_assigned, is_turn};
-use crate::state::{of_both, of_division, of_one, of_shift};
 use crate::turns::Around;
 use base::tree::{BinaryOp, Expr, Stmt};
+use operators::{of_both, of_division, of_one, of_shift};
 
 // The value of an expression that no turn of a loop with this body changes, if it is one: it names no cell, no scalar
 // that the body assigns, and of the loops only those around.

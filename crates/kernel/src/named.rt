@@ -58,6 +58,10 @@ fn stmt_named(s: &Stmt)
             expr_named(e);
             source_named(v);
         }
+        Stmt::Combine(_, _, _, e, v) => {
+            expr_named(e);
+            expr_named(v);
+        }
         Stmt::Print(e) => expr_named(e),
         Stmt::Block(all) => named(all),
         Stmt::Loop(_, body) => named(body),

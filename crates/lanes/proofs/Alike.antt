@@ -9,7 +9,7 @@ use Rattle.base.specs.declared.tree.Expr.TheVariants.{Number, Scalar, LoopName, 
 use Rattle.base.specs.declared.tree.Source.{Source}
 use Rattle.base.specs.declared.tree.Source.TheVariants.{Value, Read}
 use Rattle.base.specs.declared.tree.Stmt.{Stmt, Row_of-Stmt}
-use Rattle.base.specs.declared.tree.Stmt.TheVariants.{Declare, Assign, Store, Print, Block', Loop', If'}
+use Rattle.base.specs.declared.tree.Stmt.TheVariants.{Declare, Assign, Store, Combine, Print, Block', Loop', If'}
 use Rattle.base.specs.Memory.{View, Scalars, Stores, same_cell, last_stored}
 use Rattle.base.specs.Value.{Names, value, on_one, on_both, and_of, or_of, unary, binary, shifted, divided}
 use Rattle.base.specs.Meaning.{Run, names_in, seen}
@@ -193,6 +193,7 @@ module _ (taken : Set) (view : View) where
         (named v e (names_in view (loops ++ v ∷ []) s) refl ks q.0
         ∙ sym (named v e (names_in view (loops ++ v ∷ []) t) refl kt q.0))
         (source_same loose s t h kt w q.1)
+    one_same (Combine op c place e v) each loose s t h ks kt k = refl
     one_same (Print e) each loose s t h ks kt k = refl
     one_same (Block' shape all) each loose s t h ks kt k = refl
     one_same (Loop' b shape all) each loose s t h ks kt k = refl

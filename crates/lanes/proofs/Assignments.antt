@@ -11,7 +11,7 @@ use Rattle.base.specs.declared.tree.ArrayId.{ArrayId}
 use Rattle.base.specs.declared.tree.Expr.{Expr}
 use Rattle.base.specs.declared.tree.Source.TheVariants.{Value, Read}
 use Rattle.base.specs.declared.tree.Stmt.{Stmt, Row_of-Stmt}
-use Rattle.base.specs.declared.tree.Stmt.TheVariants.{Declare, Assign, Store, Print, Block', Loop', If'}
+use Rattle.base.specs.declared.tree.Stmt.TheVariants.{Declare, Assign, Store, Combine, Print, Block', Loop', If'}
 use Rattle.base.specs.Memory.{View, same_cell, last_stored}
 use Rattle.base.specs.Value.{value, is_zero}
 use Rattle.base.specs.Meaning.{Run, names_in, seen, set_scalar, assigned, stored, choose, run_stmt, run_row, run_list}
@@ -378,6 +378,7 @@ module _ (taken own : Set) (view : View) (here : Expr → Bool) (pl : Places) (l
       (named v e (names_in view (loops ++ v ∷ []) (lane v)) refl (h.kept v) q.0)) ∙ alone.there v i))
   one_stands (Store a place e Read) each inside places loose b lane next h ok alone =
       absurd (false≢true (and_parts (here e) false (and_parts (taken a.0) (here e && false) ok).1).1)
+  one_stands (Combine op c place e v) each inside places loose b lane next h ok alone = absurd (false≢true ok)
   one_stands (Print e) each inside places loose b lane next h ok alone = absurd (false≢true ok)
   one_stands (Block' shape all) each inside places loose b lane next h ok alone = absurd (false≢true ok)
   one_stands (Loop' c shape all) each inside places loose b lane next h ok alone = absurd (false≢true ok)

@@ -5,7 +5,7 @@ use Rattle.std.specs.Prelude.{◌&&◌, ◌||◌, option_and_then, option_map}
 use mathlib.Core.Former.{Count}
 use Rattle.base.specs.declared.tree.Expr.{Expr}
 use Rattle.base.specs.declared.tree.Stmt.{Stmt, Row_of-Stmt, end_of-Stmt, more_of-Stmt, items-the_row-Stmt}
-use Rattle.base.specs.declared.tree.Stmt.TheVariants.{Declare, Assign, Store, Print, Block', Loop', If'}
+use Rattle.base.specs.declared.tree.Stmt.TheVariants.{Declare, Assign, Store, Combine, Print, Block', Loop', If'}
 use Rattle.base.specs.Memory.{View}
 use Rattle.base.specs.Meaning.{Run, run_stmt, run_row, run_list}
 use Rattle.lanes.specs.Apart.{Set, Places, stmt_apart, row_apart, body_apart, loose_after, assigned_by, row_assigned, assigned_in, Delta, apply, join, join_all, stmt_delta, row_delta, body_delta, Block, block_stmt, block_row, block_body}
@@ -77,6 +77,7 @@ module _ (P : Stmt → Type 0) where
   OfBranches (Declare x v) = Unit {0}
   OfBranches (Assign x v) = Unit {0}
   OfBranches (Store a place e v) = Unit {0}
+  OfBranches (Combine op c place e v) = Unit {0}
   OfBranches (Print e) = Unit {0}
   OfBranches (Block' shape all) = Unit {0}
   OfBranches (Loop' b shape all) = Unit {0}
@@ -88,6 +89,7 @@ module _ (P : Stmt → Type 0) where
       of_stmt (Declare x v) = step (Declare x v) tt
       of_stmt (Assign x v) = step (Assign x v) tt
       of_stmt (Store a place e v) = step (Store a place e v) tt
+      of_stmt (Combine op c place e v) = step (Combine op c place e v) tt
       of_stmt (Print e) = step (Print e) tt
       of_stmt (Block' shape all) = step (Block' shape all) tt
       of_stmt (Loop' b shape all) = step (Loop' b shape all) tt

@@ -10,7 +10,7 @@ use Rattle.base.specs.declared.tree.ScalarId.{ScalarId}
 use Rattle.base.specs.declared.tree.Expr.{Expr}
 use Rattle.base.specs.declared.tree.Source.TheVariants.{Value, Read}
 use Rattle.base.specs.declared.tree.Stmt.{Stmt, Row_of-Stmt}
-use Rattle.base.specs.declared.tree.Stmt.TheVariants.{Declare, Assign, Store, Print, Block', Loop', If'}
+use Rattle.base.specs.declared.tree.Stmt.TheVariants.{Declare, Assign, Store, Combine, Print, Block', Loop', If'}
 use Rattle.base.specs.Memory.{View, Scalars}
 use Rattle.base.specs.Value.{on_both, value}
 use Rattle.base.specs.Meaning.{Run, names_in, set_scalar, assigned, stored, choose, run_stmt, run_row, run_list}
@@ -67,6 +67,7 @@ stays_loose : (loose : Set) (s : Stmt) (x : ℕ) → assigned_by s x ≡ false �
 stays_loose loose (Declare y v) x h l = ap₂ (λ p q. not p && q) h l
 stays_loose loose (Assign y v) x h l = ap₂ (λ p q. not p && q) h l
 stays_loose loose (Store a place e v) x h l = l
+stays_loose loose (Combine op c place e v) x h l = l
 stays_loose loose (Print e) x h l = l
 stays_loose loose (Block' shape all) x h l = l
 stays_loose loose (Loop' b shape all) x h l = l
@@ -178,6 +179,7 @@ module _ (taken own : Set) (view : View) (here : Expr → Bool) (pl : Places) (l
       ∙ store_over a t r (value e (names_in view (loops ++ v ∷ []) t)) (value g (names_in view (loops ++ v ∷ []) t))
   one_over (Store r place e Read) each loose a t kept ok m l =
       absurd (false≢true (and_parts (here e) false (and_parts (taken r.0) (here e && false) ok).1).1)
+  one_over (Combine op c place e v) each loose a t kept ok m l = absurd (false≢true ok)
   one_over (Print e) each loose a t kept ok m l = absurd (false≢true ok)
   one_over (Block' shape all) each loose a t kept ok m l = absurd (false≢true ok)
   one_over (Loop' b shape all) each loose a t kept ok m l = absurd (false≢true ok)

@@ -11,7 +11,7 @@ use Rattle.base.specs.declared.tree.Expr.TheVariants.{Number, Scalar, LoopName, 
 use Rattle.base.specs.declared.tree.ArrayId.{ArrayId}
 use Rattle.base.specs.declared.tree.Source.TheVariants.{Value, Read}
 use Rattle.base.specs.declared.tree.Stmt.{Stmt, Row_of-Stmt}
-use Rattle.base.specs.declared.tree.Stmt.TheVariants.{Declare, Assign, Store, Print, Block', Loop', If'}
+use Rattle.base.specs.declared.tree.Stmt.TheVariants.{Declare, Assign, Store, Combine, Print, Block', Loop', If'}
 use Rattle.base.specs.Memory.{View, Scalars, Stores, same_cell, last_stored}
 use Rattle.base.specs.Value.{Names, value}
 use Rattle.base.specs.Meaning.{Run, names_in, set_scalar, assigned, stored, choose, run_stmt, run_row, run_list}
@@ -99,6 +99,7 @@ module _ (taken own : Set) (view : View) where
         store_is view s a (value e (names_in view loops s)) (value f (names_in view loops s))
     one_is (Store a place e Read) each loose s h =
         absurd (false≢true (and_parts (here e) false (and_parts (taken a.0) (here e && false) h).1).1)
+    one_is (Combine op c place e v) each loose s h = absurd (false≢true h)
     one_is (Print e) each loose s h = absurd (false≢true h)
     one_is (Block' shape all) each loose s h = absurd (false≢true h)
     one_is (Loop' b shape all) each loose s h = absurd (false≢true h)
@@ -275,6 +276,7 @@ module _ (taken own : Set) (view : View) where
         let l = and_parts (here e) (source_apart taken loose here w) k.1 in
         store_within (pl.place v) a (value e (names_in view (loops ++ v ∷ []) s)) (own_value w view (loops ++ v ∷ []) s) k.0
         (named v e (names_in view (loops ++ v ∷ []) s) refl kept l.0)
+    one_of (Combine op c place e v) each loose s kept h = tt
     one_of (Print e) each loose s kept h = tt
     one_of (Block' shape all) each loose s kept h = tt
     one_of (Loop' b shape all) each loose s kept h = tt

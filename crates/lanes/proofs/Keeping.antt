@@ -8,7 +8,7 @@ use Rattle.base.specs.declared.item.Cell.{Cell}
 use Rattle.base.specs.declared.tree.ArrayId.{ArrayId}
 use Rattle.base.specs.declared.tree.Source.TheVariants.{Value, Read}
 use Rattle.base.specs.declared.tree.Stmt.{Stmt, Row_of-Stmt, end_of-Stmt, more_of-Stmt}
-use Rattle.base.specs.declared.tree.Stmt.TheVariants.{Declare, Assign, Store, Print, Block', Loop', If'}
+use Rattle.base.specs.declared.tree.Stmt.TheVariants.{Declare, Assign, Store, Combine, Print, Block', Loop', If'}
 use Rattle.base.specs.Memory.{View}
 use Rattle.base.specs.Value.{value}
 use Rattle.base.specs.Meaning.{Run, names_in, set_scalar, assigned, stored, choose, turn, run_stmt, run_row, run_list}
@@ -25,6 +25,7 @@ abbrev mutual
   assigns_only own (Assign x Read) = false
   assigns_only own (Store a place e (Value f)) = true
   assigns_only own (Store a place e Read) = false
+  assigns_only own (Combine op c place e v) = false
   assigns_only own (Print e) = false
   assigns_only own (Block' shape all) = false
   assigns_only own (Loop' b shape all) = false
@@ -103,6 +104,7 @@ module _ (own : Set) where
     one_keeps (Store a place e (Value f)) each its s t h =
         stored_keeps view a (value e (names_in view loops s)) (value f (names_in view loops s)) s t h
     one_keeps (Store a place e Read) each its s t h = absurd (false≢true its)
+    one_keeps (Combine op c place e v) each its s t h = absurd (false≢true its)
     one_keeps (Print e) each its s t h = absurd (false≢true its)
     one_keeps (Block' shape all) each its s t h = absurd (false≢true its)
     one_keeps (Loop' b shape all) each its s t h = absurd (false≢true its)

@@ -5,7 +5,7 @@ use Rattle.std.proofs.lemmas.Bool.{and_parts, false≢true}
 use mathlib.Core.Former.{Count}
 use Rattle.base.specs.declared.tree.ArrayId.{ArrayId}
 use Rattle.base.specs.declared.tree.Stmt.{Stmt, Row_of-Stmt}
-use Rattle.base.specs.declared.tree.Stmt.TheVariants.{Declare, Assign, Store, Print, Block', Loop', If'}
+use Rattle.base.specs.declared.tree.Stmt.TheVariants.{Declare, Assign, Store, Combine, Print, Block', Loop', If'}
 use Rattle.base.specs.Memory.{View, Scalars}
 use Rattle.base.specs.Value.{value}
 use Rattle.base.specs.Meaning.{Run, names_in}
@@ -45,6 +45,7 @@ pub was_loose : (loose : Set) (s : Stmt) (x : ℕ) → loose_after loose s x ≡
 was_loose loose (Declare y v) x h = (and_parts (not (y.0 == x)) (loose x) h).1
 was_loose loose (Assign y v) x h = (and_parts (not (y.0 == x)) (loose x) h).1
 was_loose loose (Store a place e v) x h = h
+was_loose loose (Combine op c place e v) x h = h
 was_loose loose (Print e) x h = h
 was_loose loose (Block' shape all) x h = h
 was_loose loose (Loop' b shape all) x h = h
@@ -108,6 +109,7 @@ module _ (view : View) (loops : List ℕ) where
   one_settles (Assign x w) each loose s = set_settles loose x.0 (own_value w view loops s)
   one_settles (Store a place e w) each loose s =
       store_settles view loose a (value e (names_in view loops s)) (own_value w view loops s)
+  one_settles (Combine op c place e v) each loose s = tt
   one_settles (Print e) each loose s = tt
   one_settles (Block' shape all) each loose s = tt
   one_settles (Loop' b shape all) each loose s = tt

@@ -8,7 +8,7 @@ use Rattle.base.specs.declared.tree.ArrayId.{ArrayId}
 use Rattle.base.specs.declared.tree.Expr.{Expr}
 use Rattle.base.specs.declared.tree.Source.TheVariants.{Value, Read}
 use Rattle.base.specs.declared.tree.Stmt.{Stmt, Row_of-Stmt}
-use Rattle.base.specs.declared.tree.Stmt.TheVariants.{Declare, Assign, Store, Print, Block', Loop', If'}
+use Rattle.base.specs.declared.tree.Stmt.TheVariants.{Declare, Assign, Store, Combine, Print, Block', Loop', If'}
 use Rattle.base.specs.Memory.{View, last_stored}
 use Rattle.base.specs.Value.{value}
 use Rattle.base.specs.Meaning.{Run, names_in, seen, stored, choose, run_stmt, run_row, run_list}
@@ -157,6 +157,7 @@ module _ (taken own : Set) (view : View) (here : Expr → Bool) (pl : Places) (l
       (option_map (λ n. (n, lane v)) (value f (names_in view (loops ++ v ∷ []) (lane v))))))
       (named v e (names_in view (loops ++ v ∷ []) (lane v)) refl (h.kept v) q.0)) ∙ alone.there v i))
   one_there (Store a place e Read) each inside places loose b lane next h ok alone = tt
+  one_there (Combine op c place e v) each inside places loose b lane next h ok alone = tt
   one_there (Print e) each inside places loose b lane next h ok alone = tt
   one_there (Block' shape all) each inside places loose b lane next h ok alone = tt
   one_there (Loop' c shape all) each inside places loose b lane next h ok alone = tt

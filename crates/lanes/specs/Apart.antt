@@ -6,7 +6,7 @@ use Rattle.base.specs.declared.tree.Expr.TheVariants.{Number, Scalar, LoopName, 
 use Rattle.base.specs.declared.tree.Source.{Source}
 use Rattle.base.specs.declared.tree.Source.TheVariants.{Value, Read}
 use Rattle.base.specs.declared.tree.Stmt.{Stmt, Row_of-Stmt, end_of-Stmt, more_of-Stmt}
-use Rattle.base.specs.declared.tree.Stmt.TheVariants.{Declare, Assign, Store, Print, Block', Loop', If'}
+use Rattle.base.specs.declared.tree.Stmt.TheVariants.{Declare, Assign, Store, Combine, Print, Block', Loop', If'}
 use Rattle.base.specs.Memory.{View, Scalars, Stores, last_stored}
 use Rattle.base.specs.Value.{Names, value, is_zero}
 use Rattle.base.specs.Meaning.{Run, names_in, seen, set_scalar, turn, run_list}
@@ -80,6 +80,7 @@ abbrev pub loose_after : Set → Stmt → Set
 loose_after loose (Declare x v) y = not (x.0 == y) && loose y
 loose_after loose (Assign x v) y = not (x.0 == y) && loose y
 loose_after loose (Store a place e v) y = loose y
+loose_after loose (Combine op c place e v) y = loose y
 loose_after loose (Print e) y = loose y
 loose_after loose (Block' shape all) y = loose y
 loose_after loose (Loop' b shape all) y = loose y
@@ -93,6 +94,7 @@ abbrev mutual
   stmt_apart stored own loose here (Assign x v) = own x.0 && source_apart stored loose here v
   stmt_apart stored own loose here (Store a place e v) =
       stored a.0 && (here e && source_apart stored loose here v)
+  stmt_apart stored own loose here (Combine op c place e v) = false
   stmt_apart stored own loose here (Print e) = false
   stmt_apart stored own loose here (Block' shape all) = false
   stmt_apart stored own loose here (Loop' b shape all) = false
@@ -115,6 +117,7 @@ abbrev mutual
   assigned_by (Declare y v) x = y.0 == x
   assigned_by (Assign y v) x = y.0 == x
   assigned_by (Store a place e v) x = false
+  assigned_by (Combine op c place e v) x = false
   assigned_by (Print e) x = false
   assigned_by (Block' shape all) x = false
   assigned_by (Loop' b shape all) x = false
@@ -175,6 +178,7 @@ abbrev mutual
   stmt_delta (Store a place e v) view loops s =
       option_and_then (λ i. store_delta view (record { array = a; index = i }) (own_value v view loops s))
       (value e (names_in view loops s))
+  stmt_delta (Combine op c place e v) view loops s = None
   stmt_delta (Print e) view loops s = None
   stmt_delta (Block' shape all) view loops s = None
   stmt_delta (Loop' b shape all) view loops s = None
@@ -254,6 +258,7 @@ abbrev mutual
   block_stmt at inside loops (Assign x Read) b = b
   block_stmt at inside loops (Store a place e (Value f)) b = store_lanes at inside a.0 (numbers f b loops) b
   block_stmt at inside loops (Store a place e Read) b = b
+  block_stmt at inside loops (Combine op c place e v) b = b
   block_stmt at inside loops (Print e) b = b
   block_stmt at inside loops (Block' shape all) b = b
   block_stmt at inside loops (Loop' c shape all) b = b

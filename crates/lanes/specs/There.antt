@@ -3,7 +3,7 @@ use Rattle.std.specs.Prelude.{ℕ, ◌≡◌, Bool, true, List, [], ◌∷◌, I
 use Rattle.base.specs.declared.tree.Expr.{Expr}
 use Rattle.base.specs.declared.tree.Source.TheVariants.{Value, Read}
 use Rattle.base.specs.declared.tree.Stmt.{Stmt, Row_of-Stmt, end_of-Stmt, more_of-Stmt}
-use Rattle.base.specs.declared.tree.Stmt.TheVariants.{Declare, Assign, Store, Print, Block', Loop', If'}
+use Rattle.base.specs.declared.tree.Stmt.TheVariants.{Declare, Assign, Store, Combine, Print, Block', Loop', If'}
 use Rattle.base.specs.Value.{value}
 use Rattle.lanes.specs.Apart.{Places, Block, names_at, where_true, where_false, block_stmt, block_row}
 
@@ -22,6 +22,7 @@ abbrev mutual
       HasValues inside loops f b
       × ((v : ℕ) → inside v ≡ true → IsSome (b.cells (record { array = a; index = at.place v })))
   StmtThere at inside loops (Store a place e Read) b = Unit {0}
+  StmtThere at inside loops (Combine op c place e v) b = Unit {0}
   StmtThere at inside loops (Print e) b = Unit {0}
   StmtThere at inside loops (Block' shape all) b = Unit {0}
   StmtThere at inside loops (Loop' c shape all) b = Unit {0}

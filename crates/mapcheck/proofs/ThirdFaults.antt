@@ -10,7 +10,7 @@ use Rattle.base.specs.declared.item.Cell.{Cell}
 use Rattle.base.specs.declared.tree.ArrayId.{ArrayId}
 use Rattle.base.specs.declared.fault.Refusal.{Refusal}
 use Rattle.base.specs.declared.fault.RefusalCode.{RefusalCode}
-use Rattle.base.specs.declared.fault.RefusalCode.TheVariants.{OverlapsInPart, ExitOfAbsent, UpdateOfAbsent, NotPresent, Unmapped, HostNotCurrent, DeviceNotCurrent, Conflict}
+use Rattle.base.specs.declared.fault.RefusalCode.TheVariants.{OverlapsInPart, ExitOfAbsent, UpdateOfAbsent, NotPresent, Unmapped, HostNotCurrent, DeviceNotCurrent, TurnsMeet, Conflict}
 use Rattle.base.specs.Items.{Plan}
 use Rattle.base.specs.Actions.{Stage, stages}
 use Rattle.base.specs.Accepted.{Conflicts, Fault, IsFault, IsFirstFault, IsRefusal, Order, Range, Refused, fault_key, key_less, refusal_rank}
@@ -35,7 +35,7 @@ higher_key : (g r : Refusal) → g.item ≡ r.item → refusal_rank r.code < ref
     key_less (fault_key (Refused g)) (fault_key (Refused r)) ≡ false
 higher_key g r same lt = grind (arith, nat_tests)
 
-low_rank : (code : RefusalCode) → code ≢ Conflict → refusal_rank code < 8
+low_rank : (code : RefusalCode) → code ≢ Conflict → refusal_rank code < 9
 low_rank OverlapsInPart h = omega arith
 low_rank ExitOfAbsent h = omega arith
 low_rank UpdateOfAbsent h = omega arith
@@ -43,6 +43,7 @@ low_rank NotPresent h = omega arith
 low_rank Unmapped h = omega arith
 low_rank HostNotCurrent h = omega arith
 low_rank DeviceNotCurrent h = omega arith
+low_rank TurnsMeet h = omega arith
 low_rank Conflict h = absurd (h refl)
 
 -- a refusal is of an item by itself, or for a conflict
@@ -58,6 +59,7 @@ split plan g h = go g.code g.other h
     go Unmapped None h = inl refl
     go HostNotCurrent None h = inl refl
     go DeviceNotCurrent None h = inl refl
+    go TurnsMeet None h = inl refl
     go Conflict None h = inl refl
     go OverlapsInPart (Some i) h = absurd h
     go ExitOfAbsent (Some i) h = absurd h
@@ -66,6 +68,7 @@ split plan g h = go g.code g.other h
     go Unmapped (Some i) h = absurd h
     go HostNotCurrent (Some i) h = absurd h
     go DeviceNotCurrent (Some i) h = absurd h
+    go TurnsMeet (Some i) h = absurd h
     go Conflict (Some i) h = inr refl
 
 no_false : {P : Type 0} → false ≡ true → P
@@ -97,6 +100,7 @@ refused_inside plan g e h = go g.code g.other e h
     go Unmapped o e h = absurd cc
     go HostNotCurrent o e h = absurd cc
     go DeviceNotCurrent o e h = absurd cc
+    go TurnsMeet o e h = absurd cc
 
 -- the items before the walk's refusal are not refused by themselves
 pub none_alone : (plan : Plan) (o : Option Refusal) → IsFirstRefusal plan o → IsSound plan o → NoneAlone plan (items_before plan o)
@@ -135,6 +139,7 @@ alone_inside plan r e h = go r.code r.other e h
     go Unmapped None e h = stage_inside plan r.item _ h
     go HostNotCurrent None e h = stage_inside plan r.item _ h
     go DeviceNotCurrent None e h = stage_inside plan r.item _ h
+    go TurnsMeet None e h = stage_inside plan r.item _ h
     go Conflict None e h = absurd h
 
 pub before_inside : (plan : Plan) (o : Option Refusal) → IsFirstRefusal plan o → items_before plan o ≤ length plan.items
@@ -173,8 +178,8 @@ module _ (plan : Plan) (fine : HasNoRangeFault plan) (clashes : HasNoClash plan)
       (λ (lt : g.item < n). absurd (below g.item lt g code refl fault))
       (λ (le : n ≤ g.item). ⊎_elim
       (λ (same : g.item ≡ r.item).
-      let high : refusal_rank g.code ≡ 8 = ap refusal_rank code in
-      let low : refusal_rank r.code < 8 = low_rank r.code h.no_conflict in
+      let high : refusal_rank g.code ≡ 9 = ap refusal_rank code in
+      let low : refusal_rank r.code < 9 = low_rank r.code h.no_conflict in
       higher_key g r same (omega (arith, high, low)))
       (λ (other : g.item ≡ r.item → ⊥). later_key g r (omega (arith, le, other, e))) (cases_eq g.item r.item))
       (cases_lt g.item n))

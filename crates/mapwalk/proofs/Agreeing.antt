@@ -4,7 +4,7 @@ use Rattle.std.specs.Prelude.{not, ◌&&◌, ◌||◌, ◌==◌, if◌then◌els
 use Rattle.base.specs.declared.item.Cell.{Cell}
 use Rattle.base.specs.declared.item.MapItem.{MapItem}
 use Rattle.base.specs.declared.fault.RefusalCode.{RefusalCode}
-use Rattle.base.specs.declared.fault.RefusalCode.TheVariants.{OverlapsInPart, ExitOfAbsent, UpdateOfAbsent, NotPresent, Unmapped, HostNotCurrent, DeviceNotCurrent, Conflict}
+use Rattle.base.specs.declared.fault.RefusalCode.TheVariants.{OverlapsInPart, ExitOfAbsent, UpdateOfAbsent, NotPresent, Unmapped, HostNotCurrent, DeviceNotCurrent, TurnsMeet, Conflict}
 use Rattle.base.specs.Memory.{is_cell, is_in}
 use Rattle.base.specs.Items.{Work}
 use Rattle.base.specs.Map.{Block}
@@ -100,6 +100,7 @@ cause_here s k NotPresent c = refl
 cause_here s k Unmapped c = refl
 cause_here s k HostNotCurrent c = refl
 cause_here s k DeviceNotCurrent c = refl
+cause_here s k TurnsMeet c = refl
 cause_here s k Conflict c = refl
 
 -- an item with no fault of range has the same causes
@@ -125,6 +126,7 @@ cause_agree lengths w blocks k j none h DeviceNotCurrent c =
     (stale_agree ((at_region w blocks k).device c) ((at_region w blocks j).device c) (exposes (touches_in w) c)
     (λ e. same.device c (exposed_inside lengths w c none e)))
     ∙ sym ((parts w blocks).device_stale j c)
+cause_agree lengths w blocks k j none h TurnsMeet c = refl
 cause_agree lengths w blocks k j none h Conflict c = refl
 
 pub all_cause_agree : (lengths : List ℕ) (w : Work) (blocks : List Block) (k j : AllCurrent) → range_faults lengths w ≡ [] →

@@ -5,6 +5,8 @@ use Rattle.std.proofs.lemmas.Option.{slice_get-get_or}
 use Rattle.base.specs.Items.{Plan, Work}
 use Rattle.base.specs.Footprint.{exposes, reads, surely_writes, writes}
 use Rattle.base.specs.Accepted.{region_faults}
+use Rattle.base.specs.Turns.{turns_in_work, turns_meet}
+use Rattle.base.proofs.Leasts.{least_same}
 use Rattle.ranges.specs.declared.cells.Footprint.{Footprint}
 use Rattle.ranges.specs.declared.FootprintFault.{FootprintFault}
 use Rattle.mapwalk.specs.declared.found.Next.{Next}
@@ -23,6 +25,8 @@ found_alike lengths v w (Some f) alike is = record {
     read = λ c. is.touches.read c ∙ (λ i. reads (sym alike.touches i) c);
     write = λ c. is.touches.write c ∙ (λ i. writes (sym alike.touches i) c);
     sure = λ c. is.touches.sure c ∙ (λ i. surely_writes (sym alike.touches i) c);
+    meeting = least_same (turns_meet (turns_in_work v)) (turns_meet (turns_in_work w)) f.meeting (λ c. sym (alike.turns c))
+        is.touches.meeting;
   };
   within = is.within;
 }

@@ -1,5 +1,4 @@
 pub mod AllMarked
-pub mod FirstCells
 pub mod Unmapped
 pub mod SideRows
 pub mod RowLists

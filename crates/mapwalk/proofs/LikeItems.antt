@@ -1,19 +1,21 @@
 -- Items that do the same from the same state.
-use Rattle.std.proofs.Common.{◌≡◌, Bool, List, refl, sym, ap, ◌∙◌}
+use Rattle.std.proofs.Common.{◌≡◌, Bool, true, false, List, refl, sym, ap, ◌∙◌}
 use Rattle.std.specs.Prelude.{not, ◌&&◌, ◌||◌}
 use Rattle.std.specs.List.{list_any}
+use Rattle.std.proofs.lemmas.Bool.{and_left, and_right, true≢false}
 use mathlib.Core.Path.{fun_ext}
 use Rattle.base.specs.declared.item.Cell.{Cell}
 use Rattle.base.specs.declared.item.ItemKind.{ItemKind}
 use Rattle.base.specs.declared.item.ItemKind.TheVariants as kind
 use Rattle.base.specs.declared.fault.RefusalCode.{RefusalCode}
-use Rattle.base.specs.declared.fault.RefusalCode.TheVariants.{OverlapsInPart, ExitOfAbsent, UpdateOfAbsent, NotPresent, Unmapped, HostNotCurrent, DeviceNotCurrent, Conflict}
+use Rattle.base.specs.declared.fault.RefusalCode.TheVariants.{OverlapsInPart, ExitOfAbsent, UpdateOfAbsent, NotPresent, Unmapped, HostNotCurrent, DeviceNotCurrent, TurnsMeet, Conflict}
 use Rattle.base.specs.Memory.{changed, is_in}
 use Rattle.base.specs.Items.{Work}
 use Rattle.base.specs.Map.{Block}
 use Rattle.base.specs.Actions.{acts_of, touches_in}
 use Rattle.base.specs.Current.{AllCurrent, Current, after_actions, after_stage, current_at, other_side, own_side}
 use Rattle.base.specs.Accepted.{cause, is_host, is_target}
+use Rattle.base.specs.Turns.{turns_in_work, turns_meet}
 use Rattle.mapwalk.specs.Acts.{acts_row}
 use Rattle.mapwalk.specs.Causes.{met_causes, region_causes}
 use Rattle.mapwalk.specs.Heads.{AbstractState}
@@ -24,6 +26,17 @@ use Rattle.mapwalk.specs.Steps.{everywhere, stage_of}
 use Rattle.mapwalk.proofs.Agreeing.{cause_here}
 use Rattle.mapwalk.proofs.LikeRegions.{SameTouches, effect, effect_by}
 use Rattle.mapwalk.proofs.WorkParts.{at_region, cause_split, parts}
+
+abbrev is_meeting : RefusalCode → Bool
+is_meeting OverlapsInPart = false
+is_meeting ExitOfAbsent = false
+is_meeting UpdateOfAbsent = false
+is_meeting NotPresent = false
+is_meeting Unmapped = false
+is_meeting HostNotCurrent = false
+is_meeting DeviceNotCurrent = false
+is_meeting TurnsMeet = true
+is_meeting Conflict = false
 
 -- the walk cannot tell two items apart
 pub record WorkAlike (v w : Work) : Type 0 where
@@ -75,33 +88,60 @@ module _ (v w : Work) (h : WorkAlike v w) where
       ∙ (λ i. joined_by (h.kind i) (before_region (h.kind i) (h.maps i) blocks) (after_region (h.kind i) (h.maps i) blocks))
       ∙ sym (parts v blocks).row
 
-  region_causes_same : (k : Current) (code : RefusalCode) (c : Cell) → region_causes w k code c ≡ region_causes v k code c
-  region_causes_same k OverlapsInPart c = refl
-  region_causes_same k ExitOfAbsent c = refl
-  region_causes_same k UpdateOfAbsent c = refl
-  region_causes_same k NotPresent c = refl
-  region_causes_same k Unmapped c =
+  region_causes_same : (k : Current) (code : RefusalCode) (c : Cell) → is_meeting code ≡ false →
+      region_causes w k code c ≡ region_causes v k code c
+  region_causes_same k OverlapsInPart c e = refl
+  region_causes_same k ExitOfAbsent c e = refl
+  region_causes_same k UpdateOfAbsent c e = refl
+  region_causes_same k NotPresent c e = refl
+  region_causes_same k Unmapped c e =
       λ i. is_target (h.kind i)
       && ((h.touches.read c i || h.touches.write c i) && not (list_any (λ m. is_in c m.section) (h.maps i)))
-  region_causes_same k HostNotCurrent c = λ i. is_host (h.kind i) && (h.touches.exposed c i && not (k.host c))
-  region_causes_same k DeviceNotCurrent c = λ i. is_target (h.kind i) && (h.touches.exposed c i && not (k.device c))
-  region_causes_same k Conflict c = refl
+  region_causes_same k HostNotCurrent c e = λ i. is_host (h.kind i) && (h.touches.exposed c i && not (k.host c))
+  region_causes_same k DeviceNotCurrent c e = λ i. is_target (h.kind i) && (h.touches.exposed c i && not (k.device c))
+  region_causes_same k TurnsMeet c e = absurd (true≢false e)
+  region_causes_same k Conflict c e = refl
 
-  here_same : (blocks : List Block) (k : Current) (code : RefusalCode) (c : Cell) →
+  here_same : (blocks : List Block) (k : Current) (code : RefusalCode) (c : Cell) → is_meeting code ≡ false →
       cause code (stage_of w blocks) (everywhere k) c ≡ cause code (stage_of v blocks) (everywhere k) c
-  here_same blocks k code c =
+  here_same blocks k code c e =
       cause_split w blocks k code c
       ∙ (λ i. met_causes (h.kind i) (met_by (h.kind i) (h.maps i) blocks) code c
-      || (ap (λ j. region_causes w j code c) (region_same blocks k) ∙ region_causes_same (at_region v blocks k) code c) i)
+      || (ap (λ j. region_causes w j code c) (region_same blocks k) ∙ region_causes_same (at_region v blocks k) code c e) i)
       ∙ sym (cause_split v blocks k code c)
 
-  pub cause_same : (blocks : List Block) (k : AllCurrent) (code : RefusalCode) (c : Cell) →
+  cause_same : (blocks : List Block) (k : AllCurrent) (code : RefusalCode) (c : Cell) → is_meeting code ≡ false →
       cause code (stage_of w blocks) k c ≡ cause code (stage_of v blocks) k c
-  cause_same blocks k code c =
+  cause_same blocks k code c e =
       cause_here (stage_of w blocks) k code c
       ∙ ap (λ d. cause code (stage_of w blocks) (everywhere (current_at d k)) c) h.device
-      ∙ here_same blocks (current_at v.device k) code c
+      ∙ here_same blocks (current_at v.device k) code c e
       ∙ sym (cause_here (stage_of v blocks) k code c)
+
+  -- where the turns of the first kernel meet nowhere, nor do those of the second
+  no_meeting : ((c : Cell) → (is_target v.kind && turns_meet (turns_in_work v) c) ≡ false) →
+      (c : Cell) → (is_target w.kind && turns_meet (turns_in_work w) c) ≡ false
+  no_meeting never c = go (is_target v.kind) refl
+    where
+      go : (b : Bool) → is_target v.kind ≡ b → (is_target w.kind && turns_meet (turns_in_work w) c) ≡ false
+      go true e =
+          and_right (is_target w.kind) (turns_meet (turns_in_work w) c)
+          (h.touches.apart (λ d. sym (ap (λ b. b && turns_meet (turns_in_work v) d) e) ∙ never d) c)
+      go false e = and_left (is_target w.kind) (turns_meet (turns_in_work w) c) (ap is_target h.kind ∙ e)
+
+  -- where the first item has no cause, nor has the second
+  pub no_cause : (blocks : List Block) (k : AllCurrent) →
+      ((code : RefusalCode) (c : Cell) → cause code (stage_of v blocks) k c ≡ false) →
+      (code : RefusalCode) (c : Cell) → cause code (stage_of w blocks) k c ≡ false
+  no_cause blocks k none OverlapsInPart c = cause_same blocks k OverlapsInPart c refl ∙ none OverlapsInPart c
+  no_cause blocks k none ExitOfAbsent c = cause_same blocks k ExitOfAbsent c refl ∙ none ExitOfAbsent c
+  no_cause blocks k none UpdateOfAbsent c = cause_same blocks k UpdateOfAbsent c refl ∙ none UpdateOfAbsent c
+  no_cause blocks k none NotPresent c = cause_same blocks k NotPresent c refl ∙ none NotPresent c
+  no_cause blocks k none Unmapped c = cause_same blocks k Unmapped c refl ∙ none Unmapped c
+  no_cause blocks k none HostNotCurrent c = cause_same blocks k HostNotCurrent c refl ∙ none HostNotCurrent c
+  no_cause blocks k none DeviceNotCurrent c = cause_same blocks k DeviceNotCurrent c refl ∙ none DeviceNotCurrent c
+  no_cause blocks k none TurnsMeet c = no_meeting (none TurnsMeet) c
+  no_cause blocks k none Conflict c = refl
 
 -- the walk after an item
 abbrev pub after_work : Work → AbstractState → AbstractState

@@ -7,7 +7,7 @@ use Rattle.base.specs.declared.item.Cell.{Cell}
 use Rattle.base.specs.declared.item.ItemKind.{ItemKind}
 use Rattle.base.specs.declared.item.ItemKind.TheVariants as kinds
 use Rattle.base.specs.declared.fault.RefusalCode.{RefusalCode}
-use Rattle.base.specs.declared.fault.RefusalCode.TheVariants.{OverlapsInPart, ExitOfAbsent, UpdateOfAbsent, NotPresent, Unmapped, HostNotCurrent, DeviceNotCurrent, Conflict}
+use Rattle.base.specs.declared.fault.RefusalCode.TheVariants.{OverlapsInPart, ExitOfAbsent, UpdateOfAbsent, NotPresent, Unmapped, HostNotCurrent, DeviceNotCurrent, TurnsMeet, Conflict}
 use Rattle.base.specs.Actions.{Met}
 use Rattle.base.specs.Accepted.{is_exit, is_update, names_absent}
 use Rattle.mapwalk.specs.declared.seen.Seen.{Seen}
@@ -48,6 +48,7 @@ part_first kind mets s cell n e = (least.0, order)
     order Unmapped c h = refl
     order HostNotCurrent c h = refl
     order DeviceNotCurrent c h = refl
+    order TurnsMeet c h = refl
     order Conflict c h = refl
 
 -- a section that is absent need not be present, or is to be
@@ -98,6 +99,7 @@ exit_first kind mets s n e x = go (lesser s.absent s.missing) least
         all Unmapped c = refl
         all HostNotCurrent c = refl
         all DeviceNotCurrent c = refl
+        all TurnsMeet c = refl
         all Conflict c = refl
     go (Some cell) h = (and_from (is_exit kind) (list_any (names_absent cell) mets) x h.0, order)
       where
@@ -110,6 +112,7 @@ exit_first kind mets s n e x = go (lesser s.absent s.missing) least
         order Unmapped c t = refl
         order HostNotCurrent c t = refl
         order DeviceNotCurrent c t = refl
+        order TurnsMeet c t = refl
         order Conflict c t = refl
 
 -- an update of something absent that need not be present
@@ -132,6 +135,7 @@ update_first kind mets s cell n e f x u = (and_from (is_update kind) (list_any (
     order Unmapped c h = refl
     order HostNotCurrent c h = refl
     order DeviceNotCurrent c h = refl
+    order TurnsMeet c h = refl
     order Conflict c h = refl
 
 -- something is absent that is to be present, and nothing comes before
@@ -159,6 +163,7 @@ missing_first kind mets s n e x u = go s.missing n.missing_cells
         all Unmapped c = refl
         all HostNotCurrent c = refl
         all DeviceNotCurrent c = refl
+        all TurnsMeet c = refl
         all Conflict c = refl
     go (Some cell) h = (and_from (not (is_exit kind)) (list_any (is_missing_cell cell) mets) (ap not x) h.0, order)
       where
@@ -172,4 +177,5 @@ missing_first kind mets s n e x u = go s.missing n.missing_cells
         order Unmapped c t = refl
         order HostNotCurrent c t = refl
         order DeviceNotCurrent c t = refl
+        order TurnsMeet c t = refl
         order Conflict c t = refl

@@ -10,7 +10,7 @@ use Rattle.outline.specs.declared.RegionEntry.{RegionEntry}
 use Rattle.outline.specs.Regions.{Entry, entry_of}
 use Rattle.outline.specs.Shown.{all_shown, as_shown, shown, work_with}
 use Rattle.regions.specs.Deciding.{AgreeWhereDeciding}
-use Rattle.regions.proofs.Undeciding.{undeciding_loops_decide_nothing}
+use Rattle.regions.proofs.Alike.{undeciding_loops_decide_nothing}
 use Rattle.mapwalk.specs.Repeats.{AreFirstRepeats, IsRepeat, TouchAlike}
 use Rattle.mapwalk.proofs.Prints.{get_before, get_last}
 use Rattle.mapwalk.proofs.Touched.{same_work, shown_is}
@@ -40,7 +40,7 @@ one_region lengths regions entries earlier item k e v w are first second held ag
     (shown_is regions entries item k e are second held) is_w in
     subst (λ (x : Work). TouchAlike lengths x w) one
     (subst (λ (y : Work). TouchAlike lengths (work_with earlier (Some r)) y) two
-    (record { region = refl; touches = law.touches; faults = law.faults lengths }))
+    (record { region = refl; touches = law.touches; turns = law.turns; faults = law.faults lengths }))
 
 -- what an item of the code is shown as
 pub shown_at : (entries : List Entry) (items : List Item) (works : List Work) (i : ℕ) (x : Item) (w : Work) →

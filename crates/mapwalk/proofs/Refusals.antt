@@ -6,7 +6,7 @@ use Rattle.std.proofs.lemmas.List.{drop_all}
 use Rattle.base.specs.declared.item.Cell.{Cell}
 use Rattle.base.specs.declared.fault.Refusal.{Refusal}
 use Rattle.base.specs.declared.fault.RefusalCode.{RefusalCode}
-use Rattle.base.specs.declared.fault.RefusalCode.TheVariants.{OverlapsInPart, ExitOfAbsent, UpdateOfAbsent, NotPresent, Unmapped, HostNotCurrent, DeviceNotCurrent, Conflict}
+use Rattle.base.specs.declared.fault.RefusalCode.TheVariants.{OverlapsInPart, ExitOfAbsent, UpdateOfAbsent, NotPresent, Unmapped, HostNotCurrent, DeviceNotCurrent, TurnsMeet, Conflict}
 use Rattle.base.specs.Items.{Plan, Work}
 use Rattle.base.specs.Map.{Block}
 use Rattle.base.specs.Actions.{Stage, stages, stages_from}
@@ -33,6 +33,7 @@ refusal_from plan NotPresent j c h = h
 refusal_from plan Unmapped j c h = h
 refusal_from plan HostNotCurrent j c h = h
 refusal_from plan DeviceNotCurrent j c h = h
+refusal_from plan TurnsMeet j c h = h
 refusal_from plan Conflict j c h = nowhere_true (slice_get (stages plan) j) h
 
 refusal_to : (plan : Plan) (code : RefusalCode) (j : ℕ) (c : Cell) → IsRefusal plan code j c None →
@@ -44,6 +45,7 @@ refusal_to plan NotPresent j c h = h
 refusal_to plan Unmapped j c h = h
 refusal_to plan HostNotCurrent j c h = h
 refusal_to plan DeviceNotCurrent j c h = h
+refusal_to plan TurnsMeet j c h = h
 refusal_to plan Conflict j c h = absurd h
 
 -- a refusal of an item by itself is a cause of its stage
@@ -59,6 +61,7 @@ no_conflict NotPresent s k c h e = cc
 no_conflict Unmapped s k c h e = cc
 no_conflict HostNotCurrent s k c h e = cc
 no_conflict DeviceNotCurrent s k c h e = cc
+no_conflict TurnsMeet s k c h e = cc
 no_conflict Conflict s k c h e = cc
 
 -- keys of the third pass

@@ -14,7 +14,7 @@ use Rattle.mapwalk.specs.Heads.{AbstractState}
 use Rattle.mapwalk.specs.Steps.{HasDone, stage_of}
 use Rattle.mapwalk.specs.Walk.{HasNoRangeFault}
 use Rattle.mapwalk.proofs.Agreeing.{AgreeAll, all_cause_agree, stage_agree}
-use Rattle.mapwalk.proofs.LikeItems.{WorkAlike, after_work, cause_same, row_same}
+use Rattle.mapwalk.proofs.LikeItems.{WorkAlike, after_work, no_cause, row_same}
 use Rattle.mapwalk.proofs.Walking.{Reached, no_fault_at, on_stage_is, rows_before}
 
 -- the walk after the first items
@@ -100,10 +100,9 @@ done_again plan k i j n rows v w none agree r lt there here h same =
     let s = before_item plan k n in
     let after = first_more plan.items n w (start k) here in
     record {
-      clean = λ code c.
-          cause_same v w h (s.tables w.device) s.current code c
-          ∙ (λ t. cause code (stage_of v ((sym same t).tables (h.device t))) (sym same t).current c)
-          ∙ clean_before plan k i j rows v none agree r lt there code c;
+      clean = no_cause v w h (s.tables w.device) s.current (λ code c.
+          (λ t. cause code (stage_of v ((sym same t).tables (h.device t))) (sym same t).current c)
+          ∙ clean_before plan k i j rows v none agree r lt there code c);
       acts =
           (λ t. acts_row v ((same t).tables (sym h.device t)))
           ∙ sym (row_same v w h (s.tables w.device));

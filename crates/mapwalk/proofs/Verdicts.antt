@@ -7,7 +7,7 @@ use Rattle.base.specs.declared.item.Cell.{Cell}
 use Rattle.base.specs.declared.item.MapItem.{MapItem}
 use Rattle.base.specs.declared.item.ItemKind.{ItemKind}
 use Rattle.base.specs.declared.fault.RefusalCode.{RefusalCode}
-use Rattle.base.specs.declared.fault.RefusalCode.TheVariants.{OverlapsInPart, ExitOfAbsent, UpdateOfAbsent, NotPresent, Unmapped, HostNotCurrent, DeviceNotCurrent, Conflict}
+use Rattle.base.specs.declared.fault.RefusalCode.TheVariants.{OverlapsInPart, ExitOfAbsent, UpdateOfAbsent, NotPresent, Unmapped, HostNotCurrent, DeviceNotCurrent, TurnsMeet, Conflict}
 use Rattle.base.specs.Items.{Work}
 use Rattle.base.specs.Map.{Block}
 use Rattle.base.specs.Actions.{Met}
@@ -39,6 +39,7 @@ met_low kind mets NotPresent c h = omega arith
 met_low kind mets Unmapped c h = absurd cc
 met_low kind mets HostNotCurrent c h = absurd cc
 met_low kind mets DeviceNotCurrent c h = absurd cc
+met_low kind mets TurnsMeet c h = absurd cc
 met_low kind mets Conflict c h = absurd cc
 
 region_high : (w : Work) (k : Current) (code : RefusalCode) (c : Cell) → region_causes w k code c ≡ true → 5 ≤ refusal_rank code
@@ -49,6 +50,7 @@ region_high w k NotPresent c h = absurd cc
 region_high w k Unmapped c h = omega arith
 region_high w k HostNotCurrent c h = omega arith
 region_high w k DeviceNotCurrent c h = omega arith
+region_high w k TurnsMeet c h = omega arith
 region_high w k Conflict c h = absurd cc
 
 not_less : (r x : ℕ) (b : Bool) → 5 ≤ r → x ≤ 4 → (nat_lt r x || ((r == x) && b)) ≡ false

@@ -6,12 +6,13 @@ use Rattle.base.specs.declared.item.ItemKind.{ItemKind}
 use Rattle.base.specs.declared.item.MapItem.{MapItem}
 use Rattle.base.specs.declared.fault.Refusal.{Refusal}
 use Rattle.base.specs.declared.fault.RefusalCode.{RefusalCode}
-use Rattle.base.specs.declared.fault.RefusalCode.TheVariants.{OverlapsInPart, ExitOfAbsent, UpdateOfAbsent, NotPresent, Unmapped, HostNotCurrent, DeviceNotCurrent, Conflict}
+use Rattle.base.specs.declared.fault.RefusalCode.TheVariants.{OverlapsInPart, ExitOfAbsent, UpdateOfAbsent, NotPresent, Unmapped, HostNotCurrent, DeviceNotCurrent, TurnsMeet, Conflict}
 use Rattle.base.specs.Memory.{is_in}
 use Rattle.base.specs.Items.{Work}
 use Rattle.base.specs.Footprint.{exposes, reads, writes}
 use Rattle.base.specs.Actions.{Met, touches_in}
 use Rattle.base.specs.Current.{Current}
+use Rattle.base.specs.Turns.{turns_in_work, turns_meet}
 use Rattle.base.specs.Accepted.{in_part, is_exit, is_host, is_target, is_update, met_at, names_absent, refusal_rank}
 use Rattle.mapwalk.specs.declared.causes.Cause.{Cause}
 use Rattle.base.specs.Least.{is_less as is_before}
@@ -56,6 +57,7 @@ met_causes kind mets NotPresent c = not (is_exit kind) && list_any (is_missing_c
 met_causes kind mets Unmapped c = false
 met_causes kind mets HostNotCurrent c = false
 met_causes kind mets DeviceNotCurrent c = false
+met_causes kind mets TurnsMeet c = false
 met_causes kind mets Conflict c = false
 
 -- the causes that a region makes, where k is what is current where it begins
@@ -69,6 +71,7 @@ region_causes w k Unmapped c =
     && ((reads (touches_in w) c || writes (touches_in w) c) && not (list_any (λ m. is_in c m.section) w.maps))
 region_causes w k HostNotCurrent c = is_host w.kind && (exposes (touches_in w) c && not (k.host c))
 region_causes w k DeviceNotCurrent c = is_target w.kind && (exposes (touches_in w) c && not (k.device c))
+region_causes w k TurnsMeet c = is_target w.kind && turns_meet (turns_in_work w) c
 region_causes w k Conflict c = false
 
 -- each of these cells is one of the first arrays

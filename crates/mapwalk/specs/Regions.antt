@@ -10,6 +10,8 @@ use Rattle.base.specs.Items.{Work}
 use Rattle.base.specs.Footprint.{exposes, reads, surely_writes, writes}
 use Rattle.base.specs.Actions.{Action, HostRegion, Kernel, region_acts, touches_in}
 use Rattle.base.specs.Accepted.{range_faults}
+use Rattle.base.specs.Least.{IsLeast}
+use Rattle.base.specs.Turns.{turns_in_work, turns_meet}
 use Rattle.outline.specs.Regions.{entries_of}
 use Rattle.outline.specs.Shown.{shown}
 use Rattle.ranges.specs.declared.cells.Footprint.{Footprint}
@@ -20,12 +22,13 @@ use Rattle.mapwalk.specs.Current.{AreInside}
 abbrev pub HasNoFault : Program → Item → Type 0
 HasNoFault p item = (w : Work) → shown (entries_of p) item ≡ Some w → range_faults (lengths_of p) w ≡ []
 
--- the sets of cells are those that the item's region touches
+-- the sets of cells are those that the item's region touches, and the least cell on which its turns meet is the one kept
 pub record AreTouches (w : Work) (f : Footprint) : Type 0 where
   pub exposed : (c : Cell) → has f.exposed c ≡ exposes (touches_in w) c
   pub read : (c : Cell) → has f.read c ≡ reads (touches_in w) c
   pub write : (c : Cell) → has f.write c ≡ writes (touches_in w) c
   pub sure : (c : Cell) → has f.sure c ≡ surely_writes (touches_in w) c
+  pub meeting : IsLeast (turns_meet (turns_in_work w)) f.meeting
 
 -- each touched cell is one of an array
 pub record IsWithin (lengths : List ℕ) (f : Footprint) : Type 0 where

@@ -44,10 +44,16 @@ fn kernel_cause(f: &Footprint, maps: &[MapItem], device: &[Marks]) -> Option<Cau
             cell,
         });
     }
-    match least_stale(&f.exposed, device) {
+    if let Some(cell) = least_stale(&f.exposed, device) {
+        return Some(Cause {
+            code: RefusalCode::DeviceNotCurrent,
+            cell,
+        });
+    }
+    match f.meeting {
         None => None,
         Some(cell) => Some(Cause {
-            code: RefusalCode::DeviceNotCurrent,
+            code: RefusalCode::TurnsMeet,
             cell,
         }),
     }

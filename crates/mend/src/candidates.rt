@@ -1,5 +1,6 @@
 // The changes that are tried on a program that is refused.
 
+use crate::combined::turns_meet;
 use crate::currency::{device_stale, host_stale};
 use crate::lines::Change;
 use crate::ordering::{conflict, overlap};
@@ -70,6 +71,7 @@ fn of_refusal(view: &View<'_>, refusal: &Refusal, out: &mut Candidates) -> Resul
         RefusalCode::Unmapped => unmapped(view, at, cell, out),
         RefusalCode::HostNotCurrent => host_stale(view, at, cell, out),
         RefusalCode::DeviceNotCurrent => device_stale(view, at, cell, out),
+        RefusalCode::TurnsMeet => turns_meet(view, at, out),
         RefusalCode::Conflict => match refusal.other {
             Some(other) => conflict(view, at, other as usize, cell, out),
             None => Ok(()),

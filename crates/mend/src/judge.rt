@@ -71,7 +71,8 @@ fn code_rank(code: RefusalCode) -> u8 {
         RefusalCode::Unmapped => 5,
         RefusalCode::HostNotCurrent => 6,
         RefusalCode::DeviceNotCurrent => 7,
-        RefusalCode::Conflict => 8,
+        RefusalCode::TurnsMeet => 8,
+        RefusalCode::Conflict => 9,
     }
 }
 

@@ -4,6 +4,7 @@
 mod bare;
 mod blocks;
 mod candidates;
+mod combined;
 mod currency;
 mod edits;
 mod judge;

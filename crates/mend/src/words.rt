@@ -18,8 +18,8 @@ impl Word {
         self.open > self.end
     }
 
-    // Where it ends with its brackets.
-    fn whole_end(&self) -> usize {
+    /// Where it ends with its brackets.
+    pub fn whole_end(&self) -> usize {
         if self.has_brackets() {
             self.close.saturating_add(1)
         } else {

@@ -8,7 +8,7 @@ use Rattle.base.specs.declared.tree.Expr.TheVariants.{Number, Scalar, LoopName, 
 use Rattle.base.specs.declared.tree.Source.{Source}
 use Rattle.base.specs.declared.tree.Source.TheVariants.{Value, Read}
 use Rattle.base.specs.declared.tree.Stmt.{Stmt, Row_of-Stmt, end_of-Stmt, more_of-Stmt}
-use Rattle.base.specs.declared.tree.Stmt.TheVariants.{Declare, Assign, Store, Print, Block', Loop', If'}
+use Rattle.base.specs.declared.tree.Stmt.TheVariants.{Declare, Assign, Store, Combine, Print, Block', Loop', If'}
 use Rattle.base.specs.declared.tree.Region.{Region}
 use Rattle.base.specs.Items.{stmt_uses}
 
@@ -35,6 +35,7 @@ abbrev mutual
   stmt_reads x (Declare y v) = source_reads x v
   stmt_reads x (Assign y v) = source_reads x v
   stmt_reads x (Store a place e v) = expr_reads x e || source_reads x v
+  stmt_reads x (Combine op a place e v) = expr_reads x e || expr_reads x v
   stmt_reads x (Print e) = expr_reads x e
   stmt_reads x (Block' shape all) = row_reads x all
   stmt_reads x (Loop' b shape all) = row_reads x all
@@ -50,6 +51,7 @@ abbrev mutual
   stmt_declares x (Declare y v) = x == y.0
   stmt_declares x (Assign y v) = false
   stmt_declares x (Store a place e v) = false
+  stmt_declares x (Combine op a place e v) = false
   stmt_declares x (Print e) = false
   stmt_declares x (Block' shape all) = row_declares x all
   stmt_declares x (Loop' b shape all) = row_declares x all

@@ -38,6 +38,7 @@ fn reads(scalar: u8, s: &Stmt) -> bool
     match s {
         Stmt::Declare(_, v) | Stmt::Assign(_, v) => source_reads(scalar, v),
         Stmt::Store(_, _, e, v) => expr_reads(scalar, e) || source_reads(scalar, v),
+        Stmt::Combine(_, _, _, e, v) => expr_reads(scalar, e) || expr_reads(scalar, v),
         Stmt::Print(e) => expr_reads(scalar, e),
         Stmt::Block(all) => one_reads(scalar, all),
         Stmt::Loop(_, body) => one_reads(scalar, body),
@@ -66,7 +67,10 @@ fn declares(scalar: u8, s: &Stmt) -> bool
 {
     match s {
         Stmt::Declare(id, _) => scalar == id.0,
-        Stmt::Assign(_, _) | Stmt::Store(_, _, _, _) | Stmt::Print(_) => false,
+        Stmt::Assign(_, _)
+        | Stmt::Store(_, _, _, _)
+        | Stmt::Combine(_, _, _, _, _)
+        | Stmt::Print(_) => false,
         Stmt::Block(all) => one_declares(scalar, all),
         Stmt::Loop(_, body) => one_declares(scalar, body),
         Stmt::If(_, first, second) => { one_declares(scalar, first) | one_declares(scalar, second) }

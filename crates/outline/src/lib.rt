@@ -150,6 +150,7 @@ fn build<'p>(alloc: Global, program: &'p Program) -> Result<Outlined<'p>, AllocE
         no_region: Region {
             place: Place::default(),
             body: Vec::new(alloc),
+            depth: 0,
         },
     })
 }

@@ -38,6 +38,7 @@ fn in_stmt(array: u32, s: &Stmt) -> bool
     match s {
         Stmt::Declare(_, v) | Stmt::Assign(_, v) => in_source(array, v),
         Stmt::Store(id, _, e, v) => array == id.0 || in_expr(array, e) || in_source(array, v),
+        Stmt::Combine(_, id, _, e, v) => array == id.0 || in_expr(array, e) || in_expr(array, v),
         Stmt::Print(e) => in_expr(array, e),
         Stmt::Block(all) => in_all(array, all),
         Stmt::Loop(_, body) => in_all(array, body),

@@ -1,5 +1,5 @@
 -- In a plain loop each access has the next cell in the next turn.
-use Rattle.std.proofs.Common.{◌≡◌, ℕ, ◌+◌, ◌-◌, ◌^◌, ◌<◌, ◌≤◌, Bool, true, false, List, [], ◌∷◌, ◌++◌, length, map, sym, ◌∙◌, ap, ap₂, refl, ⊎_elim, arith, eqb-true, length-append}
+use Rattle.std.proofs.Common.{◌≡◌, ℕ, ◌+◌, ◌-◌, ◌^◌, ◌<◌, ◌≤◌, Bool, true, false, List, [], ◌∷◌, ◌++◌, length, map, None, sym, ◌∙◌, ap, ap₂, refl, ⊎_elim, arith, eqb-true, length-append}
 use Rattle.std.specs.Prelude.{◌&&◌, ◌==◌, nat_le, slice_index, if◌then◌else◌}
 use Rattle.std.specs.List.{list_any}
 use Rattle.std.proofs.lemmas.Bool.{false≢true, or_parts, cases_lt, le-leb}
@@ -15,7 +15,7 @@ use Rattle.base.specs.declared.tree.BinaryOp.TheVariants.{BitOr, BitXor, BitAnd,
 use Rattle.base.specs.declared.tree.Source.{Source}
 use Rattle.base.specs.declared.tree.Source.TheVariants.{Value, Read as Input}
 use Rattle.base.specs.declared.tree.Stmt.{Stmt, Row_of-Stmt, end_of-Stmt, more_of-Stmt}
-use Rattle.base.specs.declared.tree.Stmt.TheVariants.{Declare, Assign, Store, Print, Block', Loop', If'}
+use Rattle.base.specs.declared.tree.Stmt.TheVariants.{Declare, Assign, Store, Combine, Print, Block', Loop', If'}
 use Rattle.base.specs.declared.fault.Interval.{Interval}
 use Rattle.base.specs.Value.{binary}
 use Rattle.base.specs.Interval.{exactly, from_to, full, if_single, interval, interval_binary, most}
@@ -247,7 +247,7 @@ module _ (loops : List ℕ) (first last : ℕ) (some : first < last) (few : last
 
   abbrev one_touch : ArrayId → Place → Bool → Expr → List ℕ → Bool → List Touch
   one_touch a place write e ls c =
-      record { array = a; cells = interval e ls; is_write = write; certain = c; place = place } ∷ []
+      record { array = a; cells = interval e ls; is_write = write; certain = c; combines = None; place = place } ∷ []
 
   one : (a : ArrayId) (place : Place) (write : Bool) (e : Expr) → is_near (length loops) e ≡ true → IsNear (one_touch a place write e) →
       Moves (one_touch a place write e) 1
@@ -257,7 +257,7 @@ module _ (loops : List ℕ) (first last : ℕ) (some : first < last) (few : last
         slides = record { array = a; place = place; start = moving.start; writes = write; certain = true } ∷ [];
         many = refl;
         turns = λ v le lt i.
-            record { array = a; cells = moving.turns v le lt i; is_write = write; certain = true; place = place } ∷ [];
+            record { array = a; cells = moving.turns v le lt i; is_write = write; certain = true; combines = None; place = place } ∷ [];
       }
 
   expr_moves : (e : Expr) → is_plain_expr (length loops) e ≡ true → IsNear (expr_touches e) → Moves (expr_touches e) (cells_in_expr e)
@@ -310,6 +310,7 @@ module _ (loops : List ℕ) (first last : ℕ) (some : first < last) (few : last
         (source_moves v (and_right (is_near (length loops) e) (is_plain_source (length loops) v) h)
         (stays_left (source_touches v) store last_stays))
         (one a place true e near (stays_right (source_touches v) store last_stays)))
+    stmt_moves (Combine op a place e v) h stays = absurd (false≢true h)
     stmt_moves (Print e) h stays = expr_moves e h stays
     stmt_moves (Block' shape all) h stays = row_moves all h stays
     stmt_moves (Loop' b shape all) h stays = absurd (false≢true h)

@@ -9,7 +9,7 @@ use Rattle.std.proofs.lemmas.List.Folds.{list_any-append}
 use Rattle.base.specs.declared.tree.Bounds.{Bounds}
 use Rattle.base.specs.declared.tree.Region.{Region}
 use Rattle.base.specs.declared.tree.Stmt.{Stmt}
-use Rattle.base.specs.declared.tree.Stmt.TheVariants.{Declare, Assign, Store, Print, Block', Loop', If'}
+use Rattle.base.specs.declared.tree.Stmt.TheVariants.{Declare, Assign, Store, Combine, Print, Block', Loop', If'}
 use Rattle.base.specs.Footprint.{Touch, exposes, has_cell, reads, surely_writes, row_touches, stmt_touches, touches_of, turns_touch, writes}
 use Rattle.base.specs.Meaning.{turns_left}
 use Rattle.base.proofs.LoopTurns.{one_turn_less, no_turn_left}
@@ -108,12 +108,14 @@ few_in_list loops [] touches part runs is inside plain h = absurd (false≢true 
 few_in_list loops (Declare x v ∷ []) touches part runs is inside plain h = absurd (false≢true plain)
 few_in_list loops (Assign x v ∷ []) touches part runs is inside plain h = absurd (false≢true plain)
 few_in_list loops (Store a place e v ∷ []) touches part runs is inside plain h = absurd (false≢true plain)
+few_in_list loops (Combine op a place e v ∷ []) touches part runs is inside plain h = absurd (false≢true plain)
 few_in_list loops (Print e ∷ []) touches part runs is inside plain h = absurd (false≢true plain)
 few_in_list loops (Block' shape all ∷ []) touches part runs is inside plain h = absurd (false≢true plain)
 few_in_list loops (If' c shape all shape' all' ∷ []) touches part runs is inside plain h = absurd (false≢true plain)
 few_in_list loops ((Declare x v) ∷ t ∷ more) touches part runs is inside plain h = absurd (false≢true plain)
 few_in_list loops ((Assign x v) ∷ t ∷ more) touches part runs is inside plain h = absurd (false≢true plain)
 few_in_list loops ((Store a place e v) ∷ t ∷ more) touches part runs is inside plain h = absurd (false≢true plain)
+few_in_list loops ((Combine op a place e v) ∷ t ∷ more) touches part runs is inside plain h = absurd (false≢true plain)
 few_in_list loops ((Print e) ∷ t ∷ more) touches part runs is inside plain h = absurd (false≢true plain)
 few_in_list loops ((Block' shape all) ∷ t ∷ more) touches part runs is inside plain h = absurd (false≢true plain)
 few_in_list loops ((Loop' b shape all) ∷ t ∷ more) touches part runs is inside plain h = absurd (false≢true plain)

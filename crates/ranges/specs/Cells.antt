@@ -38,9 +38,10 @@ HasAll s a cells = (c : Cell) → is_among a cells c ≡ true → has s c ≡ tr
 abbrev pub AreKnown : (Cell → Bool) → (Cell → Bool) → (Cell → Bool) → Type 0
 AreKnown exposed read sure = (c : Cell) → read c ≡ true → (exposed c || sure c) ≡ true
 
--- the second has in each of its sets the cells that the first has there
+-- the second has in each of its sets the cells that the first has there, and its turns meet where those of the first do
 pub record HasSameCells (f g : Footprint) : Type 0 where
   pub exposed : has g.exposed ≡ has f.exposed
   pub read : has g.read ≡ has f.read
   pub write : has g.write ≡ has f.write
   pub sure : has g.sure ≡ has f.sure
+  pub meeting : g.meeting ≡ f.meeting

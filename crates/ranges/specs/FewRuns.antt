@@ -7,7 +7,7 @@ use Rattle.base.specs.declared.tree.BinaryOp.TheVariants.{Add, Subtract}
 use Rattle.base.specs.declared.tree.Source.{Source}
 use Rattle.base.specs.declared.tree.Source.TheVariants.{Value, Read as Input}
 use Rattle.base.specs.declared.tree.Stmt.{Stmt, Row_of-Stmt, end_of-Stmt, more_of-Stmt}
-use Rattle.base.specs.declared.tree.Stmt.TheVariants.{Declare, Assign, Store, Print, Block', Loop', If'}
+use Rattle.base.specs.declared.tree.Stmt.TheVariants.{Declare, Assign, Store, Combine, Print, Block', Loop', If'}
 use Rattle.base.specs.declared.tree.Region.{Region}
 use Rattle.base.specs.declared.item.Cell.{Cell}
 use Rattle.base.specs.Footprint.{Touch, exposes, reads, surely_writes, writes}
@@ -65,6 +65,7 @@ abbrev mutual
   is_plain level (Declare x v) = is_plain_source level v
   is_plain level (Assign x v) = is_plain_source level v
   is_plain level (Store a place e v) = is_near level e && is_plain_source level v
+  is_plain level (Combine op a place e v) = false
   is_plain level (Print e) = is_plain_expr level e
   is_plain level (Block' shape all) = is_plain_row level all
   is_plain level (Loop' b shape all) = false
@@ -102,6 +103,7 @@ abbrev mutual
   cells_in (Declare x v) = cells_in_source v
   cells_in (Assign x v) = cells_in_source v
   cells_in (Store a place e v) = cells_in_expr e + (cells_in_source v + 1)
+  cells_in (Combine op a place e v) = cells_in_expr e + (cells_in_expr v + 1)
   cells_in (Print e) = cells_in_expr e
   cells_in (Block' shape all) = cells_in_row all
   cells_in (Loop' b shape all) = cells_in_row all

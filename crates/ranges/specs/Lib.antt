@@ -5,6 +5,7 @@ pub mod Faults
 pub mod FewRuns
 pub mod Found
 pub mod ItemFaults
+pub mod Meetings
 pub mod Reach
 pub mod Rows
 pub mod RunLists
@@ -13,3 +14,4 @@ pub mod Settled
 pub mod Slides
 pub mod Spans
 pub mod Straight
+pub mod Ways

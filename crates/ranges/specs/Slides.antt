@@ -1,5 +1,5 @@
 -- Accesses whose cell moves on in each turn of a loop by as much as the loop's name.
-use Rattle.std.specs.Prelude.{ℕ, zero, suc, ◌≡◌, ◌+◌, ◌-◌, ◌*◌, ◌^◌, ◌<◌, ◌≤◌, ◌==◌, min, Bool, false, List, [], ◌∷◌, ◌++◌, map, length, slice_index, ◌&&◌, ◌||◌, not, cond, ◌⊎◌}
+use Rattle.std.specs.Prelude.{ℕ, zero, suc, ◌≡◌, ◌+◌, ◌-◌, ◌*◌, ◌^◌, ◌<◌, ◌≤◌, ◌==◌, min, None, Bool, false, List, [], ◌∷◌, ◌++◌, map, length, slice_index, ◌&&◌, ◌||◌, not, cond, ◌⊎◌}
 use Rattle.base.specs.declared.tree.Bounds.{Bounds}
 use Rattle.base.specs.Footprint.{Touch}
 use Rattle.base.specs.Interval.{exactly, interval}
@@ -21,6 +21,7 @@ slide_touch x s = record {
   cells = exactly (s.start + x);
   is_write = s.writes;
   certain = s.certain;
+  combines = None;
   place = s.place;
 }
 

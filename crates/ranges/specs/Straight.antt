@@ -1,5 +1,5 @@
 -- Statements without loops and conditions, as a list of their accesses.
-use Rattle.std.specs.Prelude.{ℕ, ◌≡◌, Bool, List, [], ◌∷◌, ◌++◌, map}
+use Rattle.std.specs.Prelude.{ℕ, ◌≡◌, Bool, List, [], ◌∷◌, ◌++◌, None, map}
 use Rattle.base.specs.declared.tree.Bounds.{Bounds}
 use Rattle.base.specs.Footprint.{Touch, turns_touch}
 use Rattle.base.specs.Interval.{interval}
@@ -13,6 +13,7 @@ touch_at loops certain a = record {
   cells = interval a.subscript.now loops;
   is_write = a.writes;
   certain = certain;
+  combines = None;
   place = a.place;
 }
 

@@ -142,7 +142,7 @@ fn add_stmt(
             add_store(turns, &access, v, certain, slides)
         }
         Stmt::Block(all) => add_all(turns, all, certain, slides),
-        Stmt::Loop(_, _) => Ok(false),
+        Stmt::Combine(_, _, _, _, _) | Stmt::Loop(_, _) => Ok(false),
         Stmt::If(c, first, second) => {
             if !is_steady(c, turns.loops, turns.bounds) {
                 return Ok(false);

@@ -4,6 +4,7 @@ ghost use Rattle.std.specs.Prelude.{◌≡◌, ◌≤◌, ◌^◌, ℕ, false, l
 ghost use Rattle.bits.specs.Sets.{has as has_number};
 
 use crate::row::Row;
+use base::item::Cell;
 use bits::BitSet;
 use std::alloc::Global;
 
@@ -30,4 +31,6 @@ pub struct Footprint {
     pub write: CellSet,
     /// Those that it writes in each run that comes to its end.
     pub sure: CellSet,
+    /// The least cell on which two of its turns meet that may run in any order.
+    pub meeting: Option<Cell>,
 }

@@ -28,6 +28,7 @@ impl Clone for Footprint {
             read: self.read.clone()?,
             write: self.write.clone()?,
             sure: self.sure.clone()?,
+            meeting: self.meeting,
         })
     }
 }

@@ -161,6 +161,7 @@ impl Footprint {
             read: CellSet::new(alloc),
             write: CellSet::new(alloc),
             sure: CellSet::new(alloc),
+            meeting: None,
         }
     }
 }

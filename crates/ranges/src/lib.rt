@@ -6,13 +6,17 @@ ghost use Rattle.base.specs.declared.item.Cell.{Cell};
 ghost use Rattle.base.specs.Meaning.{lengths_of};
 ghost use Rattle.base.specs.Accepted.{region_faults, section_faults};
 ghost use Rattle.base.specs.Footprint.{exposes, reads, surely_writes, touches_of, writes};
+ghost use Rattle.base.specs.Least.{IsLeast};
+ghost use Rattle.base.specs.Turns.{turns_at, turns_meet};
 ghost use Rattle.ranges.specs.Cells.{has};
 ghost use Rattle.ranges.specs.Faults.{IsFirst};
 ghost use Rattle.ranges.specs.FewRuns.{HasFewRuns};
 ghost use Rattle.ranges.specs.Found.{IsFootprintFault};
 ghost use Rattle.ranges.specs.ItemFaults.{AreByParts};
+ghost use Rattle.ranges.specs.Meetings.{AreMetBefore, AreMetWhereWritten};
 
 pub use crate::cells::{CellSet, Footprint};
+use crate::first_meeting::meeting;
 pub use crate::reached::{no_reach, reach};
 pub use crate::run_list::{Part, Run, runs_are_unique};
 use crate::section::{note_depends, note_maps};
@@ -33,13 +37,19 @@ mod cells;
 mod clones;
 mod contents;
 mod deciding;
+mod first_meeting;
 mod least;
+mod meeting_walk;
+mod met;
+mod nest;
+mod noting;
 mod offsets;
 mod period;
 mod reached;
 mod row;
 mod row_turns;
 mod run_list;
+mod scalars;
 mod section;
 mod settled;
 mod slide;
@@ -52,6 +62,7 @@ mod straight;
 mod turn_cells;
 mod turns;
 mod walk;
+mod way;
 
 // The most turns that the loops of a region may have.
 const MOST_TURNS: u64 = 1_048_576;
@@ -108,6 +119,10 @@ pub fn sections(program: &Program, item: &Item) -> Result<(), RangeFault>
 /// the loop's name, alone or with a number of at most 65,536 that is added or subtracted, each set has at most as many runs
 /// as the region names cells of arrays.
 ///
+/// Of a region whose turns may run in any order it is then found where two of them meet: each turn is walked twice, one
+/// after the other, unless there are fewer than two. While that lasts it takes a bit more for each cell and each way in which
+/// cells are touched: a read, a write, and an update by each of the operators.
+///
 /// It takes time for each turn that is walked and each subscript, and for the cells of a subscript's interval, unless all
 /// of them lie in the one run of cells that is kept for an array; of a loop no turn of which is walked, for the cells that
 /// it touches and for pairs of its accesses. It takes four bits of memory for each cell of an array up to the last one
@@ -123,6 +138,7 @@ pub fn footprint(
     ensures read { IfOk result (λ f. (c : Cell) → has f.read c ≡ reads (touches_of region.now loops.now.values.items) c) }
     ensures write { IfOk result (λ f. (c : Cell) → has f.write c ≡ writes (touches_of region.now loops.now.values.items) c) }
     ensures sure { IfOk result (λ f. (c : Cell) → has f.sure c ≡ surely_writes (touches_of region.now loops.now.values.items) c) }
+    ensures meeting { IfOk result (λ f. IsLeast (turns_meet (turns_at region.now.depth region.now.body.items loops.now.values.items)) f.meeting) }
     ensures few { IfOk result (HasFewRuns region.now loops.now.values.items) }
     ensures fault { IfErr result (IsFootprintFault (region_faults (lengths_of program.now) loops.now.values.items (Some region.now))) }
 {
@@ -132,15 +148,31 @@ pub fn footprint(
     let Ok(walk) = walk_region(alloc, program, region, loops) else {
         return Err(FootprintFault::OutOfMemory);
     };
-    let Walk { found, least } = walk;
-    match least {
-        None => Ok(found),
-        Some(place) => Err(FootprintFault::Range(fault_at(RangeCode::SubscriptOutside, place))),
+    let Walk { mut found, least } = walk;
+    if let Some(place) = least {
+        return Err(FootprintFault::Range(fault_at(RangeCode::SubscriptOutside, place)));
     }
+    let Ok(first) = meeting(alloc, program, region, loops, &found.write) else {
+        return Err(FootprintFault::OutOfMemory);
+    };
+    found.meeting = first;
+    Ok(found)
 }
 
 /// The first fault of an item's sections is its first fault of range; where they have none, its faults are those of its
 /// region.
 pub fn item_faults()
     ensures { AreByParts }
+{}
+
+/// The turns of a loop that may run in any order meet where one of them writes what one before it read or wrote, or reads
+/// what one before it wrote, unless both touches are updates by one operator: so it is enough to know how all turns
+/// before have touched each cell.
+pub fn turns_meet_before()
+    ensures { AreMetBefore }
+{}
+
+/// Where a turn may need a scalar that another assigns, two turns and more meet wherever one of them writes.
+pub fn turns_meet_where_written()
+    ensures { AreMetWhereWritten }
 {}

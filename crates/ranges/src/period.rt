@@ -46,6 +46,7 @@ fn period_in(s: &Stmt, m: u64) -> u64
         Stmt::Declare(_, _)
         | Stmt::Assign(_, _)
         | Stmt::Store(_, _, _, _)
+        | Stmt::Combine(_, _, _, _, _)
         | Stmt::Print(_)
         | Stmt::Loop(_, _) => m,
         Stmt::Block(all) => period_in_all(all, m),

@@ -190,6 +190,7 @@ impl Walk {
                 };
                 Ok(self.settles_store(lengths, &access, v, certain, span))
             }
+            Stmt::Combine(_, _, _, _, _) => Ok(false),
             Stmt::Print(e) => Ok(self.settles_expr(lengths, e, certain, span)),
             Stmt::Block(all) => self.settles_all(lengths, all, certain, span),
             Stmt::Loop(bounds, body) => {

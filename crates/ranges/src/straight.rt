@@ -62,7 +62,8 @@ fn add_stmt<'r>(s: &'r Stmt, accesses: &mut Vec<Access<'r>>) -> Result<bool, All
                 writes: true,
             })?;
         }
-        Stmt::Block(_) | Stmt::Loop(_, _) | Stmt::If(_, _, _) => return Ok(false),
+        Stmt::Combine(_, _, _, _, _) | Stmt::Block(_) | Stmt::Loop(_, _) | Stmt::If(_, _, _) =>
+            return Ok(false),
     }
     Ok(true)
 }

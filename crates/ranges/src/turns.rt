@@ -13,7 +13,11 @@ fn turns_in(s: &Stmt) -> u64
     ensures { result ≡ min (stmt_turns s.now) (2 ^ 64 - 1) }
 {
     match s {
-        Stmt::Declare(_, _) | Stmt::Assign(_, _) | Stmt::Store(_, _, _, _) | Stmt::Print(_) => 0,
+        Stmt::Declare(_, _)
+        | Stmt::Assign(_, _)
+        | Stmt::Store(_, _, _, _)
+        | Stmt::Combine(_, _, _, _, _)
+        | Stmt::Print(_) => 0,
         Stmt::Block(all) => turns_in_all(all),
         Stmt::Loop(bounds, body) => bounds
             .turns()

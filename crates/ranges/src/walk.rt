@@ -169,6 +169,12 @@ fn walk_stmt(
             walk_source(v, certain, lengths, loops, walk)?;
             walk.note_write(lengths, *array, *place, interval(e, loops), certain)
         }
+        Stmt::Combine(_, array, place, e, v) => {
+            walk_expr(e, certain, lengths, loops, walk)?;
+            walk_expr(v, certain, lengths, loops, walk)?;
+            walk.note_read(lengths, *array, *place, interval(e, loops))?;
+            walk.note_write(lengths, *array, *place, interval(e, loops), certain)
+        }
         Stmt::Print(e) => walk_expr(e, certain, lengths, loops, walk),
         Stmt::Block(all) => walk_all(all, certain, lengths, loops, walk),
         Stmt::Loop(bounds, body) => {
@@ -284,7 +290,7 @@ fn walk_turns(
 }
 
 // Each array's length, in order of declaration.
-fn lengths(alloc: Global, program: &Program) -> Result<Vec<u32>, AllocError>
+pub(crate) fn lengths(alloc: Global, program: &Program) -> Result<Vec<u32>, AllocError>
     ensures { IfOk result (λ lengths. lengths.items ≡ lengths_of program.now) }
 {
     program.arrays.values().map(|a| a.length).collect(alloc)

@@ -123,6 +123,11 @@ impl Around<'_> {
         last_of(self.line)
     }
 
+    /// It stands right behind these bytes on a directive's line.
+    pub fn is_behind(&self, bytes: &[u8]) -> bool {
+        self.line.ends_with(bytes)
+    }
+
     /// It stands between the brackets of a section on a directive's line.
     pub fn is_in_bound(&self) -> bool {
         let mut is_open = false;

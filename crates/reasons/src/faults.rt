@@ -53,6 +53,7 @@ impl Scene<'_> {
                 self.absent(refusal)?
             }
             RefusalCode::Unmapped => self.unmapped(refusal)?,
+            RefusalCode::TurnsMeet => self.meeting(refusal)?,
             RefusalCode::HostNotCurrent | RefusalCode::DeviceNotCurrent => {
                 match &self.past {
                     None => None,

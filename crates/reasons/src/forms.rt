@@ -306,21 +306,42 @@ pub fn bad_number(around: &Around<'_>) -> Telling {
     with_help(ReadCode::BadNumber, None)
 }
 
-/// Of an operand, or of a number in the head of a loop, that is not in range.
-pub fn bad_operand(around: &Around<'_>) -> Option<&'static str> {
+// A number behind a word of a directive's line.
+fn bad_amount(around: &Around<'_>) -> Telling {
+    if around.is_behind(b"collapse(") {
+        return Telling {
+            said: "is no number of loops that `collapse` takes: these are 1, 2, 3 and 4",
+            help: "write one of these numbers",
+        };
+    }
+    Telling {
+        said: "is no number from 1 on",
+        help: "write a number by itself",
+    }
+}
+
+/// Of a number that is none or is out of range: an operand, one in the head of a loop, or one of a clause.
+pub fn bad_operand(around: &Around<'_>) -> Telling {
     let before = around.before;
+    if !around.line.is_empty() {
+        return bad_amount(around);
+    }
     if before == "/" || before == "%" {
-        return Some("divide by a number by itself, from 1 on");
+        return Telling {
+            said: "is no divisor: that is a number by itself, from 1 on",
+            help: "write a number; to divide by a scalar, count in a loop",
+        };
     }
     if before == "<<" || before == ">>" {
-        return Some("shift by a number by itself, from 0 to 63");
+        return Telling {
+            said: "is no shift count: that is a number by itself, from 0 to 63",
+            help: "write a number; to shift by a scalar, count in a loop",
+        };
     }
-    if around.in_head {
-        return Some(
-            "a step is at least 1, and the limit plus the step at most 18446744073709551616",
-        );
+    Telling {
+        said: "is no step that can stand here",
+        help: "a step is at least 1, and the limit plus the step at most 18446744073709551616",
     }
-    None
 }
 
 /// Of a clause that is missing, or stands a second time.
@@ -370,7 +391,7 @@ pub fn unknown_clause(around: &Around<'_>) -> Option<&'static str> {
     }
     if is_one_of(word, &PARTS) {
         return Some(
-            "`target` alone is read, and its loops run in order: take such words away, up to the clauses",
+            "a construct is `target` with `parallel for`, `simd`, `parallel loop`, `teams loop` or `teams distribute` behind it",
         );
     }
     None

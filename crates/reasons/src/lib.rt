@@ -11,6 +11,7 @@ mod forms;
 mod further;
 mod limit;
 mod limits;
+mod meeting;
 mod past;
 mod rules;
 mod scene;

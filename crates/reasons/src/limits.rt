@@ -20,7 +20,11 @@ const MOST_TURNS: u64 = 1_048_576;
 #[cycle(turns)]
 fn turns_in(s: &Stmt) -> u64 {
     match s {
-        Stmt::Declare(_, _) | Stmt::Assign(_, _) | Stmt::Store(_, _, _, _) | Stmt::Print(_) => 0,
+        Stmt::Declare(_, _)
+        | Stmt::Assign(_, _)
+        | Stmt::Store(_, _, _, _)
+        | Stmt::Combine(_, _, _, _, _)
+        | Stmt::Print(_) => 0,
         Stmt::Block(all) => turns_in_all(all),
         Stmt::Loop(bounds, body) => bounds
             .turns()

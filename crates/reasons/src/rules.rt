@@ -30,6 +30,8 @@ pub fn refusal_rule(code: RefusalCode) -> &'static str {
         RefusalCode::HostNotCurrent => "the host reads current values alone",
         RefusalCode::DeviceNotCurrent =>
             "a kernel reads values alone that are current on its device",
+        RefusalCode::TurnsMeet =>
+            "turns of a loop that may run in any order share no cell that one of them writes",
         RefusalCode::Conflict => {
             "of two items that touch a cell, of which one writes, one is before the other"
         }
@@ -49,15 +51,15 @@ pub fn read_rule(code: ReadCode) -> &'static str {
         ReadCode::BadLength => "an array has from 1 to 65536 cells",
         ReadCode::LoopNameAssigned => "the name of a loop is not assigned in it",
         ReadCode::BadOperand =>
-            "divisors, shift counts and steps are numbers: a divisor and a step are not 0, a shift count is at most 63, and no loop wraps",
+            "divisors, shift counts, steps and what `collapse` and its like say are numbers: a shift count is at most 63, that of `collapse` at most 4, none of the others is 0, and no loop wraps",
         ReadCode::TooDeep => "at most 16 brackets of a kind are open at once",
         ReadCode::TooMany =>
             "a source stays below the limits of its length, its names, its statements and the tokens of an expression",
         ReadCode::UnknownDirective =>
-            "a directive is `target`, `target data`, `target enter data`, `target exit data`, `target update` or `taskwait`",
+            "a directive is `target`, alone or as in `target parallel for`, `target data`, `target enter data`, `target exit data`, `target update` or `taskwait`",
         ReadCode::UnknownClause => "a directive has clauses that it takes, and nothing else",
         ReadCode::ClauseCount =>
-            "a directive has the clauses that it needs, and `nowait`, `device` and a modifier at most once",
+            "a directive has the clauses that it needs, and `nowait`, `device`, a modifier and each clause of a number at most once",
         ReadCode::BadMapType =>
             "a `map` clause has modifiers, each of `always` and `present` at most once, and a map type that its directive takes",
         ReadCode::BadBound =>
@@ -67,7 +69,8 @@ pub fn read_rule(code: ReadCode) -> &'static str {
         ReadCode::OuterAssigned =>
             "a `target` assigns no scalar that is declared outside it: it captures the value",
         ReadCode::HostOnly => "a `target` neither prints nor reads",
-        ReadCode::NoBody => "a `target` or a `target data` is followed by a block or a loop",
+        ReadCode::NoBody =>
+            "a `target` or a `target data` is followed by a block or a loop, one as `target parallel for` by as many loops, each alone in the one around it, as `collapse` says",
         ReadCode::DirectiveUnderIf => "no directive stands under an `if`",
         ReadCode::BadDevice => "a device is one of the numbers 0 to 3",
     }
@@ -83,8 +86,7 @@ pub fn read_words(code: ReadCode) -> &'static str {
         ReadCode::BadNumber => "is above 18446744073709551615",
         ReadCode::BadLength => "is no length of an array, which has from 1 to 65536 cells",
         ReadCode::LoopNameAssigned => "is the name of a loop, and is assigned in it",
-        ReadCode::BadOperand =>
-            "cannot stand here: a divisor and a step are numbers from 1 on, a shift count one up to 63, and a loop does not wrap",
+        ReadCode::BadOperand => "is out of range here",
         ReadCode::TooDeep => "opens one bracket too many: 16 of a kind may be open at once",
         ReadCode::TooMany => "is one token too many: an expression has at most 256",
         ReadCode::UnknownDirective => "begins no directive that is read",
@@ -98,7 +100,8 @@ pub fn read_words(code: ReadCode) -> &'static str {
         ReadCode::OuterAssigned =>
             "is declared outside the `target`, which takes its value and cannot assign it",
         ReadCode::HostOnly => "cannot stand inside a `target`",
-        ReadCode::NoBody => "is no block or loop, and one has to follow the directive",
+        ReadCode::NoBody =>
+            "is not what has to follow the directive: a block or a loop, and a loop where its turns may run in any order",
         ReadCode::DirectiveUnderIf => "is a directive under an `if`",
         ReadCode::BadDevice => "is no device: these are 0, 1, 2 and 3",
     }
@@ -127,7 +130,7 @@ pub fn read_help(code: ReadCode) -> &'static str {
         ReadCode::OuterAssigned =>
             "write the value to a cell of an array that is mapped `from` or `tofrom`",
         ReadCode::HostOnly => "print after the `target`, once the cells are back on the host",
-        ReadCode::NoBody => "put braces around what follows",
+        ReadCode::NoBody => "put braces around what follows, or write the loop that is missing",
         ReadCode::DirectiveUnderIf => "put the condition into the regions",
         ReadCode::BadDevice => "write 0, 1, 2 or 3",
     }

@@ -34,6 +34,8 @@ struct Search<'a> {
     wanted: Wanted,
     lengths: &'a [u32],
     loops: Vec<u64>,
+    // The values of loops of a turn that is left out; none is where there are none.
+    but: &'a [u64],
     // Whether the cell is surely written so far.
     sure: bool,
     found: Option<Access>,
@@ -64,6 +66,14 @@ impl Search<'_> {
         }
     }
 
+    // Whether the turn is the one that is left out.
+    fn is_left_out(&self) -> bool {
+        match self.loops.get(..self.but.len()) {
+            Some(front) => !self.but.is_empty() && front == self.but,
+            None => false,
+        }
+    }
+
     // Whether a write of these cells is one of the cell that is looked for, whichever of them it is.
     fn is_of_the_cell(&self, array: ArrayId, cells: Interval) -> bool {
         match self.wanted {
@@ -79,7 +89,10 @@ impl Search<'_> {
         cells: Interval,
         writes: bool,
     ) -> Result<(), AllocError> {
-        if self.found.is_none() && self.is_wanted(array, place, cells, writes) {
+        if self.found.is_none()
+            && self.is_wanted(array, place, cells, writes)
+            && !self.is_left_out()
+        {
             self.found = Some(Access {
                 array,
                 place,
@@ -138,6 +151,13 @@ fn search_stmt(s: &Stmt, certain: bool, search: &mut Search<'_>) -> Result<(), A
             search_expr(e, search)?;
             search_source(v, search)?;
             let cells = interval(e, &search.loops);
+            search.note_write(*array, *place, cells, certain)
+        }
+        Stmt::Combine(_, array, place, e, v) => {
+            search_expr(e, search)?;
+            search_expr(v, search)?;
+            let cells = interval(e, &search.loops);
+            search.note(*array, *place, cells, false)?;
             search.note_write(*array, *place, cells, certain)
         }
         Stmt::Print(e) => search_expr(e, search),
@@ -205,11 +225,24 @@ pub fn first_access(
     loops: &LoopValues,
     wanted: Wanted,
 ) -> Result<Option<Access>, AllocError> {
+    first_but(alloc, lengths, region, loops, wanted, &[])
+}
+
+/// The same in another turn than the one with these values of the outermost loops.
+pub fn first_but(
+    alloc: Global,
+    lengths: &[u32],
+    region: &Region,
+    loops: &LoopValues,
+    wanted: Wanted,
+    but: &[u64],
+) -> Result<Option<Access>, AllocError> {
     let mut search = Search {
         alloc,
         wanted,
         lengths,
         loops: Vec::from_slice(alloc, &loops.values)?,
+        but,
         sure: false,
         found: None,
     };

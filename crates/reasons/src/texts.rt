@@ -50,7 +50,7 @@ fn telling_of(bytes: &[u8], code: ReadCode, around: &Around<'_>) -> Telling {
         ReadCode::Unexpected => with_help(code, forms::unexpected(around)),
         ReadCode::UnknownDirective => with_help(code, forms::unknown_directive(around)),
         ReadCode::UnknownClause => with_help(code, forms::unknown_clause(around)),
-        ReadCode::BadOperand => with_help(code, forms::bad_operand(around)),
+        ReadCode::BadOperand => forms::bad_operand(around),
         ReadCode::BadBound => with_help(code, forms::bad_bound(around)),
         _ => with_help(code, None),
     }

@@ -3,6 +3,7 @@ use Rattle.base.specs.declared.fault.RangeFault.{RangeFault}
 use Rattle.base.specs.Meaning.{lengths_of}
 use Rattle.base.specs.Footprint.{touches_of, turns_in}
 use Rattle.base.specs.Accepted.{region_faults}
+use Rattle.ranges.specs.declared.cells.Footprint.{Footprint}
 use Rattle.ranges.specs.Faults.{IsFirst}
 use Rattle.ranges.specs.Seen.{list_turns, seen_in, Seen}
 use Rattle.ranges.specs.Found.{nothing_seen}
@@ -22,46 +23,6 @@ returns-then-turns_in_all-gt-MOST_TURNS-clause-fault c =
     (c.turns_in_all.ensures ∙ ap (λ xs. min (list_turns xs) (2 ^ 64 - 1)) c.deref.ensures.value)
     c.if-turns_in_all-gt-MOST_TURNS.true))
 
-pub returns-in-None-clause-fine : goal.returns-in-None-clause-fine
-returns-in-None-clause-fine c =
-    let r = c.args.region.now in
-    let loops = c.args.loops.now.values.items in
-    let lengths = lengths_of c.args.program.now in
-    no_fault lengths loops r
-    (up_to_most c.turns_in_all.result (turns_in r)
-    (c.turns_in_all.ensures ∙ ap (λ xs. min (list_turns xs) (2 ^ 64 - 1)) c.deref.ensures.value)
-    c.if-turns_in_all-gt-MOST_TURNS.false)
-    (sym (ap (λ (s : Seen). s.least) c.in-Ok.ensures ∙ least_seen lengths (touches_of r loops) nothing_seen)
-    ∙ c.in-None.is)
-
-pub returns-in-None-clause-exposed : goal.returns-in-None-clause-exposed
-returns-in-None-clause-exposed c d =
-    let e : (seen_in c.in-Ok.walk).least ≡ None = c.in-None.is in
-    ap (λ (s : Seen). s.exposed d) c.in-Ok.ensures
-    ∙ (all_seen (lengths_of c.args.program.now) (touches_of c.args.region.now c.args.loops.now.values.items) d
-    (sym (ap (λ (s : Seen). s.least) c.in-Ok.ensures) ∙ e)).exposed
-
-pub returns-in-None-clause-read : goal.returns-in-None-clause-read
-returns-in-None-clause-read c d =
-    let e : (seen_in c.in-Ok.walk).least ≡ None = c.in-None.is in
-    ap (λ (s : Seen). s.read d) c.in-Ok.ensures
-    ∙ (all_seen (lengths_of c.args.program.now) (touches_of c.args.region.now c.args.loops.now.values.items) d
-    (sym (ap (λ (s : Seen). s.least) c.in-Ok.ensures) ∙ e)).read
-
-pub returns-in-None-clause-write : goal.returns-in-None-clause-write
-returns-in-None-clause-write c d =
-    let e : (seen_in c.in-Ok.walk).least ≡ None = c.in-None.is in
-    ap (λ (s : Seen). s.write d) c.in-Ok.ensures
-    ∙ (all_seen (lengths_of c.args.program.now) (touches_of c.args.region.now c.args.loops.now.values.items) d
-    (sym (ap (λ (s : Seen). s.least) c.in-Ok.ensures) ∙ e)).write
-
-pub returns-in-None-clause-sure : goal.returns-in-None-clause-sure
-returns-in-None-clause-sure c d =
-    let e : (seen_in c.in-Ok.walk).least ≡ None = c.in-None.is in
-    ap (λ (s : Seen). s.sure d) c.in-Ok.ensures
-    ∙ (all_seen (lengths_of c.args.program.now) (touches_of c.args.region.now c.args.loops.now.values.items) d
-    (sym (ap (λ (s : Seen). s.least) c.in-Ok.ensures) ∙ e)).sure
-
 pub returns-in-Some-clause-fault : goal.returns-in-Some-clause-fault
 returns-in-Some-clause-fault c =
     let r = c.args.region.now in
@@ -75,10 +36,73 @@ returns-in-Some-clause-fault c =
     (sym (ap (λ (s : Seen). s.least) c.in-Ok.ensures ∙ least_seen lengths (touches_of r loops) nothing_seen)
     ∙ c.in-Some.is))
 
-pub returns-in-None-clause-few : goal.returns-in-None-clause-few
-returns-in-None-clause-few c =
+pub meeting-requires-clause-fine : goal.meeting-requires-clause-fine
+meeting-requires-clause-fine c =
     let r = c.args.region.now in
     let loops = c.args.loops.now.values.items in
-    few_in_footprint r loops c.in-Ok.walk.found
-    (each_part c.in-Ok.walk.found (touches_of r loops) (returns-in-None-clause-exposed c) (returns-in-None-clause-read c)
-    (returns-in-None-clause-write c) (returns-in-None-clause-sure c))
+    let lengths = lengths_of c.args.program.now in
+    no_fault lengths loops r
+    (up_to_most c.turns_in_all.result (turns_in r)
+    (c.turns_in_all.ensures ∙ ap (λ xs. min (list_turns xs) (2 ^ 64 - 1)) c.deref.ensures.value)
+    c.if-turns_in_all-gt-MOST_TURNS.false)
+    (sym (ap (λ (s : Seen). s.least) c.in-Ok.ensures ∙ least_seen lengths (touches_of r loops) nothing_seen)
+    ∙ c.in_default-least.is)
+
+pub meeting-requires-clause-write : goal.meeting-requires-clause-write
+meeting-requires-clause-write c d =
+    let e : (seen_in c.in-Ok.walk).least ≡ None = c.in_default-least.is in
+    ap (λ (s : Seen). s.write d) c.in-Ok.ensures
+    ∙ (all_seen (lengths_of c.args.program.now) (touches_of c.args.region.now c.args.loops.now.values.items) d
+    (sym (ap (λ (s : Seen). s.least) c.in-Ok.ensures) ∙ e)).write
+
+pub returns-clause-fine : goal.returns-clause-fine
+returns-clause-fine c =
+    let r = c.args.region.now in
+    let loops = c.args.loops.now.values.items in
+    let lengths = lengths_of c.args.program.now in
+    no_fault lengths loops r
+    (up_to_most c.turns_in_all.result (turns_in r)
+    (c.turns_in_all.ensures ∙ ap (λ xs. min (list_turns xs) (2 ^ 64 - 1)) c.deref.ensures.value)
+    c.if-turns_in_all-gt-MOST_TURNS.false)
+    (sym (ap (λ (s : Seen). s.least) c.in-Ok.ensures ∙ least_seen lengths (touches_of r loops) nothing_seen)
+    ∙ c.in_default-least.is)
+
+pub returns-clause-exposed : goal.returns-clause-exposed
+returns-clause-exposed c d =
+    let e : (seen_in c.in-Ok.walk).least ≡ None = c.in_default-least.is in
+    ap (λ (s : Seen). s.exposed d) c.in-Ok.ensures
+    ∙ (all_seen (lengths_of c.args.program.now) (touches_of c.args.region.now c.args.loops.now.values.items) d
+    (sym (ap (λ (s : Seen). s.least) c.in-Ok.ensures) ∙ e)).exposed
+
+pub returns-clause-read : goal.returns-clause-read
+returns-clause-read c d =
+    let e : (seen_in c.in-Ok.walk).least ≡ None = c.in_default-least.is in
+    ap (λ (s : Seen). s.read d) c.in-Ok.ensures
+    ∙ (all_seen (lengths_of c.args.program.now) (touches_of c.args.region.now c.args.loops.now.values.items) d
+    (sym (ap (λ (s : Seen). s.least) c.in-Ok.ensures) ∙ e)).read
+
+pub returns-clause-write : goal.returns-clause-write
+returns-clause-write c d =
+    let e : (seen_in c.in-Ok.walk).least ≡ None = c.in_default-least.is in
+    ap (λ (s : Seen). s.write d) c.in-Ok.ensures
+    ∙ (all_seen (lengths_of c.args.program.now) (touches_of c.args.region.now c.args.loops.now.values.items) d
+    (sym (ap (λ (s : Seen). s.least) c.in-Ok.ensures) ∙ e)).write
+
+pub returns-clause-sure : goal.returns-clause-sure
+returns-clause-sure c d =
+    let e : (seen_in c.in-Ok.walk).least ≡ None = c.in_default-least.is in
+    ap (λ (s : Seen). s.sure d) c.in-Ok.ensures
+    ∙ (all_seen (lengths_of c.args.program.now) (touches_of c.args.region.now c.args.loops.now.values.items) d
+    (sym (ap (λ (s : Seen). s.least) c.in-Ok.ensures) ∙ e)).sure
+
+pub returns-clause-few : goal.returns-clause-few
+returns-clause-few c =
+    let r = c.args.region.now in
+    let loops = c.args.loops.now.values.items in
+    let found : Footprint = record c.in-Ok.walk.found { meeting = c.in-Ok-meeting.first } in
+    few_in_footprint r loops found
+    (each_part found (touches_of r loops) (returns-clause-exposed c) (returns-clause-read c) (returns-clause-write c)
+    (returns-clause-sure c))
+
+pub returns-clause-meeting : goal.returns-clause-meeting
+returns-clause-meeting c = c.in-Ok-meeting.ensures

@@ -2,7 +2,7 @@ use Rattle.std.proofs.Common.{ap₂}
 use Rattle.std.specs.Prelude.{◌&&◌}
 use Rattle.bits.specs.Sets.{has as has_number}
 use Rattle.ranges.specs.Cells.{has}
-use Rattle.mapwalk.proofs.FirstCells.{least_in_row}
+use Rattle.ranges.proofs.FirstCells.{least_in_row}
 use Rattle.mapcheck.proofs.conflict.least_of_both.Goals as goal
 
 pub returns-in-Some : goal.returns-in-Some

@@ -4,7 +4,7 @@ use Rattle.bits.specs.Sets.{has as has_number}
 use Rattle.ranges.specs.Cells.{has}
 use Rattle.mapwalk.specs.Current.{marks_in}
 use Rattle.mapwalk.specs.Marks.{has_mark}
-use Rattle.mapwalk.proofs.FirstCells.{least_in_row, none_in_row}
+use Rattle.ranges.proofs.FirstCells.{least_in_row, none_in_row}
 use Rattle.mapwalk.proofs.SideRows.{row_get}
 use Rattle.mapwalk.proofs.causes.least_stale.Goals as goal
 

@@ -4,7 +4,7 @@ use Rattle.std.specs.List.{list_any}
 use Rattle.base.specs.Memory.{is_in}
 use Rattle.bits.specs.Sets.{has as has_number}
 use Rattle.ranges.specs.Cells.{has}
-use Rattle.mapwalk.proofs.FirstCells.{least_in_row}
+use Rattle.ranges.proofs.FirstCells.{least_in_row}
 use Rattle.mapwalk.proofs.causes.least_unmapped.Goals as goal
 
 pub returns-in-Some : goal.returns-in-Some

@@ -30,6 +30,7 @@ returns-in-Ok-clause-found c w e =
         read = c.in-Ok.ensures.read;
         write = c.in-Ok.ensures.write;
         sure = c.in-Ok.ensures.sure;
+        meeting = c.in-Ok.ensures.meeting;
       };
       within = all_inside (lengths_of p) item.loops.values.items entry.region.now c.in-Ok.found
           (ap (λ (q : Program). region_faults (lengths_of q) item.loops.values.items (Some entry.region.now))

@@ -1,4 +1,4 @@
-use Rattle.std.proofs.Common.{◌∷◌, [], Bool, sym, subst, ◌∙◌}
+use Rattle.std.proofs.Common.{◌∷◌, [], None, Bool, sym, subst, ◌∙◌}
 use Rattle.std.proofs.lemmas.Bool.{false≢true}
 use Rattle.base.specs.Footprint.{expr_touches, source_touches}
 use Rattle.base.specs.Interval.{interval}
@@ -13,7 +13,7 @@ returns-then-settles_source c h loops d between weaker =
     let lengths = c.args.lengths.now in
     let seen = seen_in c.args.self.now in
     let a = c.args.access.now in
-    let here = subst (λ (w : Bool). AllSettled lengths seen (record { array = a.array; cells = interval a.subscript.now loops; is_write = w; certain = d; place = a.place } ∷ []))
+    let here = subst (λ (w : Bool). AllSettled lengths seen (record { array = a.array; cells = interval a.subscript.now loops; is_write = w; certain = d; combines = None; place = a.place } ∷ []))
     c.requires (c.settles_access.ensures h loops d between weaker) in
     elim c.if-settles_expr.branch [
       | then-settles_expr w ↦

@@ -1,0 +1,24 @@
+use Rattle.std.proofs.Common.{sym, ap, ◌∙◌}
+use Rattle.std.specs.List.{list_any}
+use Rattle.base.specs.ScalarUse.{list_assigned, list_needs, stmt_assigned}
+use Rattle.ranges.proofs.ScalarLists.{assigned_Loop, given_first, given_second}
+use Rattle.ranges.proofs.scalars.+gives.Goals as goal
+
+pub stmt_gives-returns-in-Loop : goal.stmt_gives-returns-in-Loop
+stmt_gives-returns-in-Loop t c =
+    c.all_give-in-Loop.ensures
+    ∙ ap (λ zs. list_any (λ x. list_needs x c.args.body.now) (list_assigned zs)) c.deref-in-Loop.ensures.value
+    ∙ sym (ap (λ s. list_any (λ x. list_needs x c.args.body.now) (stmt_assigned s)) c.in-Loop.is
+    ∙ ap (list_any (λ x. list_needs x c.args.body.now)) (assigned_Loop c.in-Loop.field-0 c.in-Loop.turn))
+
+pub stmt_gives-returns-then-all_give : goal.stmt_gives-returns-then-all_give
+stmt_gives-returns-then-all_give t c =
+    given_first (λ x. list_needs x c.args.body.now) c.args.s.now c.in-If.field-0 c.in-If.first c.in-If.second c.in-If.is
+    c.deref-in-If.result.now c.deref-in-If.ensures.value c.all_give-in-If.result c.all_give-in-If.ensures c.if-all_give.true
+
+pub stmt_gives-returns-else-all_give : goal.stmt_gives-returns-else-all_give
+stmt_gives-returns-else-all_give t c =
+    given_second (λ x. list_needs x c.args.body.now) c.args.s.now c.in-If.field-0 c.in-If.first c.in-If.second c.in-If.is
+    c.deref-in-If.result.now c.deref-in-If.ensures.value c.all_give-in-If.result c.all_give-in-If.ensures
+    c.deref-else-all_give.result.now c.all_give-else-all_give.result c.deref-else-all_give.ensures.value c.if-all_give.false
+    c.all_give-else-all_give.ensures
