@@ -5,6 +5,7 @@ use Rattle.std.proofs.lemmas.Bool.{and_parts, false≢true}
 use Rattle.std.proofs.lemmas.Bool.Decides.{nat_tests}
 use mathlib.Core.Former.{Count}
 use mathlib.Core.Path.{fun_ext}
+use Rattle.base.specs.declared.item.Cell.{Cell}
 use Rattle.base.specs.declared.tree.ArrayId.{ArrayId}
 use Rattle.base.specs.declared.tree.UnaryOp.{UnaryOp}
 use Rattle.base.specs.declared.tree.UnaryOp.TheVariants as one
@@ -14,17 +15,19 @@ use Rattle.base.specs.declared.tree.ShiftOp.{ShiftOp}
 use Rattle.base.specs.declared.tree.ShiftOp.TheVariants as shift
 use Rattle.base.specs.declared.tree.DivideOp.{DivideOp}
 use Rattle.base.specs.declared.tree.DivideOp.TheVariants as divide
+use Rattle.base.specs.declared.tree.CombineOp.{CombineOp}
+use Rattle.base.specs.declared.tree.CombineOp.TheVariants as combining
 use Rattle.base.specs.declared.tree.Bounds.{Bounds}
 use Rattle.base.specs.declared.tree.Expr.{Expr}
 use Rattle.base.specs.declared.tree.Expr.TheVariants.{Number, Scalar, LoopName, Cell', Unary', Binary', And', Or', Shift', Divide'}
 use Rattle.base.specs.declared.tree.Source.{Source}
 use Rattle.base.specs.declared.tree.Source.TheVariants.{Value, Read}
 use Rattle.base.specs.declared.tree.Stmt.{Stmt, Row_of-Stmt, end_of-Stmt, more_of-Stmt}
-use Rattle.base.specs.declared.tree.Stmt.TheVariants.{Declare, Assign, Store, Print, Block', Loop', If'}
+use Rattle.base.specs.declared.tree.Stmt.TheVariants.{Declare, Assign, Store, Combine, Print, Block', Loop', If'}
 use Rattle.base.specs.Memory.{View}
-use Rattle.base.specs.Value.{Names, and_of, binary, divided, modulus, on_both, on_one, or_of, shifted, unary, value}
-use Rattle.base.specs.Meaning.{Run, all_turns, assigned, choose, names_in, printed, run_list, run_row, run_stmt, source_of, stored, turn}
-use Rattle.device.specs.Same.{binary_number, divide_number, same_bounds, same_expr, same_list, same_place, same_row, same_source, same_stmt, shift_number, unary_number}
+use Rattle.base.specs.Value.{Names, and_of, binary, combined, divided, modulus, on_both, on_one, or_of, shifted, unary, value}
+use Rattle.base.specs.Meaning.{Run, all_turns, assigned, choose, names_in, printed, run_list, run_row, run_stmt, seen, source_of, stored, turn}
+use Rattle.device.specs.Same.{binary_number, combine_number, divide_number, same_bounds, same_expr, same_list, same_place, same_row, same_source, same_stmt, shift_number, unary_number}
 
 same : (m n : ℕ) → (m == n) ≡ true → m ≡ n
 same m n h = grind (arith, nat_tests)
@@ -58,6 +61,16 @@ divide_is : (a b : DivideOp) → (divide_number a == divide_number b) ≡ true �
 divide_is divide.Quotient divide.Quotient h = refl
 divide_is divide.Remainder divide.Remainder h = refl
 divide_is _ _ h = absurd (false≢true h)
+
+combine_is : (a b : CombineOp) → (combine_number a == combine_number b) ≡ true → a ≡ b
+combine_is combining.Add combining.Add h = refl
+combine_is combining.Multiply combining.Multiply h = refl
+combine_is combining.BitAnd combining.BitAnd h = refl
+combine_is combining.BitOr combining.BitOr h = refl
+combine_is combining.BitXor combining.BitXor h = refl
+combine_is combining.Min combining.Min h = refl
+combine_is combining.Max combining.Max h = refl
+combine_is _ _ h = absurd (false≢true h)
 
 array_is : (a b : ArrayId) → (a.0 == b.0) ≡ true → a ≡ b
 array_is a b h = ap (λ (n : ℕ). let x : ArrayId = record { 0 = n } in x) (same a.0 b.0 h)
@@ -104,6 +117,15 @@ source_means (Value a) (Value b) view loops s h = ap (option_map (λ v. (v, s)))
 source_means Read Read view loops s h = refl
 source_means _ _ view loops s h = absurd (false≢true h)
 
+update_means : {o u : CombineOp} {x y : ArrayId} {i j v w : Option ℕ} → o ≡ u → x ≡ y → i ≡ j → v ≡ w → (view : View) (s : Run) →
+    option_and_then (λ n. let c : Cell = record { array = x; index = n } in
+    stored view c (option_map (λ m. (m, s)) (on_both (combined o) (seen view s.stores c) v))) i
+    ≡ option_and_then (λ n. let c : Cell = record { array = y; index = n } in
+    stored view c (option_map (λ m. (m, s)) (on_both (combined u) (seen view s.stores c) w))) j
+update_means f a p q view s =
+    λ z. option_and_then (λ n. let c : Cell = record { array = a z; index = n } in
+    stored view c (option_map (λ m. (m, s)) (on_both (combined (f z)) (seen view s.stores c) (q z)))) (p z)
+
 turns_mean : (a b : Bounds) (body : ℕ → Run → Option Run) (s : Run) → same_bounds a b ≡ true →
     all_turns a body s ≡ all_turns b body s
 turns_mean a b body s h =
@@ -131,6 +153,13 @@ mutual
       (array_is x y k.0) (source_means v w view loops s m.1)
       ∙ ap (option_and_then (λ n. stored view (record { array = y; index = n }) (source_of w view loops s)))
       (expr_means (names_in view loops s) i j m.0)
+  stmt_means (Combine o x at i v) (Combine u y to j w) view loops s h =
+      let k = and_parts (combine_number o == combine_number u) ((x.0 == y.0) && (same_place at to && (same_expr i j && same_expr v w))) h in
+      let l = and_parts (x.0 == y.0) (same_place at to && (same_expr i j && same_expr v w)) k.1 in
+      let m = and_parts (same_place at to) (same_expr i j && same_expr v w) l.1 in
+      let n = and_parts (same_expr i j) (same_expr v w) m.1 in
+      let names = names_in view loops s in
+      update_means (combine_is o u k.0) (array_is x y l.0) (expr_means names i j n.0) (expr_means names v w n.1) view s
   stmt_means (Print a) (Print b) view loops s h = ap (option_map (printed s)) (expr_means (names_in view loops s) a b h)
   stmt_means (Block' m all) (Block' n other) view loops s h = row_means all other view loops s h
   stmt_means (Loop' a m all) (Loop' b n other) view loops s h =
@@ -201,6 +230,9 @@ mutual
   stmt_itself (Assign x v) = both _ _ (number x.0) (source_itself v)
   stmt_itself (Store x at i v) =
       both _ _ (number x.0) (both _ _ (both _ _ (number at.line) (number at.column)) (both _ _ (expr_itself i) (source_itself v)))
+  stmt_itself (Combine o x at i v) =
+      both _ _ (number (combine_number o))
+      (both _ _ (number x.0) (both _ _ (both _ _ (number at.line) (number at.column)) (both _ _ (expr_itself i) (expr_itself v))))
   stmt_itself (Print a) = expr_itself a
   stmt_itself (Block' m all) = row_itself all
   stmt_itself (Loop' b m all) =

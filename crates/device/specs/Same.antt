@@ -10,13 +10,15 @@ use Rattle.base.specs.declared.tree.ShiftOp.{ShiftOp}
 use Rattle.base.specs.declared.tree.ShiftOp.TheVariants as shift
 use Rattle.base.specs.declared.tree.DivideOp.{DivideOp}
 use Rattle.base.specs.declared.tree.DivideOp.TheVariants as divide
+use Rattle.base.specs.declared.tree.CombineOp.{CombineOp}
+use Rattle.base.specs.declared.tree.CombineOp.TheVariants as combining
 use Rattle.base.specs.declared.tree.Bounds.{Bounds}
 use Rattle.base.specs.declared.tree.Expr.{Expr}
 use Rattle.base.specs.declared.tree.Expr.TheVariants.{Number, Scalar, LoopName, Cell', Unary', Binary', And', Or', Shift', Divide'}
 use Rattle.base.specs.declared.tree.Source.{Source}
 use Rattle.base.specs.declared.tree.Source.TheVariants.{Value, Read}
 use Rattle.base.specs.declared.tree.Stmt.{Stmt, Row_of-Stmt, end_of-Stmt, more_of-Stmt}
-use Rattle.base.specs.declared.tree.Stmt.TheVariants.{Declare, Assign, Store, Print, Block', Loop', If'}
+use Rattle.base.specs.declared.tree.Stmt.TheVariants.{Declare, Assign, Store, Combine, Print, Block', Loop', If'}
 
 abbrev pub same_place : Place → Place → Bool
 same_place a b = (a.line == b.line) && (a.column == b.column)
@@ -47,6 +49,15 @@ abbrev pub divide_number : DivideOp → ℕ
 divide_number divide.Quotient = 0
 divide_number divide.Remainder = 1
 
+abbrev pub combine_number : CombineOp → ℕ
+combine_number combining.Add = 0
+combine_number combining.Multiply = 1
+combine_number combining.BitAnd = 2
+combine_number combining.BitOr = 3
+combine_number combining.BitXor = 4
+combine_number combining.Min = 5
+combine_number combining.Max = 6
+
 abbrev pub same_bounds : Bounds → Bounds → Bool
 same_bounds a b = (a.first == b.first) && ((a.end == b.end) && (a.step == b.step))
 
@@ -73,6 +84,9 @@ abbrev mutual
   same_stmt (Declare x v) (Declare y w) = (x.0 == y.0) && same_source v w
   same_stmt (Assign x v) (Assign y w) = (x.0 == y.0) && same_source v w
   same_stmt (Store x at i v) (Store y to j w) = (x.0 == y.0) && (same_place at to && (same_expr i j && same_source v w))
+  same_stmt (Combine o x at i v) (Combine u y to j w) =
+      (combine_number o == combine_number u)
+      && ((x.0 == y.0) && (same_place at to && (same_expr i j && same_expr v w)))
   same_stmt (Print a) (Print b) = same_expr a b
   same_stmt (Block' m all) (Block' n other) = same_row all other
   same_stmt (Loop' a m all) (Loop' b n other) = same_bounds a b && same_row all other

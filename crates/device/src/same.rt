@@ -1,9 +1,11 @@
 // Whether statements are the same, with their places in the source.
 
 ghost use Rattle.std.specs.Prelude.{◌≡◌};
-ghost use Rattle.device.specs.Same.{binary_number, divide_number, same_bounds, same_expr, same_list, same_place, same_source, same_stmt, shift_number, unary_number};
+ghost use Rattle.device.specs.Same.{binary_number, combine_number, divide_number, same_bounds, same_expr, same_list, same_place, same_source, same_stmt, shift_number, unary_number};
 
-use base::tree::{BinaryOp, Bounds, DivideOp, Expr, Place, ShiftOp, Source, Stmt, UnaryOp};
+use base::tree::{
+    BinaryOp, Bounds, CombineOp, DivideOp, Expr, Place, ShiftOp, Source, Stmt, UnaryOp,
+};
 
 fn is_same_place(left: Place, right: Place) -> bool
     ensures { result ≡ same_place left right }
@@ -54,6 +56,20 @@ fn divide_number(op: DivideOp) -> u8
     match op {
         DivideOp::Quotient => 0,
         DivideOp::Remainder => 1,
+    }
+}
+
+fn combine_number(op: CombineOp) -> u8
+    ensures { result ≡ Rattle.device.specs.Same.combine_number op }
+{
+    match op {
+        CombineOp::Add => 0,
+        CombineOp::Multiply => 1,
+        CombineOp::BitAnd => 2,
+        CombineOp::BitOr => 3,
+        CombineOp::BitXor => 4,
+        CombineOp::Min => 5,
+        CombineOp::Max => 6,
     }
 }
 
@@ -110,6 +126,11 @@ fn is_same_stmt(left: &Stmt, right: &Stmt) -> bool
         (Stmt::Assign(x, v), Stmt::Assign(y, w)) => x.0 == y.0 && is_same_source(v, w),
         (Stmt::Store(x, at, i, v), Stmt::Store(y, to, j, w)) => {
             x.0 == y.0 && (is_same_place(*at, *to) && (is_same_expr(i, j) && is_same_source(v, w)))
+        }
+        (Stmt::Combine(o, x, at, i, v), Stmt::Combine(u, y, to, j, w)) => {
+            combine_number(*o) == combine_number(*u)
+                && (x.0 == y.0
+                    && (is_same_place(*at, *to) && (is_same_expr(i, j) && is_same_expr(v, w))))
         }
         (Stmt::Print(a), Stmt::Print(b)) => is_same_expr(a, b),
         (Stmt::Block(all), Stmt::Block(other)) => is_same_list(all, other),

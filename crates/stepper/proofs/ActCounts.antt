@@ -6,8 +6,9 @@ use Rattle.base.specs.declared.item.MapItem.{MapItem}
 use Rattle.base.specs.declared.item.Section.{Section}
 use Rattle.base.specs.Map.{Fill, Memories, Move, Presence, Absent, Inside, InPart, counted, entry, exit_copies, exit_count, presence, when, with_blocks, with_cells, without}
 use Rattle.base.specs.Memory.{View, is_cell}
+use Rattle.base.specs.Value.{combined}
 use Rattle.fine_machine.specs.Action.{act, decided, loaded, lowered, on_cell, removed, with_device, with_host}
-use Rattle.fine_machine.specs.Left.{Answer, Request, OnHost, OnDevice, Load, Store, Enter, Leave, Remove, CopyIn, CopyOut}
+use Rattle.fine_machine.specs.Left.{Answer, Request, OnHost, OnDevice, Load, Store, Combine, Enter, Leave, Remove, CopyIn, CopyOut}
 use Rattle.fine_headline.proofs.Walks.{of_map}
 use Rattle.mapwalk.proofs.Recounts.{exit_low}
 use Rattle.device.specs.Moves.{CountsAtMost}
@@ -18,6 +19,7 @@ abbrev pub entered_after : Request → ℕ → ℕ
 entered_after (Enter item) n = n + 1
 entered_after (Load side c) n = n
 entered_after (Store side c v) n = n
+entered_after (Combine side op c v) n = n
 entered_after (Leave item) n = n
 entered_after (Remove s) n = n
 entered_after (CopyIn c) n = n
@@ -92,6 +94,10 @@ module _ (n : ℕ) (m : Memories) (p : Answer × Memories) (low : CountsAtMost n
       by n _ (of_cell (is_cell lengths c) (loaded 0, with_host c v m) p e) low
   counted_after lengths fill (Store OnDevice c v) e =
       by n _ (of_map (λ old. (loaded 0, with_device c v m)) (m.device.cells c) p e).2 low
+  counted_after lengths fill (Combine OnHost op c v) e =
+      by n _ (of_cell (is_cell lengths c) (loaded 0, with_host c (combined op (m.host c) v) m) p e) low
+  counted_after lengths fill (Combine OnDevice op c v) e =
+      by n _ (of_map (λ old. (loaded 0, with_device c (combined op old v) m)) (m.device.cells c) p e).2 low
   counted_after lengths fill (Enter item) e = entered fill item lengths e
   counted_after lengths fill (Leave item) e = left item e
   counted_after lengths fill (Remove s) e = gone s (same_Some (loaded 0, removed s m) p e)

@@ -12,12 +12,13 @@ use Rattle.present.specs.declared.Table.{Table}
 use Rattle.present.specs.Table.{first_cell}
 use Rattle.device.specs.Devices.{HaveRoom, OnTable, table_at}
 use Rattle.device.proofs.Counts.{table_counts}
-use Rattle.stepper.specs.Acting.{ActFails, CountsOn, FitsIn, IsActFault, IsOver, OnEntry}
-use Rattle.stepper.specs.Control.{IsNext, request_of, side_of}
-use Rattle.stepper.specs.Standing.{FailsOn, HasRoomAt, IsAt, IsStepFault, fill_from, needs}
-use Rattle.stepper.specs.declared.action.Action.{Action}
-use Rattle.stepper.specs.declared.action.Action.TheVariants as action
-use Rattle.stepper.specs.declared.control.Control.{Control}
+use Rattle.actions.specs.Acting.{ActFails, CountsOn, FitsIn, IsActFault, IsOver, OnEntry}
+use Rattle.actions.specs.Control.{IsNext, on_host}
+use Rattle.actions.specs.Strand.{request_of, side_of}
+use Rattle.stepper.specs.Standing.{FailsOn, HasRoomAt, IsAt, IsStepFault, fill_from, order_from, needs}
+use Rattle.actions.specs.declared.action.Action.{Action}
+use Rattle.actions.specs.declared.action.Action.TheVariants as action
+use Rattle.actions.specs.declared.control.Control.{Control}
 use Rattle.stepper.specs.declared.standing.Slot.TheVariants as slot
 use Rattle.stepper.specs.declared.standing.Standing.{Standing}
 use Rattle.stepper.proofs.NextActs.{act_is, after, asked_next, over_is, step_is}
@@ -36,6 +37,7 @@ counts_on plan s now d (action.Enter item) at fits t was =
     (first_cell item.section) in omega arith
 counts_on plan s now d (action.Load c) at fits t was = tt
 counts_on plan s now d (action.Store c n) at fits t was = tt
+counts_on plan s now d (action.Combine op c n) at fits t was = tt
 counts_on plan s now d (action.Leave item) at fits t was = tt
 counts_on plan s now d (action.Remove section) at fits t was = tt
 counts_on plan s now d (action.CopyIn c) at fits t was = tt
@@ -45,7 +47,7 @@ module _ (i d : ℕ) (now : Standing) (control : Control) (a : Action) (t : Tabl
     (held : slice_get now.slots.items i ≡ Some (slot.Opened control)) (next : IsNext control (Some a))
     (was : table_at now.devices d ≡ Some t) where
   abbrev request : Request
-  request = request_of (side_of control.on_host) a
+  request = request_of (side_of (on_host control)) a
 
   module _ (capacity : ℕ) (room : HaveRoom now.devices capacity) where
     -- the cells that would be in use
@@ -69,6 +71,7 @@ module _ (i d : ℕ) (now : Standing) (control : Control) (a : Action) (t : Tabl
           let has = room d t was in omega arith
       few (action.Load c) on_host fits = none
       few (action.Store c n) on_host fits = none
+      few (action.Combine op c n) on_host fits = none
       few (action.Leave item) on_host fits = none
       few (action.Remove section) on_host fits = none
       few (action.CopyIn c) on_host fits = none
@@ -84,6 +87,7 @@ module _ (i d : ℕ) (now : Standing) (control : Control) (a : Action) (t : Tabl
           let has = room d t was in omega arith
       many (action.Load c) on_host over = absurd over
       many (action.Store c n) on_host over = absurd over
+      many (action.Combine op c n) on_host over = absurd over
       many (action.Leave item) on_host over = absurd over
       many (action.Remove section) on_host over = absurd over
       many (action.CopyIn c) on_host over = absurd over
@@ -93,22 +97,22 @@ module _ (i d : ℕ) (now : Standing) (control : Control) (a : Action) (t : Tabl
     has_room fits plan s on at may =
         let h = asked_next plan s i now control a at held next may in
         over_is plan s i d request control h on capacity
-        ∙ lt_false capacity (total s) (few plan s at a control.on_host fits)
+        ∙ lt_false capacity (total s) (few plan s at a (on_host control) fits)
 
     has_no_room : IsOver a t → HasRoomAt capacity d i now true
     has_no_room over plan s on at may =
         let h = asked_next plan s i now control a at held next may in
         over_is plan s i d request control h on capacity
-        ∙ lt_true capacity (total s) (many plan s at a control.on_host over)
+        ∙ lt_true capacity (total s) (many plan s at a (on_host control) over)
 
-    fails : ActFails control.on_host a t now.host → FailsOn d i now
+    fails : ActFails (on_host control) a t now.host → FailsOn d i now
     fails refused plan s on at may =
         let h = asked_next plan s i now control a at held next may in
-        step_is plan s i d request control h on (fill_from now)
+        step_is plan s i d request control h on (fill_from now) (order_from now)
         ∙ ap (λ (o : Option (Answer × Memories)). option_map (after plan s i d request control h on) o)
         (act_is plan s i d request control h on now t at was ∙ refused (s.memories.devices d) (at.devices d t was))
 
-    pub step_fault : (f : RunFault) → IsActFault control.on_host a t now.host f → IsStepFault capacity d i now f
+    pub step_fault : (f : RunFault) → IsActFault (on_host control) a t now.host f → IsStepFault capacity d i now f
     step_fault fault.OutOfMemory why = tt
     step_fault fault.DeviceFull why = has_no_room why
     step_fault fault.Absent why = (has_room why.0, fails why.1)

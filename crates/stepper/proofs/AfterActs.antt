@@ -6,7 +6,7 @@ use Rattle.base.specs.Map.{Device, Memories, memories_at}
 use Rattle.taskgraph.specs.declared.Graph.{Graph}
 use Rattle.taskgraph.specs.Board.{Stands, stage_at, stage_of}
 use Rattle.fine_machine.specs.Action.{act}
-use Rattle.fine_machine.specs.Left.{Answer, Request, Load, Store, Enter, Leave, Remove, CopyIn, CopyOut}
+use Rattle.fine_machine.specs.Left.{Answer, Request, Load, Store, Combine, Enter, Leave, Remove, CopyIn, CopyOut}
 use Rattle.fine_machine.specs.Machine.{Condition, Opened, State, as_whole, whole_condition}
 use Rattle.base.specs.Items.{Plan}
 use Rattle.base.specs.Arrays.{lengths_of}
@@ -14,12 +14,13 @@ use Rattle.present.specs.Table.{Are, fill_of, memories}
 use Rattle.device.specs.Moves.{CountsAtMost}
 use Rattle.device.proofs.Counts.{more}
 use Rattle.device.proofs.Tables.{each_changed, show_all, still_alike}
-use Rattle.stepper.specs.Acting.{answer_of}
-use Rattle.stepper.specs.Control.{Answers, IsNext, IsStopped, request_of, side_of}
-use Rattle.stepper.specs.Standing.{ActsOn, FollowsOn, IsAt, IsOnDevice, IsOpen, Keeps, fill_from, place_of}
-use Rattle.stepper.specs.declared.action.Action.{Action}
-use Rattle.stepper.specs.declared.action.Given.{Given}
-use Rattle.stepper.specs.declared.control.Control.{Control}
+use Rattle.actions.specs.Acting.{answer_of}
+use Rattle.actions.specs.Control.{Answers, IsNext, IsStopped, on_host}
+use Rattle.actions.specs.Strand.{request_of, side_of}
+use Rattle.stepper.specs.Standing.{ActsOn, FollowsOn, IsAt, IsOnDevice, IsOpen, Keeps, fill_from, order_from, place_of}
+use Rattle.actions.specs.declared.action.Action.{Action}
+use Rattle.actions.specs.declared.action.Given.{Given}
+use Rattle.actions.specs.declared.control.Control.{Control}
 use Rattle.stepper.specs.declared.standing.Slot.TheVariants as slot
 use Rattle.stepper.specs.declared.standing.Standing.{Standing}
 use Rattle.base.specs.Machine.{is_open}
@@ -43,6 +44,7 @@ more_entered : (request : Request) (n : ℕ) → n ≤ entered_after request n
 more_entered (Enter item) n = omega arith
 more_entered (Load side c) n = omega arith
 more_entered (Store side c v) n = omega arith
+more_entered (Combine side op c v) n = omega arith
 more_entered (Leave item) n = omega arith
 more_entered (Remove s) n = omega arith
 more_entered (CopyIn c) n = omega arith
@@ -64,11 +66,11 @@ at_or_else P i c f own others k = go (k == i) refl
 
 module _ (i d : ℕ) (old new : Standing) (control control' : Control) (a : Action) (r : Given)
     (held : slice_get old.slots.items i ≡ Some (slot.Opened control)) (next : IsNext control (Some a))
-    (going : old.ended ≡ false) (done : ActsOn d control.on_host a r old.devices old.host new.devices new.host)
+    (going : old.ended ≡ false) (done : ActsOn d (on_host control) a r old.devices old.host new.devices new.host)
     (answered : Answers (answer_of r) control control') (stopped : IsStopped control')
-    (moved : IsMoved i (request_of (side_of control.on_host) a) control' old new) where
+    (moved : IsMoved i (request_of (side_of (on_host control)) a) control' old new) where
   abbrev request : Request
-  request = request_of (side_of control.on_host) a
+  request = request_of (side_of (on_host control)) a
 
   module _ (plan : Plan) (s : State) (at : IsAt plan old s) (h : IsAsked plan s i request control)
       (on : IsOnDevice plan i d) (p : Answer × Memories)
@@ -140,6 +142,6 @@ module _ (i d : ℕ) (old new : Standing) (control control' : Control) (a : Acti
       (memories old.host (s.memories.devices d))) _ (done.acts (s.memories.devices d) shows) in
       let is = act_is plan s i d request control h on old done.becomes.before at done.becomes.was ∙ w.1 in
       subst (λ o. IsSomeAnd o (IsAt plan new))
-      (sym (step_is plan s i d request control h on (fill_from old)
+      (sym (step_is plan s i d request control h on (fill_from old) (order_from old)
       ∙ ap (λ (o : Option (Answer × Memories)). option_map (after plan s i d request control h on) o) is))
       (shown plan s at h on w.0 is w.2.0 w.2.1)

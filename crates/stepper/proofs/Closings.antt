@@ -19,13 +19,14 @@ use Rattle.taskgraph.proofs.Standing.{place_after}
 use Rattle.device.specs.Devices.{ShowAll}
 use Rattle.device.specs.Moves.{CountsAtMost}
 use Rattle.device.proofs.Openings.{on_work}
-use Rattle.stepper.specs.declared.control.Control.{Control}
+use Rattle.actions.specs.declared.control.Control.{Control}
 use Rattle.stepper.specs.declared.standing.Slot.{Slot}
 use Rattle.stepper.specs.declared.standing.Slot.TheVariants as slot
 use Rattle.stepper.specs.declared.standing.Standing.{Standing}
-use Rattle.stepper.specs.Control.{run_of}
-use Rattle.stepper.specs.Standing.{HasLeft, IsAt, IsControl, IsOpen, Keeps, fill_from, place_of}
-use Rattle.stepper.proofs.AtEnd.{HasFinished, at_end, finished}
+use Rattle.actions.specs.Control.{run_of}
+use Rattle.stepper.specs.Standing.{HasLeft, IsAt, IsControl, IsOpen, Keeps, fill_from, order_from, place_of}
+use Rattle.actions.proofs.AtEnd.{at_end}
+use Rattle.stepper.proofs.AtEnd.{HasFinished, finished}
 use Rattle.stepper.proofs.HostDone.{HasValues, Kept, keeps, values}
 use Rattle.stepper.proofs.Following.{before_end, keeps_set}
 use Rattle.stepper.proofs.Places.{here_after, not_open, only_here}
@@ -62,7 +63,7 @@ module _ (plan : Plan) (old : Standing) (s t : State) (at : IsAt plan old s) (go
         let c : IsControl plan.lengths (Finished done.run) control = held (Some (slot.Opened control)) opened in
         at_end control done.run c.stopped (sym c.is)
 
-    stepped : step plan (fill_from old) s (event.Close i) ≡ Some t → moves_on w.deferred (with_condition i Closed after) ≡ t
+    stepped : step plan (fill_from old) (order_from old) s (event.Close i) ≡ Some t → moves_on w.deferred (with_condition i Closed after) ≡ t
     stepped e =
         same_Some _ t
         (ap (λ (x : Region_run). Some (moves_on w.deferred (with_condition i Closed (host_done k x s)))) (sym run_is)
@@ -72,7 +73,7 @@ module _ (plan : Plan) (old : Standing) (s t : State) (at : IsAt plan old s) (go
 
     pub closed : (g : Board) (given : Standing) → allows old.graph (event.Close i) ≡ true →
         GraphFollows mid.graph (event.Close i) g → mid ≡ given → HasLeft k control from given → hs.items ≡ slice_set old.slots.items i slot.Nothing → i < length old.slots.items →
-        step plan (fill_from old) s (event.Close i) ≡ Some t → IsAt plan (record mid { graph = g }) t
+        step plan (fill_from old) (order_from old) s (event.Close i) ≡ Some t → IsAt plan (record mid { graph = g }) t
     closed g given allowed follows same left set lt e =
         subst (λ x. IsAt plan (record mid { graph = g }) x) (stepped e)
         (subst (λ (m : Standing). IsAt plan (record m { graph = g }) (moves_on w.deferred (with_condition i Closed after)))

@@ -13,7 +13,7 @@ use Rattle.fine_headline.proofs.Headline.{headline}
 use Rattle.fine_machine.specs.Machine.{HasEnded}
 use Rattle.stepper.specs.declared.standing.Standing.{Standing}
 use Rattle.stepper.specs.Answering.{AreShown, HasRun, IsAnswerOf, IsErasedAnswer, IsFineAnswer, row_in}
-use Rattle.stepper.specs.Run.{Run, fill_in, state_of}
+use Rattle.stepper.specs.Run.{Run, fill_in, order_in, state_of}
 use Rattle.stepper.specs.Running.{HasCome, IsAnswerAt, row_at}
 use Rattle.stepper.specs.Standing.{IsAt}
 use Rattle.stepper.proofs.Plays.{Plays}
@@ -30,12 +30,12 @@ answer_at r now arrays a at of = record {
     row : (b : ArrayId) → row_in now.host b ≡ row_at r b
     row b = λ i. (b.0, array_values (sym at.host i) b.0 (slice_index (at.lengths i) b.0))
 
-module _ (p : Program) (input choices : List ℕ) (capacity : ℕ) (r : Run) (plays : Plays p input choices capacity r)
-    (come : HasCome r) (ended : HasEnded (plan r.program) (state_of r)) (arrays : List ArrayId) (a : Answer)
+module _ (p : Program) (input choices turns : List ℕ) (capacity : ℕ) (r : Run)
+    (plays : Plays p input choices turns capacity r) (come : HasCome r) (ended : HasEnded (plan r.program) (state_of r)) (arrays : List ArrayId) (a : Answer)
     (of : IsAnswerAt r arrays a) where
   erased : AreShown r.program arrays → IsAccepted (plan r.program) → IsErasedAnswer r.program r.input a
   erased shown accepted =
-      let shows = (headline r.program accepted).shows r.input (fill_in r) r.history (state_of r) come.numbers
+      let shows = (headline r.program accepted).shows r.input (fill_in r) (order_in r) r.history (state_of r) come.numbers
       (λ i c. come.fresh) come.ran ended in
       record {
         plain = shows.plain;
@@ -47,22 +47,23 @@ module _ (p : Program) (input choices : List ℕ) (capacity : ℕ) (r : Run) (pl
             shows.marked;
       }
 
-  own : AreShown r.program arrays → IsFineAnswer r.program r.input choices r.capacity a
+  own : AreShown r.program arrays → IsFineAnswer r.program r.input choices r.order r.capacity a
   own shown = record {
     fine = shown.fine;
     fill = fill_in r;
     end = state_of r;
     ran =
-        subst (λ es. HasRun r.program r.input choices r.capacity (fill_in r) es (state_of r)) (sym of.history) plays.ran;
+        subst (λ es. HasRun r.program r.input choices r.capacity (fill_in r) (order_in r) es (state_of r)) (sym of.history) plays.ran;
     ended = ended;
     output = of.out;
     accepted = erased shown;
     refused = λ no_it. of.finals ∙ ap (λ xs. map (row_at r) xs) (shown.refused no_it);
   }
 
-  pub answers : AreShown p arrays → IsFineAnswer p input choices capacity a
+  pub answers : AreShown p arrays → IsFineAnswer p input choices turns capacity a
   answers shown =
-      subst (λ q. IsFineAnswer q input choices capacity a) plays.program
-      (subst (λ xs. IsFineAnswer r.program xs choices capacity a) plays.given
-      (subst (λ n. IsFineAnswer r.program r.input choices n a) plays.room
-      (own (subst (λ q. AreShown q arrays) (sym plays.program) shown))))
+      subst (λ q. IsFineAnswer q input choices turns capacity a) plays.program
+      (subst (λ xs. IsFineAnswer r.program xs choices turns capacity a) plays.given
+      (subst (λ ns. IsFineAnswer r.program r.input choices ns capacity a) plays.order
+      (subst (λ n. IsFineAnswer r.program r.input choices r.order n a) plays.room
+      (own (subst (λ q. AreShown q arrays) (sym plays.program) shown)))))

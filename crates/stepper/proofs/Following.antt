@@ -16,7 +16,7 @@ use Rattle.taskgraph.specs.Board.{Board, Follows as GraphFollows}
 use Rattle.stepper.specs.declared.standing.Slot.{Slot}
 use Rattle.stepper.specs.declared.standing.Slot.TheVariants as slot
 use Rattle.stepper.specs.declared.standing.Standing.{Standing}
-use Rattle.stepper.specs.Standing.{IsAt, Keeps, fill_from, place_of}
+use Rattle.stepper.specs.Standing.{IsAt, Keeps, fill_from, order_from, place_of}
 use Rattle.stepper.proofs.Places.{here_after, not_open, only_here}
 use Rattle.stepper.proofs.Stages.{generates, passes, stands_after}
 
@@ -55,7 +55,7 @@ module _ (plan : Plan) (old : Standing) (s t : State) (at : IsAt plan old s) (go
   here : s.place ≡ old.graph.place
   here = before_end plan old s at going
 
-  pub passed : (i : ℕ) → s.place ≡ i → GraphFollows old.graph (event.Wait i) g → step plan (fill_from old) s (event.Wait i) ≡ Some t →
+  pub passed : (i : ℕ) → s.place ≡ i → GraphFollows old.graph (event.Wait i) g → step plan (fill_from old) (order_from old) s (event.Wait i) ≡ Some t →
       IsAt plan (record old { graph = g }) t
   passed i at_i follows e = subst (λ x. IsAt plan (record old { graph = g }) x) (same_Some next t e) made
     where
@@ -85,7 +85,7 @@ module _ (plan : Plan) (old : Standing) (s t : State) (at : IsAt plan old s) (go
 
   pub generated : (i : ℕ) (b : List ℕ) (hs : Vec Slot Global) → s.place ≡ i → GraphFollows old.graph (event.Gen i) g →
       hs.items ≡ slice_set old.slots.items i (slot.Captured b) → i < length old.slots.items → b ≡ old.scalars →
-      step plan (fill_from old) s (event.Gen i) ≡ Some t →
+      step plan (fill_from old) (order_from old) s (event.Gen i) ≡ Some t →
       IsAt plan (record old { graph = g; slots = hs }) t
   generated i b hs at_i follows set lt captured e =
       subst (λ x. IsAt plan (record old { graph = g; slots = hs }) x) (same_Some next t e) made
@@ -122,7 +122,7 @@ module _ (plan : Plan) (old : Standing) (s t : State) (at : IsAt plan old s) (go
 
 -- the host comes to the end
 pub ends : (plan : Plan) (old : Standing) (s t : State) → IsAt plan old s → old.ended ≡ false →
-    enabled plan s event.End ≡ true → step plan (fill_from old) s event.End ≡ Some t →
+    enabled plan s event.End ≡ true → step plan (fill_from old) (order_from old) s event.End ≡ Some t →
     IsAt plan (record old { ended = true }) t
 ends plan old s t at going may e =
     subst (λ x. IsAt plan (record old { ended = true }) x) (same_Some (record s { place = s.place + 1 }) t e)

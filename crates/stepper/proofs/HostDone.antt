@@ -4,9 +4,9 @@ use Rattle.base.specs.declared.item.ItemKind.{ItemKind}
 use Rattle.base.specs.declared.item.ItemKind.TheVariants as kind
 use Rattle.base.specs.Meaning.{Run as Region_run}
 use Rattle.fine_machine.specs.Machine.{State, host_done}
-use Rattle.stepper.specs.declared.control.Control.{Control}
+use Rattle.actions.specs.declared.control.Control.{Control}
 use Rattle.stepper.specs.declared.standing.Standing.{Standing}
-use Rattle.stepper.specs.Control.{run_of}
+use Rattle.actions.specs.Control.{run_of}
 use Rattle.stepper.specs.Standing.{HasLeft}
 
 -- the values that the host has are shown
@@ -46,7 +46,7 @@ module _ (from mid : Standing) (s : State) (control : Control) (at : HasValues f
   values kind.Host h = record {
     scalars = sym h.scalars;
     input = sym h.input;
-    output = ap (λ xs. xs ++ control.printed.items) at.output ∙ sym h.output;
+    output = ap (λ xs. xs ++ control.strand.printed.items) at.output ∙ sym h.output;
     same = h.rest;
   }
   values kind.Target h = stays h

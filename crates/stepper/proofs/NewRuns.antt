@@ -7,7 +7,7 @@ use Rattle.fine_machine.specs.Machine.{RunFrom, State, start}
 use Rattle.mapwalk.specs.Walk.{HasNoRangeFault}
 use Rattle.stepper.specs.declared.standing.Standing.{Standing}
 use Rattle.stepper.specs.Leading.{at_first}
-use Rattle.stepper.specs.Run.{IsGoing, Run, fill_in, state_of}
+use Rattle.stepper.specs.Run.{IsGoing, Run, fill_in, order_in, state_of}
 use Rattle.stepper.specs.Running.{IsRunning}
 use Rattle.stepper.specs.Standing.{IsAt}
 
@@ -25,7 +25,7 @@ is_new r now fine numbers fresh none going at room = record {
       record {
         at = subst (IsAt (plan r.program) now) (sym state) at;
         ran =
-            subst (λ es. RunFrom (plan r.program) (fill_in r) r.input es (Some (state_of r))) (sym none)
+            subst (λ es. RunFrom (plan r.program) (fill_in r) (order_in r) r.input es (Some (state_of r))) (sym none)
             (ap (λ (t : State). Some t) state);
         sound = ap (λ f. f.failed) first;
         room = room;

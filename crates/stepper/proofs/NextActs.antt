@@ -16,13 +16,14 @@ use Rattle.fine_machine.specs.Machine.{Condition, Untouched, Generated, Opened, 
 use Rattle.present.specs.Table.{fill_of, memories}
 use Rattle.present.specs.declared.Table.{Table}
 use Rattle.device.specs.Devices.{table_at}
-use Rattle.stepper.specs.Acting.{InHost}
-use Rattle.stepper.specs.Control.{IsNext, left_of, request_of, side_of}
-use Rattle.stepper.specs.Opening.{Goes, IsInside, StaysInside}
+use Rattle.actions.specs.Acting.{InHost}
+use Rattle.actions.specs.Control.{IsNext, left_of, on_host}
+use Rattle.actions.specs.Strand.{request_of, side_of}
+use Rattle.actions.specs.Opening.{Goes, IsInside, StaysInside}
 use Rattle.stepper.specs.Standing.{IsAt, IsControl, IsOnDevice, IsOpen, Keeps, asked, fill_from, is_over, needs}
-use Rattle.stepper.specs.declared.action.Action.{Action}
-use Rattle.stepper.specs.declared.action.Action.TheVariants as action
-use Rattle.stepper.specs.declared.control.Control.{Control}
+use Rattle.actions.specs.declared.action.Action.{Action}
+use Rattle.actions.specs.declared.action.Action.TheVariants as action
+use Rattle.actions.specs.declared.control.Control.{Control}
 use Rattle.stepper.specs.declared.standing.Slot.TheVariants as slot
 use Rattle.stepper.specs.declared.standing.Standing.{Standing}
 
@@ -37,7 +38,7 @@ pub record IsAsked (plan : Plan) (s : State) (i : ℕ) (request : Request) (cont
 
 pub asked_next : (plan : Plan) (s : State) (i : ℕ) (now : Standing) (control : Control) (a : Action) → IsAt plan now s →
     slice_get now.slots.items i ≡ Some (slot.Opened control) → IsNext control (Some a) →
-    enabled plan s (Step i) ≡ true → IsAsked plan s i (request_of (side_of control.on_host) a) control
+    enabled plan s (Step i) ≡ true → IsAsked plan s i (request_of (side_of (on_host control)) a) control
 asked_next plan s i now control a at held next may =
     let w = on_true plan i (λ w. has_step (s.condition i)) may in
     go w.0 w.1 (s.condition i) refl w.2 (at.kept i (within w.0 w.1))
@@ -47,7 +48,7 @@ asked_next plan s i now control a at held next may =
 
     go : (w : Work) → slice_get plan.items i ≡ Some w → (c : Condition) → s.condition i ≡ c → has_step c ≡ true →
         Keeps plan.lengths c (slice_get now.slots.items i) →
-        IsAsked plan s i (request_of (side_of control.on_host) a) control
+        IsAsked plan s i (request_of (side_of (on_host control)) a) control
     go w is (Opened (Asks r k)) e h kept =
         let own : IsControl plan.lengths (Asks r k) control = subst (IsOpen plan.lengths (Asks r k)) held kept in
         let same = own.is ∙ next.1.1 in record {
@@ -78,6 +79,7 @@ pub in_host : (lengths : List ℕ) (on_host : Bool) (a : Action) (host : Arrays)
 in_host lengths on_host (action.CopyOut c) host inside e = subst (λ ls. is_cell ls c ≡ true) (sym e) inside
 in_host lengths on_host (action.Load c) host inside e = tt
 in_host lengths on_host (action.Store c n) host inside e = tt
+in_host lengths on_host (action.Combine op c n) host inside e = tt
 in_host lengths on_host (action.Enter item) host inside e = tt
 in_host lengths on_host (action.Leave item) host inside e = tt
 in_host lengths on_host (action.Remove section) host inside e = tt
@@ -107,9 +109,9 @@ module _ (plan : Plan) (s : State) (i d : ℕ) (request : Request) (control : Co
   abbrev pub after : Answer × Memories → State
   after p = with_condition i (Opened (h.k p.0)) (with_memories d p.1 s)
 
-  pub step_is : (fill : ℕ → Fill) →
-      step plan fill s (Step i) ≡ option_map after (act plan.lengths (fill i) request (memories_at d s.memories))
-  step_is fill =
+  pub step_is : (fill : ℕ → Fill) (order : ℕ → List ℕ) →
+      step plan fill order s (Step i) ≡ option_map after (act plan.lengths (fill i) request (memories_at d s.memories))
+  step_is fill order =
       ap (λ (c : Condition). step_item plan (fill i) i c s) h.condition
       ∙ ap (λ (e : ℕ). option_map (λ p. with_condition i (Opened (h.k p.0)) (with_memories e p.1 s))
       (act plan.lengths (fill i) request (memories_at e s.memories))) device_is

@@ -109,13 +109,13 @@ module _ (p : Plan) (s : State) (none : all_enabled p s ≡ []) where
       (none_first (enabled p s) End [] (none_first (enabled p s) (Wait s.place) (End ∷ []) rest).1).0 may
 
 -- a program's run of which no event may happen next has ended
-pub ends_there : (p : Program) (fill : ℕ → Fill) (input : List ℕ) (events : List Event) (s : State) →
-    RunFrom (plan p) fill input events (Some s) → all_enabled (plan p) s ≡ [] → HasEnded (plan p) s
-ends_there p fill input events s ran none = go (s.place == length (plan p).items + 1) refl
+pub ends_there : (p : Program) (fill : ℕ → Fill) (order : ℕ → List ℕ) (input : List ℕ) (events : List Event) (s : State) →
+    RunFrom (plan p) fill order input events (Some s) → all_enabled (plan p) s ≡ [] → HasEnded (plan p) s
+ends_there p fill order input events s ran none = go (s.place == length (plan p).items + 1) refl
   where
     go : (v : Bool) → (s.place == length (plan p).items + 1) ≡ v → HasEnded (plan p) s
     go true e = eqb-true s.place (length (plan p).items + 1) e
     go false e =
-        let next = a_run_goes_on p input fill events s ran
+        let next = a_run_goes_on p input fill order events s ran
         (λ ended. true≢false (sym (eq-eqb s.place (length (plan p).items + 1) ended) ∙ e)) in
         absurd (none_enabled (plan p) s none next.0 next.1)

@@ -17,13 +17,13 @@ use Rattle.present.specs.declared.Table.{Table}
 use Rattle.present.specs.Table.{Shows}
 use Rattle.device.specs.Devices.{table_at}
 use Rattle.device.proofs.Openings.{on_work}
-use Rattle.stepper.specs.declared.control.Control.{Control}
+use Rattle.actions.specs.declared.control.Control.{Control}
 use Rattle.stepper.specs.declared.standing.Slot.{Slot}
 use Rattle.stepper.specs.declared.standing.Slot.TheVariants as slot
 use Rattle.stepper.specs.declared.standing.Standing.{Standing}
-use Rattle.stepper.specs.Control.{left_of}
-use Rattle.stepper.specs.Opening.{InArrays, IsOpened, StaysInside, begun_with}
-use Rattle.stepper.specs.Standing.{Captures, IsAt, IsItem, Keeps, fill_from, place_of}
+use Rattle.actions.specs.Control.{left_of}
+use Rattle.actions.specs.Opening.{InArrays, IsOpened, StaysInside, begun_with}
+use Rattle.stepper.specs.Standing.{Captures, IsAt, IsItem, Keeps, fill_from, order_from, place_of}
 use Rattle.stepper.proofs.Following.{before_end, keeps_set}
 use Rattle.stepper.proofs.Places.{here_after, open_here}
 use Rattle.stepper.proofs.Stages.{Becomes, opens, stands_after}
@@ -31,7 +31,7 @@ use Rattle.stepper.proofs.Stages.{Becomes, opens, stands_after}
 module _ (plan : Plan) (old : Standing) (s : State) (at : IsAt plan old s) (i : ℕ) (it : Item) (r : Option Region)
     (item : IsItem plan i it r) (may : enabled plan s (event.Open i) ≡ true) (table : Table)
     (has : table_at old.devices it.device.number ≡ Some table) (scalars : List ℕ) (captures : Captures old it.deferred i scalars)
-    (o : Option Control) (opened : IsOpened it r scalars old.input.now table o) where
+    (o : Option Control) (opened : IsOpened it r old.order.now scalars old.input.now table o) where
   abbrev w : Work
   w = item.work
 
@@ -49,17 +49,17 @@ module _ (plan : Plan) (old : Standing) (s : State) (at : IsAt plan old s) (i : 
     printed = [];
   }
 
-  stepped : step plan (fill_from old) s (event.Open i) ≡ option_map opens_with (option_map left_of o)
+  stepped : step plan (fill_from old) (order_from old) s (event.Open i) ≡ option_map opens_with (option_map left_of o)
   stepped =
-      on_work plan i w None (λ w. open_item i w s) item.is
-      ∙ ap (λ b. option_map opens_with (item_left w (s.memories.devices w.device).blocks b)) begun_is
+      on_work plan i w None (λ w. open_item old.order.now i w s) item.is
+      ∙ ap (λ b. option_map opens_with (item_left old.order.now w (s.memories.devices w.device).blocks b)) begun_is
       ∙ ap (option_map opens_with) (opened.left w (s.memories.devices w.device) item.same own_shown)
 
   pub opens_to : (control : Control) (g : Board) (hs : Vec Slot Global) → old.ended ≡ false →
       allows old.graph (event.Open i) ≡ true → GraphFollows old.graph (event.Open i) g → o ≡ Some control →
       ((lengths : List ℕ) → InArrays lengths it.maps.items → StaysInside lengths (left_of control)) →
       hs.items ≡ slice_set old.slots.items i (slot.Opened control) → i < length old.slots.items →
-      IsSomeAnd (step plan (fill_from old) s (event.Open i)) (IsAt plan (record old { graph = g; slots = hs }))
+      IsSomeAnd (step plan (fill_from old) (order_from old) s (event.Open i)) (IsAt plan (record old { graph = g; slots = hs }))
   opens_to control g hs going allowed follows some inside set lt =
       subst (λ x. IsSomeAnd x (IsAt plan (record old { graph = g; slots = hs })))
       (sym (stepped ∙ ap (λ x. option_map opens_with (option_map left_of x)) some)) made

@@ -32,13 +32,14 @@ stepped_place p fill i (Generated captured) s t e = absurd (cc e)
 stepped_place p fill i Closed s t e = absurd (cc e)
 stepped_place p fill i Passed s t e = absurd (cc e)
 
-opened_place : (p : Plan) (s t : State) (i : ℕ) → on_item p i None (λ w. open_item i w s) ≡ Some t → t.place ≡ s.place
-opened_place p s t i e = go (slice_get p.items i) refl
+opened_place : (p : Plan) (order : List ℕ) (s t : State) (i : ℕ) → on_item p i None (λ w. open_item order i w s) ≡ Some t →
+    t.place ≡ s.place
+opened_place p order s t i e = go (slice_get p.items i) refl
   where
     go : (o : Option Work) → slice_get p.items i ≡ o → t.place ≡ s.place
-    go None is = absurd (cc (sym (ap (λ o. elim o [ None ↦ None | Some w ↦ open_item i w s ]) is) ∙ e))
+    go None is = absurd (cc (sym (ap (λ o. elim o [ None ↦ None | Some w ↦ open_item order i w s ]) is) ∙ e))
     go (Some w) is =
-        mapped_place _ s.place _ t (λ x. refl) (sym (ap (λ o. elim o [ None ↦ None | Some w ↦ open_item i w s ]) is) ∙ e)
+        mapped_place _ s.place _ t (λ x. refl) (sym (ap (λ o. elim o [ None ↦ None | Some w ↦ open_item order i w s ]) is) ∙ e)
 
 done_place : (k : ItemKind) (run : Run) (s : State) → (host_done k run s).place ≡ s.place
 done_place kind.Host run s = refl
@@ -72,28 +73,28 @@ closed_place i w (Generated captured) s t n le lt here is = absurd (cc is)
 closed_place i w Closed s t n le lt here is = absurd (cc is)
 closed_place i w Passed s t n le lt here is = absurd (cc is)
 
-pub place_after : (p : Plan) (fill : ℕ → Fill) (s t : State) (e : Event) → IsHere p s → s.place ≤ length p.items + 1 →
-    enabled p s e ≡ true → step p fill s e ≡ Some t → t.place ≤ length p.items + 1
-place_after p fill s t (Gen i) here le may is =
+pub place_after : (p : Plan) (fill : ℕ → Fill) (order : ℕ → List ℕ) (s t : State) (e : Event) → IsHere p s → s.place ≤ length p.items + 1 →
+    enabled p s e ≡ true → step p fill order s e ≡ Some t → t.place ≤ length p.items + 1
+place_after p fill order s t (Gen i) here le may is =
     let at = (enabled_Gen p (as_whole s) i may).0 in
     let lt = (enabled_Gen p (as_whole s) i may).1 in
     let n : t.place ≡ s.place + 1 = sym (ap (λ (x : State). x.place) (same_Some _ t is)) in
     omega arith
-place_after p fill s t (Open i) here le may is = let n = opened_place p s t i is in omega arith
-place_after p fill s t (Step i) here le may is =
+place_after p fill order s t (Open i) here le may is = let n = opened_place p (order i) s t i is in omega arith
+place_after p fill order s t (Step i) here le may is =
     let n = stepped_place p (fill i) i (s.condition i) s t is in omega arith
-place_after p fill s t (Close i) here le may is =
+place_after p fill order s t (Close i) here le may is =
     let k = known p i (λ w. is_finished (s.condition i)) may in
     let lt = slice_get_within p.items i k.work k.is in
     closed_place i k.work (s.condition i) s t (length p.items) le lt
     (λ now o. here i k.work k.is now o)
     (sym (ap (λ o. elim o [ None ↦ None | Some v ↦ close_item i v (s.condition i) s ]) k.is) ∙ is)
-place_after p fill s t (Wait i) here le may is =
+place_after p fill order s t (Wait i) here le may is =
     let at = (enabled_Wait p (as_whole s) i may).0 in
     let lt = (enabled_Wait p (as_whole s) i may).1 in
     let n : t.place ≡ s.place + 1 = sym (ap (λ (x : State). x.place) (same_Some _ t is)) in
     omega arith
-place_after p fill s t End here le may is =
+place_after p fill order s t End here le may is =
     let at = (enabled_End p (as_whole s) may).0 in
     let n : t.place ≡ s.place + 1 = sym (ap (λ (x : State). x.place) (same_Some _ t is)) in
     omega arith

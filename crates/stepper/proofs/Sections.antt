@@ -14,7 +14,8 @@ use Rattle.mapwalk.specs.Walk.{HasNoRangeFault}
 use Rattle.present.specs.Table.{AreSections}
 use Rattle.outline.specs.Regions.{Entry}
 use Rattle.outline.specs.Shown.{all_shown, as_shown, shown, work_with}
-use Rattle.stepper.specs.Opening.{InArrays, IsWork, region_in}
+use Rattle.actions.specs.Opening.{InArrays, IsWork}
+use Rattle.stepper.specs.Opening.{region_in}
 use Rattle.stepper.specs.Standing.{IsItem}
 
 map_fits : (lengths : List ℕ) (maps : List MapItem) → filter (λ m. section_fails lengths m.section) maps ≡ [] →

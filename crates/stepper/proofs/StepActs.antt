@@ -8,13 +8,14 @@ use Rattle.std.proofs.lemmas.List.{length-set}
 use Rattle.base.specs.declared.memory.Memory.{Memory as Arrays}
 use Rattle.base.proofs.Places.{get_set_other, get_set_same}
 use Rattle.device.specs.declared.devices.Devices.{Devices}
-use Rattle.stepper.specs.Acting.{answer_of}
-use Rattle.stepper.specs.Control.{Answers, IsNext, IsStopped, request_of, side_of}
+use Rattle.actions.specs.Acting.{answer_of}
+use Rattle.actions.specs.Control.{Answers, IsNext, IsStopped, on_host}
+use Rattle.actions.specs.Strand.{request_of, side_of}
 use Rattle.stepper.specs.Standing.{ActsOn, FollowsOn, HasCounted}
-use Rattle.stepper.specs.declared.action.Action.{Action}
-use Rattle.stepper.specs.declared.action.Action.TheVariants as action
-use Rattle.stepper.specs.declared.action.Given.{Given}
-use Rattle.stepper.specs.declared.control.Control.{Control}
+use Rattle.actions.specs.declared.action.Action.{Action}
+use Rattle.actions.specs.declared.action.Action.TheVariants as action
+use Rattle.actions.specs.declared.action.Given.{Given}
+use Rattle.actions.specs.declared.control.Control.{Control}
 use Rattle.stepper.specs.declared.standing.Slot.{Slot}
 use Rattle.stepper.specs.declared.standing.Slot.TheVariants as slot
 use Rattle.stepper.specs.declared.standing.Standing.{Standing}
@@ -27,6 +28,7 @@ pub counted_is : (a : Action) (on_host : Bool) (old new : Standing) → HasCount
 counted_is (action.Enter item) on_host old new h = h
 counted_is (action.Load c) on_host old new h = h
 counted_is (action.Store c n) on_host old new h = h
+counted_is (action.Combine op c n) on_host old new h = h
 counted_is (action.Leave item) on_host old new h = h
 counted_is (action.Remove section) on_host old new h = h
 counted_is (action.CopyIn c) on_host old new h = h
@@ -62,7 +64,7 @@ module _ (i : ℕ) (old counted : Standing) (nothing : Slot) (a : Action)
 
   module _ (d : ℕ) (control control' : Control) (r : Given) (host : Arrays) (devices : Devices)
       (inside : i < length old.slots.items) where
-    moved_on : IsMoved i (request_of (side_of control.on_host) a) control' old
+    moved_on : IsMoved i (request_of (side_of (on_host control)) a) control' old
         (with_control i counted host devices control')
     moved_on = record {
       graph = ap (λ (x : Standing). x.graph) (is true);
@@ -70,7 +72,7 @@ module _ (i : ℕ) (old counted : Standing) (nothing : Slot) (a : Action)
       scalars = ap (λ (x : Standing). x.scalars) (is true);
       input = ap (λ (x : Standing). x.input) (is true);
       output = ap (λ (x : Standing). x.output) (is true);
-      entered = ap (λ (x : Standing). x.entered) (is control.on_host);
+      entered = ap (λ (x : Standing). x.entered) (is (on_host control));
       slots = length-set counted.slots.items i (slot.Opened control') ∙ long;
       here = get_set_same counted.slots.items i (slot.Opened control') (let n = long in omega arith);
       others = λ k e.
@@ -80,11 +82,11 @@ module _ (i : ℕ) (old counted : Standing) (nothing : Slot) (a : Action)
     }
 
     pub stepped : slice_get old.slots.items i ≡ Some (slot.Opened control) → IsNext control (Some a) →
-        old.ended ≡ false → ActsOn d control.on_host a r counted.devices counted.host devices host →
+        old.ended ≡ false → ActsOn d (on_host control) a r counted.devices counted.host devices host →
         Answers (answer_of r) control control' → IsStopped control' →
         FollowsOn d i old (with_control i counted host devices control')
     stepped held next going done answered stopped =
         follows i d old (with_control i counted host devices control') control control' a r held next going
-        (subst (λ (ds : Devices). ActsOn d control.on_host a r ds old.host devices host) same_devices
-        (subst (λ (m : Arrays). ActsOn d control.on_host a r counted.devices m devices host) same_host done))
+        (subst (λ (ds : Devices). ActsOn d (on_host control) a r ds old.host devices host) same_devices
+        (subst (λ (m : Arrays). ActsOn d (on_host control) a r counted.devices m devices host) same_host done))
         answered stopped moved_on

@@ -22,6 +22,7 @@ use Rattle.device.specs.Devices.{device_count}
 use Rattle.fine_machine.specs.Machine.{HasEnded, State, all_enabled, run_by_choices, step}
 use Rattle.mapwalk.specs.Walk.{HasNoRangeFault}
 use Rattle.stepper.specs.declared.standing.Standing.{Standing}
+use Rattle.stepper.specs.Order.{same_order}
 use Rattle.stepper.specs.Standing.{is_over}
 use Rattle.stepper.specs.Taking.{has_room}
 
@@ -35,10 +36,10 @@ abbrev pub next_by : Plan → State → List ℕ → Option Event
 next_by p s choices = let next = all_enabled p s in slice_get next (first_or_zero choices % length next)
 
 -- the first n events of the run by these choices were done, and at each moment each device had room
-pub record HasRun (p : Program) (input choices : List ℕ) (capacity : ℕ) (fill : ℕ → Fill) (history : List Event) (s : State) : Type 0 where
+pub record HasRun (p : Program) (input choices : List ℕ) (capacity : ℕ) (fill : ℕ → Fill) (order : ℕ → List ℕ) (history : List Event) (s : State) : Type 0 where
   pub is_fill : IsFill fill
-  pub ran : run_by_choices (plan p) fill (length history) input choices ≡ record { history = history; state = Some s }
-  pub within : (n : ℕ) → n ≤ length history → IsWithin capacity (run_by_choices (plan p) fill n input choices).state
+  pub ran : run_by_choices (plan p) fill order (length history) input choices ≡ record { history = history; state = Some s }
+  pub within : (n : ℕ) → n ≤ length history → IsWithin capacity (run_by_choices (plan p) fill order n input choices).state
 
 -- the output of the program without its directives, and its values of the arrays marked current
 pub record IsErasedAnswer (p : Program) (input : List ℕ) (a : Answer) : Type 0 where
@@ -47,41 +48,42 @@ pub record IsErasedAnswer (p : Program) (input : List ℕ) (a : Answer) : Type 0
   pub output : a.out.items ≡ output_of plain.printed
   pub finals : finals_in a ≡ marked_values p plain.memory
 
--- the program has no fault of range; the history is that of the run by these choices, which has ended, and the output is
+-- the program has no fault of range; the history is that of the run by these choices and these
+-- numbers of turns, which has ended, and the output is
 -- that run's. Of an accepted program it is the answer of the program without its directives; of a refused one
 -- no array is shown
-pub record IsFineAnswer (p : Program) (input choices : List ℕ) (capacity : ℕ) (a : Answer) : Type 0 where
+pub record IsFineAnswer (p : Program) (input choices turns : List ℕ) (capacity : ℕ) (a : Answer) : Type 0 where
   pub fine : HasNoRangeFault (plan p)
   pub fill : ℕ → Fill
   pub end : State
-  pub ran : HasRun p input choices capacity fill a.history.items end
+  pub ran : HasRun p input choices capacity fill (same_order turns) a.history.items end
   pub ended : HasEnded (plan p) end
   pub output : a.out.items ≡ output_of end.output
   pub accepted : IsAccepted (plan p) → IsErasedAnswer p input a
   pub refused : (IsAccepted (plan p) → ⊥) → finals_in a ≡ []
 
 -- the run by these choices comes to an action that would create more cells than its device has room for
-pub record IsFull (p : Program) (input choices : List ℕ) (capacity : ℕ) : Type 0 where
+pub record IsFull (p : Program) (input choices turns : List ℕ) (capacity : ℕ) : Type 0 where
   pub fine : HasNoRangeFault (plan p)
   pub fill : ℕ → Fill
   pub history : List Event
   pub now : State
-  pub ran : HasRun p input choices capacity fill history now
+  pub ran : HasRun p input choices capacity fill (same_order turns) history now
   pub item : ℕ
   pub next : next_by (plan p) now (drop (length history) choices) ≡ Some (Step item)
   pub over : is_over capacity (plan p) now item ≡ true
 
 -- the run by these choices comes to an event that fails, though there is room; the program is not accepted
-pub record IsFailed (p : Program) (input choices : List ℕ) (capacity : ℕ) : Type 0 where
+pub record IsFailed (p : Program) (input choices turns : List ℕ) (capacity : ℕ) : Type 0 where
   pub fine : HasNoRangeFault (plan p)
   pub fill : ℕ → Fill
   pub history : List Event
   pub now : State
-  pub ran : HasRun p input choices capacity fill history now
+  pub ran : HasRun p input choices capacity fill (same_order turns) history now
   pub event : Event
   pub next : next_by (plan p) now (drop (length history) choices) ≡ Some event
   pub room : has_room capacity (plan p) now event
-  pub fails : step (plan p) fill now event ≡ None
+  pub fails : step (plan p) fill (same_order turns) now event ≡ None
   pub refused : IsAccepted (plan p) → ⊥
 
 -- a section leaves its array, a subscript may, or a region has too many turns
@@ -91,14 +93,14 @@ pub record HasRangeFault (p : Program) : Type 0 where
   pub is : IsFault (plan p) (Range item fault)
 
 -- why there is no answer
-abbrev pub IsFineFault : Program → List ℕ → List ℕ → ℕ → RunFault → Type 0
-IsFineFault p input choices capacity fault.OutOfMemory = Unit {0}
-IsFineFault p input choices capacity fault.RangeRefused = HasRangeFault p
-IsFineFault p input choices capacity fault.DeviceFull = IsFull p input choices capacity
-IsFineFault p input choices capacity fault.Absent = IsFailed p input choices capacity
-IsFineFault p input choices capacity fault.Stranger = ⊥
-IsFineFault p input choices capacity fault.ThreadNotStarted = ⊥
-IsFineFault p input choices capacity fault.OtherState = ⊥
+abbrev pub IsFineFault : Program → List ℕ → List ℕ → List ℕ → ℕ → RunFault → Type 0
+IsFineFault p input choices turns capacity fault.OutOfMemory = Unit {0}
+IsFineFault p input choices turns capacity fault.RangeRefused = HasRangeFault p
+IsFineFault p input choices turns capacity fault.DeviceFull = IsFull p input choices turns capacity
+IsFineFault p input choices turns capacity fault.Absent = IsFailed p input choices turns capacity
+IsFineFault p input choices turns capacity fault.Stranger = ⊥
+IsFineFault p input choices turns capacity fault.ThreadNotStarted = ⊥
+IsFineFault p input choices turns capacity fault.OtherState = ⊥
 
 -- the arrays marked current where the program is accepted, and none where it is refused; it has no fault of range
 pub record AreShown (p : Program) (arrays : List ArrayId) : Type 0 where

@@ -3,8 +3,7 @@ use Rattle.std.proofs.Common.{◌≡◌, false, List, [], ◌∷◌, ◌++◌, O
 use Rattle.base.specs.declared.item.Event.{Event}
 use Rattle.base.specs.Items.{plan}
 use Rattle.fine_machine.specs.Machine.{State, start, step}
-use Rattle.two_memories.specs.Two.{Fixed}
-use Rattle.fine_headline.specs.FineState.{FineState, next, result_of}
+use Rattle.fine_headline.specs.FineState.{FineState, Fixed, next, result_of}
 use Rattle.stepper.specs.Run.{IsGoing, Run, Takes, after_all, begun, events_of, fine_of, with_last}
 
 -- one event more
@@ -18,7 +17,7 @@ kept_by s e (Some t) = refl
 
 keeps_all : (s : FineState) (es : List Event) → (after_all s es).fixed ≡ s.fixed
 keeps_all s [] = refl
-keeps_all s (e ∷ es) = keeps_all (next s e) es ∙ kept_by s e (step s.fixed.plan s.fixed.fill s.state e)
+keeps_all s (e ∷ es) = keeps_all (next s e) es ∙ kept_by s e (step s.fixed.plan s.fixed.fill s.fixed.order s.state e)
 
 -- the program is the run's
 pub same_fixed : (r : Run) → (fine_of r).fixed ≡ (begun r).fixed
@@ -38,7 +37,7 @@ pub leads : (r t : Run) (e : Event) → Takes r e t → fine_of t ≡ next (fine
 unfolding fine_of
 leads r t e h =
     (λ i. after_all (record {
-      fixed = record { plan = plan (h.program i); fill = λ j c. h.fresh i };
+      fixed = record { plan = plan (h.program i); fill = λ j c. h.fresh i; order = λ j. h.order i };
       state = start (h.input i);
       failed = false;
       entered = λ j. [];

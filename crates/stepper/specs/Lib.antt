@@ -1,8 +1,4 @@
-pub mod Rest
-pub mod Weight
-pub mod Begin
-pub mod Control
-pub mod Acting
+pub mod Order
 pub mod Opening
 pub mod Standing
 pub mod Taking

@@ -11,12 +11,14 @@ use Rattle.base.specs.Items.{plan}
 use Rattle.base.specs.Map.{Fill}
 use Rattle.fine_machine.specs.Machine.{State, start}
 use Rattle.fine_headline.specs.FineState.{FineState, IsValid, next}
+use Rattle.stepper.specs.Order.{same_order}
 
--- the program and its whole input, how many cells each device has room for, what each cell of created storage holds, the
+-- the program and its whole input, the numbers by which the turns of its kernels go on, how many cells each device has room for, what each cell of created storage holds, the
 -- events that were done, and the event at which a fault stopped the run, if one did
 pub record Run : Type 0 where
   pub program : Program
   pub input : List ℕ
+  pub order : List ℕ
   pub capacity : ℕ
   pub fresh : ℕ
   pub history : List Event
@@ -24,22 +26,26 @@ pub record Run : Type 0 where
 
 abbrev pub run_code : Coded Run
 run_code =
-    code_by (Program × (List ℕ × (ℕ × (ℕ × (List Event × Option Event)))))
-    (coded× program_code.the_row.coded (coded× (coded_list coded_ℕ) (coded× coded_ℕ (coded× coded_ℕ
-    (coded× (coded_list event_code.the_row.coded) (coded_option event_code.the_row.coded))))))
-    (λ r. (r.program, (r.input, (r.capacity, (r.fresh, (r.history, r.stopped))))))
+    code_by (Program × (List ℕ × (List ℕ × (ℕ × (ℕ × (List Event × Option Event))))))
+    (coded× program_code.the_row.coded (coded× (coded_list coded_ℕ) (coded× (coded_list coded_ℕ) (coded× coded_ℕ
+    (coded× coded_ℕ (coded× (coded_list event_code.the_row.coded) (coded_option event_code.the_row.coded)))))))
+    (λ r. (r.program, (r.input, (r.order, (r.capacity, (r.fresh, (r.history, r.stopped)))))))
     (λ p. record {
       program = p.0;
       input = p.1.0;
-      capacity = p.1.1.0;
-      fresh = p.1.1.1.0;
-      history = p.1.1.1.1.0;
-      stopped = p.1.1.1.1.1;
+      order = p.1.1.0;
+      capacity = p.1.1.1.0;
+      fresh = p.1.1.1.1.0;
+      history = p.1.1.1.1.1.0;
+      stopped = p.1.1.1.1.1.1;
     })
     (λ _. refl)
 
 abbrev pub fill_in : Run → ℕ → Fill
 fill_in r i = λ c. r.fresh
+
+abbrev pub order_in : Run → ℕ → List ℕ
+order_in r = same_order r.order
 
 abbrev pub with_last : List Event → Option Event → List Event
 with_last history None = history
@@ -52,7 +58,7 @@ events_of r = with_last r.history r.stopped
 -- the machine before any event
 abbrev pub begun : Run → FineState
 begun r = record {
-  fixed = record { plan = plan r.program; fill = fill_in r };
+  fixed = record { plan = plan r.program; fill = fill_in r; order = order_in r };
   state = start r.input;
   failed = false;
   entered = λ i. [];
@@ -89,6 +95,7 @@ IsReached r = IsValid (fine_of r)
 pub record Takes (old : Run) (e : Event) (new : Run) : Type 0 where
   pub program : new.program ≡ old.program
   pub input : new.input ≡ old.input
+  pub order : new.order ≡ old.order
   pub capacity : new.capacity ≡ old.capacity
   pub fresh : new.fresh ≡ old.fresh
   pub events : events_of new ≡ events_of old ++ e ∷ []

@@ -17,14 +17,14 @@ use Rattle.mapwalk.specs.Walk.{HasNoRangeFault}
 use Rattle.stepper.specs.declared.fine_run.FineRun.TheInside.{Inside}
 use Rattle.stepper.specs.declared.standing.Standing.{Standing}
 use Rattle.stepper.specs.Answering.{IsWithin}
-use Rattle.stepper.specs.Run.{IsGoing, Run, Takes, fill_in, fine_of, state_of}
+use Rattle.stepper.specs.Run.{IsGoing, Run, Takes, fill_in, order_in, fine_of, state_of}
 use Rattle.stepper.specs.Standing.{IsAt, is_over}
 use Rattle.stepper.specs.Taking.{has_room}
 
 -- the code's values show the state after the events, which are a run of the machine
 pub record IsThere (r : Run) (now : Standing) : Type 0 where
   pub at : IsAt (plan r.program) now (state_of r)
-  pub ran : RunFrom (plan r.program) (fill_in r) r.input r.history (Some (state_of r))
+  pub ran : RunFrom (plan r.program) (fill_in r) (order_in r) r.input r.history (Some (state_of r))
   pub sound : (fine_of r).failed ≡ false
   pub room : HaveRoom now.devices r.capacity
   pub below : (state_of r).place ≤ length (plan r.program).items + 1
@@ -41,7 +41,7 @@ pub record HasCome (r : Run) : Type 0 where
   pub fresh : r.fresh < 2 ^ 64
   pub numbers : AreNumbers r.input
   pub short : length r.history < 2 ^ 64
-  pub ran : RunFrom (plan r.program) (fill_in r) r.input r.history (Some (state_of r))
+  pub ran : RunFrom (plan r.program) (fill_in r) (order_in r) r.input r.history (Some (state_of r))
   pub sound : (fine_of r).failed ≡ false
   pub within : IsWithin r.capacity (Some (state_of r))
 
@@ -49,6 +49,7 @@ abbrev pub run_of : Inside → Run
 run_of s = record {
   program = s.outlined.now;
   input = s.whole.now;
+  order = s.standing.order.now;
   capacity = s.capacity;
   fresh = fresh_of s.standing.devices;
   history = s.history.items;
@@ -59,9 +60,10 @@ abbrev pub Shows : Inside → Type 0
 Shows s = IsRunning (run_of s) s.standing
 
 -- a run that has done nothing
-pub record IsNew (p : Program) (given : List ℕ) (room : ℕ) (r : Run) : Type 0 where
+pub record IsNew (p : Program) (given turns : List ℕ) (room : ℕ) (r : Run) : Type 0 where
   pub program : r.program ≡ p
   pub input : r.input ≡ given
+  pub order : r.order ≡ turns
   pub capacity : r.capacity ≡ room
   pub fresh : r.fresh < 2 ^ 64
   pub history : r.history ≡ []
@@ -72,7 +74,7 @@ pub record HasDone (old : Run) (e : Event) (new : Run) : Type 0 where
   pub takes : Takes old e new
   pub history : new.history ≡ old.history ++ e ∷ []
   pub going : IsGoing new
-  pub stepped : step (plan old.program) (fill_in old) (state_of old) e ≡ Some (state_of new)
+  pub stepped : step (plan old.program) (fill_in old) (order_in old) (state_of old) e ≡ Some (state_of new)
   pub within : IsWithin old.capacity (Some (state_of new))
 
 -- an event stopped the run
@@ -102,7 +104,7 @@ abbrev pub IsEventFault : Run → Event → RunFault → Type 0
 IsEventFault r e fault.OutOfMemory = Unit {0}
 IsEventFault r e fault.DeviceFull = IsOverAt r e
 IsEventFault r e fault.Absent =
-    has_room r.capacity (plan r.program) (state_of r) e × (step (plan r.program) (fill_in r) (state_of r) e ≡ None)
+    has_room r.capacity (plan r.program) (state_of r) e × (step (plan r.program) (fill_in r) (order_in r) (state_of r) e ≡ None)
 IsEventFault r e fault.Stranger = ⊥
 IsEventFault r e fault.ThreadNotStarted = ⊥
 IsEventFault r e fault.OtherState = ⊥

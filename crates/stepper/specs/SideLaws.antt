@@ -88,6 +88,7 @@ outcome r m may =
         program = refl;
         input = refl;
         capacity = refl;
+        order = refl;
         fresh = refl;
         events = ap (λ (o : Option Event). with_last r.history o ++ e ∷ []) (sym may.0);
       },

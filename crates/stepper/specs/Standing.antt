@@ -13,7 +13,7 @@ use Rattle.base.specs.Memory.{Scalars}
 use Rattle.base.specs.Items.{Work, Plan}
 use Rattle.base.specs.Map.{Block, Fill, in_use, need}
 use Rattle.base.specs.Machine.{deferred_closed, is_open}
-use Rattle.fine_machine.specs.Left.{Left, Asks, Finished, Request, Enter, Load, Store, Leave, Remove, CopyIn, CopyOut}
+use Rattle.fine_machine.specs.Left.{Left, Asks, Finished, Request, Enter, Load, Store, Combine, Leave, Remove, CopyIn, CopyOut}
 use Rattle.fine_machine.specs.Machine.{State, Condition, Untouched, Generated, Opened, Closed, Passed, as_whole, captured_by, device_of, enabled, step, whole_condition}
 use Rattle.taskgraph.specs.Board.{Stands}
 use Rattle.present.specs.declared.Table.{Table}
@@ -21,16 +21,17 @@ use Rattle.base.specs.declared.memory.Memory.{Memory as Arrays}
 use Rattle.device.specs.declared.devices.Devices.{Devices}
 use Rattle.device.specs.Devices.{AreAlike, Becomes, ShowAll, fresh_of}
 use Rattle.device.specs.Moves.{CountsAtMost}
-use Rattle.stepper.specs.declared.action.Action.{Action}
-use Rattle.stepper.specs.declared.action.Action.TheVariants as action
-use Rattle.stepper.specs.declared.action.Given.{Given}
-use Rattle.stepper.specs.Acting.{Acts}
+use Rattle.actions.specs.declared.action.Action.{Action}
+use Rattle.actions.specs.declared.action.Action.TheVariants as action
+use Rattle.actions.specs.declared.action.Given.{Given}
+use Rattle.actions.specs.Acting.{Acts}
 use Rattle.stepper.specs.declared.standing.Slot.{Slot}
 use Rattle.stepper.specs.declared.standing.Slot.TheVariants as slot
 use Rattle.stepper.specs.declared.standing.Standing.{Standing}
-use Rattle.stepper.specs.declared.control.Control.{Control}
-use Rattle.stepper.specs.Control.{IsNext, IsStopped, left_of, run_of}
-use Rattle.stepper.specs.Opening.{InArrays, IsWork, StaysInside}
+use Rattle.actions.specs.declared.control.Control.{Control}
+use Rattle.actions.specs.Control.{IsNext, IsStopped, left_of, run_of}
+use Rattle.stepper.specs.Order.{same_order}
+use Rattle.actions.specs.Opening.{InArrays, IsWork, StaysInside}
 
 abbrev pub IsCaptured : Scalars → Option Slot → Type 0
 IsCaptured captured (Some (slot.Captured scalars)) = captured ≡ slice_index scalars
@@ -89,15 +90,19 @@ pub record IsAt (plan : Plan) (now : Standing) (s : State) : Type 0 where
 abbrev pub fill_from : Standing → ℕ → Fill
 fill_from now i = λ c. fresh_of now.devices
 
+-- in which order an item's turns go on
+abbrev pub order_from : Standing → ℕ → List ℕ
+order_from now = same_order now.order.now
+
 -- where an event may happen in a state that is shown, the state after it is shown
 abbrev pub Follows : Standing → Event → Standing → Type 0
 Follows old e new = (plan : Plan) (s t : State) → IsAt plan old s → enabled plan s e ≡ true →
-    step plan (fill_from old) s e ≡ Some t → IsAt plan new t
+    step plan (fill_from old) (order_from old) s e ≡ Some t → IsAt plan new t
 
 -- an event fails in each state that is shown in which it may happen
 abbrev pub FailsAt : Standing → Event → Type 0
 FailsAt now e = (plan : Plan) (s : State) → IsAt plan now s → enabled plan s e ≡ true →
-    step plan (fill_from now) s e ≡ None
+    step plan (fill_from now) (order_from now) s e ≡ None
 
 -- this item of the plan, with its region in full, works on this device, and its sections lie in their arrays
 pub record IsItem (plan : Plan) (i : ℕ) (it : Item) (r : Option Region) : Type 0 where
@@ -111,11 +116,11 @@ pub record IsItem (plan : Plan) (i : ℕ) (it : Item) (r : Option Region) : Type
 -- of such an item the event leads to a state that is shown
 abbrev pub FollowsOf : Item → Option Region → ℕ → Standing → Event → Standing → Type 0
 FollowsOf it r i old e new = (plan : Plan) (s : State) → IsItem plan i it r → IsAt plan old s → enabled plan s e ≡ true →
-    IsSomeAnd (step plan (fill_from old) s e) (IsAt plan new)
+    IsSomeAnd (step plan (fill_from old) (order_from old) s e) (IsAt plan new)
 
 abbrev pub FailsOf : Item → Option Region → ℕ → Standing → Event → Type 0
 FailsOf it r i now e = (plan : Plan) (s : State) → IsItem plan i it r → IsAt plan now s → enabled plan s e ≡ true →
-    step plan (fill_from now) s e ≡ None
+    step plan (fill_from now) (order_from now) s e ≡ None
 
 -- why an item is not opened: for want of memory, or it fails
 abbrev pub IsOpenFault : Item → Option Region → ℕ → Standing → RunFault → Type 0
@@ -130,7 +135,7 @@ IsOpenFault it r i now fault.RangeRefused = ⊥
 -- the same, of an item of this kind
 abbrev pub FollowsOfKind : ItemKind → ℕ → Standing → Event → Standing → Type 0
 FollowsOfKind kind i old e new = (plan : Plan) (s t : State) (w : Work) → slice_get plan.items i ≡ Some w → w.kind ≡ kind →
-    IsAt plan old s → enabled plan s e ≡ true → step plan (fill_from old) s e ≡ Some t → IsAt plan new t
+    IsAt plan old s → enabled plan s e ≡ true → step plan (fill_from old) (order_from old) s e ≡ Some t → IsAt plan new t
 
 -- an item works on this device
 abbrev pub IsOnDevice : Plan → ℕ → ℕ → Type 0
@@ -171,6 +176,7 @@ abbrev pub needs : Request → List Block → ℕ
 needs (Enter item) blocks = need (item ∷ []) blocks
 needs (Load side c) blocks = 0
 needs (Store side c n) blocks = 0
+needs (Combine side op c n) blocks = 0
 needs (Leave item) blocks = 0
 needs (Remove s) blocks = 0
 needs (CopyIn c) blocks = 0
@@ -186,7 +192,7 @@ is_over capacity plan s i = elim (asked (s.condition i)) [
 
 abbrev pub FollowsOn : ℕ → ℕ → Standing → Standing → Type 0
 FollowsOn d i old new = (plan : Plan) (s : State) → IsOnDevice plan i d → IsAt plan old s →
-    enabled plan s (Step i) ≡ true → IsSomeAnd (step plan (fill_from old) s (Step i)) (IsAt plan new)
+    enabled plan s (Step i) ≡ true → IsSomeAnd (step plan (fill_from old) (order_from old) s (Step i)) (IsAt plan new)
 
 -- the next action of an item has room, or has none
 abbrev pub HasRoomAt : ℕ → ℕ → ℕ → Standing → Bool → Type 0
@@ -195,7 +201,7 @@ HasRoomAt capacity d i now over = (plan : Plan) (s : State) → IsOnDevice plan 
 
 abbrev pub FailsOn : ℕ → ℕ → Standing → Type 0
 FailsOn d i now = (plan : Plan) (s : State) → IsOnDevice plan i d → IsAt plan now s →
-    enabled plan s (Step i) ≡ true → step plan (fill_from now) s (Step i) ≡ None
+    enabled plan s (Step i) ≡ true → step plan (fill_from now) (order_from now) s (Step i) ≡ None
 
 -- why an action is not done: for want of memory, for want of room, or it fails
 abbrev pub IsStepFault : ℕ → ℕ → ℕ → Standing → RunFault → Type 0
@@ -236,9 +242,9 @@ Captures now deferred i scalars = (plan : Plan) (s : State) (w : Work) → slice
 
 -- what a host region did to the scalars and the input is the host's, and its numbers were printed
 pub record HasLeftHost (control : Control) (old new : Standing) : Type 0 where
-  pub scalars : slice_index new.scalars ≡ slice_index control.scalars.value
-  pub input : new.input.now ≡ control.input.now
-  pub output : new.output.items ≡ old.output.items ++ control.printed.items
+  pub scalars : slice_index new.scalars ≡ slice_index control.strand.scalars
+  pub input : new.input.now ≡ control.strand.input.now
+  pub output : new.output.items ≡ old.output.items ++ control.strand.printed.items
   pub rest : new ≡ record old { scalars = new.scalars; input = new.input; output = new.output }
 
 -- what an item of this kind leaves of what the host has

@@ -7,7 +7,7 @@ use Rattle.base.specs.declared.item.Event.TheVariants.{Gen, Open, Step, Close, W
 use Rattle.base.specs.Items.{Plan}
 use Rattle.fine_machine.specs.Machine.{State, enabled, step}
 use Rattle.stepper.specs.declared.standing.Standing.{Standing}
-use Rattle.stepper.specs.Standing.{IsAt, fill_from, is_over}
+use Rattle.stepper.specs.Standing.{IsAt, fill_from, order_from, is_over}
 
 -- a state is shown in which the event may happen
 pub record IsAble (p : Plan) (now : Standing) (e : Event) : Type 0 where
@@ -18,7 +18,7 @@ pub record IsAble (p : Plan) (now : Standing) (e : Event) : Type 0 where
 
 -- from each state that is shown the event leads to one that is shown
 abbrev pub Does : Plan → Standing → Event → Standing → Type 0
-Does p old e new = (s : State) → IsAt p old s → enabled p s e ≡ true → IsSomeAnd (step p (fill_from old) s e) (IsAt p new)
+Does p old e new = (s : State) → IsAt p old s → enabled p s e ≡ true → IsSomeAnd (step p (fill_from old) (order_from old) s e) (IsAt p new)
 
 abbrev pub has_room : ℕ → Plan → State → Event → Type 0
 has_room capacity p s (Step i) = is_over capacity p s i ≡ false
@@ -39,7 +39,7 @@ abbrev pub IsTakeFault : ℕ → Plan → Standing → Event → RunFault → Ty
 IsTakeFault capacity p now e fault.OutOfMemory = Unit {0}
 IsTakeFault capacity p now e fault.DeviceFull = IsFullAt capacity p now e
 IsTakeFault capacity p now e fault.Absent =
-    (s : State) → IsAt p now s → enabled p s e ≡ true → has_room capacity p s e × (step p (fill_from now) s e ≡ None)
+    (s : State) → IsAt p now s → enabled p s e ≡ true → has_room capacity p s e × (step p (fill_from now) (order_from now) s e ≡ None)
 IsTakeFault capacity p now e fault.Stranger = ⊥
 IsTakeFault capacity p now e fault.ThreadNotStarted = ⊥
 IsTakeFault capacity p now e fault.OtherState = ⊥

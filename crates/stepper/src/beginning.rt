@@ -26,15 +26,18 @@ fn nothing_kept<'p>(alloc: Global, count: usize) -> Result<Vec<Slot<'p>>, AllocE
 }
 
 impl<'p> Standing<'p> {
-    /// The start of a run, on zeros and empty devices, each with room for `capacity` cells.
+    /// The start of a run, on zeros and empty devices, each with room for `capacity` cells. `order` picks among the
+    /// turns of a kernel that may run in any order.
     pub fn new(
         alloc: Global,
         outlined: &Outlined<'_>,
         input: &'p [u64],
+        order: &'p [u32],
         capacity: u64,
     ) -> Result<Standing<'p>, AllocError>
         ensures start { IfOk result (λ now. IsAt (plan outlined.now) now (start input.now)) }
         ensures capacity { IfOk result (λ now. HaveRoom now.devices capacity) }
+        ensures order { IfOk result (λ now. now.order ≡ order.entry) }
         ensures number { IfOk result (λ now. fresh_of now.devices < 2 ^ 64) }
     {
         let items = outlined.items();
@@ -52,6 +55,7 @@ impl<'p> Standing<'p> {
             output: Vec::new(alloc),
             slots,
             entered: 0,
+            order,
         })
     }
 }

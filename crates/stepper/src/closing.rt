@@ -5,8 +5,8 @@ ghost use Rattle.base.specs.declared.item.Event.TheVariants as event;
 ghost use Rattle.taskgraph.specs.Board.{allows};
 ghost use Rattle.stepper.specs.Standing.{FollowsOfKind, HasLeft};
 
-use crate::control::Control;
 use crate::standing::{Slot, Standing};
+use actions::Control;
 use base::item::ItemKind;
 use kernel::Scalars;
 use std::alloc::{AllocError, Global};
@@ -22,13 +22,14 @@ impl<'p> Standing<'p> {
     ) -> Result<(), AllocError>
         ensures left { OnOk result (HasLeft kind control.now self.old self.new) }
         ensures devices { self.new.devices ≡ self.old.devices }
+        ensures order { self.new.order ≡ self.old.order }
     {
         match kind {
             ItemKind::Host => {
-                let scalars = Scalars::new(alloc, &control.scalars)?;
-                self.output.extend_from_slice(&control.printed)?;
+                let scalars = Scalars::new(alloc, &control.strand.scalars.all())?;
+                self.output.extend_from_slice(&control.strand.printed)?;
                 self.scalars = scalars;
-                self.input = control.input;
+                self.input = control.strand.input;
                 Ok(())
             }
             ItemKind::Target => Ok(()),
@@ -49,6 +50,7 @@ impl<'p> Standing<'p> {
         requires going { self.old.ended ≡ false }
         ensures closed { OnOk result (FollowsOfKind kind item self.old (event.Close item) self.new) }
         ensures devices { self.new.devices ≡ self.old.devices }
+        ensures order { self.new.order ≡ self.old.order }
     {
         let slot = replace(&mut self.slots[item as usize], Slot::Nothing);
         match &slot {

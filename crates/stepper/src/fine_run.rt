@@ -9,9 +9,9 @@ ghost use Rattle.stepper.specs.Answering.{next_by};
 ghost use Rattle.stepper.specs.Run.{IsGoing, state_of};
 ghost use Rattle.stepper.specs.Running.{HasCome, HasDone, HasStopped, IsEventFault, IsNew};
 
-use crate::act::number_of;
 use crate::standing::Standing;
 use crate::taking::take;
+use actions::number_of;
 use base::fault::RunFault;
 use base::item::{Cell, Event};
 use base::tree::{DeviceId, Program};
@@ -48,19 +48,21 @@ impl<'p> Model for FineRun<'p> {
 }
 
 impl<'p> FineRun<'p> {
-    /// A run that has done nothing, on devices each with room for `capacity` cells. `input` holds the numbers that `read`
-    /// takes in turn. The error comes for want of memory.
+    /// A run that has done nothing, on devices each with room for `capacity` cells. `input` holds the numbers that
+    /// `read` takes in turn, and `turns` those that pick among the turns of a kernel that may run in any order. The
+    /// error comes for want of memory.
     pub fn new(
         alloc: Global,
         outlined: &'p Outlined<'p>,
         input: &'p [u64],
+        turns: &'p [u32],
         capacity: u64,
     ) -> Result<FineRun<'p>, AllocError>
         requires { HasNoRangeFault (plan outlined.now) }
-        ensures start { IfOk result (IsNew outlined.now input.now capacity) }
+        ensures start { IfOk result (IsNew outlined.now input.now turns.now capacity) }
     {
         are_numbers(input);
-        let standing = Standing::new(alloc, outlined, input, capacity)?;
+        let standing = Standing::new(alloc, outlined, input, turns, capacity)?;
         Ok(FineRun {
             alloc,
             outlined,

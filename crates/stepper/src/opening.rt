@@ -5,11 +5,11 @@ ghost use Rattle.base.specs.declared.item.Event.TheVariants as event;
 ghost use Rattle.base.specs.declared.tree.Region.{Region};
 ghost use Rattle.taskgraph.specs.Board.{allows};
 ghost use Rattle.present.specs.Table.{AreSections};
-ghost use Rattle.stepper.specs.Opening.{IsRegion};
+ghost use Rattle.actions.specs.Opening.{IsRegion};
 ghost use Rattle.stepper.specs.Standing.{Captures, FollowsOf, IsOpenFault};
 
-use crate::open::open;
 use crate::standing::{Slot, Standing};
+use actions::open;
 use base::fault::RunFault;
 use base::item::Item;
 use base::tree::Region;
@@ -48,12 +48,17 @@ impl<'p> Standing<'p> {
         ensures opened { (r : Option Region) → IsRegion region.entry r → OnOk result (FollowsOf it.now r item self.old (event.Open item) self.new) }
         ensures fault { (r : Option Region) → IsRegion region.entry r → IfErr result (IsOpenFault it.now r item self.old) }
         ensures devices { self.new.devices ≡ self.old.devices }
+        ensures order { self.new.order ≡ self.old.order }
     {
+        let Ok(scalars) = self.captured(it.deferred, item).all(alloc) else {
+            return Err(RunFault::OutOfMemory);
+        };
         let opened = open(
             alloc,
             it,
             region,
-            self.captured(it.deferred, item),
+            self.order,
+            &scalars,
             self.input,
             self.devices.table(it.device),
         );

@@ -54,25 +54,28 @@ impl<'p> FineRun<'p> {
     }
 }
 
-/// Runs a program on the fine-grained machine by these choices, on devices each with room for `capacity` cells, whether it
-/// is accepted or not. At each turn the next choice picks among the events that may happen, counted around: for each open
-/// item, ascending, its next action or its closing; the openings by ascending item; and what the host may do. The answer
-/// has the output, the events, and the values of the arrays that are marked current where the program is accepted. The
-/// error is `RangeRefused` where the program has a fault of range, and then nothing is run; `DeviceFull` where the run
-/// comes to an action that would create more cells than its device has room for; `Absent` where it fails, which no
-/// accepted program does; or `OutOfMemory`.
+/// Runs a program on the fine-grained machine by these choices, on devices each with room for `capacity` cells, whether
+/// it is accepted or not. At each step the next choice picks among the events that may happen, counted around: for each
+/// open item, ascending, its next action or its closing; the openings by ascending item; and what the host may do. Of
+/// each kernel whose turns may run in any order, the next of the numbers `turns` picks at each action among the turns
+/// that have one, counted around; past the last number they go one after another. The answer has the output, the
+/// events, and the values of the arrays that are marked current where the program is accepted. The error is
+/// `RangeRefused` where the program has a fault of range, and then nothing is run; `DeviceFull` where the run comes to
+/// an action that would create more cells than its device has room for; `Absent` where it fails, which no accepted
+/// program does; or `OutOfMemory`.
 pub fn run_fine<'p>(
     alloc: Global,
     outlined: &'p Outlined<'p>,
     input: &'p [u64],
     choices: &[u32],
+    turns: &'p [u32],
     capacity: u64,
 ) -> Result<Answer, RunFault>
-    ensures answer { IfOk result (IsFineAnswer outlined.now input.now choices.now capacity) }
-    ensures fault { IfErr result (IsFineFault outlined.now input.now choices.now capacity) }
+    ensures answer { IfOk result (IsFineAnswer outlined.now input.now choices.now turns.now capacity) }
+    ensures fault { IfErr result (IsFineFault outlined.now input.now choices.now turns.now capacity) }
 {
     let arrays = shown_of(alloc, outlined)?;
-    let Ok(mut run) = FineRun::new(alloc, outlined, input, capacity) else {
+    let Ok(mut run) = FineRun::new(alloc, outlined, input, turns, capacity) else {
         return Err(RunFault::OutOfMemory);
     };
     while let Some(event) = run.next_event(choices) {

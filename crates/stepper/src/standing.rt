@@ -8,7 +8,7 @@ ghost use Rattle.taskgraph.specs.Board.{allows};
 ghost use Rattle.device.specs.Devices.{HaveRoom, fresh_of};
 ghost use Rattle.stepper.specs.Standing.{FailsAt, Follows, IsAt};
 
-use crate::control::Control;
+use actions::Control;
 use base::memory::Memory;
 use device::Devices;
 use kernel::Scalars;
@@ -25,7 +25,8 @@ pub enum Slot<'p> {
 }
 
 /// Where a run stands: the host memory and the storage of each device, the order of the items, the scalars, the input
-/// that is left, the numbers that were printed, what is kept for each item, and how many map items were entered.
+/// that is left, the numbers that were printed, what is kept for each item, how many map items were entered, and the
+/// numbers by which the turns of a kernel go on that may run in any order.
 #[derive(Drop)]
 pub struct Standing<'p> {
     pub host: Memory,
@@ -37,6 +38,7 @@ pub struct Standing<'p> {
     pub output: Vec<u64>,
     pub slots: Vec<Slot<'p>>,
     pub entered: u64,
+    pub order: &'p [u32],
 }
 
 impl<'p> Standing<'p> {
@@ -47,6 +49,7 @@ impl<'p> Standing<'p> {
         requires going { self.old.ended ≡ false }
         ensures generated { OnOk result (Follows self.old (event.Gen item) self.new) }
         ensures devices { self.new.devices ≡ self.old.devices }
+        ensures order { self.new.order ≡ self.old.order }
     {
         let captured = self.scalars.copy(alloc)?;
         self.slots[item as usize] = Slot::Captured(captured);
@@ -60,6 +63,7 @@ impl<'p> Standing<'p> {
         requires going { self.old.ended ≡ false }
         ensures passed { Follows self.old (event.Wait item) self.new }
         ensures devices { self.new.devices ≡ self.old.devices }
+        ensures order { self.new.order ≡ self.old.order }
     {
         self.graph.waited(item as usize);
     }
@@ -69,6 +73,7 @@ impl<'p> Standing<'p> {
         requires { self.old.ended ≡ false }
         ensures ended { Follows self.old event.End self.new }
         ensures devices { self.new.devices ≡ self.old.devices }
+        ensures order { self.new.order ≡ self.old.order }
     {
         self.ended = true;
     }

@@ -2,19 +2,16 @@
 
 ghost use Rattle.std.specs.Prelude.{◌≡◌, ◌+◌, ◌<◌, ◌^◌, ℕ, false, true, IfErr, IfOk, OnErr, OnOk, length, slice_get};
 ghost use Rattle.device.specs.Devices.{AreKept, HaveRoom, OnTable};
-ghost use Rattle.stepper.specs.Acting.{CountsOn, FitsIn, InHost, IsActFault, OnEntry, answer_of};
-ghost use Rattle.stepper.specs.Control.{Answers, HasSection, IsStopped};
+ghost use Rattle.actions.specs.Acting.{CountsOn, FitsIn, InHost, IsActFault, OnEntry};
+ghost use Rattle.actions.specs.Strand.{HasSection};
 ghost use Rattle.stepper.specs.Standing.{ActsOn, FollowsOn, HasCounted, HasRoomAt, IsActing, IsAtRest, IsReady, IsShown, IsStepFault};
 
-use crate::act::act;
-use crate::action::{Action, Given};
-use crate::control::Control;
 use crate::standing::{Slot, Standing};
+use actions::{Action, Given, act};
 use base::fault::RunFault;
 use base::memory::Memory;
 use base::tree::DeviceId;
 use device::Devices;
-use std::alloc::AllocError;
 use std::mem::replace;
 
 // Does an action on the host memory and a device.
@@ -83,6 +80,7 @@ impl<'p> Standing<'p> {
         ensures room { (capacity : ℕ) → HaveRoom self.old.devices capacity → OnOk result (HasRoomAt capacity device.number item self.old false) }
         ensures fault { (capacity : ℕ) → HaveRoom self.old.devices capacity → IfErr result (IsStepFault capacity device.number item self.old) }
         ensures kept { AreKept self.old.devices self.new.devices }
+        ensures order { self.new.order ≡ self.old.order }
     {
         let slot = replace(&mut self.slots[item as usize], Slot::Nothing);
         let Slot::Opened(mut control) = slot else {
@@ -96,10 +94,10 @@ impl<'p> Standing<'p> {
             &mut self.devices,
             &mut self.host,
             device,
-            control.on_host,
+            control.on_host(),
             action,
         )?;
-        match proceed(&mut control, given) {
+        match control.proceed(given) {
             Ok(()) => {
                 self.slots[item as usize] = Slot::Opened(control);
                 Ok(())
@@ -107,14 +105,4 @@ impl<'p> Standing<'p> {
             Err(_) => Err(RunFault::OutOfMemory),
         }
     }
-}
-
-// An action is answered, and what comes before the next one is done.
-fn proceed(control: &mut Control<'_>, given: Given) -> Result<(), AllocError>
-    requires { IsStopped control.old }
-    ensures answered { OnOk result (Answers (answer_of given) control.old control.new) }
-    ensures stopped { OnOk result (IsStopped control.new) }
-{
-    control.answer(given)?;
-    control.advance()
 }

@@ -5,7 +5,8 @@ ghost use Rattle.base.specs.Items.{plan};
 ghost use Rattle.device.specs.Devices.{AreKept, HaveRoom};
 ghost use Rattle.mapwalk.specs.Walk.{HasNoRangeFault};
 ghost use Rattle.outline.specs.Regions.{entries_of};
-ghost use Rattle.stepper.specs.Opening.{IsRegion, region_in};
+ghost use Rattle.actions.specs.Opening.{IsRegion};
+ghost use Rattle.stepper.specs.Opening.{region_in};
 ghost use Rattle.stepper.specs.Taking.{Does, IsAble, IsTakeFault};
 
 use crate::standing::Standing;
@@ -37,6 +38,7 @@ pub fn take<'p>(
     ensures done { OnOk result (Does (plan outlined.now) standing.old event standing.new) }
     ensures fault { (capacity : ℕ) → HaveRoom standing.old.devices capacity → IfErr result (IsTakeFault capacity (plan outlined.now) standing.old event) }
     ensures kept { AreKept standing.old.devices standing.new.devices }
+    ensures order { standing.new.order ≡ standing.old.order }
 {
     match event {
         Event::Gen(item) => match standing.generate(alloc, item) {

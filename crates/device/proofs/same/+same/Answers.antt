@@ -25,18 +25,18 @@ is_same_stmt-returns-then-is_same_list t c =
     let w = c.in-If-If in
     c.is_same_list-then-is_same_list.ensures
     ∙ ap₂ same_list c.deref-then-is_same_list.ensures.value c.deref-then-is_same_list-2.ensures.value
-    ∙ ap₂ (λ a b. a && (b && same_list w.more.items w.rest.items)) (sym c.if-is_same_expr-2.true ∙ c.is_same_expr-in-If-If.ensures)
-    (sym c.if-is_same_list.true ∙ c.is_same_list-then-is_same_expr-2.ensures
-    ∙ ap₂ same_list c.deref-then-is_same_expr-2.ensures.value c.deref-then-is_same_expr-2-2.ensures.value)
+    ∙ ap₂ (λ a b. a && (b && same_list w.more.items w.rest.items)) (sym c.if-is_same_expr-3.true ∙ c.is_same_expr-in-If-If.ensures)
+    (sym c.if-is_same_list.true ∙ c.is_same_list-then-is_same_expr-3.ensures
+    ∙ ap₂ same_list c.deref-then-is_same_expr-3.ensures.value c.deref-then-is_same_expr-3-2.ensures.value)
     ∙ sym (of_If c.args.left.now c.args.right.now w.a w.b w.all w.more w.other w.rest w.is-0 w.is-1)
 
 pub is_same_stmt-returns-else-is_same_list : goal.is_same_stmt-returns-else-is_same_list
 is_same_stmt-returns-else-is_same_list t c =
     let w = c.in-If-If in
     c.if-is_same_list.false
-    ∙ ap₂ (λ a b. a && (b && same_list w.more.items w.rest.items)) (sym c.if-is_same_expr-2.true ∙ c.is_same_expr-in-If-If.ensures)
-    (sym c.if-is_same_list.false ∙ c.is_same_list-then-is_same_expr-2.ensures
-    ∙ ap₂ same_list c.deref-then-is_same_expr-2.ensures.value c.deref-then-is_same_expr-2-2.ensures.value)
+    ∙ ap₂ (λ a b. a && (b && same_list w.more.items w.rest.items)) (sym c.if-is_same_expr-3.true ∙ c.is_same_expr-in-If-If.ensures)
+    (sym c.if-is_same_list.false ∙ c.is_same_list-then-is_same_expr-3.ensures
+    ∙ ap₂ same_list c.deref-then-is_same_expr-3.ensures.value c.deref-then-is_same_expr-3-2.ensures.value)
     ∙ sym (of_If c.args.left.now c.args.right.now w.a w.b w.all w.more w.other w.rest w.is-0 w.is-1)
 
 pub is_same_list-returns-then-not-is_same_stmt : goal.is_same_list-returns-then-not-is_same_stmt

@@ -10,7 +10,7 @@ use Rattle.stepper.proofs.run.run_fine.Goals as goal
 
 pub loop-event-init : goal.loop-event-init
 loop-event-init c =
-    begins c.args.outlined.now c.args.input.now c.args.choices.now c.args.capacity c.in-Ok.run' c.in-Ok.ensures.start
+    begins c.args.outlined.now c.args.input.now c.args.choices.now c.args.turns.now c.args.capacity c.in-Ok.run' c.in-Ok.ensures.start
 
 -- what is next by the next choice
 next : (c : In-Some) → Some c.in-Some.event
@@ -21,13 +21,13 @@ next c = sym c.in-Some.is ∙ c.next_event.ensures
 pub take-requires-clause-enabled : goal.take-requires-clause-enabled
 take-requires-clause-enabled c =
     let at = goal.at.take-requires-clause-enabled c in
-    may c.args.outlined.now c.args.input.now c.args.choices.now c.args.capacity c.loop-event.run c.loop-event.invariant
+    may c.args.outlined.now c.args.input.now c.args.choices.now c.args.turns.now c.args.capacity c.loop-event.run c.loop-event.invariant
     c.in-Some.event (next at.In-Some)
 
 pub loop-event-preserved : goal.loop-event-preserved
 loop-event-preserved c =
     let at = goal.at.loop-event-preserved c in
-    goes_on c.args.outlined.now c.args.input.now c.args.choices.now c.args.capacity c.loop-event.run c.loop-event.invariant
+    goes_on c.args.outlined.now c.args.input.now c.args.choices.now c.args.turns.now c.args.capacity c.loop-event.run c.loop-event.invariant
     c.in-Some.event (next at.In-Some) c.take.new.self c.in_ok-take.ensures.done
 
 pub returns-in_err-take-clause-fault : goal.returns-in_err-take-clause-fault
@@ -36,7 +36,7 @@ returns-in_err-take-clause-fault c =
     let f = c.in_err-take.field-0.0 in
     let p = err_from_is_err_and c.from_residual-in_err-take.result c.from_residual-in_err-take.ensures.1 in
     rw (p.1, p.2)
-    (stops c.args.outlined.now c.args.input.now c.args.choices.now c.args.capacity c.loop-event.run c.loop-event.invariant
+    (stops c.args.outlined.now c.args.input.now c.args.choices.now c.args.turns.now c.args.capacity c.loop-event.run c.loop-event.invariant
     c.in-Some.event (next at.In-Some) (c.has_come.ensures c.loop-event.invariant.going) c.in_ok-arrays.ensures.shown.fine f c.in_err-take.ensures.fault)
 
 pub returns-in-Ok-answer-clause-answer : goal.returns-in-Ok-answer-clause-answer
@@ -44,7 +44,7 @@ returns-in-Ok-answer-clause-answer c =
     let p = c.args.outlined.now in
     let r = c.loop-event.run in
     let play = c.loop-event.invariant in
-    answers p c.args.input.now c.args.choices.now c.args.capacity r play (c.has_come-2.ensures play.going)
-    (over p c.args.input.now c.args.choices.now c.args.capacity r play (sym c.in_default-next_event.is ∙ c.next_event.ensures))
+    answers p c.args.input.now c.args.choices.now c.args.turns.now c.args.capacity r play (c.has_come-2.ensures play.going)
+    (over p c.args.input.now c.args.choices.now c.args.turns.now c.args.capacity r play (sym c.in_default-next_event.is ∙ c.next_event.ensures))
     c.deref.result.now c.in-Ok-answer.answer c.in-Ok-answer.ensures
     (subst (AreShown p) (sym c.deref.ensures.value) c.in_ok-arrays.ensures.shown)

@@ -3,7 +3,7 @@ use Rattle.stepper.proofs.Plays.{Plays}
 use Rattle.stepper.proofs.run.run_fine.Given as goal
 
 abbrev pub invariant-loop-event : goal.invariant-loop-event
-invariant-loop-event l = Plays l.outlined l.input l.choices l.capacity l.run
+invariant-loop-event l = Plays l.outlined l.input l.choices l.turns l.capacity l.run
 
 abbrev pub decreases-loop-event : goal.decreases-loop-event
 decreases-loop-event l = 18446744073709551616 - length l.run.history

@@ -4,7 +4,7 @@ use Rattle.std.proofs.lemmas.Result.{IfErr-weaker, IfOk-weaker, on_ok_weaker}
 use Rattle.present.specs.declared.Table.{Table}
 use Rattle.device.specs.Devices.{table_at}
 use Rattle.device.proofs.Tables.{are_kept, same_table}
-use Rattle.stepper.specs.Acting.{FitsIn, IsActFault}
+use Rattle.actions.specs.Acting.{FitsIn, IsActFault}
 use Rattle.stepper.proofs.stepping.act_on.Goals.{After-act}
 use Rattle.stepper.proofs.stepping.act_on.Goals as goal
 

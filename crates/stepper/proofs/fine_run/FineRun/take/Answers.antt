@@ -19,8 +19,8 @@ invariant_of-self-2 c =
     (subst IsGoing (sym c.self.view_is) c.requires.going) c.args.event
     (subst (λ (r : Run). enabled (plan r.program) (state_of r) c.args.event ≡ true) (sym c.self.view_is) c.requires.enabled)
     c.take.new.standing c.push.new.self.items
-    (c.push.ensures.items ∙ cond-true _ _ _ (c.is_err.ensures.negation ∙ ap not c.if-is_err.false)) refl
-    c.in_ok-take.ensures.done c.in_ok-take.ensures.kept
+    (c.push.ensures.items ∙ cond-true _ _ _ (c.is_err.ensures.negation ∙ ap not c.if-is_err.false)) refl refl
+    c.in_ok-take.ensures.order c.in_ok-take.ensures.done c.in_ok-take.ensures.kept
 
 pub returns-clause-done : goal.returns-clause-done
 returns-clause-done c =
@@ -31,5 +31,5 @@ returns-clause-done c =
     (subst IsGoing (sym c.self.view_is) c.requires.going) c.args.event
     (subst (λ (r : Run). enabled (plan r.program) (state_of r) c.args.event ≡ true) (sym c.self.view_is) c.requires.enabled)
     c.take.new.standing c.push.new.self.items
-    (c.push.ensures.items ∙ cond-true _ _ _ (c.is_err.ensures.negation ∙ ap not c.if-is_err.false)) refl
-    c.in_ok-take.ensures.done c.in_ok-take.ensures.kept)
+    (c.push.ensures.items ∙ cond-true _ _ _ (c.is_err.ensures.negation ∙ ap not c.if-is_err.false)) refl refl
+    c.in_ok-take.ensures.order c.in_ok-take.ensures.done c.in_ok-take.ensures.kept)

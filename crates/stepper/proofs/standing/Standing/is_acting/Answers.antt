@@ -1,10 +1,10 @@
 use Rattle.std.proofs.Common.{◌≡◌, true, false, Option, Some, None, is_some, sym, ap, ◌∙◌, subst, slice_get}
 use Rattle.std.proofs.lemmas.Bool.{false≢true, ltb-true}
 use Rattle.std.proofs.lemmas.Option.{slice_get-get_or, slice_get_past}
-use Rattle.stepper.specs.Control.{IsNext, IsStopped}
+use Rattle.actions.specs.Control.{IsNext, IsStopped}
 use Rattle.stepper.specs.Standing.{IsActing, IsAtRest}
-use Rattle.stepper.specs.declared.action.Action.{Action}
-use Rattle.stepper.specs.declared.control.Control.{Control}
+use Rattle.actions.specs.declared.action.Action.{Action}
+use Rattle.actions.specs.declared.control.Control.{Control}
 use Rattle.stepper.specs.declared.standing.Slot.{Slot}
 use Rattle.stepper.specs.declared.standing.Slot.TheVariants as slot
 use Rattle.stepper.proofs.standing.Standing.is_acting.Goals.{In-Some-Opened}

@@ -5,11 +5,12 @@ use Rattle.base.specs.declared.memory.Memory.{Memory as Arrays}
 use Rattle.device.specs.declared.devices.Devices.{Devices}
 use Rattle.device.specs.Devices.{OnTable, table_at}
 use Rattle.device.proofs.Tables.{kept_same, own_table}
-use Rattle.stepper.specs.Acting.{CountsOn, InHost, IsActFault}
-use Rattle.stepper.specs.Control.{IsNext, IsStopped, request_of, side_of}
-use Rattle.stepper.specs.Standing.{IsReady}
-use Rattle.stepper.specs.declared.action.Action.{Action}
-use Rattle.stepper.specs.declared.control.Control.{Control}
+use Rattle.actions.specs.Acting.{CountsOn, InHost, IsActFault}
+use Rattle.actions.specs.Control.{IsNext, IsStopped, on_host}
+use Rattle.actions.specs.Strand.{request_of, side_of}
+use Rattle.stepper.specs.Standing.{ActsOn, IsReady}
+use Rattle.actions.specs.declared.action.Action.{Action}
+use Rattle.actions.specs.declared.control.Control.{Control}
 use Rattle.stepper.specs.declared.standing.Slot.{Slot}
 use Rattle.stepper.specs.declared.standing.Slot.TheVariants as slot
 use Rattle.stepper.specs.declared.standing.Standing.{Standing}
@@ -65,8 +66,8 @@ act_on-requires-clause-inside c =
     let sh = c.requires.shown in
     let h = asked_next sh.plan sh.state c.args.item old control c.in-Some.action sh.at w.held w.next sh.may in
     subst (InHost c.in-Some.action) (sym (host_same at.In_ok-count))
-    (in_host sh.plan.lengths control.on_host c.in-Some.action old.host
-    (asks_inside sh.plan.lengths (request_of (side_of control.on_host) c.in-Some.action) h.k h.inside) sh.at.lengths)
+    (in_host sh.plan.lengths (on_host control) c.in-Some.action old.host
+    (asks_inside sh.plan.lengths (request_of (side_of (on_host control)) c.in-Some.action) h.k h.inside) sh.at.lengths)
 
 pub act_on-requires-clause-counts : goal.act_on-requires-clause-counts
 act_on-requires-clause-counts c =
@@ -90,8 +91,9 @@ returns-in_err-given-clause-fault c capacity room =
     let f = c.in_err-given.field-0.0 in
     let was = subst (λ (all : Devices). table_at all d ≡ Some own.0) (sym (devices_same at.In_ok-count)) own.1 in
     let why =
-    subst (λ (host : Arrays). IsActFault control.on_host c.in-Some.action own.0 host f) (host_same at.In_ok-count)
-    (c.in_err-given.ensures.fault own.0 was) in
+    subst (λ b. IsActFault b c.in-Some.action own.0 old.host f) c.on_host.ensures
+    (subst (λ (host : Arrays). IsActFault c.on_host.result c.in-Some.action own.0 host f) (host_same at.In_ok-count)
+    (c.in_err-given.ensures.fault own.0 was)) in
     let p = err_from_is_err_and c.from_residual-in_err-given.result c.from_residual-in_err-given.ensures.1 in
     rw (p.1, p.2)
     (step_fault c.args.item d old control c.in-Some.action own.0 w.held w.next own.1 capacity room f why)
@@ -111,6 +113,8 @@ pub returns-in-Ok-clause-stepped : goal.returns-in-Ok-clause-stepped
 returns-in-Ok-clause-stepped c =
     let w = taken (goal.at.returns-in-Ok-clause-stepped c).In-Some in
     stepped c.args.item c.args.self.now c.count.new.self c.replace-slot.new.dest c.in-Some.action
-    c.in_ok-count.ensures.counted c.args.device.number c.in-Opened.control c.proceed.new.control c.in_ok-given.given
-    c.act_on.new.host c.act_on.new.devices c.requires.inside w.held w.next c.requires.going c.in_ok-given.ensures.done
+    c.in_ok-count.ensures.counted c.args.device.number c.in-Opened.control c.proceed.new.self c.in_ok-given.given
+    c.act_on.new.host c.act_on.new.devices c.requires.inside w.held w.next c.requires.going
+    (subst (λ b. ActsOn c.args.device.number b c.in-Some.action c.in_ok-given.given c.count.new.self.devices c.count.new.self.host
+    c.act_on.new.devices c.act_on.new.host) c.on_host.ensures c.in_ok-given.ensures.done)
     c.in-Ok.ensures.answered c.in-Ok.ensures.stopped

@@ -1,7 +1,0 @@
-use Rattle.stepper.proofs.Puts.{puts_in}
-use Rattle.stepper.proofs.open.put_in.Goals as goal
-
-pub returns-in_ok-push : goal.returns-in_ok-push
-returns-in_ok-push c =
-    puts_in c.args.copies c.cells_of.result c.args.section.now _ _ c.if-copies.true c.cells_of.ensures.array
-    c.cells_of.ensures.first c.cells_of.ensures.count c.in_ok-push.ensures.pushed
