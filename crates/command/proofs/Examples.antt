@@ -48,12 +48,12 @@ dashed_is_well_formed = refl
 
 -- a step of what the check may refuse
 abbrev by_actions : List Text
-by_actions = codes "step" ∷ codes "a.c" ∷ codes "--choices=0,1" ∷ codes "--fine" ∷ []
+by_actions = codes "step" ∷ codes "a.c" ∷ codes "--choices=0,1" ∷ codes "--fine" ∷ codes "--turns=1" ∷ []
 
-by_actions_asks : option_map (λ p. told p (codes "choices" ∷ codes "capacity" ∷ codes "fine" ∷ [])) (subcommand_of ompc by_actions) ≡ Some (record {
+by_actions_asks : option_map (λ p. told p (codes "choices" ∷ codes "capacity" ∷ codes "fine" ∷ codes "turns" ∷ [])) (subcommand_of ompc by_actions) ≡ Some (record {
   name = codes "step";
   file = codes "a.c";
-  options = Some (codes "0,1") ∷ None ∷ Some (codes "true") ∷ [];
+  options = Some (codes "0,1") ∷ None ∷ Some (codes "true") ∷ Some (codes "1") ∷ [];
 })
 unfolding clap_on_literals
 by_actions_asks = refl

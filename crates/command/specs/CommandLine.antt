@@ -64,7 +64,7 @@ abbrev pub run : Shape
 run = command (codes "run") (file ∷ workers ∷ capacity ∷ flag (codes "log") ∷ flag (codes "finals") ∷ [])
 
 abbrev pub step : Shape
-step = command (codes "step") (file ∷ text_option (codes "choices") ∷ capacity ∷ flag (codes "fine") ∷ [])
+step = command (codes "step") (file ∷ text_option (codes "choices") ∷ capacity ∷ flag (codes "fine") ∷ text_option (codes "turns") ∷ [])
 
 -- the words are a command's name and its arguments; without any there is help
 abbrev pub ompc : App
@@ -127,6 +127,7 @@ pub record IsStep (rows : List Row) (s : Step) : Type 0 where
   pub choices : s.choices.now ≡ text_in (codes "choices") rows
   pub capacity : IsCapacity rows s.capacity
   pub fine : IsFlag (one_of (codes "fine") rows) s.fine
+  pub turns : s.turns.now ≡ text_in (codes "turns") rows
 
 -- the form of a report that has this name
 abbrev pub format_named : Text → Option Format

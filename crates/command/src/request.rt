@@ -60,4 +60,6 @@ pub struct Step<'a> {
     pub capacity: u64,
     /// Whether each load, store, copied cell and action on a table is an event, and programs that are not accepted run too.
     pub fine: bool,
+    /// In which order the turns of a loop go whose turns may run in any order, where each load and store is an event.
+    pub turns: &'a str,
 }

@@ -82,6 +82,17 @@ fn choices_arg<'a>(alloc: Global) -> Arg<'a>
         )
 }
 
+fn turns_arg<'a>(alloc: Global) -> Arg<'a>
+    ensures { IsArg (text_option (codes "turns")) result }
+{
+    Arg::new(alloc, "turns")
+        .long("turns")
+        .value_name("LIST")
+        .help(
+            "with --fine: which of an unordered loop's turns acts next, at each action of its kernel, in order past the last",
+        )
+}
+
 fn fine_arg<'a>(alloc: Global) -> Arg<'a>
     ensures { IsArg (flag (codes "fine")) result }
 {
@@ -143,7 +154,8 @@ fn step_command<'a>(alloc: Global) -> Result<Command<'a>, AllocError>
     let command = file_command(alloc, "step", about);
     let command = with_arg(command, choices_arg(alloc));
     let command = with_arg(command, capacity_arg(alloc));
-    with_arg(command, fine_arg(alloc))
+    let command = with_arg(command, fine_arg(alloc));
+    with_arg(command, turns_arg(alloc))
 }
 
 fn check_command<'a>(alloc: Global) -> Result<Command<'a>, AllocError>
@@ -274,6 +286,7 @@ fn step_of<'a>(given: &ArgMatches<'a>) -> Step<'a>
         choices: text_of(given, "choices"),
         capacity: number_of(given, "capacity", DEFAULT_CAPACITY),
         fine: given.get_flag("fine"),
+        turns: text_of(given, "turns"),
     }
 }
 

@@ -19,7 +19,7 @@ shows (Checked (Choices choices)) capacity input p a h accepted =
     let here = h.answer.0 in record { plain = here.plain; is_erased = here.is_erased; output = here.output; finals = here.finals }
 shows (Checked (Workers workers)) capacity input p a h accepted =
     let here = h.answer.0 in record { plain = here.plain; is_erased = here.is_erased; output = here.output; finals = here.finals }
-shows (Fine choices) capacity input p a h accepted =
+shows (Fine choices turns) capacity input p a h accepted =
     let here = h.accepted accepted in record { plain = here.plain; is_erased = here.is_erased; output = here.output; finals = here.finals }
 
 -- the answer of a way is that of each program that the text without directive lines spells

@@ -21,6 +21,7 @@ use Rattle.driver.proofs.Requests.{of_source}
 -- a refusal by a fault of one kind is one by a fault of a wider kind
 pub by_wider : (P Q : SourceFault → Type 0) (e : Ending) → ((f : SourceFault) → P f → Q f) → IsRefusalBy P e → IsRefusalBy Q e
 by_wider P Q ending.BadChoices wider h = tt
+by_wider P Q ending.BadTurns wider h = tt
 by_wider P Q ending.BadFormat wider h = tt
 by_wider P Q (ending.Unreadable name) wider h = tt
 by_wider P Q (ending.Source f) wider h = λ refuses. wider f (h refuses)

@@ -49,13 +49,13 @@ next_of (Workers workers) capacity = by_workers capacity
 abbrev pub accepted_by : (List ℕ → Answers) → List ℕ → Answers
 accepted_by is input = IsAcceptedAnswer (is input)
 
--- what is answered on an input by choices on the fine-grained machine, of a program that need not be accepted
-abbrev pub by_actions : List ℕ → ℕ → List ℕ → Answers
-by_actions choices capacity input p a = IsFineAnswer p input choices capacity a
+-- what is answered on an input by choices on the fine-grained machine, by an order of turns, of a program that need not be accepted
+abbrev pub by_actions : List ℕ → List ℕ → ℕ → List ℕ → Answers
+by_actions choices turns capacity input p a = IsFineAnswer p input choices turns capacity a
 
 abbrev pub answers_of : Way → ℕ → List ℕ → Answers
 answers_of (Checked next) capacity = accepted_by (next_of next capacity)
-answers_of (Fine choices) capacity = by_actions choices.now capacity
+answers_of (Fine choices turns) capacity = by_actions choices.now turns.now capacity
 
 -- what a program answers on the numbers that a reader has left
 pub record IsReadAnswer (is : List ℕ → Answers) (known : Option (List ℕ)) (p : Program) (a : Answer) : Type 0 where
@@ -79,15 +79,17 @@ pub record IsPrinted (is : List ℕ → Answers) (log finals : Bool) (bytes : Li
   pub written : Appends old new (answer_bytes log finals program answer)
 
 -- what is answered on an input by choices, on the machine that is asked for
-abbrev pub stepped : Bool → List ℕ → ℕ → List ℕ → Answers
-stepped true choices capacity = by_actions choices capacity
-stepped false choices capacity = accepted_by (by_list choices capacity)
+abbrev pub stepped : Bool → List ℕ → List ℕ → ℕ → List ℕ → Answers
+stepped true choices turns capacity = by_actions choices turns capacity
+stepped false choices turns capacity = accepted_by (by_list choices capacity)
 
--- a run by the choices of a text, with its log
-pub record IsStepped (fine : Bool) (text : List ℕ) (capacity : ℕ) (bytes : List ℕ) (known old new : Option (List ℕ)) : Type 0 where
+-- a run by the choices of a text, with its log; the other text is the order of turns
+pub record IsStepped (fine : Bool) (text order : List ℕ) (capacity : ℕ) (bytes : List ℕ) (known old new : Option (List ℕ)) : Type 0 where
   pub choices : List ℕ
   pub are_choices : choices_of text ≡ Some choices
-  pub printed : IsPrinted (stepped fine choices capacity) true false bytes known old new
+  pub turns : List ℕ
+  pub are_turns : choices_of order ≡ Some turns
+  pub printed : IsPrinted (stepped fine choices turns capacity) true false bytes known old new
 
 -- a text that spells an accepted program, and differs from the bytes in directives alone
 pub record IsFixed (bytes : List ℕ) (old new : Option (List ℕ)) : Type 0 where
@@ -108,7 +110,7 @@ pub record IsWitnessed (name bytes : List ℕ) (known old new : Option (List ℕ
 -- what a request prints of the bytes of a source
 abbrev pub IsDone : Request → List ℕ → Option (List ℕ) → Option (List ℕ) → Option (List ℕ) → Type 0
 IsDone (Run run) bytes known old new = IsPrinted (accepted_by (by_workers run.capacity)) run.log run.finals bytes known old new
-IsDone (Step step) bytes known old new = IsStepped step.fine step.choices.now step.capacity bytes known old new
+IsDone (Step step) bytes known old new = IsStepped step.fine step.choices.now step.turns.now step.capacity bytes known old new
 IsDone (Check name) bytes known old new = IsChecked bytes old new
 IsDone (Items name) bytes known old new = IsListed bytes old new
 IsDone (Explain explain) bytes known old new = SpellsAccepted bytes

@@ -21,7 +21,7 @@ use Rattle.driver.specs.Printed.{KnownSources, OfSource, file_of}
 -- a program is run only where it is accepted
 abbrev pub is_checked : Way → Bool
 is_checked (Checked next) = true
-is_checked (Fine choices) = false
+is_checked (Fine choices turns) = false
 
 -- a request refuses a program that is not accepted
 abbrev pub checks : Request → Bool

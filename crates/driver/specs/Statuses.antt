@@ -28,9 +28,10 @@ abbrev pub usage_status : ErrorKind → ℕ
 usage_status kind.OutOfMemory = 3
 usage_status _ = 2
 
--- choices, a format, a source and an input that cannot be read have 2 too
+-- choices, an order of turns, a format, a source and an input that cannot be read have 2 too
 abbrev pub status_of : Ending → ℕ
 status_of ending.BadChoices = 2
+status_of ending.BadTurns = 2
 status_of ending.BadFormat = 2
 status_of (ending.Unreadable name) = 2
 status_of (ending.Source f) = source_status f
@@ -49,6 +50,7 @@ ending_of (Run f) = ending.Source (Run f)
 -- the line of it; why a program is refused is written already
 abbrev pub ending_line : Ending → List ℕ
 ending_line ending.BadChoices = misuse_line misuse.Choices
+ending_line ending.BadTurns = misuse_line misuse.Turns
 ending_line ending.BadFormat = misuse_line misuse.Format
 ending_line (ending.Unreadable name) = misuse_line (misuse.Source name)
 ending_line (ending.Source f) = fault_line f

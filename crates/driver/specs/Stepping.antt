@@ -4,8 +4,8 @@ use Rattle.driver.specs.declared.perform.Next.TheVariants.{Choices, Workers}
 use Rattle.driver.specs.declared.perform.Way.{Way}
 use Rattle.driver.specs.declared.perform.Way.TheVariants.{Checked, Fine}
 
--- by these choices, on the machine that is asked for
-abbrev pub IsStepWay : Bool → List ℕ → Way → Type 0
-IsStepWay fine choices (Checked (Choices list)) = (fine ≡ false) × (list.now ≡ choices)
-IsStepWay fine choices (Checked (Workers workers)) = ⊥
-IsStepWay fine choices (Fine list) = (fine ≡ true) × (list.now ≡ choices)
+-- by these choices and this order of turns, on the machine that is asked for
+abbrev pub IsStepWay : Bool → List ℕ → List ℕ → Way → Type 0
+IsStepWay fine choices turns (Checked (Choices list)) = (fine ≡ false) × (list.now ≡ choices)
+IsStepWay fine choices turns (Checked (Workers workers)) = ⊥
+IsStepWay fine choices turns (Fine list order) = (fine ≡ true) × (list.now ≡ choices) × (order.now ≡ turns)

@@ -73,6 +73,7 @@ const CAPACITY: u64 = 4_194_304;
 #[derive(Clone, Copy)]
 pub(crate) enum Ending<'a> {
     BadChoices,
+    BadTurns,
     BadFormat,
     Unreadable(&'a str),
     Source(SourceFault),
@@ -92,8 +93,11 @@ impl Ending<'_> {
         ensures status { result ≡ status_of self.now }
     {
         match self {
-            Ending::BadChoices | Ending::BadFormat | Ending::Unreadable(_) | Ending::BadInput =>
-                MISUSED,
+            Ending::BadChoices
+            | Ending::BadTurns
+            | Ending::BadFormat
+            | Ending::Unreadable(_)
+            | Ending::BadInput => MISUSED,
             Ending::Source(fault) => status_of(*fault),
             Ending::Refused => REFUSED,
             Ending::OutOfMemory => FAILED,
@@ -105,6 +109,7 @@ impl Ending<'_> {
     {
         match self {
             Ending::BadChoices => misuse_text(Misuse::Choices, err),
+            Ending::BadTurns => misuse_text(Misuse::Turns, err),
             Ending::BadFormat => misuse_text(Misuse::Format, err),
             Ending::Unreadable(name) => misuse_text(Misuse::Source(name), err),
             Ending::Source(fault) => fault_text(*fault, err),
@@ -200,8 +205,8 @@ enum Next<'c> {
 enum Way<'c> {
     /// Where it is accepted.
     Checked(Next<'c>),
-    /// Whether it is accepted or not, on the fine-grained machine, by these choices.
-    Fine(&'c [u32]),
+    /// Whether it is accepted or not, on the fine-grained machine, by these choices and this order of turns.
+    Fine(&'c [u32], &'c [u32]),
 }
 
 /// What is asked of a run.
@@ -268,14 +273,15 @@ fn answer_fine<'a, R: Read>(
     alloc: Global,
     outlined: &Outlined<'_>,
     choices: &[u32],
+    turns: &[u32],
     capacity: u64,
     input: &mut R,
 ) -> Result<Answer, Ending<'a>>
-    ensures answered { IfOk result (IsReadAnswer (by_actions choices.now capacity) (R.remaining input.old) outlined.now) }
+    ensures answered { IfOk result (IsReadAnswer (by_actions choices.now turns.now capacity) (R.remaining input.old) outlined.now) }
     ensures refused { IfErr result IsNoRefusal }
 {
     let numbers = read_input(alloc, input)?;
-    match run_fine(alloc, outlined, &numbers, choices, capacity) {
+    match run_fine(alloc, outlined, &numbers, choices, turns, capacity) {
         Ok(answer) => Ok(answer),
         Err(fault) => Err(Ending::Source(SourceFault::Run(fault))),
     }
@@ -298,7 +304,9 @@ fn answer<'a, T: Threads + Wait + Sync, R: Read, E: Write>(
     };
     match asked.way {
         Way::Checked(next) => { answer_checked(on, &outlined, next, asked.capacity, input, err) }
-        Way::Fine(choices) => answer_fine(on.alloc, &outlined, choices, asked.capacity, input),
+        Way::Fine(choices, turns) => {
+            answer_fine(on.alloc, &outlined, choices, turns, asked.capacity, input)
+        }
     }
 }
 
@@ -374,11 +382,11 @@ fn do_run<'a, T: Threads + Wait + Sync, S: Sources, R: Read, W: Write, E: Write>
 }
 
 /// How a program is run by choices.
-fn step_way<'c>(fine: bool, choices: &'c [u32]) -> Way<'c>
-    ensures { IsStepWay fine choices.now result }
+fn step_way<'c>(fine: bool, choices: &'c [u32], turns: &'c [u32]) -> Way<'c>
+    ensures { IsStepWay fine choices.now turns.now result }
 {
     if fine {
-        Way::Fine(choices)
+        Way::Fine(choices, turns)
     } else {
         Way::Checked(Next::Choices(choices))
     }
@@ -403,9 +411,14 @@ fn do_step<'a, T: Threads + Wait + Sync, S: Sources, R: Read, W: Write, E: Write
         Err(NumbersFault::Malformed) => return Err(Ending::BadChoices),
         Err(NumbersFault::OutOfMemory) => return Err(Ending::OutOfMemory),
     };
+    let turns = match choice_list(on.alloc, step.turns) {
+        Ok(turns) => turns,
+        Err(NumbersFault::Malformed) => return Err(Ending::BadTurns),
+        Err(NumbersFault::OutOfMemory) => return Err(Ending::OutOfMemory),
+    };
     let asked = Asked {
         file: step.file,
-        way: step_way(step.fine, &choices),
+        way: step_way(step.fine, &choices, &turns),
         capacity: step.capacity,
         log: true,
         finals: false,

@@ -1,9 +1,10 @@
 //! Compares what the regions of the sources in `sources`, `layers` and `commands` touch with what a plain walk finds,
-//! of the same turns in short loops: that of each region with the loop values of the first item that has it, and with
-//! those of the last one, where they differ. Of a source that is not read, or has too many items, there is nothing to
-//! compare.
+//! of the same turns in short loops, and where its turns meet with what a walk of each pair of them finds: that of each
+//! region with the loop values of the first item that has it, and with those of the last one, where they differ. Of a
+//! source that is not read, or has too many items, there is nothing to compare.
 
 mod cut;
+mod meet;
 mod touched;
 
 use self::touched::{found, wanted};

@@ -200,6 +200,7 @@ fn by_actions(alloc: Global) -> Result<Answer, SourceFault> {
         SOURCE.as_bytes(),
         &INPUT,
         &[2, 1, 0, 2, 1, 1],
+        &[],
         CAPACITY,
     ) {
         Ok(answer) => Ok(answer),
@@ -208,6 +209,7 @@ fn by_actions(alloc: Global) -> Result<Answer, SourceFault> {
             SOURCE.as_bytes(),
             &INPUT,
             &[2, 1, 0, 2, 1, 1],
+            &[],
             CAPACITY,
         ),
     }

@@ -14,7 +14,7 @@ mend_runs_on_threads bytes text input capacity a q e s r =
     (mend_erases text bytes s.program q e s.spelled r)
 
 pub mend_steps : MendSteps
-mend_steps bytes text input choices capacity a q e s accepted r =
+mend_steps bytes text input choices turns capacity a q e s accepted r =
     let h = s.answer.accepted accepted in
     plain_answer s.program q input a
     (record { plain = h.plain; is_erased = h.is_erased; output = h.output; finals = h.finals })

@@ -30,7 +30,7 @@ MendRunsOnThreads =
 -- and action by action
 abbrev pub MendSteps : Type 0
 MendSteps =
-    (bytes text input choices : List ℕ) (capacity : ℕ) (a : Answer) (q : Program) →
+    (bytes text input choices turns : List ℕ) (capacity : ℕ) (a : Answer) (q : Program) →
     without_directives text ≡ without_directives bytes
-    → (s : IsFineSourceAnswer text input choices capacity a) → IsAccepted (plan s.program)
+    → (s : IsFineSourceAnswer text input choices turns capacity a) → IsAccepted (plan s.program)
     → Spells (erased_text bytes) q → IsPlainAnswer s.program q input a

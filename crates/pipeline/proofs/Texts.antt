@@ -34,9 +34,9 @@ unlisted_source is bytes p (Read f) s h = absurd h
 unlisted_source is bytes p (Check f) s h = absurd h
 unlisted_source is bytes p (Run f) s h = absurd h
 
-pub unlisted_fine : (bytes input choices : List ℕ) (capacity : ℕ) (p : Program) (f : SourceFault) → Spells bytes p →
-    IsUnlisted p f → IsFineSourceFault bytes input choices capacity f
-unlisted_fine bytes input choices capacity p (Outline f) s h = unlisted_refused bytes p (Outline f) s h
-unlisted_fine bytes input choices capacity p (Read f) s h = absurd h
-unlisted_fine bytes input choices capacity p (Check f) s h = absurd h
-unlisted_fine bytes input choices capacity p (Run f) s h = absurd h
+pub unlisted_fine : (bytes input choices turns : List ℕ) (capacity : ℕ) (p : Program) (f : SourceFault) → Spells bytes p →
+    IsUnlisted p f → IsFineSourceFault bytes input choices turns capacity f
+unlisted_fine bytes input choices turns capacity p (Outline f) s h = unlisted_refused bytes p (Outline f) s h
+unlisted_fine bytes input choices turns capacity p (Read f) s h = absurd h
+unlisted_fine bytes input choices turns capacity p (Check f) s h = absurd h
+unlisted_fine bytes input choices turns capacity p (Run f) s h = absurd h

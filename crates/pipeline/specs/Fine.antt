@@ -16,23 +16,23 @@ use Rattle.stepper.specs.Answering.{IsFineAnswer, IsFineFault}
 
 -- the answer of the program that the bytes spell; where it is accepted, it is that of the program that they spell without
 -- directive lines
-pub record IsFineSourceAnswer (bytes input choices : List ℕ) (capacity : ℕ) (a : Answer) : Type 0 where
+pub record IsFineSourceAnswer (bytes input choices turns : List ℕ) (capacity : ℕ) (a : Answer) : Type 0 where
   pub program : Program
   pub spelled : Spells bytes program
   pub few : length (plan program).items ≤ most_items
-  pub answer : IsFineAnswer program input choices capacity a
+  pub answer : IsFineAnswer program input choices turns capacity a
   pub without : IsAccepted (plan program) → (q : Program) → Spells (erased_text bytes) q → IsPlainAnswer program q input a
 
 -- why the run of the program that the bytes spell has no answer
-pub record IsFineRunStopped (bytes input choices : List ℕ) (capacity : ℕ) (f : RunFault) : Type 0 where
+pub record IsFineRunStopped (bytes input choices turns : List ℕ) (capacity : ℕ) (f : RunFault) : Type 0 where
   pub program : Program
   pub spelled : Spells bytes program
   pub few : length (plan program).items ≤ most_items
-  pub stopped : IsFineFault program input choices capacity f
+  pub stopped : IsFineFault program input choices turns capacity f
 
 -- why there is no answer; what the check would refuse is no reason
-abbrev pub IsFineSourceFault : List ℕ → List ℕ → List ℕ → ℕ → SourceFault → Type 0
-IsFineSourceFault bytes input choices capacity (Read f) = IsRefused bytes (Read f)
-IsFineSourceFault bytes input choices capacity (Outline f) = IsRefused bytes (Outline f)
-IsFineSourceFault bytes input choices capacity (Check f) = ⊥
-IsFineSourceFault bytes input choices capacity (Run f) = IsFineRunStopped bytes input choices capacity f
+abbrev pub IsFineSourceFault : List ℕ → List ℕ → List ℕ → List ℕ → ℕ → SourceFault → Type 0
+IsFineSourceFault bytes input choices turns capacity (Read f) = IsRefused bytes (Read f)
+IsFineSourceFault bytes input choices turns capacity (Outline f) = IsRefused bytes (Outline f)
+IsFineSourceFault bytes input choices turns capacity (Check f) = ⊥
+IsFineSourceFault bytes input choices turns capacity (Run f) = IsFineRunStopped bytes input choices turns capacity f

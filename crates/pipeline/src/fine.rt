@@ -19,16 +19,18 @@ fn run_by_actions(
     outlined: &Outlined<'_>,
     input: &[u64],
     choices: &[u32],
+    turns: &[u32],
     capacity: u64,
 ) -> Result<Answer, RunFault>
-    ensures answer { IfOk result (IsFineAnswer outlined.now input.now choices.now capacity) }
-    ensures fault { IfErr result (IsFineFault outlined.now input.now choices.now capacity) }
+    ensures answer { IfOk result (IsFineAnswer outlined.now input.now choices.now turns.now capacity) }
+    ensures fault { IfErr result (IsFineFault outlined.now input.now choices.now turns.now capacity) }
 {
-    run_fine(alloc, outlined, input, choices, capacity)
+    run_fine(alloc, outlined, input, choices, turns, capacity)
 }
 
 /// Runs a source on the fine-grained machine, whether its program is accepted or not, on devices each of which has room
-/// for `capacity` cells. At each step the next choice picks among the events that may happen, as `stepper::run_fine` says.
+/// for `capacity` cells. At each step the next choice picks among the events that may happen, and `turns` is the
+/// order of the turns of each kernel whose turns may run in any order, as `stepper::run_fine` says.
 /// The fault is that of the first pass that fails: the text, the number of items, the run; want of memory may come in
 /// place of any.
 #[tactic(auto, using(crate::proofs::Texts::unlisted_fine))]
@@ -37,15 +39,16 @@ pub fn run_source_fine(
     bytes: &[u8],
     input: &[u64],
     choices: &[u32],
+    turns: &[u32],
     capacity: u64,
 ) -> Result<Answer, SourceFault>
-    ensures answer { IfOk result (IsFineSourceAnswer bytes.now input.now choices.now capacity) }
-    ensures fault { IfErr result (IsFineSourceFault bytes.now input.now choices.now capacity) }
+    ensures answer { IfOk result (IsFineSourceAnswer bytes.now input.now choices.now turns.now capacity) }
+    ensures fault { IfErr result (IsFineSourceFault bytes.now input.now choices.now turns.now capacity) }
 {
     let program = read(alloc, bytes)?;
     let outlined = items(alloc, &program)?;
     erased_text_runs();
-    match run_by_actions(alloc, &outlined, input, choices, capacity) {
+    match run_by_actions(alloc, &outlined, input, choices, turns, capacity) {
         Ok(answer) => Ok(answer),
         Err(fault) => Err(SourceFault::Run(fault)),
     }

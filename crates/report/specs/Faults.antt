@@ -47,6 +47,7 @@ fault_line (Run f) = run_line f
 
 abbrev pub misuse_line : Misuse → List ℕ
 misuse_line misuse.Choices = codes "bad choices\n"
+misuse_line misuse.Turns = codes "bad turns\n"
 misuse_line misuse.Format = codes "bad format\n"
 misuse_line (misuse.Source name) = codes "cannot read " ++ (name.now ++ codes "\n")
 misuse_line misuse.Input = codes "bad input\n"

@@ -13,6 +13,8 @@ use std::io::Write;
 pub enum Misuse<'a> {
     /// The choices are no list of numbers.
     Choices,
+    /// The order of turns is no list of numbers.
+    Turns,
     /// There is no such format.
     Format,
     /// The source of this name cannot be read.
@@ -91,6 +93,7 @@ pub fn misuse_text<W: Write>(misuse: Misuse<'_>, out: &mut W) -> io::Result<()>
 {
     match misuse {
         Misuse::Choices => writeln!(out, "bad choices"),
+        Misuse::Turns => writeln!(out, "bad turns"),
         Misuse::Format => writeln!(out, "bad format"),
         Misuse::Source(name) => writeln!(out, "cannot read {name}"),
         Misuse::Input => writeln!(out, "bad input"),

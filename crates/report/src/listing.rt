@@ -1,12 +1,13 @@
 // The listing of a program's items.
 
-ghost use Rattle.std.specs.Prelude.{◌≡◌, if◌then◌else◌, [], codes, flat_map, string_bytes, IfOk, OnOk};
+ghost use Rattle.std.specs.Prelude.{◌≡◌, if◌then◌else◌, [], codes, flat_map, map, string_bytes, IfOk, OnOk};
 ghost use Rattle.std.specs.Io.KnownBytes.{Appends};
-ghost use Rattle.report.specs.Listing.{depend_text, depend_word, device_text, kind_word, line_of, list_bytes, map_text, map_word, name_of, section_text};
+ghost use Rattle.outline.specs.Regions.{entry_of};
+ghost use Rattle.report.specs.Listing.{depend_text, depend_word, depth_of, device_text, kind_word, line_of, list_bytes, map_text, map_word, name_of, region_in, section_text, unordered_text};
 
 use base::item::{Depend, Item, ItemKind, MapItem, MapKind, Section};
 use base::tree::{ArrayId, DependKind, DeviceId, Program};
-use outline::Outlined;
+use outline::{Outlined, RegionEntry};
 use std::alloc::{AllocError, Global};
 use std::io;
 use std::io::Write;
@@ -77,6 +78,30 @@ fn device_text(alloc: Global, device: DeviceId) -> Result<String, AllocError>
     format!(in alloc; " device {}", device.number)
 }
 
+// Of how many loops the turns may run in any order, where the turns of any may.
+fn unordered_text(alloc: Global, depth: u8) -> Result<String, AllocError>
+    ensures { IfOk result (λ text. string_bytes text ≡ unordered_text depth) }
+{
+    match depth {
+        0 => Ok(String::new(alloc)),
+        1 => String::from_str(alloc, " unordered"),
+        _ => format!(in alloc; " unordered {}", depth),
+    }
+}
+
+// Of how many loops of an item's region the turns may run in any order.
+fn depth_of(regions: &[RegionEntry<'_>], item: &Item) -> u8
+    ensures { result ≡ depth_of (region_in (map entry_of regions.now) item.now) }
+{
+    match item.region {
+        None => 0,
+        Some(region) => match regions.get(region as usize) {
+            None => 0,
+            Some(entry) => entry.region.depth,
+        },
+    }
+}
+
 pub fn name_of(program: &Program, array: ArrayId) -> &str
     ensures { result.now ≡ name_of program.now array.0 }
 {
@@ -132,30 +157,33 @@ fn depends_text(alloc: Global, program: &Program, depends: &[Depend]) -> Result<
 fn line_text(
     alloc: Global,
     program: &Program,
+    depth: u8,
     number: usize,
     item: &Item,
 ) -> Result<String, AllocError>
-    ensures { IfOk result (λ text. string_bytes text ≡ line_of program.now number item.now.kind item.now.deferred item.now.device.number item.now.maps.items item.now.depends.items) }
+    ensures { IfOk result (λ text. string_bytes text ≡ line_of program.now number item.now.kind item.now.deferred item.now.device.number depth item.now.maps.items item.now.depends.items) }
 {
     let (kind, deferred) = (kind_word(item.kind), deferred_word(item.deferred));
     let device = device_text(alloc, item.device)?;
+    let unordered = unordered_text(alloc, depth)?;
     let maps = maps_text(alloc, program, &item.maps)?;
     let depends = depends_text(alloc, program, &item.depends)?;
     format!(in alloc;
-        "{} {}{}{}{}{}\n",
-        number, kind, deferred, device, maps, depends
+        "{} {}{}{}{}{}{}\n",
+        number, kind, deferred, device, unordered, maps, depends
     )
 }
 
 /// Writes the items of a program, a line for each: its number from 0, its kind, `nowait` where it is deferred, its device
-/// where that is not 0, each map item with its modifiers, type and section, and each depend item with its section. An
-/// error of the writer is answered, and then no more is written; so is want of memory, as an error of that kind.
+/// where that is not 0, `unordered` where the turns of its loop may run in any order, and of how many loops where of
+/// more than one, each map item with its modifiers, type and section, and each depend item with its section. An error of the writer is answered, and then no more is written; so is want of memory, as an error of that kind.
 pub fn list_text<W: Write>(alloc: Global, outlined: &Outlined<'_>, out: &mut W) -> io::Result<()>
     ensures { OnOk result (Appends (W.contents out.old) (W.contents out.new) (list_bytes outlined.now)) }
 {
     let program = outlined.program();
     'items: for (number, item) in outlined.items().iter().enumerate() {
-        let line = line_text(alloc, program, number, item)?;
+        let depth = depth_of(outlined.regions(), item);
+        let line = line_text(alloc, program, depth, number, item)?;
         out.write_all(line.as_bytes())?;
     }
     Ok(())

@@ -108,8 +108,8 @@ fn is_full(run: &mut FineRun<'_>) -> bool {
 
 fn look(alloc: Global, outlined: &Outlined<'_>) -> Result<bool, Fail> {
     let arrays = shown_of(alloc, outlined).map_err(Fail::new)?;
-    let mut run = FineRun::new(alloc, outlined, &[], 2)?;
-    let mut small = FineRun::new(alloc, outlined, &[], 1)?;
+    let mut run = FineRun::new(alloc, outlined, &[], &[], 2)?;
+    let mut small = FineRun::new(alloc, outlined, &[], &[], 1)?;
     Ok(
         arrays.as_slice() == [ArrayId(0)].as_slice()
             && run.program().body.len() == 5

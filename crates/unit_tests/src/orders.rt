@@ -41,7 +41,7 @@ fn always_outputs_by_actions(alloc: Global, text: &[u8], lines: &[u8], zeros: us
             *choice = rest % 3;
             rest /= 3;
         }
-        match run_source_fine(alloc, text, &[], &choices, 4_194_304) {
+        match run_source_fine(alloc, text, &[], &choices, &[], 4_194_304) {
             Ok(answer) if answer.out.as_slice() == lines => {}
             _ => return false,
         }
@@ -76,6 +76,50 @@ fn all_orders_of_actions_print_the_same(rt: HostRuntime) {
         assert!(rt;
             always_outputs_by_actions(rt.alloc(), text.as_bytes(), lines.as_bytes(), zeros),
             "{text}"
+        );
+    }
+}
+
+const ADDITIONS: &str =
+    "uint64_t A[1];\nint main(void) {\n#pragma omp target parallel for map(tofrom: A)\nfor (uint64_t i = 0; i < 2; i += 1) { A[0] = A[0] + 1; }\nprint(A[0]);\n}\n";
+
+const PRODUCTS: &str =
+    "uint64_t A[4];\nint main(void) {\n#pragma omp target teams distribute parallel for collapse(2) map(tofrom: A)\nfor (uint64_t i = 0; i < 2; i += 1) {\nfor (uint64_t j = 0; j < 2; j += 1) {\nuint64_t s = i + j;\nA[2 * i + j] = A[2 * i + j] + s * s;\n}\n}\nfor (uint64_t k = 0; k < 4; k += 1) { print(A[k]); }\n}\n";
+
+// Whether the first run by these turns prints this.
+fn outputs_by_turns(alloc: Global, text: &str, turns: &[u32], lines: &str) -> bool {
+    match run_source_fine(alloc, text.as_bytes(), &[], &[], turns, 4_194_304) {
+        Ok(answer) => answer.out.as_slice() == lines.as_bytes(),
+        Err(_) => false,
+    }
+}
+
+// Turns that meet on a cell: both load before either stores, and one addition is lost.
+#[test]
+fn an_order_of_turns_decides_where_they_meet(rt: HostRuntime) {
+    for (turns, lines) in [
+        ([0, 0, 0, 0], "2\n"),
+        ([1, 1, 0, 0], "2\n"),
+        ([0, 1, 0, 1], "1\n"),
+    ] {
+        assert!(rt;
+            outputs_by_turns(rt.alloc(), ADDITIONS, &turns, lines),
+            "{lines}"
+        );
+    }
+    assert!(rt;
+        outputs_by_turns(rt.alloc(), ADDITIONS, &[], "2\n"),
+        "no turns are given"
+    );
+}
+
+#[test]
+fn all_orders_of_turns_print_the_same(rt: HostRuntime) {
+    for number in 0..625u32 {
+        let turns = [number % 5, number / 5 % 5, number / 25 % 5, number / 125];
+        assert!(rt;
+            outputs_by_turns(rt.alloc(), PRODUCTS, &turns, "0\n1\n1\n4\n"),
+            "{number}"
         );
     }
 }

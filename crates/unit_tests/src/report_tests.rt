@@ -96,6 +96,16 @@ const FAR: CheckFault = CheckFault::Refused(Refusal {
     other: None,
 });
 
+const MEETING: CheckFault = CheckFault::Refused(Refusal {
+    code: RefusalCode::TurnsMeet,
+    item: 3,
+    cell: Cell {
+        array: ArrayId(0),
+        index: 5,
+    },
+    other: None,
+});
+
 const OVERLAP: CheckFault = CheckFault::Order(OrderFault {
     item: 12,
     cell: Cell {
@@ -126,6 +136,7 @@ fn lines_of_refusals(rt: HostRuntime) -> Result<(), Fail> {
     let program = read_program(alloc, SOURCE.as_bytes())?;
     for (fault, line) in [
         (FAR, "E506 item 3 A[65535]\n"),
+        (MEETING, "E510 item 3 A[5]\n"),
         (OVERLAP, "E505 item 12 A[7] with item 10\n"),
         (CheckFault::OutOfMemory, "F1\n"),
     ] {

@@ -109,7 +109,7 @@ fn choices_of(number: u32) -> [u32; 48] {
 // Whether the run on devices of this size is the whole one, or is cut off where that one goes beyond the size.
 fn is_cut(alloc: Global, choices: &[u32], whole: &Answer, capacity: u64) -> bool {
     let fits = most_used(&whole.history, 0) <= capacity && most_used(&whole.history, 1) <= capacity;
-    match run_source_fine(alloc, FOUR.as_bytes(), &[], choices, capacity) {
+    match run_source_fine(alloc, FOUR.as_bytes(), &[], choices, &[], capacity) {
         Ok(answer) => {
             fits && answer.out.as_slice() == LINES.as_bytes()
                 && answer.history.as_slice() == whole.history.as_slice()
@@ -122,7 +122,7 @@ fn is_cut(alloc: Global, choices: &[u32], whole: &Answer, capacity: u64) -> bool
 // Whether it is so on devices of each size.
 fn is_cut_at_each(alloc: Global, number: u32) -> bool {
     let choices = choices_of(number);
-    let whole = match run_source_fine(alloc, FOUR.as_bytes(), &[], &choices, NEED) {
+    let whole = match run_source_fine(alloc, FOUR.as_bytes(), &[], &choices, &[], NEED) {
         Ok(whole) => whole,
         Err(_) => return false,
     };
@@ -136,7 +136,7 @@ fn is_cut_at_each(alloc: Global, number: u32) -> bool {
 
 // The smallest size of the devices on which the run by these choices is whole.
 fn size_of(alloc: Global, number: u32) -> u64 {
-    match run_source_fine(alloc, FOUR.as_bytes(), &[], &choices_of(number), NEED) {
+    match run_source_fine(alloc, FOUR.as_bytes(), &[], &choices_of(number), &[], NEED) {
         Ok(whole) => most_used(&whole.history, 0).max(most_used(&whole.history, 1)),
         Err(_) => 0,
     }

@@ -34,11 +34,11 @@ refused_range bytes p q f item fault e s few is h =
 
 -- a run that differs from that of the erased text, which is that without directives
 pub differing : (t : Trials) (w : Witness) (erased : List ℕ) (plain : Answer) → erased ≡ erased_text t.bytes.now
-    → IsFineSourceAnswer erased t.input.now [] t.capacity plain → t.plain.now ≡ plain.out.items → IsTrial t w
+    → IsFineSourceAnswer erased t.input.now [] [] t.capacity plain → t.plain.now ≡ plain.out.items → IsTrial t w
     → IsWitness t.bytes.now t.input.now t.capacity w plain
 differing t w erased plain e a o h =
     record {
       end = h.end;
-      without = subst (λ (text : List ℕ). IsFineSourceAnswer text t.input.now [] t.capacity plain) e a;
+      without = subst (λ (text : List ℕ). IsFineSourceAnswer text t.input.now [] [] t.capacity plain) e a;
       differs = subst (λ (out : List ℕ). IsOther out w.end) o h.differs;
     }

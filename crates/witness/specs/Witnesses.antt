@@ -21,8 +21,8 @@ use Rattle.witness.specs.declared.search.Finding.TheVariants as finding
 
 -- what the run of a source by these choices, action by action, ends with
 abbrev pub IsEnd : List ℕ → List ℕ → List ℕ → ℕ → Ended → Type 0
-IsEnd bytes input choices capacity (Done a) = IsFineSourceAnswer bytes input choices capacity a
-IsEnd bytes input choices capacity Absent = IsFineSourceFault bytes input choices capacity (Run run.Absent)
+IsEnd bytes input choices capacity (Done a) = IsFineSourceAnswer bytes input choices [] capacity a
+IsEnd bytes input choices capacity Absent = IsFineSourceFault bytes input choices [] capacity (Run run.Absent)
 
 -- it printed something else, or stopped
 abbrev pub IsOther : List ℕ → Ended → Type 0
@@ -41,7 +41,7 @@ pub record IsTrial (t : Trials) (w : Witness) : Type 0 where
 -- that text prints
 pub record IsWitness (bytes input : List ℕ) (capacity : ℕ) (w : Witness) (plain : Answer) : Type 0 where
   pub end : IsEnd bytes input w.choices.items capacity w.end
-  pub without : IsFineSourceAnswer (erased_text bytes) input [] capacity plain
+  pub without : IsFineSourceAnswer (erased_text bytes) input [] [] capacity plain
   pub differs : IsOther plain.out.items w.end
 
 -- the bytes spell a program that is accepted

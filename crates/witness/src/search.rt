@@ -85,7 +85,7 @@ fn find(alloc: Global, bytes: &[u8], input: &[u64], capacity: u64) -> Result<Fin
     let Ok(erased) = erase(alloc, bytes) else {
         return Err(SourceFault::Read(ReadFault::OutOfMemory));
     };
-    let Ok(plain) = run_source_fine(alloc, &erased, input, &[], capacity) else {
+    let Ok(plain) = run_source_fine(alloc, &erased, input, &[], &[], capacity) else {
         return Err(SourceFault::Read(ReadFault::OutOfMemory));
     };
     let trials = Trials {

@@ -70,7 +70,7 @@ fn run_by(trials: Trials<'_>, choices: &[u32]) -> Result<Run, AllocError>
         capacity,
         plain: _,
     } = trials;
-    match run_source_fine(alloc, bytes, input, choices, capacity) {
+    match run_source_fine(alloc, bytes, input, choices, &[], capacity) {
         Ok(answer) => Ok(Run::Ended(Ended::Done(answer))),
         Err(SourceFault::Run(RunFault::Absent)) => Ok(Run::Ended(Ended::Absent)),
         Err(SourceFault::Run(RunFault::DeviceFull)) => Ok(Run::Full),

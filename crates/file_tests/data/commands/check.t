@@ -118,6 +118,14 @@ $ ompc list stale_on_the_device.c
 ! E507 item 2 A[0]
 [1]
 
+# turns that may run in any order
+$ ompc check next_cell.c
+! E510 item 0 A[1]
+[1]
+$ ompc check one_cell_of_two_turns.c
+! E510 item 0 A[0]
+[1]
+
 # conflicts of items of which neither is before the other
 $ ompc check exit_before_the_wait.c
 ! E508 item 3 A[0] with item 1

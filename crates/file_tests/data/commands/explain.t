@@ -287,6 +287,48 @@ stale_on_another_device.c:7:1: help: this change is accepted
 ! E507 item 3 A[0]
 [1]
 
+# turns that may run in any order, of which one writes what another one reads or writes
+$ ompc explain next_cell.c
+next_cell.c:3:1: error: two turns of this loop, which may run in any order, meet on A[1] [E510]
+    #pragma omp target parallel for map(tofrom: A)
+    ^
+next_cell.c:4:39: note: A[1] is written here (in the turn i = 0)
+    for (uint64_t i = 0; i < 3; i += 1) { A[i + 1] = A[i]; }
+                                          ^
+next_cell.c:4:50: note: A[1] is read here (in the turn i = 1)
+    for (uint64_t i = 0; i < 3; i += 1) { A[i + 1] = A[i]; }
+                                                     ^
+next_cell.c:3:1: help: as a `target` alone it has its turns in order
+    #pragma omp target parallel for map(tofrom: A)
+    ^
+next_cell.c:3:1: help: this change is accepted
+--- next_cell.c
++++ next_cell.c
+@@ -3 +3 @@
+-#pragma omp target parallel for map(tofrom: A)
++#pragma omp target map(tofrom: A)
+! E510 item 0 A[1]
+[1]
+$ ompc explain one_cell_of_two_turns.c
+one_cell_of_two_turns.c:3:1: error: two turns of these loops, which may run in any order, meet on A[0] [E510]
+    #pragma omp target teams distribute parallel for simd collapse(2) num_teams(2) map(from: A) schedule(static)
+    ^
+one_cell_of_two_turns.c:5:41: note: A[0] is written here (in the turn i = 0, j = 0)
+      for (uint64_t j = 0; j < 2; j += 1) { A[i] = j; }
+                                            ^
+one_cell_of_two_turns.c:5:41: note: A[0] is written here (in the turn i = 0, j = 1)
+one_cell_of_two_turns.c:3:1: help: as a `target` alone it has its turns in order
+    #pragma omp target teams distribute parallel for simd collapse(2) num_teams(2) map(from: A) schedule(static)
+    ^
+one_cell_of_two_turns.c:3:1: help: this change is accepted
+--- one_cell_of_two_turns.c
++++ one_cell_of_two_turns.c
+@@ -3 +3 @@
+-#pragma omp target teams distribute parallel for simd collapse(2) num_teams(2) map(from: A) schedule(static)
++#pragma omp target map(from: A)
+! E510 item 0 A[0]
+[1]
+
 # items with no order between them
 $ ompc explain depends_overlap.c
 depends_overlap.c:5:53: error: `depend(in: A[2:4])` overlaps `depend(out: A[0:4])` of item 0 in A[2], and is not the same section [E505]

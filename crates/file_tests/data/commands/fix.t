@@ -80,6 +80,24 @@ for (uint64_t i = 0; i < 4; i += 1) { A[i] = A[i] * 2 + 1; }
 for (uint64_t i = 0; i < 4; i += 1) { print(A[i]); }
 }
 
+# turns in order again
+$ ompc fix next_cell.c
+uint64_t A[4];
+int main(void) {
+#pragma omp target map(tofrom: A)
+for (uint64_t i = 0; i < 3; i += 1) { A[i + 1] = A[i]; }
+print(A[3]);
+}
+$ ompc fix one_cell_of_two_turns.c
+uint64_t A[4];
+int main(void) {
+#pragma omp target map(from: A)
+for (uint64_t i = 0; i < 4; i += 1) {
+  for (uint64_t j = 0; j < 2; j += 1) { A[i] = j; }
+}
+print(A[3]);
+}
+
 # what no directive mends
 $ ompc fix below_the_array.c
 ! E301 item 0 line 3 column 39

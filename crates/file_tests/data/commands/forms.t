@@ -111,17 +111,17 @@ forms/no_semicolon.c:4:1: help: an operator or a `;` is missing before it
 ! E102 line 4 column 1
 [1]
 $ ompc explain forms/divisor.c
-forms/divisor.c:3:9: error: `x` cannot stand here: a divisor and a step are numbers from 1 on, a shift count one up to 63, and a loop does not wrap [E108]
+forms/divisor.c:3:9: error: `x` is no divisor: that is a number by itself, from 1 on [E108]
     x = 7 / x;
             ^
-forms/divisor.c:3:9: help: divide by a number by itself, from 1 on
+forms/divisor.c:3:9: help: write a number; to divide by a scalar, count in a loop
 ! E108 line 3 column 9
 [1]
 $ ompc explain forms/shift_count.c
-forms/shift_count.c:3:10: error: `x` cannot stand here: a divisor and a step are numbers from 1 on, a shift count one up to 63, and a loop does not wrap [E108]
+forms/shift_count.c:3:10: error: `x` is no shift count: that is a number by itself, from 0 to 63 [E108]
     x = 1 << x;
              ^
-forms/shift_count.c:3:10: help: shift by a number by itself, from 0 to 63
+forms/shift_count.c:3:10: help: write a number; to shift by a scalar, count in a loop
 ! E108 line 3 column 10
 [1]
 
@@ -284,12 +284,26 @@ forms/host_parallel.c:2:13: error: `parallel` begins no directive that is read [
 forms/host_parallel.c:2:13: help: a loop of the host is written without a directive: take the line away
 ! E201 line 2 column 13
 [1]
-$ ompc explain forms/combined.c
-forms/combined.c:2:20: error: `teams` is no clause that this directive takes [E202]
-    #pragma omp target teams distribute parallel for
+$ ompc explain forms/distribute_alone.c
+forms/distribute_alone.c:3:20: error: `distribute` is no clause that this directive takes [E202]
+    #pragma omp target distribute parallel for
                        ^
-forms/combined.c:2:20: help: `target` alone is read, and its loops run in order: take such words away, up to the clauses
-! E202 line 2 column 20
+forms/distribute_alone.c:3:20: help: a construct is `target` with `parallel for`, `simd`, `parallel loop`, `teams loop` or `teams distribute` behind it
+! E202 line 3 column 20
+[1]
+$ ompc explain forms/five_loops.c
+forms/five_loops.c:2:34: error: `5` is no number of loops that `collapse` takes: these are 1, 2, 3 and 4 [E108]
+    #pragma omp target simd collapse(5)
+                                     ^
+forms/five_loops.c:2:34: help: write one of these numbers
+! E108 line 2 column 34
+[1]
+$ ompc explain forms/no_teams.c
+forms/no_teams.c:2:47: error: `0` is no number from 1 on [E108]
+    #pragma omp target teams distribute num_teams(0)
+                                                  ^
+forms/no_teams.c:2:47: help: write a number by itself
+! E108 line 2 column 47
 [1]
 $ ompc explain forms/comma.c
 forms/comma.c:3:30: error: `,` is no clause that this directive takes [E202]

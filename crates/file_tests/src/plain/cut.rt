@@ -2,7 +2,7 @@
 
 ghost use Rattle.std.specs.Prelude.{◌≤◌};
 
-use base::tree::{Bounds, Expr, Region, Source, Stmt};
+use base::tree::{Bounds, Expr, Place, Region, Source, Stmt};
 use std::alloc::{AllocError, Global};
 
 fn copy_of(alloc: Global, e: &Expr) -> Result<Expr, AllocError> {
@@ -47,6 +47,10 @@ fn add_cut(alloc: Global, span: u64, stmt: &Stmt, out: &mut Vec<Stmt>) -> Result
         Stmt::Store(array, place, index, source) => {
             let index = copy_of(alloc, index)?;
             Stmt::Store(*array, *place, index, copy_of_source(alloc, source)?)
+        }
+        Stmt::Combine(op, array, place, index, value) => {
+            let index = copy_of(alloc, index)?;
+            Stmt::Combine(*op, *array, *place, index, copy_of(alloc, value)?)
         }
         Stmt::Print(e) => Stmt::Print(copy_of(alloc, e)?),
         Stmt::Block(inner) => Stmt::Block(all_cut(alloc, span, inner)?),
@@ -107,13 +111,27 @@ pub(crate) fn cut(alloc: Global, span: u64, region: &Region) -> Result<Region, A
     Ok(Region {
         place: region.place,
         body: all_cut(alloc, span, &region.body)?,
+        depth: 0,
+    })
+}
+
+/// A region of these statements, in order.
+pub(crate) fn in_order(alloc: Global, place: Place, body: &[Stmt]) -> Result<Region, AllocError> {
+    Ok(Region {
+        place,
+        body: all_cut(alloc, u64::MAX, body)?,
+        depth: 0,
     })
 }
 
 #[cycle(turns)]
 fn turns_in(stmt: &Stmt) -> u64 {
     match stmt {
-        Stmt::Declare(_, _) | Stmt::Assign(_, _) | Stmt::Store(_, _, _, _) | Stmt::Print(_) => 0,
+        Stmt::Declare(_, _)
+        | Stmt::Assign(_, _)
+        | Stmt::Store(_, _, _, _)
+        | Stmt::Combine(_, _, _, _, _)
+        | Stmt::Print(_) => 0,
         Stmt::Block(inner) => turns_in_all(inner),
         Stmt::Loop(bounds, inner) => {
             let turns = turns_in_all(inner).saturating_add(1);

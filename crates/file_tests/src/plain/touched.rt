@@ -1,12 +1,14 @@
 //! What a region touches, as it is found and by a plain walk, in lines:
 //!
 //!   exposed a0[0:1] a1[4:2]         the runs of cells in each set of the footprint, `a0` being the first array; or
+//!   meeting a0[3]                   the least cell on which two turns meet that may run in any order, if there is one; or
 //!   E301 line 2 column 1            the fault of range.
 
 use super::cut::{cut, turns_in_all};
+use super::meet::meeting;
 use crate::text::Text;
 use base::fault::{RangeCode, RangeFault};
-use base::item::LoopValues;
+use base::item::{Cell, LoopValues};
 use base::tree::{Program, Region};
 use ranges::{Footprint, FootprintFault, Part, footprint};
 use std::alloc::{AllocError, Global};
@@ -40,12 +42,21 @@ fn say_part(alloc: Global, found: &Footprint, part: Part, out: &mut Text) {
     }
 }
 
-fn say_footprint(alloc: Global, found: &Footprint, out: &mut Text) {
+fn say_meeting(cell: Option<Cell>, out: &mut Text) {
+    if let Some(cell) = cell {
+        out.add_with("meeting a", cell.array.0);
+        out.add_with("[", cell.index);
+        out.add("]\n");
+    }
+}
+
+fn say_footprint(alloc: Global, found: &Footprint, meeting: Option<Cell>, out: &mut Text) {
     for (part, name) in PARTS {
         out.add(name);
         say_part(alloc, found, part, out);
         out.add("\n");
     }
+    say_meeting(meeting, out);
 }
 
 /// What is found of a region.
@@ -57,7 +68,27 @@ pub(crate) fn found(
 ) -> Result<Vec<u8>, AllocError> {
     let mut out = Text::new(alloc);
     match footprint(alloc, program, region, loops) {
-        Ok(found) => say_footprint(alloc, &found, &mut out),
+        Ok(found) => say_footprint(alloc, &found, found.meeting, &mut out),
+        Err(FootprintFault::Range(fault)) => out.add_line(fault),
+        Err(FootprintFault::OutOfMemory) => out.lack(),
+    }
+    out.end()
+}
+
+/// What must be found of a region, by one with the same turns in order.
+fn wanted_by(
+    alloc: Global,
+    program: &Program,
+    region: &Region,
+    loops: &LoopValues,
+    plain: &Region,
+) -> Result<Vec<u8>, AllocError> {
+    let mut out = Text::new(alloc);
+    match footprint(alloc, program, plain, loops) {
+        Ok(found) => {
+            let cell = meeting(alloc, program, region, loops)?;
+            say_footprint(alloc, &found, cell, &mut out);
+        }
         Err(FootprintFault::Range(fault)) => out.add_line(fault),
         Err(FootprintFault::OutOfMemory) => out.lack(),
     }
@@ -82,5 +113,5 @@ pub(crate) fn wanted(
         return out.end();
     }
     let span = if turns > FEW_TURNS { WALKED } else { 1 };
-    found(alloc, program, &cut(alloc, span, region)?, loops)
+    wanted_by(alloc, program, region, loops, &cut(alloc, span, region)?)
 }

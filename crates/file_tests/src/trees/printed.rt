@@ -1,7 +1,8 @@
 //! The text of a program's tree: a line for each array, one for the number of scalars, and one for each part, clause and
 //! statement, indented below what it stands in. `s1` is scalar 1, `l0` the name of the outermost loop, and `a0@3:5` array
 //! 0 by a name on line 3 at column 5. A section without bounds is the whole array. A part of `main` has the name of its
-//! kind, a directive the place of its `#`, and a region the place where it begins; operators have the names of the tree.
+//! kind, a directive the place of its `#`, and a region the place where it begins, and of how many loops the turns may run
+//! in any order, if of any; operators have the names of the tree.
 
 use crate::text::Text;
 use base::tree::{
@@ -115,6 +116,17 @@ fn add_stmt(out: &mut Text, depth: usize, stmt: &Stmt) {
             add_expr(out, index);
             out.add("]");
             add_source(out, source);
+        }
+        Stmt::Combine(op, array, place, index, value) => {
+            out.add("combine ");
+            out.add_debug(*op);
+            out.add(" ");
+            add_name(out, *array, *place);
+            out.add("[");
+            add_expr(out, index);
+            out.add("] ");
+            add_expr(out, value);
+            out.add("\n");
         }
         Stmt::Print(e) => {
             out.add("print ");
@@ -281,6 +293,9 @@ fn add_alone(out: &mut Text, depth: usize, place: Place, directive: &Directive) 
 fn add_region(out: &mut Text, kind: &str, region: &Region) {
     out.add(kind);
     add_place(out, region.place);
+    if region.depth > 0 {
+        out.add_with(" depth ", region.depth);
+    }
     out.add("\n");
 }
 

@@ -7,4 +7,7 @@ returns c =
     let one = c.with_arg-command.ensures (command (codes "step") (file ∷ [])) (text_option (codes "choices")) c.file_command-command.ensures
     c.choices_arg.ensures in
     let two = c.with_arg-command-2.ensures (command (codes "step") (file ∷ text_option (codes "choices") ∷ [])) capacity one c.capacity_arg.ensures in
-    c.with_arg.ensures (command (codes "step") (file ∷ text_option (codes "choices") ∷ capacity ∷ [])) (flag (codes "fine")) two c.fine_arg.ensures
+    let three = c.with_arg-command-3.ensures (command (codes "step") (file ∷ text_option (codes "choices") ∷ capacity ∷ []))
+    (flag (codes "fine")) two c.fine_arg.ensures in
+    c.with_arg.ensures (command (codes "step") (file ∷ text_option (codes "choices") ∷ capacity ∷ flag (codes "fine") ∷ []))
+    (text_option (codes "turns")) three c.turns_arg.ensures

@@ -9,4 +9,5 @@ returns c = record {
   choices = c.text_of-2.ensures;
   capacity = c.number_of.ensures 0 4294967296;
   fine = flag_is (found_of c.args.given.now) (codes "fine") c.get_flag.result c.get_flag.ensures.value c.get_flag.ensures.other;
+  turns = c.text_of-3.ensures;
 }

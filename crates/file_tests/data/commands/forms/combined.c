@@ -1,4 +1,0 @@
-int main(void) {
-#pragma omp target teams distribute parallel for
-{ }
-}

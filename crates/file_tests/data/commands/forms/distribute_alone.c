@@ -1,0 +1,5 @@
+int main(void) {
+
+#pragma omp target distribute parallel for
+{ }
+}
