@@ -111,7 +111,7 @@ def copy_of(room, name):
     """Makes a copy of the repository, with what is built of the other crates, and returns the crate's folder in it."""
     for file in ("crates.txt", "HANDLES"):
         shutil.copy(f"{TOP}/{file}", room)
-    for other in os.listdir(f"{TOP}/crates"):
+    for other in filter(lambda it: os.path.isdir(f"{TOP}/crates/{it}"), os.listdir(f"{TOP}/crates")):
         left_out = ["must-fail", "mutants", "data", "incremental", *(["out"] if other == name else [])]
         how = {} if other == name else {"copy_function": linked}
         shutil.copytree(f"{TOP}/crates/{other}", f"{room}/crates/{other}", ignore=shutil.ignore_patterns(*left_out), **how)
