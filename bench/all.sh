@@ -3,7 +3,7 @@
 set -eu
 ompc=$(realpath "$1")
 cd "$(dirname "$0")"
-for script in list check read region run items fine explain; do
+for script in list check read region copies run items fine explain; do
     echo "== $script"
     "./$script.sh" "$ompc"
 done

@@ -11,6 +11,7 @@ use Rattle.kernel.specs.declared.frames.Frame.{Frame}
 use Rattle.kernel.specs.declared.frames.Row.{Row}
 use Rattle.base.specs.Rows.{at_index}
 use Rattle.kernel.specs.Rows.{cells_of}
+use Rattle.shared_row.specs.Rows.{numbers_in}
 use Rattle.device.specs.Standing.{Issue, done_on, frame_parts, row_parts}
 
 -- the cells of rows by value
@@ -26,11 +27,11 @@ cells_by_parts rows =
 
     go : (c : Cell) (o : Option Row) → slice_get rows c.array.0 ≡ o → cells_of rows c ≡ cells_in (map row_parts rows) c
     go c None e =
-        ap (λ (o : Option Row). elim o [ None ↦ None | Some r ↦ at_index r.first r.cells.items c.index ]) e
+        ap (λ (o : Option Row). elim o [ None ↦ None | Some r ↦ at_index r.first (numbers_in r.cells) c.index ]) e
         ∙ sym (ap (λ (o : Option (ℕ × List ℕ)). elim o [ None ↦ None | Some r ↦ at_index r.0 r.1 c.index ])
         (slice_get-map row_parts rows c.array.0 ∙ ap (option_map row_parts) e))
     go c (Some r) e =
-        ap (λ (o : Option Row). elim o [ None ↦ None | Some r ↦ at_index r.first r.cells.items c.index ]) e
+        ap (λ (o : Option Row). elim o [ None ↦ None | Some r ↦ at_index r.first (numbers_in r.cells) c.index ]) e
         ∙ sym (ap (λ (o : Option (ℕ × List ℕ)). elim o [ None ↦ None | Some r ↦ at_index r.0 r.1 c.index ])
         (slice_get-map row_parts rows c.array.0 ∙ ap (option_map row_parts) e))
 

@@ -1,4 +1,5 @@
 pub mod Tables
+pub mod Refilled
 pub mod Moving
 pub mod Updating
 pub mod Counts

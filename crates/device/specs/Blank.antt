@@ -1,14 +1,15 @@
 -- A frame without its cells, with room for them.
-use Rattle.std.specs.Prelude.{◌≡◌, ◌≤◌, ℕ, List, [], Some, length, slice_get, vec_capacity}
+use Rattle.std.specs.Prelude.{◌≡◌, ◌≤◌, ℕ, List, [], Some, length, slice_get}
 use Rattle.kernel.specs.declared.frames.Frame.{Frame}
 use Rattle.kernel.specs.declared.frames.Row.{Row}
+use Rattle.shared_row.specs.Rows.{numbers_in, room_in}
 use Rattle.device.specs.Standing.{Issue}
 
 -- such a row, by the first place and the numbers that it is for
 pub record IsBlankRow (p : ℕ × List ℕ) (r : Row) : Type 0 where
   pub first : r.first ≡ p.0
-  pub cells : r.cells.items ≡ []
-  pub room : length p.1 ≤ vec_capacity r.cells
+  pub cells : numbers_in r.cells ≡ []
+  pub room : length p.1 ≤ room_in r.cells
 
 -- such rows
 pub record AreBlankRows (ps : List (ℕ × List ℕ)) (rs : List Row) : Type 0 where
@@ -26,8 +27,8 @@ pub record IsBlank (p : Issue) (f : Frame) : Type 0 where
 -- a row without cells, with the room of another
 pub record HasRoomOf (x r : Row) : Type 0 where
   pub first : r.first ≡ x.first
-  pub cells : r.cells.items ≡ []
-  pub room : vec_capacity x.cells ≤ vec_capacity r.cells
+  pub cells : numbers_in r.cells ≡ []
+  pub room : room_in x.cells ≤ room_in r.cells
 
 -- such rows
 pub record HaveRoomOf (xs rs : List Row) : Type 0 where

@@ -14,6 +14,7 @@ use Rattle.kernel.specs.declared.frames.Frame.{Frame}
 use Rattle.kernel.specs.declared.frames.Row.{Row}
 use Rattle.frames.specs.Laws.{AreSmall}
 use Rattle.kernel.specs.Rows.{cells_of}
+use Rattle.shared_row.specs.Rows.{numbers_in}
 use Rattle.regions.specs.Footprints.{BoundedView}
 use Rattle.device.specs.Devices.{AreAlike, ShowAll, fresh_of}
 use Rattle.device.specs.Moves.{CountsAtMost}
@@ -42,7 +43,7 @@ pub record Issue : Type 0 where
   pub input : List ℕ
 
 abbrev pub row_parts : Row → ℕ × List ℕ
-row_parts r = (r.first, r.cells.items)
+row_parts r = (r.first, numbers_in r.cells)
 
 abbrev pub frame_parts : Frame → Issue
 frame_parts f =

@@ -5,6 +5,7 @@ ghost use Rattle.device.specs.Blank.{AreBlankRows, HaveRoomOf, IsBlank, IsBlankO
 ghost use Rattle.device.specs.Standing.{frame_parts, row_parts};
 
 use kernel::{Frame, Row};
+use shared_row::RowCells;
 use std::alloc::{AllocError, Global};
 
 fn blank_rows(alloc: Global, rows: &[Row]) -> Result<Vec<Row>, AllocError>
@@ -14,7 +15,7 @@ fn blank_rows(alloc: Global, rows: &[Row]) -> Result<Vec<Row>, AllocError>
     'each: for row in rows {
         blank.push(Row {
             first: row.first,
-            cells: Vec::with_capacity(alloc, row.cells.capacity())?,
+            cells: RowCells::Own(Vec::with_capacity(alloc, row.cells.room())?),
         })?;
     }
     Ok(blank)
@@ -52,8 +53,14 @@ fn fill_row(blank: &mut Row, row: &Row)
     requires { IsBlankRow (row_parts row.now) blank.old }
     ensures { row_parts blank.new ≡ row_parts row.now }
 {
-    if blank.cells.extend_from_slice(&row.cells).is_err() {
-        unreachable!()
+    match &mut blank.cells {
+        RowCells::Own(numbers) => {
+            if numbers.extend_from_slice(row.cells.numbers()).is_err() {
+                unreachable!()
+            }
+        }
+        // it has room for none
+        RowCells::Lent(_) => {}
     }
 }
 

@@ -2,34 +2,42 @@
 
 ghost use Rattle.std.specs.Prelude.{◌≡◌, ◌<◌, true, false, map, length, IfErr, IfOk, IfSome, OnErr, OnOk, Some, is_some, slice_get};
 ghost use Rattle.base.specs.declared.item.Event.TheVariants as event;
-ghost use Rattle.present.specs.Table.{AreSections, AreWithin, HasRoom};
+ghost use Rattle.present.specs.Table.{AreSections, AreWithin, HasRoom, IsUnchanged};
 ghost use Rattle.taskgraph.specs.Board.{allows};
 ghost use Rattle.frames.specs.Rows.{FitIn};
 ghost use Rattle.device.specs.Blank.{IsBlank, IsBlankOf};
-ghost use Rattle.device.specs.Devices.{AreKept, OnTable};
+ghost use Rattle.device.specs.Devices.{AreKept, LooksTheSame, OnTable};
 ghost use Rattle.device.specs.Moves.{AreCounted, IsMapsFault, enters};
 ghost use Rattle.device.specs.Opening.{FollowsOpen, GoesIn, IsEmpty, IsFilled, IsSame, Issues};
 ghost use Rattle.device.specs.Standing.{frame_parts, issue_of};
 
+use crate::devices::Devices;
 use crate::frame::Unfilled;
 use crate::shared_frame::SharedFrame;
 use crate::standing::{Held, Standing};
 use base::fault::RunFault;
 use base::item::{Item, ItemKind};
+use base::tree::DeviceId;
 use frames::load_rows;
 use kernel::Frame;
 use present::Table;
 use std::alloc::Global;
 
 // The frame of a kernel gets its cells, with the numbers of its device. It takes no memory.
-fn fill<'a>(kind: ItemKind, unfilled: Unfilled<'_, 'a>, table: &Table) -> Frame<'a>
+fn fill<'a>(
+    alloc: Global,
+    kind: ItemKind,
+    unfilled: Unfilled<'_, 'a>,
+    table: &mut Table,
+) -> Frame<'a>
     requires { kind ≡ ItemKind.Target → IsEmpty unfilled }
-    ensures filled { IsFilled kind unfilled.entry table.now result }
+    ensures filled { IsFilled kind unfilled.entry table.new result }
+    ensures unchanged { IsUnchanged table.old table.new }
     ensures fits { FitIn unfilled.entry.frame.rows.items result.rows.items }
 {
     let Unfilled { mut frame, reach } = unfilled;
     match kind {
-        ItemKind::Target => load_rows(&mut frame.rows, reach, table),
+        ItemKind::Target => load_rows(alloc, &mut frame.rows, reach, table),
         ItemKind::Host => {}
         ItemKind::Begin => {}
         ItemKind::End => {}
@@ -39,6 +47,29 @@ fn fill<'a>(kind: ItemKind, unfilled: Unfilled<'_, 'a>, table: &Table) -> Frame<
         ItemKind::Wait => {}
     }
     frame
+}
+
+impl Devices {
+    // The frame of a kernel gets its cells, with the numbers of its device, whose table looks the same.
+    fn fill<'a>(
+        &mut self,
+        alloc: Global,
+        device: DeviceId,
+        kind: ItemKind,
+        unfilled: Unfilled<'_, 'a>,
+    ) -> Frame<'a>
+        requires { kind ≡ ItemKind.Target → IsEmpty unfilled }
+        ensures filled { OnTable self.new device.number (λ t. IsFilled kind unfilled.entry t result) }
+        ensures same { LooksTheSame device.number self.old self.new }
+        ensures fits { FitIn unfilled.entry.frame.rows.items result.rows.items }
+    {
+        fill(
+            alloc,
+            kind,
+            unfilled,
+            &mut self.tables[device.number as usize],
+        )
+    }
 }
 
 // The owners of a filled frame: the run, and the job for which there is a blank one.
@@ -100,7 +131,7 @@ impl<'a> Standing<'a> {
         ) {
             Err(fault) => Err(fault),
             Ok(()) => {
-                let frame = fill(it.kind, unfilled, self.devices.table(it.device));
+                let frame = self.devices.fill(alloc, it.device, it.kind, unfilled);
                 let (kept, job) = owners(alloc, frame, blank);
                 self.held[item as usize] = Held::Issued(kept);
                 self.graph.opened(item as usize);

@@ -9,7 +9,7 @@ fn is_same_row(left: &Row, right: &Row) -> bool
     ensures yes { result ≡ true → row_parts left.now ≡ row_parts right.now }
     ensures no { result ≡ false → row_parts left.now ≡ row_parts right.now → ⊥ }
 {
-    left.first == right.first && left.cells.as_slice() == right.cells.as_slice()
+    left.first == right.first && left.cells.numbers() == right.cells.numbers()
 }
 
 fn are_same_rows(left: &[Row], right: &[Row]) -> bool

@@ -1,6 +1,7 @@
 pub mod RowViews
 pub mod LoadedRows
 pub mod Stores
+pub mod RunStores
 pub mod StoredRows
 pub mod TouchedCells
 pub mod Storage

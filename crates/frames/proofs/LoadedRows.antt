@@ -1,6 +1,6 @@
 -- Rows that got the numbers of a view.
 use Rattle.std.proofs.Common.{◌≡◌, ℕ, ◌+◌, ◌-◌, ◌<◌, ◌≤◌, Bool, true, false, List, length, Option, Some, None, refl, sym, ap, ◌∙◌, subst, arith}
-use Rattle.std.specs.Prelude.{◌==◌, option_map, slice_get, slice_set, unwrap_or, vec_capacity}
+use Rattle.std.specs.Prelude.{◌==◌, option_map, slice_get, slice_set, unwrap_or}
 use Rattle.std.proofs.lemmas.Bool.{eqb-true, eqb-false}
 use Rattle.std.proofs.lemmas.Option.{same_Some, slice_get_within}
 use Rattle.base.specs.declared.item.Section.{Section}
@@ -12,6 +12,7 @@ use Rattle.kernel.specs.declared.frames.Row.{Row}
 use Rattle.present.specs.Rows.{AreRead, cell_at, over}
 use Rattle.present.proofs.Entries.{get_replicate}
 use Rattle.ranges.specs.Reach.{cell_of}
+use Rattle.shared_row.specs.Rows.{numbers_in, room_in}
 use Rattle.frames.specs.Rows.{AreRows, FitIn, HasRoom, IsLoaded, IsRow, in_run}
 use Rattle.frames.specs.Views.{every}
 use Rattle.frames.proofs.RowViews.{past_end, row_from}
@@ -35,7 +36,7 @@ read_run view s xs long h = row_from (over view (every 0)) s xs long here
 
 loaded_row : (view : View) (s : Section) (old new : Row) → IsLoaded view s old new → IsRow (over view (every 0)) s new
 loaded_row view s old new h = record {
-  cells = λ i. ap (λ n. at_index n new.cells.items i) h.begins ∙ read_run view s new.cells.items h.count h.numbers i;
+  cells = λ i. ap (λ n. at_index n (numbers_in new.cells) i) h.begins ∙ read_run view s (numbers_in new.cells) h.count h.numbers i;
   bounded = h.bounded;
 }
 
@@ -65,7 +66,7 @@ module _ (view : View) (reach : List Section) where
     }
 
     loaded_in : (a : ℕ) (x y : Row) → slice_get old a ≡ Some x → slice_get now a ≡ Some y →
-        (o : Option Section) → slice_get reach a ≡ o → (y.first ≡ x.first) × (length y.cells.items ≤ vec_capacity x.cells)
+        (o : Option Section) → slice_get reach a ≡ o → (y.first ≡ x.first) × (length (numbers_in y.cells) ≤ room_in x.cells)
     loaded_in a x y f g None e =
         let l = past_end reach a e in
         let m = slice_get_within old a x f in

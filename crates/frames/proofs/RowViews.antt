@@ -1,8 +1,7 @@
 -- Rows that have the cells of a view, as the cells of a frame.
 use Rattle.std.proofs.Common.{◌≡◌, ◌⊎◌, ℕ, zero, suc, ◌+◌, ◌-◌, ◌<◌, ◌≤◌, ◌^◌, Bool, true, false, List, [], ◌∷◌, ◌++◌, length, get_or, map, Option, Some, None, refl, sym, ap, ◌∙◌, inl, inr, true≢false, subst, length-append, arith, Vec, Global}
-use Rattle.std.specs.Prelude.{nat_le, nat_lt, slice_get, slice_index, slice_range, replicate, if◌then◌else◌}
+use Rattle.std.specs.Prelude.{nat_le, nat_lt, slice_get, slice_index, slice_range, if◌then◌else◌}
 use Rattle.std.proofs.lemmas.Bool.{cases_Bool, leb-true, leb-false, ltb-true, ltb-false, lt-ltb}
-use Rattle.std.proofs.lemmas.List.{length-replicate}
 use Rattle.std.proofs.lemmas.Option.{slice_get-get_or, slice_get_within}
 use mathlib.Core.Path.{fun_ext}
 use Rattle.base.specs.declared.item.Cell.{Cell}
@@ -20,10 +19,9 @@ use Rattle.present.proofs.Copies.{host_number, section_length}
 use Rattle.present.proofs.RowParts.{at_index_from, at_index_before, at_index_past}
 use Rattle.regions.specs.Footprints.{BoundedView}
 use Rattle.ranges.specs.Reach.{AreOfArrays, cell_of}
+use Rattle.shared_row.specs.Rows.{numbers_in}
 use Rattle.frames.specs.Reach.{in_reach}
 use Rattle.frames.specs.Rows.{AreEach, AreNumbers, AreRows, IsRow, in_run}
-use Rattle.frames.specs.Views.{every}
-use Rattle.present.proofs.Entries.{get_replicate}
 
 -- One row.
 
@@ -93,7 +91,7 @@ within_host m s some h =
     record { has_cells = some; end = subst (λ n. end_of s ≤ n) (length_at m s.array.0) (h some) }
 
 pub empty_row : (view : View) (s : Section) (xs : List ℕ) → s.length ≡ 0 → xs ≡ [] → (r : Row) →
-    r.cells.items ≡ xs → r.first ≡ s.first → IsRow view s r
+    numbers_in r.cells ≡ xs → r.first ≡ s.first → IsRow view s r
 empty_row view s xs none e r f g = record {
   cells = λ i. (λ j. at_index (g j) ((f ∙ e) j) i) ∙ row_none view s none i;
   bounded = subst AreNumbers (sym (f ∙ e)) (λ k n h. absurd (cc h));
@@ -101,7 +99,7 @@ empty_row view s xs none e r f g = record {
 
 pub filled_row : (m : Arrays) (s : Section) (xs : List ℕ) (r : Row) → IsWithin m s →
     xs ≡ slice_range (row_of m s.array.0) s.first (end_of s) → AreNumbers xs →
-    r.cells.items ≡ xs → r.first ≡ s.first → IsRow (view_of (lengths_of m) (memory_of m)) s r
+    numbers_in r.cells ≡ xs → r.first ≡ s.first → IsRow (view_of (lengths_of m) (memory_of m)) s r
 filled_row m s xs r w e b f g = record {
   cells = λ i. (λ j. at_index (g j) ((f ∙ e) j) i) ∙ row_of_host m s w i;
   bounded = subst AreNumbers (sym f) b;
@@ -154,7 +152,7 @@ past_end (x ∷ xs) (suc i) e = let l = past_end xs i e in omega arith
 
 -- the cells of a frame
 abbrev pub by_row : ℕ → Option Row → Option ℕ
-by_row i o = elim o [ None ↦ None | Some r ↦ at_index r.first r.cells.items i ]
+by_row i o = elim o [ None ↦ None | Some r ↦ at_index r.first (numbers_in r.cells) i ]
 
 abbrev by_run : View → Cell → Option Section → Option ℕ
 by_run view c o = if (elim o [ None ↦ false | Some s ↦ is_in c s ]) then view c else None
@@ -184,7 +182,7 @@ cells_in_reach view reach rows of h =
         ∙ ap (λ n. if is_in (cell_of n c.index) s then view (cell_of n c.index) else None) (of c.array.0 s e)
         ∙ sym (ap (by_run view c) e)
 
-pub cells_bounded : (rows : List Row) → ((a : ℕ) (r : Row) → slice_get rows a ≡ Some r → AreNumbers r.cells.items) →
+pub cells_bounded : (rows : List Row) → ((a : ℕ) (r : Row) → slice_get rows a ≡ Some r → AreNumbers (numbers_in r.cells)) →
     BoundedView (cells_of rows)
 cells_bounded rows h c n e = go (slice_get rows c.array.0) refl
   where
@@ -195,20 +193,20 @@ cells_bounded rows h c n e = go (slice_get rows c.array.0) refl
         from : (b : Bool) → nat_le r.first c.index ≡ b → n < 2 ^ 64
         from true g =
             h c.array.0 r f (c.index - r.first) n
-            (sym (at_index_from r.first r.cells.items c.index (leb-true r.first c.index g))
+            (sym (at_index_from r.first (numbers_in r.cells) c.index (leb-true r.first c.index g))
             ∙ sym (ap (by_row c.index) f) ∙ e)
         from false g =
-            absurd (cc (sym (at_index_before r.first r.cells.items c.index (leb-false r.first c.index g))
+            absurd (cc (sym (at_index_before r.first (numbers_in r.cells) c.index (leb-false r.first c.index g))
             ∙ sym (ap (by_row c.index) f) ∙ e))
 
 pub rows_bounded : (view : View) (reach : List Section) (rows : List Row) → AreRows (IsRow view) reach rows →
     BoundedView (cells_of rows)
 rows_bounded view reach rows h = cells_bounded rows small
   where
-    small : (a : ℕ) (r : Row) → slice_get rows a ≡ Some r → AreNumbers r.cells.items
+    small : (a : ℕ) (r : Row) → slice_get rows a ≡ Some r → AreNumbers (numbers_in r.cells)
     small a r f = go (slice_get reach a) refl
       where
-        go : (o : Option Section) → slice_get reach a ≡ o → AreNumbers r.cells.items
+        go : (o : Option Section) → slice_get reach a ≡ o → AreNumbers (numbers_in r.cells)
         go None e =
             let l = past_end reach a e in
             let m = slice_get_within rows a r f in

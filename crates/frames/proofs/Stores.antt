@@ -39,7 +39,7 @@ module _ (a : ArrayId) (first : ℕ) (numbers : List ℕ) (marks : List Bool) wh
   abbrev pub stored_below : ℕ → View
   stored_below i c = elim (nat_lt c.index (first + i)) [ true ↦ marked_in a first numbers marks c | false ↦ None ]
 
-  none_before : (c : Cell) → c.index < first → marked_in a first numbers marks c ≡ None
+  pub none_before : (c : Cell) → c.index < first → marked_in a first numbers marks c ≡ None
   none_before c l = go (a.0 == c.array.0) refl
     where
       go : (t : Bool) → (a.0 == c.array.0) ≡ t → marked_in a first numbers marks c ≡ None
@@ -80,11 +80,11 @@ module _ (a : ArrayId) (first : ℕ) (numbers : List ℕ) (marks : List Bool) wh
       ∙ at_index_from first numbers c.index l
 
   -- a cell below a place, and one that is not
-  below_yes : (i : ℕ) (c : Cell) → c.index < first + i → stored_below i c ≡ marked_in a first numbers marks c
+  pub below_yes : (i : ℕ) (c : Cell) → c.index < first + i → stored_below i c ≡ marked_in a first numbers marks c
   below_yes i c l = ap (λ (t : Bool). elim t [ true ↦ marked_in a first numbers marks c | false ↦ None ])
       (lt-ltb c.index (first + i) l)
 
-  below_no : (i : ℕ) (c : Cell) → first + i ≤ c.index → stored_below i c ≡ None
+  pub below_no : (i : ℕ) (c : Cell) → first + i ≤ c.index → stored_below i c ≡ None
   below_no i c l = ap (λ (t : Bool). elim t [ true ↦ marked_in a first numbers marks c | false ↦ None ])
       (false_from_ne_true (nat_lt c.index (first + i)) (λ t. (let m = ltb-true c.index (first + i) t in omega arith)))
 

@@ -1,6 +1,6 @@
 // The device storage's part of a frame, and what a run leaves in it.
 
-ghost use Rattle.std.specs.Prelude.{◌≡◌, ◌<◌, ◌^◌, ℕ, [], Some, IfOk, slice_index};
+ghost use Rattle.std.specs.Prelude.{◌≡◌, ◌<◌, ◌≤◌, ◌^◌, ℕ, [], Some, IfOk, length, slice_index, vec_capacity};
 ghost use Rattle.base.specs.declared.item.Cell.{Cell};
 ghost use Rattle.base.specs.Map.{Device};
 ghost use Rattle.ranges.specs.Reach.{AreOfArrays};
@@ -8,15 +8,18 @@ ghost use Rattle.frames.specs.Reach.{in_reach};
 ghost use Rattle.frames.specs.Rows.{AreNumbers, AreRows, FitIn, HasRoom, IsLoaded};
 ghost use Rattle.frames.specs.Views.{every};
 ghost use Rattle.kernel.specs.Rows.{cells_of, cells_stored};
-ghost use Rattle.present.specs.Rows.{over, with_numbers};
-ghost use Rattle.present.specs.Table.{IsKept, Shows, number_at};
+ghost use Rattle.present.specs.Rows.{AreRead, over, with_numbers};
+ghost use Rattle.present.specs.Table.{IsKept, IsUnchanged, Shows, number_at};
+ghost use Rattle.shared_row.specs.Rows.{numbers_in, room_in};
 ghost use Rattle.regions.specs.Footprints.{BoundedScalars, BoundedView};
 
 use base::item::{LoopValues, Section};
 use base::tree::ArrayId;
 use kernel::{Frame, KeptRow, Row, Scalars};
 use present::Table;
+use shared_row::RowCells;
 use std::alloc::{AllocError, Global};
+use std::mem::replace;
 
 // A row with room for the cells of a run.
 fn room_for(alloc: Global, section: &Section) -> Result<Row, AllocError>
@@ -24,7 +27,7 @@ fn room_for(alloc: Global, section: &Section) -> Result<Row, AllocError>
 {
     Ok(Row {
         first: section.first,
-        cells: Vec::with_capacity(alloc, section.length as usize)?,
+        cells: RowCells::Own(Vec::with_capacity(alloc, section.length as usize)?),
     })
 }
 
@@ -67,15 +70,16 @@ pub fn kernel_frame<'i>(
 
 /// The rows that have room for the cells in reach get them, with the numbers of the storage of the device, and 0 for a
 /// cell without storage. Cells out of reach are not there. It takes no memory.
-pub fn load_rows(rows: &mut [Row], reach: &[Section], table: &Table)
+pub fn load_rows(alloc: Global, rows: &mut [Row], reach: &[Section], table: &mut Table)
     requires room { AreRows HasRoom reach.now rows.old }
     requires arrays { AreOfArrays reach.now }
-    ensures cells { cells_of rows.new ≡ in_reach reach.now (over (number_at table.now) (every 0)) }
+    ensures cells { cells_of rows.new ≡ in_reach reach.now (over (number_at table.old) (every 0)) }
     ensures bounded { BoundedView (cells_of rows.new) }
     ensures fits { FitIn rows.old rows.new }
+    ensures unchanged { IsUnchanged table.old table.new }
 {
     'each: for (a, row) in rows.iter_mut().enumerate() {
-        load_row(row, &reach[a], table);
+        load_row(alloc, row, &reach[a], table);
     }
 }
 
@@ -86,12 +90,50 @@ fn are_numbers(numbers: &[u64])
     let _numbers = numbers;
 }
 
-fn load_row(row: &mut Row, section: &Section, table: &Table)
-    requires { HasRoom section.now row.old }
-    ensures { IsLoaded (number_at table.now) section.now row.old row.new }
+// The room of a row without cells.
+fn room_of(alloc: Global, cells: RowCells) -> Vec<u64>
+    requires { numbers_in cells ≡ [] }
+    ensures empty { result.items ≡ [] }
+    ensures room { room_in cells ≤ vec_capacity result }
 {
-    table.read_row(section, &mut row.cells);
-    are_numbers(&row.cells);
+    match cells {
+        RowCells::Own(room) => room,
+        RowCells::Lent(_) => Vec::new(alloc),
+    }
+}
+
+// The numbers of a section, lent where the table lends them.
+fn loaded(table: &mut Table, section: &Section, room: Vec<u64>) -> RowCells
+    requires empty { room.items ≡ [] }
+    requires room { section.now.length ≤ vec_capacity room }
+    ensures numbers { AreRead (number_at table.old) section.now (numbers_in result) }
+    ensures count { length (numbers_in result) ≡ section.now.length }
+    ensures bounded { AreNumbers (numbers_in result) }
+    ensures unchanged { IsUnchanged table.old table.new }
+{
+    match table.lend_row(section, room) {
+        Ok(lent) => {
+            are_numbers(lent.numbers());
+            RowCells::Lent(lent)
+        }
+        Err(mut numbers) => {
+            table.read_row(section, &mut numbers);
+            are_numbers(&numbers);
+            RowCells::Own(numbers)
+        }
+    }
+}
+
+fn load_row(alloc: Global, row: &mut Row, section: &Section, table: &mut Table)
+    requires { HasRoom section.now row.old }
+    ensures loaded { IsLoaded (number_at table.old) section.now row.old row.new }
+    ensures unchanged { IsUnchanged table.old table.new }
+{
+    let room = room_of(
+        alloc,
+        replace(&mut row.cells, RowCells::Own(Vec::new(alloc))),
+    );
+    row.cells = loaded(table, section, room);
 }
 
 /// Stores what a region stored in the storage of the device. A cell without storage is left out. It takes no memory.

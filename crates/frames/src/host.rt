@@ -1,12 +1,13 @@
 // The host memory's part of a frame, and what a run leaves in it.
 
-ghost use Rattle.std.specs.Prelude.{◌≡◌, ◌<◌, ◌≤◌, ◌^◌, All, ℕ, true, Some, IfOk, length, slice_get, slice_index};
+ghost use Rattle.std.specs.Prelude.{◌≡◌, ◌+◌, ◌-◌, ◌<◌, ◌≤◌, ◌^◌, All, ℕ, true, Some, IfOk, length, slice_get, slice_index};
 ghost use Rattle.base.specs.Arrays.{lengths_of, memory_of, row_of};
-ghost use Rattle.base.specs.Memory.{end_of, view_of};
+ghost use Rattle.base.specs.Memory.{end_of, view_of, within};
 ghost use Rattle.frames.specs.Reach.{AreRuns, in_reach};
-ghost use Rattle.frames.specs.Rows.{AreNumbers, AreRows, IsRow};
+ghost use Rattle.frames.specs.Rows.{AreNumbers, AreRows, IsRow, run_from};
 ghost use Rattle.frames.specs.Views.{AreCells, with_stored};
-ghost use Rattle.kernel.specs.Rows.{cells_of, cells_stored};
+ghost use Rattle.kernel.specs.Rows.{cells_of, cells_stored, marks_kept};
+ghost use Rattle.shared_row.specs.Rows.{numbers_in};
 ghost use Rattle.present.specs.Rows.{marked_in};
 ghost use Rattle.regions.specs.Footprints.{BoundedScalars, BoundedView};
 
@@ -14,6 +15,7 @@ use base::item::{LoopValues, Section};
 use base::memory::Memory;
 use base::tree::ArrayId;
 use kernel::{Frame, KeptRow, Row, Scalars};
+use shared_row::{Marks, RowCells};
 use std::alloc::{AllocError, Global};
 
 // These numbers, each of which is below 2^64.
@@ -33,11 +35,14 @@ fn host_row(alloc: Global, section: &Section, host: &Memory) -> Result<Row, Allo
     if section.length == 0 {
         return Ok(Row {
             first,
-            cells: Vec::new(alloc),
+            cells: RowCells::Own(Vec::new(alloc)),
         });
     }
     let cells = copied(alloc, host.section(section))?;
-    Ok(Row { first, cells })
+    Ok(Row {
+        first,
+        cells: RowCells::Own(cells),
+    })
 }
 
 fn host_rows(alloc: Global, reach: &[Section], host: &Memory) -> Result<Vec<Row>, AllocError>
@@ -96,26 +101,57 @@ fn marked_end(marks: &[bool], first: usize) -> usize
     end
 }
 
-// Stores the marked numbers of a row.
-fn store_row(host: &mut Memory, array: ArrayId, row: &KeptRow)
-    requires { AreCells (lengths_of host.old) (marked_in array row.now.first row.now.cells.items row.now.stored.items) }
-    ensures stored { memory_of host.new ≡ with_stored (marked_in array row.now.first row.now.cells.items row.now.stored.items) (memory_of host.old) }
+// Stores numbers in the cells of an array from an index on.
+fn store_run(host: &mut Memory, array: ArrayId, first: u64, numbers: &[u64])
+    requires some { 1 ≤ length numbers.now }
+    requires cells { first + length numbers.now ≤ length (row_of host.old array.0) }
+    ensures stored { memory_of host.new ≡ within (run_from array first (length numbers.now))
+        (λ c. slice_index numbers.now (c.index - first)) (memory_of host.old) }
+    ensures lengths { lengths_of host.new ≡ lengths_of host.old }
+{
+    let section = Section {
+        array,
+        first,
+        length: numbers.len() as u64,
+    };
+    host.set_section(&section, numbers);
+}
+
+// Stores the marked ones of some numbers in the cells of an array from an index on.
+fn store_marked(host: &mut Memory, array: ArrayId, first: u64, numbers: &[u64], marks: &[bool])
+    requires count { length marks.now ≡ length numbers.now }
+    requires cells { AreCells (lengths_of host.old) (marked_in array first numbers.now marks.now) }
+    ensures stored { memory_of host.new ≡ with_stored (marked_in array first numbers.now marks.now) (memory_of host.old) }
     ensures lengths { lengths_of host.new ≡ lengths_of host.old }
 {
     let mut i = 0;
-    'places: while i < row.stored.len() {
-        if row.stored[i] {
-            let end = marked_end(&row.stored, i);
-            let section = Section {
-                array,
-                first: row.first + i as u64,
-                length: (end - i) as u64,
-            };
-            host.set_section(&section, &row.cells[i..end]);
+    'places: while i < marks.len() {
+        if marks[i] {
+            let end = marked_end(marks, i);
+            store_run(host, array, first + i as u64, &numbers[i..end]);
             i = end;
         } else {
             i += 1;
         }
+    }
+}
+
+// Stores the marked numbers of a row.
+fn store_row(host: &mut Memory, array: ArrayId, row: &KeptRow)
+    requires { AreCells (lengths_of host.old)
+        (marked_in array row.now.first (numbers_in row.now.cells) (marks_kept row.now)) }
+    ensures stored { memory_of host.new ≡ with_stored
+        (marked_in array row.now.first (numbers_in row.now.cells) (marks_kept row.now)) (memory_of host.old) }
+    ensures lengths { lengths_of host.new ≡ lengths_of host.old }
+{
+    let numbers = row.cells.numbers();
+    match &row.stored {
+        Marks::Run(from, end) => {
+            if from < end {
+                store_run(host, array, row.first + *from as u64, &numbers[*from..*end]);
+            }
+        }
+        Marks::Each(marks) => store_marked(host, array, row.first, numbers, marks),
     }
 }
 

@@ -36,6 +36,8 @@ pub mod Agreements
 pub mod Gathers
 pub mod RunLoads
 pub mod Overs
+pub mod OverParts
+pub mod OwnCells
 pub mod Runs
 pub mod Offsets
 pub mod MaskRows

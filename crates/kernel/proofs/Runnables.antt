@@ -1,4 +1,5 @@
 -- A region without a fault of range has a meaning on rows of numbers that have what it needs.
+use Rattle.shared_row.specs.Rows.{numbers_in}
 use Rattle.std.proofs.Common.{◌≡◌, ℕ, ◌<◌, ◌^◌, Bool, true, false, List, [], ◌∷◌, Option, Some, None, refl, subst, arith}
 use Rattle.std.specs.Prelude.{◌-◌, nat_le, slice_get, slice_index, zero, suc, IsSome}
 use Rattle.base.specs.Meaning.{Run, run_region}
@@ -25,9 +26,9 @@ number_in first xs i n h e = go (nat_le first i) e
     go false e = absurd cc
 
 row_number : (rows : List Row) (a i n : ℕ) → HaveNumbers rows →
-    elim (slice_get rows a) [ None ↦ None | Some r ↦ at_index r.first r.cells.items i ] ≡ Some n → n < 2 ^ 64
+    elim (slice_get rows a) [ None ↦ None | Some r ↦ at_index r.first (numbers_in r.cells) i ] ≡ Some n → n < 2 ^ 64
 row_number [] a i n h e = absurd cc
-row_number (r ∷ rs) zero i n h e = number_in r.first r.cells.items i n h.0 e
+row_number (r ∷ rs) zero i n h e = number_in r.first (numbers_in r.cells) i n h.0 e
 row_number (r ∷ rs) (suc a) i n h e = row_number rs a i n h.1 e
 
 bounded : (rows : List Row) → HaveNumbers rows → BoundedView (cells_of rows)

@@ -1,4 +1,5 @@
 -- On which cells a region has a meaning.
+use Rattle.shared_row.specs.Rows.{numbers_in}
 use Rattle.std.specs.Prelude.{ℕ, ◌≡◌, ◌<◌, ◌^◌, All, List, [], ◌∷◌, Some, IsSome}
 use Rattle.base.specs.declared.tree.Region.{Region}
 use Rattle.base.specs.Memory.{View, Scalars}
@@ -20,4 +21,4 @@ AreNumbers xs = All (λ n. n < 2 ^ 64) xs
 
 abbrev pub HaveNumbers : List Row → Type 0
 HaveNumbers [] = Unit {0}
-HaveNumbers (r ∷ rs) = AreNumbers r.cells.items × HaveNumbers rs
+HaveNumbers (r ∷ rs) = AreNumbers (numbers_in r.cells) × HaveNumbers rs

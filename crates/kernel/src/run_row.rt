@@ -1,37 +1,47 @@
 // A row while a region runs.
 
-ghost use Rattle.std.specs.Prelude.{ℕ, ◌≡◌, ◌+◌, ◌<◌, ◌≤◌, Bool, true, false, IfOk, OnOk, length, replicate, slice_index, slice_index_or, slice_set};
+ghost use Rattle.std.specs.Prelude.{ℕ, ◌≡◌, ◌+◌, ◌<◌, ◌≤◌, Bool, true, false, IfOk, IfSome, OnOk, Some, length, slice_get, slice_index, slice_index_or, slice_range, slice_set, take, []};
 ghost use Rattle.kernel.specs.Lanes.{HasPut, Over, all_of};
-ghost use Rattle.kernel.specs.Rows.{fresh_parts, have_marks, is_own, kept_parts, run_parts, stored_at};
+ghost use Rattle.kernel.specs.Rows.{HaveMarks, fresh_parts, is_each, kept_parts, run_parts, stored_at};
+ghost use Rattle.shared_row.specs.Rows.{marks_of};
+ghost use Rattle.shared_row.specs.declared.marks.Marks.TheVariants as kinds;
 
 use crate::frames::{KeptRow, Row};
+use shared_row::{LentRow, Marks, RowCells};
 use std::alloc::{AllocError, Global};
 use std::marker::Model;
+use std::sync::Arc;
 
-// The cells of a row. As both kinds begin with where they lie, a load does not look which it is.
-#[derive(Drop)]
-enum Cells<'f> {
-    Lent(&'f [u64]),
-    Own(Vec<u64>),
-}
-
-/// A row while a region runs: that of the frame as long as nothing is stored in it, and then one of its own.
+/// A row while a region runs: that of the frame, of which as many cells as it has of its own, from the first one on, do
+/// not count any more. Of its own cells those from a place on are stored, or it has all cells and each says so.
 #[derive(Drop)]
 pub struct RunRow<'f> {
     first: u64,
-    cells: Cells<'f>,
-    // one for each cell of its own
-    stored: Vec<bool>,
+    lent: &'f [u64],
+    own: Vec<u64>,
+    stored: Marks,
 }
 
 impl<'f> Model for RunRow<'f> {
-    ghost use Rattle.kernel.specs.Rows.{Parts, have_marks, run_parts};
+    ghost use Rattle.kernel.specs.Rows.{HaveMarks, Parts, run_parts};
 
     ghost Value = { Parts };
 
-    ghost view = { λ r. run_parts r.first r.cells r.stored.items };
+    ghost view = { λ r. run_parts r.first r.lent.now r.own.items r.stored };
 
-    ghost invariant = { λ r. have_marks r.cells r.stored.items };
+    ghost invariant = { λ r. HaveMarks r.lent.now r.own.items r.stored };
+}
+
+// A number in a cell, and its mark.
+#[inline(always)]
+fn put_marked(cells: &mut [u64], marks: &mut [bool], at: usize, v: u64)
+    requires cells { at < length cells.old }
+    requires marks { at < length marks.old }
+    ensures cells { cells.new ≡ slice_set cells.old at v }
+    ensures marks { marks.new ≡ slice_set marks.old at true }
+{
+    cells[at] = v;
+    marks[at] = true;
 }
 
 #[inline(never)]
@@ -80,48 +90,48 @@ fn mark_some(marks: &mut [bool], at: usize, mask: &[bool])
     }
 }
 
-// Cells of its own, with a mark for each, of which none is set.
-fn own_cells(alloc: Global, lent: &[u64]) -> Result<(Vec<u64>, Vec<bool>), AllocError>
-    ensures cells { IfOk result (λ own. own.0.items ≡ lent.now) }
-    ensures marks { IfOk result (λ own. own.1.items ≡ replicate (length lent.now) false) }
+// Marks for all cells of a row, of which some are set.
+fn marks_for(alloc: Global, n: usize, first: usize, end: usize) -> Result<Vec<bool>, AllocError>
+    requires { (first ≤ end) × (end ≤ n) }
+    ensures { IfOk result (λ marks. marks.items ≡ marks_of n (kinds.Run first end)) }
 {
-    let cells = Vec::from_slice(alloc, lent)?;
-    let stored = vec![in alloc; false; lent.len()]?;
-    Ok((cells, stored))
+    let mut marks = vec![in alloc; false; n]?;
+    mark_run(&mut marks, first, end - first);
+    Ok(marks)
 }
 
-// From now on a row has cells of its own. It is a function of its own, so that a store, which seldom needs it, keeps the
-// processor's registers.
+// From now on a row has all cells of its own, and a mark for each. It is a function of its own, so that a store, which
+// seldom needs it, keeps the processor's registers.
 #[inline(never)]
-fn become_own(
+fn become_each(
     alloc: Global,
-    cells: &mut Cells<'_>,
-    stored: &mut Vec<bool>,
+    lent: &[u64],
+    own: &mut Vec<u64>,
+    stored: &mut Marks,
 ) -> Result<(), AllocError>
-    requires { have_marks cells.old stored.old.items }
-    ensures same { (first : ℕ) → run_parts first cells.new stored.new.items ≡ run_parts first cells.old stored.old.items }
-    ensures marks { have_marks cells.new stored.new.items }
-    ensures own { OnOk result (is_own cells.new ≡ true) }
+    requires { HaveMarks lent.now own.old.items stored.old }
+    ensures same { (first : ℕ) → run_parts first lent.now own.new.items stored.new ≡ run_parts first lent.now own.old.items stored.old }
+    ensures marks { HaveMarks lent.now own.new.items stored.new }
+    ensures each { OnOk result (is_each stored.new ≡ true) }
 {
-    if let Cells::Lent(lent) = cells {
-        let (own, marks) = own_cells(alloc, lent)?;
-        *cells = Cells::Own(own);
-        *stored = marks;
-    }
+    let Marks::Run(first, end) = *stored else {
+        return Ok(());
+    };
+    let marks = marks_for(alloc, lent.len(), first, end)?;
+    own.extend_from_slice(&lent[own.len()..])?;
+    *stored = Marks::Each(marks);
     Ok(())
 }
 
-#[inline]
-fn make_own(alloc: Global, cells: &mut Cells<'_>, stored: &mut Vec<bool>) -> Result<(), AllocError>
-    requires { have_marks cells.old stored.old.items }
-    ensures same { (first : ℕ) → run_parts first cells.new stored.new.items ≡ run_parts first cells.old stored.old.items }
-    ensures marks { have_marks cells.new stored.new.items }
-    ensures own { OnOk result (is_own cells.new ≡ true) }
+// The first cells of a row, with room for all. It is a function of its own for the same reason.
+#[inline(never)]
+fn first_cells(alloc: Global, lent: &[u64], n: usize) -> Result<Vec<u64>, AllocError>
+    requires { n ≤ length lent.now }
+    ensures { IfOk result (λ cells. cells.items ≡ take n lent.now) }
 {
-    match cells {
-        Cells::Own(_) => Ok(()),
-        Cells::Lent(_) => become_own(alloc, cells, stored),
-    }
+    let mut cells = Vec::with_capacity(alloc, lent.len())?;
+    cells.extend_from_slice(&lent[..n])?;
+    Ok(cells)
 }
 
 impl<'f> RunRow<'f> {
@@ -131,8 +141,9 @@ impl<'f> RunRow<'f> {
     {
         RunRow {
             first: row.first,
-            cells: Cells::Lent(&row.cells),
-            stored: Vec::new(alloc),
+            lent: row.cells.numbers(),
+            own: Vec::new(alloc),
+            stored: Marks::Run(0, 0),
         }
     }
 
@@ -144,14 +155,62 @@ impl<'f> RunRow<'f> {
         self.first
     }
 
-    /// Its cells.
+    /// How many cells it has.
     #[inline]
-    pub fn cells(&self) -> &[u64]
-        ensures { result.now ≡ self.now.1 }
+    pub fn size(&self) -> usize
+        ensures { result ≡ length self.now.1 }
     {
-        match &self.cells {
-            Cells::Lent(cells) => cells,
-            Cells::Own(cells) => cells,
+        self.lent.len()
+    }
+
+    /// The number in a cell by its place in the row.
+    #[inline]
+    pub fn number(&self, at: usize) -> u64
+        requires { at < length self.now.1 }
+        ensures { slice_get self.now.1 at ≡ Some result }
+    {
+        match self.own.get(at) {
+            Some(n) => *n,
+            None => self.lent[at],
+        }
+    }
+
+    /// So many of its cells from a place on, where they lie together.
+    #[inline]
+    pub fn run(&self, at: usize, n: usize) -> Option<&[u64]>
+        ensures { IfSome result (λ run. (at + n ≤ length self.now.1) × (run.now ≡ slice_range self.now.1 at (at + n))) }
+    {
+        if at > self.lent.len() || n > self.lent.len() - at {
+            return None;
+        }
+        if at >= self.own.len() {
+            return Some(&self.lent[at..at + n]);
+        }
+        if n > self.own.len() - at {
+            return None;
+        }
+        Some(&self.own[at..at + n])
+    }
+
+    // A number in a cell, as the first one of its own or beside such as are stored.
+    #[inline(never)]
+    fn put_first(&mut self, alloc: Global, at: usize, v: u64) -> Result<(), AllocError>
+        requires { at < length self.old.1 }
+        ensures put { OnOk result (self.new ≡ (self.old.0, slice_set self.old.1 at v, slice_set self.old.2 at true)) }
+    {
+        if let Marks::Run(first, _) = self.stored {
+            if first <= at && at < self.own.len() {
+                self.own[at] = v;
+                return Ok(());
+            }
+        }
+        become_each(alloc, self.lent, &mut self.own, &mut self.stored)?;
+        match &mut self.stored {
+            Marks::Each(marks) => {
+                put_marked(&mut self.own, marks, at, v);
+                Ok(())
+            }
+            Marks::Run(_, _) => unreachable!(),
         }
     }
 
@@ -162,15 +221,47 @@ impl<'f> RunRow<'f> {
         ensures put { OnOk result (self.new ≡ (self.old.0, slice_set self.old.1 at v, slice_set self.old.2 at true)) }
         ensures marks { length self.old.2 ≡ length self.old.1 }
     {
-        make_own(alloc, &mut self.cells, &mut self.stored)?;
-        match &mut self.cells {
-            Cells::Own(cells) => {
-                cells[at] = v;
-                self.stored[at] = true;
+        match &mut self.stored {
+            Marks::Each(marks) => {
+                put_marked(&mut self.own, marks, at, v);
                 Ok(())
             }
-            Cells::Lent(_) => unreachable!(),
+            Marks::Run(_, _) => self.put_first(alloc, at, v),
         }
+    }
+
+    // Where a row has no cells of its own, those before a place become its own, if they are at most half of all.
+    fn begin_at(&mut self, alloc: Global, at: usize) -> Result<(), AllocError>
+        ensures same { self.new ≡ self.old }
+    {
+        if let Marks::Run(_, end) = self.stored {
+            if end == 0 && at <= self.lent.len() / 2 {
+                self.own = first_cells(alloc, self.lent, at)?;
+                self.stored = Marks::Run(at, at);
+            }
+        }
+        Ok(())
+    }
+
+    // Numbers in cells of its own that are stored, or behind its own. False where the cells are others.
+    fn put_beside(&mut self, at: usize, numbers: &[u64]) -> Result<bool, AllocError>
+        requires { at + length numbers.now ≤ length self.old.1 }
+        ensures put { IfOk result (λ put. put ≡ true → HasPut all_of at numbers.now self.old self.new) }
+        ensures same { IfOk result (λ put. put ≡ false → self.new ≡ self.old) }
+    {
+        let Marks::Run(first, end) = self.stored else {
+            return Ok(false);
+        };
+        if at == end {
+            self.own.extend_from_slice(numbers)?;
+            self.stored = Marks::Run(first, end + numbers.len());
+            return Ok(true);
+        }
+        if first <= at && at + numbers.len() <= end {
+            put_numbers(&mut self.own, at, numbers);
+            return Ok(true);
+        }
+        Ok(false)
     }
 
     /// Numbers in the cells from a place in the row on, which are marked. The error comes for want of memory.
@@ -178,14 +269,18 @@ impl<'f> RunRow<'f> {
         requires { at + length numbers.now ≤ length self.old.1 }
         ensures { OnOk result (HasPut all_of at numbers.now self.old self.new) }
     {
-        make_own(alloc, &mut self.cells, &mut self.stored)?;
-        match &mut self.cells {
-            Cells::Own(cells) => {
-                put_numbers(cells, at, numbers);
-                mark_run(&mut self.stored, at, numbers.len());
+        self.begin_at(alloc, at)?;
+        if self.put_beside(at, numbers)? {
+            return Ok(());
+        }
+        become_each(alloc, self.lent, &mut self.own, &mut self.stored)?;
+        match &mut self.stored {
+            Marks::Each(marks) => {
+                put_numbers(&mut self.own, at, numbers);
+                mark_run(marks, at, numbers.len());
                 Ok(())
             }
-            Cells::Lent(_) => unreachable!(),
+            Marks::Run(_, _) => unreachable!(),
         }
     }
 
@@ -202,37 +297,49 @@ impl<'f> RunRow<'f> {
         requires fits { at + length numbers.now ≤ length self.old.1 }
         ensures { OnOk result (HasPut (λ k. slice_index_or mask.now k false) at numbers.now self.old self.new) }
     {
-        make_own(alloc, &mut self.cells, &mut self.stored)?;
-        match &mut self.cells {
-            Cells::Own(cells) => {
-                put_some(cells, at, numbers, mask);
-                mark_some(&mut self.stored, at, mask);
+        become_each(alloc, self.lent, &mut self.own, &mut self.stored)?;
+        match &mut self.stored {
+            Marks::Each(marks) => {
+                put_some(&mut self.own, at, numbers, mask);
+                mark_some(marks, at, mask);
                 Ok(())
             }
-            Cells::Lent(_) => unreachable!(),
+            Marks::Run(_, _) => unreachable!(),
         }
     }
 
-    /// The row after the run, as far as it tells what was stored in it.
-    pub fn kept(self, alloc: Global) -> KeptRow
-        ensures { (i : ℕ) → stored_at (kept_parts result) i ≡ stored_at self.entry i }
+    /// The row after the run, as far as it tells what was stored in it. The error comes for want of memory.
+    pub fn kept(self, alloc: Global) -> Result<KeptRow, AllocError>
+        ensures { IfOk result (λ row. (i : ℕ) → stored_at (kept_parts row) i ≡ stored_at self.entry i) }
     {
         let RunRow {
             first,
-            cells,
+            lent,
+            mut own,
             stored,
         } = self;
-        match cells {
-            Cells::Own(cells) => KeptRow {
+        if own.is_empty() {
+            return Ok(KeptRow {
                 first,
-                cells,
+                cells: RowCells::Own(own),
                 stored,
-            },
-            Cells::Lent(_) => KeptRow {
-                first,
-                cells: Vec::new(alloc),
-                stored: Vec::new(alloc),
-            },
+            });
         }
+        // what is nearly whole may go back whole
+        let rest = lent.len() - own.len();
+        if rest <= own.len() {
+            own.extend_from_slice(&lent[own.len()..])?;
+        }
+        let count = own.len();
+        let row = Arc::new(alloc, own)?;
+        Ok(KeptRow {
+            first,
+            cells: RowCells::Lent(LentRow {
+                row,
+                first: 0,
+                count,
+            }),
+            stored,
+        })
     }
 }

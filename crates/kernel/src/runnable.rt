@@ -19,7 +19,7 @@ fn have_numbers(rows: &[Row])
     ensures { HaveNumbers rows.now }
 {
     if let [first, rest @ ..] = rows {
-        are_numbers(&first.cells);
+        are_numbers(first.cells.numbers());
         have_numbers(rest);
     }
 }

@@ -60,7 +60,7 @@ fn has_run(rows: &[RunRow<'_>], array: ArrayId, first: u64, n: usize) -> bool
     match rows.get(array.0 as usize) {
         None => false,
         Some(row) => {
-            let size = row.cells().len();
+            let size = row.size();
             n > 0 && n <= size && row.first() <= first && first - row.first() <= (size - n) as u64
         }
     }

@@ -217,12 +217,7 @@ fn run_of<'a>(rows: &'a [RunRow<'_>], array: ArrayId, first: u64, n: usize) -> O
     if first < row.first() {
         return None;
     }
-    let cells = row.cells();
-    let at = (first - row.first()) as usize;
-    if at > cells.len() || n > cells.len() - at {
-        return None;
-    }
-    Some(&cells[at..at + n])
+    row.run((first - row.first()) as usize, n)
 }
 
 // What stands at the cells with these indices, one by one.
@@ -237,15 +232,38 @@ fn gather(rows: &[RunRow<'_>], array: ArrayId, out: &mut [u64])
     }
 }
 
+// The same for the cells of a row that lie together.
+fn gather_together(cells: &[u64], first: u64, out: &mut [u64])
+    ensures size { length out.new ≡ length out.old }
+    ensures values { (k : ℕ) → k < length out.new → Agrees (at_index first cells.now (slice_index out.old k)) (slice_index out.new k) }
+{
+    'lanes: for j in 0..out.len() {
+        let at = out[j].wrapping_sub(first) as usize;
+        out[j] = if at < cells.len() { cells[at] } else { 0 };
+    }
+}
+
+// The same for a row of which some cells are the run's own.
+fn gather_apart(row: &RunRow<'_>, out: &mut [u64])
+    ensures size { length out.new ≡ length out.old }
+    ensures values { (k : ℕ) → k < length out.new → Agrees (at_index row.now.0 row.now.1 (slice_index out.old k)) (slice_index out.new k) }
+{
+    let first = row.first();
+    let size = row.size();
+    'lanes: for j in 0..out.len() {
+        let at = out[j].wrapping_sub(first) as usize;
+        out[j] = if at < size { row.number(at) } else { 0 };
+    }
+}
+
 // What stands in a row at these indices, and 0 where nothing does.
 fn gather_in(row: &RunRow<'_>, out: &mut [u64])
     ensures size { length out.new ≡ length out.old }
     ensures values { (k : ℕ) → k < length out.new → Agrees (at_index row.now.0 row.now.1 (slice_index out.old k)) (slice_index out.new k) }
 {
     let first = row.first();
-    let cells = row.cells();
-    'lanes: for j in 0..out.len() {
-        let at = out[j].wrapping_sub(first) as usize;
-        out[j] = if at < cells.len() { cells[at] } else { 0 };
+    match row.run(0, row.size()) {
+        Some(cells) => gather_together(cells, first, out),
+        None => gather_apart(row, out),
     }
 }

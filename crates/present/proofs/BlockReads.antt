@@ -5,6 +5,7 @@ use Rattle.std.proofs.lemmas.Option.{slice_get_read, slice_get_within}
 use Rattle.base.specs.declared.item.Cell.{Cell}
 use Rattle.base.specs.declared.item.Section.{Section}
 use Rattle.base.specs.Memory.{is_in, within}
+use Rattle.shared_row.specs.Rows.{numbers_of}
 use Rattle.present.specs.declared.block.Block.{Block}
 use Rattle.present.specs.Blocks.{IsSection, are_stored, stored_at, has}
 use Rattle.present.specs.Found.{IsAbsentAt, IsBlockAt}
@@ -37,7 +38,7 @@ found_has bs c i x w e =
 
 -- the number of a cell in its block is there
 pub number_within : (b : Block) (c : Cell) → Stored b → is_in c b.section ≡ true →
-    c.index - b.section.first < length b.values.items
+    c.index - b.section.first < length (numbers_of b.values)
 number_within b c w h =
     let p = in_parts c b.section h in
     let above = p.above in

@@ -12,7 +12,7 @@ use Rattle.base.specs.Map.{Device}
 use Rattle.base.proofs.Places.{get_take, get_set_same, get_set_other}
 use Rattle.present.specs.declared.block.Block.{Block}
 use Rattle.present.specs.Blocks.{Show, are_stored, number_in, stored_at, has, is_stored, present, cells_in, start_of, stop_of}
-use Rattle.present.specs.Rows.{AreStoredIn, IsLoaded, IsStoredIn, cell_at, numbers_of, view_in, with_numbers}
+use Rattle.present.specs.Rows.{AreStoredIn, IsLoaded, IsStoredIn, cell_at, numbers_at, view_in, with_numbers}
 use Rattle.present.proofs.Finds.{find_at, find_none, find_yes, find_no}
 use Rattle.present.proofs.Orders.{parts, whole, follows_on, stored_parts, stored_from, cells_more, all_at, all_from}
 use Rattle.present.proofs.Founds.{one_block, others_lack}
@@ -56,15 +56,15 @@ module _ (bs : List Block) (ok : are_stored bs ≡ true) (n : ℕ) (b : Block) (
           absurd (omega (arith, l, w, length-take n bs))
 
   pub loaded_more : (a : ArrayId) (first : ℕ) (old now new : List ℕ) →
-      IsLoaded (numbers_of (take n bs)) a first old now → IsLoaded (view_in b) a first now new →
-      IsLoaded (numbers_of (take (n + 1) bs)) a first old new
+      IsLoaded (numbers_at (take n bs)) a first old now → IsLoaded (view_in b) a first now new →
+      IsLoaded (numbers_at (take (n + 1) bs)) a first old new
   loaded_more a first old now new h g k = go (cases_Bool (is_in (cell_at a (first + k)) b.section))
     where
       go : (is_in (cell_at a (first + k)) b.section ≡ true) ⊎ (is_in (cell_at a (first + k)) b.section ≡ false) →
-          slice_get new k ≡ option_map (λ m. unwrap_or (numbers_of (take (n + 1) bs) (cell_at a (first + k))) m) (slice_get old k)
+          slice_get new k ≡ option_map (λ m. unwrap_or (numbers_at (take (n + 1) bs) (cell_at a (first + k))) m) (slice_get old k)
       go (inl i) =
           let same : slice_get now k ≡ slice_get old k = h k
-          ∙ sym (untaken (numbers_of (take n bs) (cell_at a (first + k))) (slice_get old k)
+          ∙ sym (untaken (numbers_at (take n bs) (cell_at a (first + k))) (slice_get old k)
           (inl (ap (option_and_then (number_in (cell_at a (first + k)))) (none_here (cell_at a (first + k)) i)))) in
           g k ∙ ap (option_map (λ m. unwrap_or (view_in b (cell_at a (first + k))) m)) same
           ∙ ap (λ v. option_map (λ m. unwrap_or v m) (slice_get old k))

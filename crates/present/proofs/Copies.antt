@@ -11,6 +11,7 @@ use Rattle.base.specs.Memory.{Memory, end_of, is_in, is_inside, within}
 use Rattle.base.specs.Map.{Device}
 use Rattle.base.specs.Arrays.{IsWithin, memory_of, overwritten, row_of}
 use Rattle.base.proofs.Places.{get_take, get_drop, overwritten_before, overwritten_in, overwritten_after}
+use Rattle.shared_row.specs.Rows.{numbers_of}
 use Rattle.present.specs.declared.block.Block.{Block}
 use Rattle.present.specs.Blocks.{Show, are_stored, number_in, stored_at}
 use Rattle.base.proofs.Sections.{in_parts, inside_parts, inside_in}
@@ -27,7 +28,7 @@ module _ (b : Block) (s : Section) (w : Stored b) (i : is_inside s b.section ≡
   abbrev offset : ℕ
   offset = s.first - b.section.first
 
-  pub offset_fits : s.first - b.section.first + s.length ≤ length b.values.items
+  pub offset_fits : s.first - b.section.first + s.length ≤ length (numbers_of b.values)
   offset_fits =
       let p = inside_parts s b.section i in
       let first = p.first in
@@ -53,11 +54,11 @@ module _ (b : Block) (s : Section) (w : Stored b) (i : is_inside s b.section ≡
           (and_from _ _ a e)) ∙ out))
 
   module _ (xs : List ℕ) (long : length xs ≡ s.length) where
-    fits : s.first - b.section.first + length xs ≤ length b.values.items
+    fits : s.first - b.section.first + length xs ≤ length (numbers_of b.values)
     fits = let f = offset_fits in omega arith
 
     pub overwritten_here : (c : Cell) → is_in c s ≡ true →
-        slice_get (overwritten b.values.items (s.first - b.section.first) xs) (c.index - b.section.first)
+        slice_get (overwritten (numbers_of b.values) (s.first - b.section.first) xs) (c.index - b.section.first)
         ≡ slice_get xs (c.index - s.first)
     overwritten_here c k =
         let p = in_parts c s k in
@@ -66,26 +67,26 @@ module _ (b : Block) (s : Section) (w : Stored b) (i : is_inside s b.section ≡
         let below = p.below in
         let first = q.first in
         let same : c.index - b.section.first - (s.first - b.section.first) ≡ c.index - s.first = omega arith in
-        overwritten_in b.values.items xs (s.first - b.section.first) fits (c.index - b.section.first) (omega arith)
+        overwritten_in (numbers_of b.values) xs (s.first - b.section.first) fits (c.index - b.section.first) (omega arith)
         (omega arith)
         ∙ ap (slice_get xs) same
 
     pub overwritten_there : (c : Cell) → is_in c b.section ≡ true → is_in c s ≡ false →
-        slice_get (overwritten b.values.items (s.first - b.section.first) xs) (c.index - b.section.first)
-        ≡ slice_get b.values.items (c.index - b.section.first)
+        slice_get (overwritten (numbers_of b.values) (s.first - b.section.first) xs) (c.index - b.section.first)
+        ≡ slice_get (numbers_of b.values) (c.index - b.section.first)
     overwritten_there c k out = go (outside c k out)
       where
         go : (c.index < s.first) ⊎ (s.first + s.length ≤ c.index) →
-            slice_get (overwritten b.values.items (s.first - b.section.first) xs) (c.index - b.section.first)
-            ≡ slice_get b.values.items (c.index - b.section.first)
+            slice_get (overwritten (numbers_of b.values) (s.first - b.section.first) xs) (c.index - b.section.first)
+            ≡ slice_get (numbers_of b.values) (c.index - b.section.first)
         go (inl l) =
             let above = (in_parts c b.section k).above in
-            overwritten_before b.values.items xs (s.first - b.section.first) fits (c.index - b.section.first)
+            overwritten_before (numbers_of b.values) xs (s.first - b.section.first) fits (c.index - b.section.first)
             (omega arith)
         go (inr l) =
             let above = (in_parts c b.section k).above in
             let first = (inside_parts s b.section i).first in
-            overwritten_after b.values.items xs (s.first - b.section.first) fits (c.index - b.section.first)
+            overwritten_after (numbers_of b.values) xs (s.first - b.section.first) fits (c.index - b.section.first)
             (omega arith)
 
 -- The host's part.
@@ -120,7 +121,7 @@ pub shows_brought : (bs : List Block) (used : ℕ) (d : Device) (ok : are_stored
     (s : Section) (host : Arrays) →
     slice_get bs n ≡ Some b → is_inside s b.section ≡ true → IsWithin host s →
     after.section ≡ b.section → after.count ≡ b.count →
-    after.values.items ≡ overwritten b.values.items (s.first - b.section.first) (slice_range
+    (numbers_of after.values) ≡ overwritten (numbers_of b.values) (s.first - b.section.first) (slice_range
     (row_of host s.array.0) s.first (end_of s)) →
     Show bs used d →
     Show (slice_set bs n after) used (record {
@@ -139,7 +140,7 @@ shows_brought bs used d ok n b after s host e i w same count values h =
     all c k = at_block bs ok c n b e k
 
     new_number : (c : Cell) → number_in c after
-        ≡ slice_get (overwritten b.values.items (s.first - b.section.first) (slice_range
+        ≡ slice_get (overwritten (numbers_of b.values) (s.first - b.section.first) (slice_range
         (row_of host s.array.0) s.first (end_of s)))
         (c.index - b.section.first)
     new_number c = (λ j. slice_get (values j) (c.index - (same j).first))
@@ -150,7 +151,7 @@ shows_brought bs used d ok n b after s host e i w same count values h =
       where
         go : (is_in c s ≡ true) ⊎ (is_in c s ≡ false) →
             within s (λ c. Some (memory_of host c)) d.cells c
-            ≡ slice_get (overwritten b.values.items (s.first - b.section.first) (slice_range
+            ≡ slice_get (overwritten (numbers_of b.values) (s.first - b.section.first) (slice_range
             (row_of host s.array.0) s.first (end_of s)))
             (c.index - b.section.first)
         go (inl t) =
@@ -175,7 +176,7 @@ shows_brought bs used d ok n b after s host e i w same count values h =
 pub brought_out : (bs : List Block) (used : ℕ) (d : Device) (ok : are_stored bs ≡ true) (n : ℕ) (b : Block)
     (s : Section)
     (host : Memory) → slice_get bs n ≡ Some b → is_inside s b.section ≡ true → Show bs used d → (c : Cell) →
-    within s (λ x. slice_index (slice_range b.values.items (s.first - b.section.first)
+    within s (λ x. slice_index (slice_range (numbers_of b.values) (s.first - b.section.first)
     (s.first - b.section.first + s.length)) (x.index - s.first)) host c
     ≡ within s (λ x. unwrap_or (d.cells x) (host x)) host c
 brought_out bs used d ok n b s host e i h c = go (cases_Bool (is_in c s))
@@ -184,7 +185,7 @@ brought_out bs used d ok n b s host e i h c = go (cases_Bool (is_in c s))
     stored = stored_each bs ok n b e
 
     here : is_in c s ≡ true →
-        slice_index (slice_range b.values.items (s.first - b.section.first) (s.first - b.section.first + s.length))
+        slice_index (slice_range (numbers_of b.values) (s.first - b.section.first) (s.first - b.section.first + s.length))
         (c.index - s.first)
         ≡ unwrap_or (d.cells c) (host c)
     here t =
@@ -195,22 +196,22 @@ brought_out bs used d ok n b s host e i h c = go (cases_Bool (is_in c s))
         let first = (inside_parts s b.section i).first in
         let at : s.first - b.section.first + (c.index - s.first) ≡ c.index - b.section.first = omega arith in
         let there = number_within b c stored k in
-        let number = slice_get-get_or b.values.items (c.index - b.section.first) 0 there in
-        let part = part_at b.values.items (s.first - b.section.first) (s.first - b.section.first + s.length)
+        let number = slice_get-get_or (numbers_of b.values) (c.index - b.section.first) 0 there in
+        let part = part_at (numbers_of b.values) (s.first - b.section.first) (s.first - b.section.first + s.length)
         (c.index - s.first) (omega arith)
-        ∙ ap (slice_get b.values.items) at ∙ number in
+        ∙ ap (slice_get (numbers_of b.values)) at ∙ number in
         let cells = h.numbers c ∙ ap (option_and_then (number_in c)) (at_block bs ok c n b e k) ∙ number in
         get_or_from_slice_get _ (c.index - s.first) _ 0 part
         ∙ sym (ap (λ o. unwrap_or o (host c)) cells)
 
     go : (is_in c s ≡ true) ⊎ (is_in c s ≡ false) →
-        within s (λ x. slice_index (slice_range b.values.items (s.first - b.section.first)
+        within s (λ x. slice_index (slice_range (numbers_of b.values) (s.first - b.section.first)
         (s.first - b.section.first + s.length)) (x.index - s.first)) host c
         ≡ within s (λ x. unwrap_or (d.cells x) (host x)) host c
-    go (inl t) = within_in s (λ x. slice_index (slice_range b.values.items (s.first - b.section.first)
+    go (inl t) = within_in s (λ x. slice_index (slice_range (numbers_of b.values) (s.first - b.section.first)
         (s.first - b.section.first + s.length)) (x.index - s.first)) host c t ∙ here t
         ∙ sym (within_in s (λ x. unwrap_or (d.cells x) (host x)) host c t)
-    go (inr t) = within_out s (λ x. slice_index (slice_range b.values.items (s.first - b.section.first)
+    go (inr t) = within_out s (λ x. slice_index (slice_range (numbers_of b.values) (s.first - b.section.first)
         (s.first - b.section.first + s.length)) (x.index - s.first)) host c t
         ∙ sym (within_out s (λ x. unwrap_or (d.cells x) (host x)) host c t)
 

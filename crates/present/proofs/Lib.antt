@@ -15,4 +15,6 @@ pub mod Turns
 pub mod Undone
 pub mod EachTurn
 pub mod WholeRows
-pub mod MarkedRows
+pub mod RunMarks
+pub mod Adopting
+pub mod SameNumbers

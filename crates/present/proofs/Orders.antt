@@ -6,6 +6,7 @@ use Rattle.std.proofs.lemmas.Bool.{and_parts, and_from, leb-true, le-leb, eqb-tr
 use Rattle.std.proofs.lemmas.List.Sums.{sum_by-cons}
 use Rattle.base.specs.declared.item.Section.{Section}
 use Rattle.base.specs.Memory.{end_of}
+use Rattle.shared_row.specs.Rows.{numbers_of}
 use Rattle.present.specs.declared.block.Block.{Block}
 use Rattle.present.specs.Blocks.{is_stored, are_stored, start_of, stop_of, length_of, cells_in}
 
@@ -13,7 +14,7 @@ use Rattle.present.specs.Blocks.{is_stored, are_stored, start_of, stop_of, lengt
 pub record Stored (b : Block) : Type 0 where
   pub has_cells : 1 ≤ b.section.length
   pub end : end_of b.section ≤ 65536
-  pub numbers : length b.values.items ≡ b.section.length
+  pub numbers : length (numbers_of b.values) ≡ b.section.length
 
 pub stored_parts : (b : Block) → is_stored b ≡ true → Stored b
 stored_parts b h =
@@ -22,13 +23,14 @@ stored_parts b h =
     record {
       has_cells = leb-true 1 b.section.length p.0;
       end = leb-true (end_of b.section) 65536 q.0;
-      numbers = eqb-true (length b.values.items) b.section.length q.1;
+      numbers = eqb-true (length (numbers_of b.values)) b.section.length q.1;
     }
 
 pub stored_from : (b : Block) → Stored b → is_stored b ≡ true
 stored_from b h =
     and_from _ _ (le-leb 1 b.section.length h.has_cells)
-    (and_from _ _ (le-leb (end_of b.section) 65536 h.end) (eq-eqb (length b.values.items) b.section.length h.numbers))
+    (and_from _ _ (le-leb (end_of b.section) 65536 h.end)
+    (eq-eqb (length (numbers_of b.values)) b.section.length h.numbers))
 
 -- the test of a later block
 abbrev pub follows_on : Block → Block → Bool

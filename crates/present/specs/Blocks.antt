@@ -1,4 +1,5 @@
 -- Blocks with their numbers, and the device that they show.
+use Rattle.shared_row.specs.Rows.{numbers_of}
 use Rattle.std.specs.Prelude.{ℕ, ◌≡◌, ◌+◌, ◌-◌, ◌*◌, ◌≤◌, Bool, true, ◌&&◌, ◌==◌, nat_le, List, [], ◌∷◌, Option, length, find, option_map, option_and_then, slice_get, sum_by}
 use Rattle.std.specs.List.{list_all}
 use Rattle.base.specs.declared.item.Cell.{Cell}
@@ -23,7 +24,7 @@ stop_of s = start_of s + s.length
 -- a block's section is one, and it has a number for each cell
 abbrev pub is_stored : Block → Bool
 is_stored b =
-    nat_le 1 b.section.length && (nat_le (end_of b.section) 65536 && (length b.values.items == b.section.length))
+    nat_le 1 b.section.length && (nat_le (end_of b.section) 65536 && (length (numbers_of b.values) == b.section.length))
 
 -- such blocks in order, none of which share a cell
 abbrev pub are_stored : List Block → Bool
@@ -50,7 +51,7 @@ abbrev pub present : Block → Present
 present b = record { section = b.section; count = b.count }
 
 abbrev pub number_in : Cell → Block → Option ℕ
-number_in c b = slice_get b.values.items (c.index - b.section.first)
+number_in c b = slice_get (numbers_of b.values) (c.index - b.section.first)
 
 -- a device that has the same block and the same number at each cell, and as many cells with storage
 pub record Show (stored : List Block) (used : ℕ) (d : Device) : Type 0 where

@@ -1,4 +1,5 @@
 -- What the steps of a call do to the blocks of a table.
+use Rattle.shared_row.specs.Rows.{numbers_of}
 use Rattle.std.specs.Prelude.{ℕ, ◌≡◌, ◌+◌, ◌-◌, ◌<◌, ◌≤◌, Bool, true, false, List, Some, insert, remove, replicate, slice_get, slice_set}
 use Rattle.base.specs.declared.item.Section.{Section}
 use Rattle.base.specs.declared.item.MapItem.{MapItem}
@@ -26,7 +27,7 @@ pub record Creates (old new : Table) (s : Section) (at : ℕ) : Type 0 where
   pub blocks : blocks_of new ≡ insert (blocks_of old) at block
   pub section : block.section ≡ s
   pub count : block.count ≡ 1
-  pub values : block.values.items ≡ replicate s.length old.fresh
+  pub values : numbers_of block.values ≡ replicate s.length old.fresh
 
 -- the block here got this count
 pub record Recounts (old new : Table) (at count : ℕ) : Type 0 where

@@ -1,5 +1,6 @@
 -- Rows: numbers for a run of cells of an array.
-use Rattle.std.specs.Prelude.{ℕ, ◌≡◌, ◌+◌, ◌==◌, Bool, true, false, List, length, Option, Some, None, option_map, option_and_then, replicate, slice_get, unwrap_or}
+use Rattle.shared_row.specs.Rows.{numbers_of}
+use Rattle.std.specs.Prelude.{ℕ, ◌≡◌, ◌+◌, ◌-◌, ◌==◌, Bool, true, false, List, drop, length, Option, Some, None, option_map, option_and_then, replicate, slice_get, slice_range, take, unwrap_or}
 use Rattle.base.specs.declared.tree.ArrayId.{ArrayId}
 use Rattle.base.specs.declared.item.Cell.{Cell}
 use Rattle.base.specs.declared.item.Section.{Section}
@@ -46,17 +47,37 @@ AreRead view s numbers = IsLoaded view s.array s.first (replicate s.length 0) nu
 abbrev pub view_in : Block → View
 view_in b c = elim (is_in c b.section) [ true ↦ number_in c b | false ↦ None ]
 
-abbrev pub numbers_of : List Block → View
-numbers_of bs c = option_and_then (number_in c) (stored_at bs c)
+abbrev pub numbers_at : List Block → View
+numbers_at bs c = option_and_then (number_in c) (stored_at bs c)
 
 -- a block in which cells took these numbers
 pub record IsStoredIn (view : View) (old new : Block) : Type 0 where
   pub section : new.section ≡ old.section
   pub count : new.count ≡ old.count
-  pub same_length : length new.values.items ≡ length old.values.items
+  pub same_length : length (numbers_of new.values) ≡ length (numbers_of old.values)
   pub numbers : (c : Cell) → is_in c old.section ≡ true → number_in c new ≡ over view (λ x. number_in x old) c
 
 -- of as many blocks each such a one
 pub record AreStoredIn (view : View) (old new : List Block) : Type 0 where
   pub same_length : length new ≡ length old
   pub each : (k : ℕ) (x y : Block) → slice_get old k ≡ Some x → slice_get new k ≡ Some y → IsStoredIn view x y
+
+-- numbers that are the same where they are not marked
+abbrev pub AgreeUnmarked : List ℕ → List ℕ → List Bool → Type 0
+AgreeUnmarked old new marks = (k : ℕ) → slice_get marks k ≡ Some false → slice_get new k ≡ slice_get old k
+
+-- before a place, and from another on
+pub record AgreeBeside (old new : List ℕ) (from end : ℕ) : Type 0 where
+  pub before : take from new ≡ take from old
+  pub after : drop end new ≡ drop end old
+
+-- a block that has the same numbers, whoever owns them
+pub record HasSameNumbers (old new : Block) : Type 0 where
+  pub section : new.section ≡ old.section
+  pub count : new.count ≡ old.count
+  pub numbers : numbers_of new.values ≡ numbers_of old.values
+
+-- the numbers of a section that lies in a block
+abbrev pub numbers_of_part : Block → Section → List ℕ
+numbers_of_part b s =
+    slice_range (numbers_of b.values) (s.first - b.section.first) (s.first - b.section.first + s.length)

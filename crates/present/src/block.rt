@@ -1,16 +1,21 @@
 // A block of device storage.
 
-ghost use Rattle.std.specs.Prelude.{◌≡◌};
+ghost use Rattle.std.specs.Prelude.{◌≡◌, ◌+◌, ◌<◌, ◌≤◌, Some, length, slice_get, slice_set};
+ghost use Rattle.base.specs.Arrays.{overwritten};
 ghost use Rattle.base.specs.Map.{entry_copies, exit_copies, exit_count};
+ghost use Rattle.shared_row.specs.Rows.{numbers_of};
 
 use base::item::{MapItem, MapKind, Section};
+use base::memory::overwrite;
+use shared_row::SharedRow;
+use std::alloc::Global;
 
 // A section with the numbers of its cells.
 #[derive(Drop)]
 pub struct Block {
     pub section: Section,
     pub count: u64,
-    pub values: Vec<u64>,
+    pub values: SharedRow,
 }
 
 /// Whether an entry copies, where the count is now `count`.
@@ -44,5 +49,38 @@ pub fn left(kind: MapKind, count: u64) -> u64
         MapKind::To | MapKind::From | MapKind::ToFrom | MapKind::Alloc | MapKind::Release => {
             count.saturating_sub(1)
         }
+    }
+}
+
+/// The number at this place.
+pub fn number(values: &SharedRow, at: u64) -> u64
+    requires { at < length (numbers_of values.now) }
+    ensures { slice_get (numbers_of values.now) at ≡ Some result }
+{
+    let numbers = values.numbers();
+    numbers[at as usize]
+}
+
+/// Gives the cell at this place another number.
+pub fn set_number(alloc: Global, values: &mut SharedRow, at: u64, number: u64)
+    requires { at < length (numbers_of values.old) }
+    ensures { numbers_of values.new ≡ slice_set (numbers_of values.old) at number }
+{
+    values.own(alloc);
+    match values {
+        SharedRow::Sole(values) => values[at as usize] = number,
+        SharedRow::Shared(_) => unreachable!(),
+    }
+}
+
+/// Writes these numbers over those from the place `at` on.
+pub fn set_numbers(alloc: Global, values: &mut SharedRow, at: u64, numbers: &[u64])
+    requires { at + length numbers.now ≤ length (numbers_of values.old) }
+    ensures { numbers_of values.new ≡ overwritten (numbers_of values.old) at numbers.now }
+{
+    values.own(alloc);
+    match values {
+        SharedRow::Sole(values) => overwrite(values, at, numbers),
+        SharedRow::Shared(_) => unreachable!(),
     }
 }

@@ -7,6 +7,7 @@ ghost use Rattle.base.specs.Machine.{store_device};
 ghost use Rattle.present.specs.Table.{Shows, IsUnchanged, IsKept, block_at, capacity_of, device_of, number_at};
 
 use crate::Table;
+use crate::block::{number, set_number};
 use crate::find::block_with;
 use base::item::{Cell, Section};
 use std::alloc::Global;
@@ -62,7 +63,7 @@ impl Table {
     {
         let i = block_with(&self.blocks, cell)?;
         let block = &self.blocks[i];
-        Some(block.values[(cell.index - block.section.first) as usize])
+        Some(number(&block.values, cell.index - block.section.first))
     }
 
     /// Stores a number in a cell, or answers that the cell has no storage.
@@ -77,7 +78,8 @@ impl Table {
             None => false,
             Some(i) => {
                 let block = &mut self.blocks[i];
-                block.values[(cell.index - block.section.first) as usize] = number;
+                let offset = cell.index - block.section.first;
+                set_number(self.alloc, &mut block.values, offset, number);
                 true
             }
         }

@@ -14,6 +14,7 @@ use crate::find::{Found, find};
 use base::fault::RunFault;
 use base::item::{MapItem, Section};
 use base::memory::Memory;
+use shared_row::SharedRow;
 use std::alloc::AllocError;
 
 // What the count of an entry did: whether the entry copies, and the block that was created or counted.
@@ -38,7 +39,7 @@ impl Table {
         let block = Block {
             section,
             count: 1,
-            values,
+            values: SharedRow::Sole(values),
         };
         if self.blocks.insert(at, block).is_err() {
             return Err(AllocError);

@@ -9,10 +9,11 @@ ghost use Rattle.present.specs.Change.{blocks_of};
 ghost use Rattle.present.specs.Table.{Does, Fails, IsAbsent, IsKept, IsUnchanged, Shows, host_after, item_from, item_to, with_device, with_host};
 
 use crate::Table;
+use crate::block::set_numbers;
 use crate::find::{Found, find};
 use base::fault::RunFault;
 use base::item::Section;
-use base::memory::{Memory, overwrite};
+use base::memory::Memory;
 
 /// So many numbers from a place on.
 pub fn part(numbers: &[u64], first: u64, count: u64) -> &[u64]
@@ -32,11 +33,8 @@ impl Table {
         ensures kept { IsKept self.old self.new }
     {
         let block = &mut self.blocks[at];
-        overwrite(
-            &mut block.values,
-            section.first - block.section.first,
-            host.section(section),
-        );
+        let offset = section.first - block.section.first;
+        set_numbers(self.alloc, &mut block.values, offset, host.section(section));
     }
 
     // The section's cells of the host take the numbers of the device, where this block has them.
@@ -49,7 +47,7 @@ impl Table {
     {
         let block = &self.blocks[at];
         let numbers = part(
-            &block.values,
+            block.values.numbers(),
             section.first - block.section.first,
             section.length,
         );

@@ -5,6 +5,7 @@ use base::item::{MapKind, Section};
 use base::memory::Memory;
 use base::tree::ArrayId;
 use present::Table;
+use shared_row::{LentRow, Marks, RowCells};
 use std::alloc::{AllocError, Global};
 use std::test::Fail;
 
@@ -48,8 +49,44 @@ fn marked_numbers_are_stored(rt: HostRuntime) -> Result<(), Fail> {
     let mut host = Memory::new(rt.alloc(), &[8, 8])?;
     let mut table = Table::new(rt.alloc(), 16);
     assert!(rt; has_two_blocks(&mut table, &mut host));
-    table.store_row(ArrayId(1), 3, &[70, 71, 72, 73], &[true, true, false, true]);
+    let cells = RowCells::Own(vec![in rt.alloc(); 70, 71, 72, 73]?);
+    let marks = Marks::Each(vec![in rt.alloc(); true, true, false, true]?);
+    table.store_row(ArrayId(1), 3, &cells, &marks);
     assert!(rt; reads(rt.alloc(), &table, 0, &[0, 0, 12, 70, 0, 15, 73, 0])?);
     assert!(rt; table.load(cell(0, 3)) == Some(0));
+    Ok(())
+}
+
+// Cells 5 and 6 of array 1, for another owner.
+fn lent(alloc: Global, table: &mut Table) -> Result<Option<LentRow>, AllocError> {
+    let section = Section {
+        array: ArrayId(1),
+        first: 5,
+        length: 2,
+    };
+    let room = Vec::with_capacity(alloc, 2)?;
+    Ok(table.lend_row(&section, room).ok())
+}
+
+fn has_numbers(row: &Option<LentRow>, numbers: &[u64]) -> bool {
+    match row {
+        Some(row) => row.numbers() == numbers,
+        None => false,
+    }
+}
+
+// A row that another owner has keeps its numbers where the device stores.
+#[test]
+fn a_lent_row_keeps_its_numbers(rt: HostRuntime) -> Result<(), Fail> {
+    let alloc = rt.alloc();
+    let mut host = Memory::new(alloc, &[8, 8])?;
+    let mut table = Table::new(alloc, 16);
+    assert!(rt; has_two_blocks(&mut table, &mut host));
+    let before = lent(alloc, &mut table)?;
+    let new = RowCells::Own(vec![in alloc; 80, 81]?);
+    table.store_row(ArrayId(1), 5, &new, &Marks::Run(0, 2));
+    let after = lent(alloc, &mut table)?;
+    assert!(rt; has_numbers(&before, &[15, 16]) && has_numbers(&after, &[80, 81]));
+    assert!(rt; reads(alloc, &table, 5, &[80, 81])?);
     Ok(())
 }

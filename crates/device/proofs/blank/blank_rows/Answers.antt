@@ -1,13 +1,14 @@
 use Rattle.std.proofs.Common.{List, take, ◌+◌, refl, sym, subst, arith}
 use Rattle.kernel.specs.declared.frames.Row.{Row}
+use Rattle.shared_row.specs.declared.lent.RowCells.TheVariants as cells
 use Rattle.device.specs.Blank.{HasRoomOf, HaveRoomOf}
 use Rattle.device.proofs.Blanks.{room_more}
 use Rattle.device.proofs.blank.blank_rows.Goals as goal
 
 pub each-preserved : goal.each-preserved
 each-preserved c =
-    let r : Row = record { first = c.row-item.result.first; cells = c.in_ok-with_capacity.field-0 } in
-    let size = c.capacity.ensures in
+    let r : Row = record { first = c.row-item.result.first; cells = cells.Own c.in_ok-with_capacity.field-0 } in
+    let size = c.room.ensures in
     let room = c.in_ok-with_capacity.ensures.capacity in
     let fits : HasRoomOf c.row-item.result r =
     record { first = refl; cells = c.in_ok-with_capacity.ensures.items; room = omega (arith, size, room) } in

@@ -3,6 +3,8 @@ use Rattle.std.proofs.lemmas.Option.{slice_get-get_or}
 use mathlib.Core.Path.{fun_ext}
 use Rattle.present.specs.Rows.{marked_in, with_numbers}
 use Rattle.present.specs.Table.{Shows}
+use Rattle.shared_row.specs.Rows.{numbers_in}
+use Rattle.kernel.specs.Rows.{marks_kept}
 use Rattle.frames.proofs.StoredRows.{device_more, none_behind, stored_upto, upto_all}
 use Rattle.frames.proofs.device.store_kernel.Goals as goal
 
@@ -14,8 +16,7 @@ each-preserved c =
     let same : c.in-Ok.array ≡ c.each.a = omega (arith, c.in-Ok.ensures) in
     record {
       stored = λ d h. subst (Shows c.store_row.new.self)
-          ((λ i. with_numbers (marked_in (record { 0 = same i }) row.first (c.deref.ensures.value i)
-          (c.deref-in-each.ensures.value i)) (with_numbers (stored_upto rows c.each.a) d))
+          ((λ i. with_numbers (marked_in (record { 0 = same i }) row.first (numbers_in row.cells) (marks_kept row)) (with_numbers (stored_upto rows c.each.a) d))
           ∙ device_more rows c.each.a row e d)
           (c.store_row.ensures.stored (with_numbers (stored_upto rows c.each.a) d) (c.each.invariant.stored d h));
       kept = record {

@@ -1,6 +1,7 @@
 use Rattle.std.proofs.Common.{refl, sym, subst, ◌∙◌, arith}
 use Rattle.base.specs.Arrays.{lengths_of, memory_of}
 use Rattle.base.specs.Memory.{view_of}
+use Rattle.shared_row.specs.declared.lent.RowCells.TheVariants as cells
 use Rattle.frames.specs.Rows.{AreNumbers}
 use Rattle.frames.proofs.RowViews.{empty_row, filled_row, within_host}
 use Rattle.frames.proofs.host.host_row.Goals as goal
@@ -11,14 +12,14 @@ section-requires c = within_host c.args.host.now c.args.section.now (omega arith
 pub returns-then-section-eq0 : goal.returns-then-section-eq0
 returns-then-section-eq0 c = record {
   row = empty_row (view_of (lengths_of c.args.host.now) (memory_of c.args.host.now)) c.args.section.now _
-      (omega arith) c.new.ensures.items (record { first = c.args.section.now.first; cells = c.new.result })
+      (omega arith) c.new.ensures.items (record { first = c.args.section.now.first; cells = cells.Own c.new.result })
       refl refl;
 }
 
 pub returns : goal.returns
 returns c = record {
   row = filled_row c.args.host.now c.args.section.now c.in_ok-cells.cells.items
-      (record { first = c.args.section.now.first; cells = c.in_ok-cells.cells })
+      (record { first = c.args.section.now.first; cells = cells.Own c.in_ok-cells.cells })
       (within_host c.args.host.now c.args.section.now (omega arith) c.requires)
       (c.in_ok-cells.ensures.items ∙ c.section.ensures) (subst AreNumbers (sym c.in_ok-cells.ensures.items) c.copied.ensures.bounded) refl refl;
 }

@@ -1,79 +1,83 @@
-use Rattle.std.proofs.Common.{◌+◌, ◌-◌, length, Some, sym, ◌∙◌, ap, refl, arith}
-use Rattle.std.specs.Prelude.{slice_get, slice_index, slice_range}
-use Rattle.std.proofs.lemmas.Option.{slice_get-get_or}
-use mathlib.Core.Path.{fun_ext}
+use Rattle.std.proofs.Common.{◌≡◌, ◌+◌, ◌-◌, ◌≤◌, length, sym, ◌∙◌, ap, subst, refl, arith}
+use Rattle.std.specs.Prelude.{slice_index, slice_range}
+use Rattle.std.proofs.lemmas.List.Edits.{length-between}
 use Rattle.base.specs.declared.item.Cell.{Cell}
-use Rattle.base.specs.Arrays.{lengths_of, memory_of}
+use Rattle.base.specs.Arrays.{lengths_of, memory_of, row_of}
 use Rattle.base.specs.Memory.{within}
-use Rattle.frames.specs.Views.{with_stored}
+use Rattle.shared_row.specs.Rows.{marks_of, numbers_in}
+use Rattle.shared_row.specs.declared.marks.Marks.TheVariants as marks
+use Rattle.present.specs.Rows.{marked_in}
+use Rattle.present.proofs.RunMarks.{mark_in, run_bound}
+use Rattle.frames.specs.Rows.{run_from}
+use Rattle.frames.specs.Views.{AreCells, with_stored}
 use Rattle.frames.proofs.RowViews.{length_at}
-use Rattle.frames.proofs.Stores.{below_all, below_run, below_skip, place_there, row_small}
+use Rattle.frames.proofs.Stores.{place_there, row_small}
+use Rattle.frames.proofs.RunStores.{none_stored, run_stored}
 use Rattle.frames.proofs.host.store_row.Goals as goal
 
-pub overflow_add-section : goal.overflow_add-section
-overflow_add-section c =
-    let r = c.args.row.now in
+pub overflow_add-row : goal.overflow_add-row
+overflow_add-row c =
+    let row = c.args.row.now in
     let host = c.args.host.now in
-    let on = slice_get-get_or r.stored.items c.places.i c.index.result.now (omega arith)
-    ∙ ap Some (sym c.index.ensures ∙ c.if-index.true) in
-    let there = place_there c.args.array r.first r.cells.items r.stored.items (lengths_of host) c.places.i
-    r.one_mark_each on c.requires in
+    let numbers = numbers_in row.cells in
+    let n = length numbers in
+    let from = c.in-Run.from in
+    let end = c.in-Run.end in
+    let long = ap (λ m. length (marks_of n m)) (sym c.in-Run.is) ∙ row.one_mark_each in
+    let cells = subst (λ m. AreCells (lengths_of host) (marked_in c.args.array row.first numbers (marks_of n m)))
+    c.in-Run.is c.requires in
+    let some = c.if-from-end.true in
+    let there = place_there c.args.array row.first numbers (marks_of n (marks.Run from end)) (lengths_of host) from long
+    (mark_in n from end long from (omega arith) some) cells in
     omega (arith, there, length_at host c.args.array.0, row_small host c.args.array.0)
 
-pub set_section-requires-clause-within : goal.set_section-requires-clause-within
-set_section-requires-clause-within c =
-    let r = c.args.row.now in
+pub store_run-requires-clause-cells : goal.store_run-requires-clause-cells
+store_run-requires-clause-cells c =
+    let row = c.args.row.now in
     let host = c.args.host.now in
-    let end = c.marked_end-end.result in
-    let from = c.marked_end-end.ensures.from in
-    let long = ap length c.deref.ensures.value in
-    let bound = c.marked_end-end.ensures.bound in
-    let last = ap (λ xs. slice_get xs (end - 1)) (sym c.deref.ensures.value)
-    ∙ c.marked_end-end.ensures.marked (end - 1) (omega arith) (omega arith) in
-    let there = place_there c.args.array r.first r.cells.items r.stored.items (lengths_of host) (end - 1)
-    r.one_mark_each last c.requires in
-    let now = sym (length_at c.places.host c.args.array.0)
-    ∙ ap (λ l. slice_index l c.args.array.0) c.places.invariant.lengths in
-    record { has_cells = omega arith; end = omega (arith, there, now) }
+    let a = c.args.array.0 in
+    let numbers = numbers_in row.cells in
+    let n = length numbers in
+    let from = c.in-Run.from in
+    let end = c.in-Run.end in
+    let long = ap (λ m. length (marks_of n m)) (sym c.in-Run.is) ∙ row.one_mark_each in
+    let cells = subst (λ m. AreCells (lengths_of host) (marked_in c.args.array row.first numbers (marks_of n m)))
+    c.in-Run.is c.requires in
+    let some = c.if-from-end.true in
+    let there = place_there c.args.array row.first numbers (marks_of n (marks.Run from end)) (lengths_of host) (end - 1)
+    long (mark_in n from end long (end - 1) (omega (arith, some)) (omega (arith, some))) cells in
+    let bound = run_bound n from end long in
+    let same = ap length c.numbers-numbers.ensures in
+    let part : length (slice_range c.numbers-numbers.result.now from end) ≡ end - from =
+    length-between c.numbers-numbers.result.now from end (omega (arith, bound, same)) in
+    subst (λ k. row.first + from + k ≤ length (row_of host a)) (sym part)
+    (omega (arith, there, length_at host a, some))
 
-pub places-preserved-then-index : goal.places-preserved-then-index
-places-preserved-then-index c =
-    let r = c.args.row.now in
-    let end = c.marked_end-end.result in
-    let long = ap length c.deref.ensures.value in
-    let bound = c.marked_end-end.ensures.bound in
-    let from = c.marked_end-end.ensures.from in
-    let set = c.set_section.ensures.set in
-    record {
-      bound = omega arith;
-      stored = below_run c.args.array r.first r.cells.items r.stored.items c.places.i end from (omega arith)
-          r.one_mark_each
-          (λ k l m. ap (λ xs. slice_get xs k) (sym c.deref.ensures.value) ∙ c.marked_end-end.ensures.marked k l m)
-          (record { array = c.args.array; first = r.first + c.places.i; length = end - c.places.i }) refl refl refl
-          (memory_of c.args.host.now) (memory_of c.places.host) (memory_of c.set_section.new.self)
-          c.places.invariant.stored
-          (set ∙ ap (λ xs. within (record { array = c.args.array; first = r.first + c.places.i; length = end - c.places.i })
-          (λ (x : Cell). slice_index (slice_range xs c.places.i end) (x.index - (r.first + c.places.i)))
-          (memory_of c.places.host)) c.deref-then-index.ensures.value);
-      lengths = c.set_section.ensures.lengths ∙ c.places.invariant.lengths;
-    }
+pub returns-then-from-end-clause-stored : goal.returns-then-from-end-clause-stored
+returns-then-from-end-clause-stored c =
+    let row = c.args.row.now in
+    let old = memory_of c.args.host.now in
+    let new = memory_of c.store_run.new.host in
+    let numbers = numbers_in row.cells in
+    let n = length numbers in
+    let from = c.in-Run.from in
+    let end = c.in-Run.end in
+    let long = ap (λ m. length (marks_of n m)) (sym c.in-Run.is) ∙ row.one_mark_each in
+    let bound = run_bound n from end long in
+    let part : length (slice_range numbers from end) ≡ end - from = length-between numbers from end bound in
+    let stored = subst (λ xs. new ≡ within (run_from c.args.array (row.first + from) (length (slice_range xs from end)))
+    (λ (x : Cell). slice_index (slice_range xs from end) (x.index - (row.first + from))) old)
+    c.numbers-numbers.ensures c.store_run.ensures.stored in
+    subst (λ m. new ≡ with_stored (marked_in c.args.array row.first numbers (marks_of n m)) old) (sym c.in-Run.is)
+    (run_stored c.args.array row.first numbers from end long c.if-from-end.true
+    (run_from c.args.array (row.first + from) (length (slice_range numbers from end))) refl refl part old new stored)
 
-pub places-preserved : goal.places-preserved
-places-preserved c =
-    let r = c.args.row.now in
-    let off = slice_get-get_or r.stored.items c.places.i c.index.result.now (omega arith)
-    ∙ ap Some (sym c.index.ensures ∙ c.if-index.false) in
-    record {
-      bound = omega arith;
-      stored = c.places.invariant.stored
-          ∙ ap (λ v. with_stored v (memory_of c.args.host.now))
-          (fun_ext (λ (x : Cell). below_skip c.args.array r.first r.cells.items r.stored.items c.places.i off x));
-      lengths = c.places.invariant.lengths;
-    }
-
-pub returns-clause-stored : goal.returns-clause-stored
-returns-clause-stored c =
-    let r = c.args.row.now in
-    c.places.invariant.stored
-    ∙ ap (λ v. with_stored v (memory_of c.args.host.now))
-    (fun_ext (λ (x : Cell). below_all c.args.array r.first r.cells.items r.stored.items c.places.i (omega arith) x))
+pub returns-else-from-end-clause-stored : goal.returns-else-from-end-clause-stored
+returns-else-from-end-clause-stored c =
+    let row = c.args.row.now in
+    let old = memory_of c.args.host.now in
+    let numbers = numbers_in row.cells in
+    let n = length numbers in
+    let long = ap (λ m. length (marks_of n m)) (sym c.in-Run.is) ∙ row.one_mark_each in
+    subst (λ m. old ≡ with_stored (marked_in c.args.array row.first numbers (marks_of n m)) old) (sym c.in-Run.is)
+    (none_stored c.args.array row.first numbers c.in-Run.from c.in-Run.end long c.if-from-end.false old)

@@ -1,9 +1,9 @@
 use Rattle.std.proofs.Common.{◌≡◌, ◌-◌, length, refl, ap, sym, ◌∙◌, arith}
-use Rattle.std.specs.Vec.{with_items}
-use Rattle.std.proofs.lemmas.List.{with_items_is}
 use Rattle.base.specs.Arrays.{overwritten}
 use Rattle.base.specs.Memory.{is_inside}
+use Rattle.base.proofs.Places.{length_overwritten}
 use Rattle.std.proofs.lemmas.Option.{slice_get_within}
+use Rattle.shared_row.specs.Rows.{numbers_of}
 use Rattle.present.specs.declared.block.Block.{Block}
 use Rattle.present.proofs.Orders.{stored_each, stored_from, stored_set, cells_set}
 use Rattle.present.proofs.Founds.{one_block}
@@ -11,8 +11,8 @@ use Rattle.present.proofs.BlockReads.{read_block}
 use Rattle.present.proofs.Copies.{offset_fits, section_length, shows_brought}
 use Rattle.present.proofs.Table.bring_in_at.Goals as goal
 
-pub overwrite-requires : goal.overwrite-requires
-overwrite-requires c =
+pub set_numbers-requires : goal.set_numbers-requires
+set_numbers-requires c =
     let t = c.args.self.now in
     let s = c.args.section.now in
     let b = c.index_mut-block.result.now in
@@ -23,8 +23,7 @@ overwrite-requires c =
     let inside : is_inside s b.section ≡ _ = ap (λ (x : Block). is_inside s x.section) (sym same) ∙ r.inside in
     let fits = offset_fits b s (stored_each t.blocks.items t.stored c.args.at b e) inside in
     let long = ap length c.section.ensures ∙ section_length c.args.host.now s c.requires.within in
-    let items = ap length c.deref_mut.ensures.value in
-    omega (arith, fits, long, items)
+    omega (arith, fits, long)
 
 pub invariant_of-self : goal.invariant_of-self
 invariant_of-self c =
@@ -34,12 +33,18 @@ invariant_of-self c =
     let r = c.requires.inside in
     let e = read_block bs c.args.at b (slice_get_within bs c.args.at r.block r.is) c.index_mut-block.ensures.value in
     let w = stored_each bs t.stored c.args.at b e in
-    let values = with_items b.values c.overwrite.new.row in
-    let new : Block = record { section = b.section; count = b.count; values = values } in
+    let new : Block = record { section = b.section; count = b.count; values = c.set_numbers.new.values } in
+    let inside : is_inside c.args.section.now b.section ≡ _ =
+    ap (λ (x : Block). is_inside c.args.section.now x.section) (sym (one_block _ r.block b r.is e)) ∙ r.inside in
+    let fits = offset_fits b c.args.section.now w inside in
+    let long = ap length c.section.ensures ∙ section_length c.args.host.now c.args.section.now c.requires.within in
     let one = stored_from new (record {
       has_cells = w.has_cells;
       end = w.end;
-      numbers = sym values.ok.0 ∙ b.values.ok.0 ∙ w.numbers;
+      numbers = ap length c.set_numbers.ensures
+          ∙ length_overwritten (numbers_of b.values) c.section.result.now (c.args.section.now.first - b.section.first)
+          (omega (arith, fits, long))
+          ∙ w.numbers;
     }) in
     record {
       stored = stored_set bs c.args.at b new t.stored e refl one;
@@ -57,11 +62,8 @@ returns-clause-brought c d h =
     let e = read_block bs c.args.at b (slice_get_within bs c.args.at r.block r.is) c.index_mut-block.ensures.value in
     let same : r.block ≡ b = one_block _ r.block b r.is e in
     let inside : is_inside s b.section ≡ _ = ap (λ (x : Block). is_inside s x.section) (sym same) ∙ r.inside in
-    let values = with_items b.values c.overwrite.new.row in
-    let new : Block = record { section = b.section; count = b.count; values = values } in
-    let items = with_items_is b.values c.overwrite.new.row (omega
-    (arith, c.overwrite.auto.row, b.values.ok.0, ap length c.deref_mut.ensures.value)) in
-    let written = c.overwrite.ensures
-    ∙ (λ i. overwritten (c.deref_mut.ensures.value i) (s.first - b.section.first) (c.section.ensures i)) in
+    let new : Block = record { section = b.section; count = b.count; values = c.set_numbers.new.values } in
+    let written = c.set_numbers.ensures
+    ∙ ap (overwritten (numbers_of b.values) (s.first - b.section.first)) c.section.ensures in
     shows_brought bs t.used d t.stored c.args.at b new s c.args.host.now e inside c.requires.within refl refl
-    (items ∙ written) h
+    written h

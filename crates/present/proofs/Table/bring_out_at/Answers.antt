@@ -23,7 +23,7 @@ part-numbers-requires c =
     let same : r.block ≡ b = one_block _ r.block b r.is e in
     let inside : is_inside s b.section ≡ _ = ap (λ (x : Block). is_inside s x.section) (sym same) ∙ r.inside in
     let fits = offset_fits b s (stored_each t.blocks.items t.stored c.args.at b e) inside in
-    let items = ap length c.deref.ensures.value in
+    let items = ap length c.numbers.ensures in
     omega (arith, fits, items)
 
 pub set_section-requires-clause-length : goal.set_section-requires-clause-length
@@ -37,9 +37,9 @@ set_section-requires-clause-length c =
     let same : r.block ≡ b = one_block _ r.block b r.is e in
     let inside : is_inside s b.section ≡ _ = ap (λ (x : Block). is_inside s x.section) (sym same) ∙ r.inside in
     let fits = offset_fits b s (stored_each t.blocks.items t.stored c.args.at b e) inside in
-    let items = ap length c.deref.ensures.value in
+    let items = ap length c.numbers.ensures in
     ap length c.part-numbers.ensures
-    ∙ part_length c.deref.result.now (s.first - b.section.first) s.length (omega (arith, fits, items))
+    ∙ part_length c.numbers.result.now (s.first - b.section.first) s.length (omega (arith, fits, items))
 
 pub returns-clause-brought : goal.returns-clause-brought
 returns-clause-brought c d h =
@@ -54,7 +54,7 @@ returns-clause-brought c d h =
     let host = memory_of c.args.host.now in
     let numbers = c.part-numbers.ensures
     ∙ ap (λ xs. slice_range xs (s.first - b.section.first)
-    (s.first - b.section.first + s.length)) c.deref.ensures.value in
+    (s.first - b.section.first + s.length)) c.numbers.ensures in
     c.set_section.ensures.set
     ∙ ap (λ xs. within s (λ (x : Cell). slice_index xs (x.index - s.first)) host) numbers
     ∙ fun_ext (λ x. brought_out t.blocks.items t.used d t.stored c.args.at b s host e inside h x)

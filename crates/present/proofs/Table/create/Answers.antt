@@ -1,5 +1,6 @@
 use Rattle.std.proofs.Common.{◌≡◌, ◌+◌, length, not, insert, refl, ap, sym, ◌∙◌, arith}
 use Rattle.std.proofs.lemmas.Bool.{cond-true}
+use Rattle.shared_row.specs.declared.shared.SharedRow.TheVariants as row
 use Rattle.present.specs.declared.block.Block.{Block}
 use Rattle.present.specs.Blocks.{are_stored, cells_in}
 use Rattle.present.proofs.Orders.{stored_from, stored_insert, cells_insert}
@@ -10,7 +11,7 @@ invariant_of-self-2 c =
     let t = c.args.self.now in
     let s = c.args.section in
     let bs = t.blocks.items in
-    let b : Block = record { section = s; count = 1; values = c.in_ok-values.values } in
+    let b : Block = record { section = s; count = 1; values = row.Sole c.in_ok-values.values } in
     let done = c.is_err.ensures.negation ∙ ap not c.if-is_err.false in
     let items : c.insert.new.self.items ≡ insert bs c.args.at b = c.insert.ensures.items ∙ cond-true _ _ _ done in
     let long = c.in_ok-values.ensures.len in
@@ -30,7 +31,7 @@ invariant_of-self-2 c =
 
 pub returns-clause-created : goal.returns-clause-created
 returns-clause-created c =
-    let b : Block = record { section = c.args.section; count = 1; values = c.in_ok-values.values } in
+    let b : Block = record { section = c.args.section; count = 1; values = row.Sole c.in_ok-values.values } in
     let done = c.is_err.ensures.negation ∙ ap not c.if-is_err.false in
     record {
       block = b;

@@ -1,6 +1,6 @@
 use Rattle.std.proofs.Common.{subst, arith}
 use Rattle.std.proofs.lemmas.List.{take_all}
-use Rattle.present.specs.Rows.{IsLoaded, numbers_of}
+use Rattle.present.specs.Rows.{IsLoaded, numbers_at}
 use Rattle.present.proofs.Orders.{stored_each, stored_from}
 use Rattle.present.proofs.BlockReads.{read_block}
 use Rattle.present.proofs.BlockRows.{loaded_more}
@@ -22,5 +22,5 @@ each-preserved c =
 pub returns : goal.returns
 returns c =
     let bs = c.args.blocks.now in
-    subst (λ xs. IsLoaded (numbers_of xs) c.args.array c.args.first c.args.numbers.now c.each.numbers)
+    subst (λ xs. IsLoaded (numbers_at xs) c.args.array c.args.first c.args.numbers.now c.each.numbers)
     (take_all c.each.block-index bs (omega arith)) c.each.invariant

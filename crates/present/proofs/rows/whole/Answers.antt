@@ -1,6 +1,6 @@
 use Rattle.std.proofs.Common.{◌+◌, ◌-◌, length, ap, sym, ◌∙◌, subst, arith, List, ℕ}
 use Rattle.std.specs.Prelude.{slice_range}
-use Rattle.present.specs.Rows.{AreRead, numbers_of}
+use Rattle.present.specs.Rows.{AreRead, numbers_at}
 use Rattle.present.proofs.Copies.{offset_fits}
 use Rattle.present.proofs.Orders.{stored_each}
 use Rattle.present.proofs.WholeRows.{inside_read, part_is_read, read_length}
@@ -13,7 +13,7 @@ part-requires c =
     let b = c.index-blocks-at.result in
     let r = inside_read bs s c.in-Inside.at b c.in-Inside.ensures c.index-blocks-at.is in
     let fits = offset_fits b s (stored_each bs c.requires.stored c.in-Inside.at b r.0) r.1 in
-    let items = ap length c.deref.ensures.value in
+    let items = ap length c.numbers.ensures in
     omega (arith, fits, items)
 
 pub returns-in-Inside-clause-read : goal.returns-in-Inside-clause-read
@@ -22,9 +22,9 @@ returns-in-Inside-clause-read c =
     let s = c.args.section.now in
     let b = c.index-blocks-at.result in
     let r = inside_read bs s c.in-Inside.at b c.in-Inside.ensures c.index-blocks-at.is in
-    subst (AreRead (numbers_of bs) s)
+    subst (AreRead (numbers_at bs) s)
     (sym (c.part.ensures ∙ ap (λ (xs : List ℕ). slice_range xs (s.first - b.section.first) (s.first - b.section.first + s.length))
-    c.deref.ensures.value))
+    c.numbers.ensures))
     (part_is_read bs c.requires.stored c.in-Inside.at b r.0 s r.1)
 
 pub returns-in-Inside-clause-count : goal.returns-in-Inside-clause-count
@@ -35,5 +35,5 @@ returns-in-Inside-clause-count c =
     let r = inside_read bs s c.in-Inside.at b c.in-Inside.ensures c.index-blocks-at.is in
     ap length
     (c.part.ensures ∙ ap (λ (xs : List ℕ). slice_range xs (s.first - b.section.first) (s.first - b.section.first + s.length))
-    c.deref.ensures.value)
+    c.numbers.ensures)
     ∙ read_length bs c.requires.stored c.in-Inside.at b r.0 s r.1

@@ -1,0 +1,29 @@
+use Rattle.std.proofs.Common.{◌≡◌, ◌∙◌, ℕ, Bool, true, false, sym, ap, subst, arith}
+use Rattle.std.specs.Prelude.{slice_index_or}
+use Rattle.std.proofs.lemmas.List.{with_items_is}
+use Rattle.shared_row.specs.declared.marks.Marks.{Marks}
+use Rattle.shared_row.specs.declared.marks.Marks.TheVariants as kinds
+use Rattle.kernel.specs.Lanes.{Over}
+use Rattle.kernel.specs.Rows.{HaveMarks, run_parts}
+use Rattle.kernel.proofs.OwnCells.{run_in_all}
+use Rattle.kernel.proofs.run_row.RunRow.put_some.Goals as goal
+
+pub returns : goal.returns
+returns c =
+    let row = c.self.inside in
+    let own = c.become_each.new.own in
+    let marks = c.in-Each.marks in
+    let part = λ (k : ℕ). slice_index_or c.args.mask.now k false in
+    let have : HaveMarks row.lent.now own.items (kinds.Each marks) =
+    subst (λ (s : Marks). HaveMarks row.lent.now own.items s) c.in-Each.is c.become_each.ensures.marks in
+    let is : run_parts row.first row.lent.now own.items (kinds.Each marks) ≡ c.args.self.now =
+    ap (run_parts row.first row.lent.now own.items) (sym c.in-Each.is) ∙ c.become_each.ensures.same row.first
+    ∙ c.self.view_is in
+    run_in_all part c.args.numbers.now row.first row.lent.now own.items marks.items c.args.at c.args.self.now
+    _ c.put_some.new.cells _ _ c.mark_some.new.marks _ have.1 is c.deref_mut.ensures.value c.put_some.ensures
+    c.deref_mut-in-Each.ensures.value
+    (subst (λ (n : ℕ). Over Bool part (λ k. true) c.args.at n c.deref_mut-in-Each.result.now c.mark_some.new.marks)
+    c.requires.size c.mark_some.ensures)
+    (with_items_is own c.put_some.new.cells (omega (arith, c.put_some.ensures.size, c.deref_mut.ensures.len)))
+    (with_items_is marks c.mark_some.new.marks
+    (omega (arith, c.mark_some.ensures.size, c.deref_mut-in-Each.ensures.len)))
