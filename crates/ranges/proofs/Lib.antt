@@ -1,10 +1,15 @@
 pub mod AllSeen
+pub mod ApartTurns
 pub mod CaseSlides
 pub mod CertainTouches
 pub mod FirstCells
 pub mod FirstOpposed
 pub mod FirstTurns
 pub mod FoundMeetings
+pub mod HeldCells
+pub mod HeldStatements
+pub mod HeldTouches
+pub mod IndependentTurns
 pub mod ItemParts
 pub mod Known
 pub mod LeastRuns
@@ -13,6 +18,9 @@ pub mod LeftOut
 pub mod Marks
 pub mod Meetings
 pub mod MovingParts
+pub mod NestApart
+pub mod NestLists
+pub mod NestSpans
 pub mod NestTurns
 pub mod Noted
 pub mod OpposedBefore
@@ -43,6 +51,9 @@ pub mod Spans
 pub mod SplitTurns
 pub mod SteadyRests
 pub mod StraightTouches
+pub mod StrideApart
+pub mod StrideCases
+pub mod StrideRules
 pub mod Swaps
 pub mod Touches
 pub mod TurnBlocks

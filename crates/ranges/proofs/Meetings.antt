@@ -54,7 +54,7 @@ behind_both before now next c =
     (any_append (λ s. opposes (kind_of s) (kind_of t) && has_cell c s) before now))
     ∙ any_split (has_cell c) (λ t. touched_before before (kind_of t) c) (λ t. touched_before now (kind_of t) c) next
 
-gives_none : (body : List Stmt) (s t : Turn) → list_any (λ x. list_needs x body) (list_assigned body) ≡ false →
+pub gives_none : (body : List Stmt) (s t : Turn) → list_any (λ x. list_needs x body) (list_assigned body) ≡ false →
     s.body ≡ body → t.body ≡ body → gives_scalar s t ≡ false
 gives_none body s t h e f =
     ap (λ (b : List Stmt). list_any (λ x. list_needs x b) (list_assigned s.body)) f

@@ -14,4 +14,5 @@ pub mod Settled
 pub mod Slides
 pub mod Spans
 pub mod Straight
+pub mod Strides
 pub mod Ways

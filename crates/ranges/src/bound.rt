@@ -24,8 +24,8 @@ pub fn is_the_same(e: &Expr, lows: &[u64], highs: &[u64]) -> bool
     }
 }
 
-// A loop's value, 0 of one that is not there.
-fn at(values: &[u64], level: u32) -> u64
+/// A loop's value, 0 of one that is not there.
+pub fn at(values: &[u64], level: u32) -> u64
     ensures { result ≡ Rattle.std.specs.Prelude.slice_index values.now level }
 {
     values.get(level as usize).copied().unwrap_or(0)

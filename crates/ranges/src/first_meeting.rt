@@ -10,6 +10,7 @@ ghost use Rattle.base.specs.Turns.{turns_at, turns_meet};
 ghost use Rattle.ranges.specs.Cells.{has};
 
 use crate::cells::CellSet;
+use crate::independent::are_independent;
 use crate::meeting_walk::note_turns;
 use crate::met::Meetings;
 use crate::nest::{turn_body, turns_up_to_two};
@@ -58,6 +59,9 @@ pub fn meeting(
     let body = turn_body(depth, &region.body);
     if all_give(body, body) {
         return Ok(write.first());
+    }
+    if are_independent(alloc, depth, &region.body, &loops.values, write)? {
+        return Ok(None);
     }
     let lengths = lengths(alloc, program)?;
     let mut values = Vec::from_slice(alloc, &loops.values)?;

@@ -1,7 +1,10 @@
 use Rattle.std.proofs.Common.{ap, ◌∙◌, sym, List, length, min}
 use Rattle.base.specs.Meaning.{lengths_of}
 use Rattle.base.specs.declared.tree.Stmt.{Stmt}
-use Rattle.base.specs.Turns.{turns_at}
+use Rattle.std.specs.Prelude.{flat_map}
+use Rattle.base.specs.Footprint.{Touch, writes}
+use Rattle.base.specs.Turns.{turn_touches, turns_at}
+use Rattle.base.proofs.TurnTouches.{turns_touch_all}
 use Rattle.ranges.specs.Meetings.{turn_body}
 use Rattle.ranges.specs.Ways.{Noted, after_turns}
 use Rattle.ranges.proofs.FoundMeetings.{few_meet, given_meeting, noted_meeting}
@@ -36,6 +39,13 @@ returns c =
     (c.turn_body-body.ensures ∙ ap (turn_body r.depth) c.deref-2.ensures.value)
     (sym c.all_give.ensures ∙ c.if-all_give.false)
     (ap (λ (s : Noted). s.least) c.in_ok-note_turns.ensures.noted
-    ∙ (λ i. (after_turns ((c.deref-5.ensures.value ∙ c.in_ok-lengths.ensures) i)
-    (turns_at r.depth (c.deref-4.ensures.value i)
-    ((c.in_ok-values.ensures.items ∙ c.deref-3.ensures) i)) (c.in_ok-meetings.ensures i)).least))
+    ∙ (λ i. (after_turns ((c.deref-7.ensures.value ∙ c.in_ok-lengths.ensures) i)
+    (turns_at r.depth (c.deref-6.ensures.value i)
+    ((c.in_ok-values.ensures.items ∙ c.deref-5.ensures) i)) (c.in_ok-meetings.ensures i)).least))
+
+pub are_independent-requires-clause-write : goal.are_independent-requires-clause-write
+are_independent-requires-clause-write c x =
+    let r = c.args.region.now in
+    c.requires.write x
+    ∙ ap (λ (ts : List Touch). writes ts x) (sym (turns_touch_all r.depth r.body.items c.args.loops.now.values.items))
+    ∙ (λ i. writes (flat_map turn_touches (turns_at r.depth (sym c.deref-3.ensures.value i) (sym c.deref-4.ensures i))) x)
