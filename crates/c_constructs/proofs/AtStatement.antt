@@ -6,7 +6,7 @@ use Rattle.c_grammar.specs.Lines.{is_omp, holds, depth_of}
 use Rattle.c_grammar.specs.Machine.{run as machine_run}
 use Rattle.c_grammar.specs.Program.{Stack, Body, advance}
 use Rattle.c_grammar.specs.Rules.{Context}
-use Rattle.c_grammar.specs.Terminal.{Terminal, Fixed, Mark, Name, Num, Line, Unknown, End}
+use Rattle.c_grammar.specs.Terminal.{Terminal, Fixed, Mark, Name, Num, Line, Unknown, Unworked, End}
 use Rattle.c_grammar.specs.Texts.{Item}
 use Rattle.c_expressions.specs.declared.cursor.Cursor.{Cursor}
 use Rattle.c_expressions.specs.Cursor.{items, first_item, behind}
@@ -32,6 +32,7 @@ begins c s i is (Mark x) d = absurd cc
 begins c s i is (Name x) d = absurd cc
 begins c s i is (Num n) d = absurd cc
 begins c s i is Unknown d = absurd cc
+begins c s i is Unworked d = absurd cc
 begins c s i is End d = absurd cc
 
 -- the line is taken as one of a directive alone, or of one over a block or loop, which must follow

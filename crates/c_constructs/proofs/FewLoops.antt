@@ -4,7 +4,7 @@ use Rattle.std.specs.Prelude.{◌||◌, ◌==◌, nat_lt}
 use Rattle.std.proofs.lemmas.Bool.Decides.{nat_tests}
 use Rattle.base.specs.declared.fault.ReadCode.{ReadCode as Code}
 use Rattle.base.specs.declared.fault.ReadCode.TheVariants.{BadOperand}
-use Rattle.c_grammar.specs.Lexeme.{Lexeme, Reserved, Signed, Worded, Numbered, Strange, Ended, lexemes_of}
+use Rattle.c_grammar.specs.Lexeme.{Lexeme, Reserved, Signed, Worded, Numbered, Strange, Ended, Placed as PlacedLexeme}
 use Rattle.c_grammar.specs.LineGrammar.{LineAct, Plain, Demands, Meets, Once, Ends, Maps, Depends, Heads, Modifies, Numbers, Amounts, Chunks, Opens, Begins, BeginsNamed, Times, Collapse, NumTeams, ThreadLimit, NumThreads, SimdLen, SafeLen, DirectiveKind, Target, Data, Enter, Exit, Update, Wait, Combined}
 use Rattle.c_grammar.specs.LineMachine.{LineStack, line_advance, line_first_broken, line_machine, line_start}
 use Rattle.c_grammar.specs.LineRules.{LineContext, line_begin, line_breaks, line_breaks_act, line_enter, line_grammar, line_wrong, max_collapse}
@@ -122,13 +122,13 @@ depth_few ts h =
     (tokens_few ts 0 1 line_begin line_start (omega arith)
     (found_none (run line_grammar line_machine line_begin line_start (numbered 0 ts)) h))
 
-answered_few : (line : List ℕ) (column : ℕ) → line_answer line column ≡ None →
-    depth_of (kinds_of (lexemes_of line column)) ≤ max_collapse
+answered_few : (line : List PlacedLexeme) → line_answer line ≡ None →
+    depth_of (kinds_of line) ≤ max_collapse
 unfolding line_answer
-answered_few line column h =
-    depth_few (kinds_of (lexemes_of line column))
-    (fault_none (columns_of (lexemes_of line column)) (line_fault (kinds_of (lexemes_of line column))) h)
+answered_few line h =
+    depth_few (kinds_of line)
+    (fault_none (columns_of line) (line_fault (kinds_of line)) h)
 
-pub few_loops : (line : List ℕ) (column : ℕ) (d : Directive) → line_answer line column ≡ None →
-    IsInSource line column d → line_depth (text_of d) ≤ max_collapse
-few_loops line column d h k = subst (λ (n : ℕ). n ≤ max_collapse) k.depth (answered_few line column h)
+pub few_loops : (line : List PlacedLexeme) (d : Directive) → line_answer line ≡ None →
+    IsInSource line d → line_depth (text_of d) ≤ max_collapse
+few_loops line d h k = subst (λ (n : ℕ). n ≤ max_collapse) k.depth (answered_few line h)

@@ -7,7 +7,7 @@ use Rattle.base.specs.declared.tree.Target.{Target}
 use Rattle.base.specs.declared.tree.Data.{Data}
 use Rattle.base.specs.declared.tree.Directive.{Directive}
 use Rattle.base.specs.declared.tree.Directive.TheVariants as directive
-use Rattle.c_grammar.specs.Lexeme.{Lexeme, Placed as PlacedLexeme, Ended, lexemes_of}
+use Rattle.c_grammar.specs.Lexeme.{Lexeme, Placed as PlacedLexeme, Ended}
 use Rattle.c_grammar.specs.LineGrammar as line
 use Rattle.c_grammar.specs.Terminal.{Terminal, Line}
 use Rattle.c_grammar.specs.Texts.{Item}
@@ -38,16 +38,16 @@ kinds_same [] = refl
 kinds_same (p ∷ ps) = ap (λ (ts : List Lexeme). p.lexeme ∷ ts) (kinds_same ps)
 
 -- the tokens that spell the directive stand at the columns of the line's tokens
-pub line_placed : (l : List ℕ) (column : ℕ) (d : Given) → SpellsLine l column d →
-    Placed (line_marks d) (columns_of (lexemes_of l column))
-line_placed l column d s =
-    subst (λ (ks : List ℕ). Placed (line_marks d) ks) (columns_same (lexemes_of l column))
-    (placed_fit (line_marks d) (line_items l column) [] s.placed.fits)
+pub line_placed : (l : List PlacedLexeme) (d : Given) → SpellsLine l d →
+    Placed (line_marks d) (columns_of l)
+line_placed l d s =
+    subst (λ (ks : List ℕ). Placed (line_marks d) ks) (columns_same l)
+    (placed_fit (line_marks d) (line_items l) [] s.placed.fits)
 
 -- the tokens of the directive's tree are those of the line
-pub line_tokens : (l : List ℕ) (column : ℕ) (d : Given) (t : Terminal) → t ≡ Line (kinds_of (lexemes_of l column)) →
-    SpellsLine l column d → map (λ x. x.0) (line.line_slots (text_of d)) ≡ lexemes_on t
-line_tokens l column d t e s = sym s.spelled.tokens ∙ kinds_same (lexemes_of l column) ∙ ap lexemes_on (sym e)
+pub line_tokens : (l : List PlacedLexeme) (d : Given) (t : Terminal) → t ≡ Line (kinds_of l) →
+    SpellsLine l d → map (λ x. x.0) (line.line_slots (text_of d)) ≡ lexemes_on t
+line_tokens l d t e s = sym s.spelled.tokens ∙ kinds_same l ∙ ap lexemes_on (sym e)
 
 -- ---- behind the directive's words
 

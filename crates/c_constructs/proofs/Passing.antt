@@ -4,7 +4,7 @@ use Rattle.base.specs.declared.tree.Place.{Place}
 use Rattle.base.specs.declared.tree.Directive.{Directive}
 use Rattle.base.specs.declared.tree.Directive.TheVariants as directive
 use Rattle.c_grammar.specs.Grammar.{Over, for}
-use Rattle.c_grammar.specs.Lexeme.{lexemes_of}
+use Rattle.c_grammar.specs.Lexeme.{Placed as PlacedLexeme}
 use Rattle.c_grammar.specs.LineGrammar.{DirectiveKind, Target, Data, Enter, Exit, Update, Wait, Combined}
 use Rattle.c_grammar.specs.Lines.{collapse_in, depth_kind, depth_of, holds, holds_kind, is_omp, is_target, is_target_kind, line_depth}
 use Rattle.c_grammar.specs.Program.{Stack}
@@ -83,51 +83,51 @@ all_mean names i is d (resolved.Alone place t) p h = (h.0, alone_means names i i
 all_mean names i is d (resolved.Over (construct.Target g n)) p h = target_means names i is d g p h.1
 all_mean names i is d (resolved.Over (construct.Data g)) p h = data_means names i is d g p h
 
-line_holds : (l : List ℕ) (column : ℕ) (d : Given) → IsInSource l column d →
-    holds (kinds_of (lexemes_of l column)) ≡ holds_kind (seen_kind d.kind)
+line_holds : (l : List PlacedLexeme) (d : Given) → IsInSource l d →
+    holds (kinds_of l) ≡ holds_kind (seen_kind d.kind)
 unfolding holds
-line_holds l column d k = ap holds_kind k.kind
+line_holds l d k = ap holds_kind k.kind
 
-pub is_read : (names : Names) (i : Item Terminal) (is : Items) (l : List ℕ) (column : ℕ) (d : Given) (r : Resolved) →
-    i.terminal ≡ Line (kinds_of (lexemes_of l column)) → i.columns ≡ columns_of (lexemes_of l column) →
-    SpellsLine l column d → IsInSource l column d → IsResolvedAt names (place_of (i ∷ is)) d r → IsRead names i is r
-is_read names i is l column d r e cs s k h = record {
+pub is_read : (names : Names) (i : Item Terminal) (is : Items) (l : List PlacedLexeme) (d : Given) (r : Resolved) →
+    i.terminal ≡ Line (kinds_of l) → i.columns ≡ columns_of l →
+    SpellsLine l d → IsInSource l d → IsResolvedAt names (place_of (i ∷ is)) d r → IsRead names i is r
+is_read names i is l d r e cs s k h = record {
   line = record {
     text = text_of d;
     is_line = s.spelled.is_text;
-    tokens = line_tokens l column d i.terminal e s;
+    tokens = line_tokens l d i.terminal e s;
   };
   words = ap (λ (t : Terminal). is_omp (lexemes_on t)) e ∙ k.words;
-  over = ap (λ (t : Terminal). holds (lexemes_on t)) e ∙ line_holds l column d k ∙ resolved_holds names (place_of (i ∷ is)) d r h;
+  over = ap (λ (t : Terminal). holds (lexemes_on t)) e ∙ line_holds l d k ∙ resolved_holds names (place_of (i ∷ is)) d r h;
   depth = ap (λ (t : Terminal). depth_of (lexemes_on t)) e ∙ k.depth ∙ resolved_depth names (place_of (i ∷ is)) d r h;
   means = all_mean names i is d r (subst (λ (ks : List ℕ). Placed (line_marks d) ks) (sym cs)
-      (line_placed l column d s))
+      (line_placed l d s))
       h;
 }
 
 -- ---- the machine behind it
 
-pub passes : (sc : Scope) (names : Names) (s : Stack) (line : List ℕ) (column : ℕ) (d : Given) (r : Resolved)
-    (t : Cursor) → (first_item t).terminal ≡ Line (kinds_of (lexemes_of line column)) →
-    (first_item t).columns ≡ columns_of (lexemes_of line column) → sc.statements < max_statements →
-    inside (context_of sc 0 0) ≡ false → under_if (context_of sc 0 0) ≡ false → line_answer line column ≡ None →
-    IsInSource line column d → fault_in sc (names_in d) ≡ None → IsResolvedAt names (place_of (items t)) d r →
+pub passes : (sc : Scope) (names : Names) (s : Stack) (line : List PlacedLexeme) (d : Given) (r : Resolved)
+    (t : Cursor) → (first_item t).terminal ≡ Line (kinds_of line) →
+    (first_item t).columns ≡ columns_of line → sc.statements < max_statements →
+    inside (context_of sc 0 0) ≡ false → under_if (context_of sc 0 0) ≡ false → line_answer line ≡ None →
+    IsInSource line d → fault_in sc (names_in d) ≡ None → IsResolvedAt names (place_of (items t)) d r →
     took (context_of sc 0 0) (for (act_of (is_over r))) s (items t) ≡ run (context_of (scope_behind r sc) 0 0) s
     (behind t)
 unfolding enter is_target
-passes sc names s line column d (resolved.Alone place a) t e cs h b g w known n m =
-    named_line sc false s line column d t e cs h b g w known
+passes sc names s line d (resolved.Alone place a) t e cs h b g w known n m =
+    named_line sc false s line d t e cs h b g w known
     ∙ ap (λ (o : Option LineFault). fault_on (first_item t).line o
     (run (context_of (one_more sc) 0 0) s (behind t))) n
-passes sc names s line column d (resolved.Over (construct.Target a n')) t e cs h b g w known n m =
-    named_line sc true s line column d t e cs h b g w known
+passes sc names s line d (resolved.Over (construct.Target a n')) t e cs h b g w known n m =
+    named_line sc true s line d t e cs h b g w known
     ∙ ap (λ (o : Option LineFault). fault_on (first_item t).line o
-    (run (enter (context_of sc 0 0) (Line (kinds_of (lexemes_of line column)), for Over)) s (behind t))) n
+    (run (enter (context_of sc 0 0) (Line (kinds_of line), for Over)) s (behind t))) n
     ∙ ap (λ (b : Bool). run (context_of (record sc { statements = sc.statements + 1; target = b }) 0 0) s (behind t))
     (ap is_target_kind known.kind ∙ m.1.kind)
-passes sc names s line column d (resolved.Over (construct.Data a)) t e cs h b g w known n m =
-    named_line sc true s line column d t e cs h b g w known
+passes sc names s line d (resolved.Over (construct.Data a)) t e cs h b g w known n m =
+    named_line sc true s line d t e cs h b g w known
     ∙ ap (λ (o : Option LineFault). fault_on (first_item t).line o
-    (run (enter (context_of sc 0 0) (Line (kinds_of (lexemes_of line column)), for Over)) s (behind t))) n
+    (run (enter (context_of sc 0 0) (Line (kinds_of line), for Over)) s (behind t))) n
     ∙ ap (λ (b : Bool). run (context_of (record sc { statements = sc.statements + 1; target = b }) 0 0) s (behind t))
     (ap is_target_kind known.kind ∙ ap is_target_kind m.kind)

@@ -5,9 +5,9 @@ use Rattle.std.proofs.lemmas.Bool.{lt-leb}
 use Rattle.base.specs.declared.fault.ReadCode.{ReadCode as Code}
 use Rattle.base.specs.declared.fault.ReadCode.TheVariants.{TooMany, DirectiveInTarget, DirectiveUnderIf}
 use Rattle.base.specs.declared.fault.TextFault.{TextFault}
-use Rattle.c_grammar.specs.Lexeme.{Lexeme, lexemes_of}
+use Rattle.c_grammar.specs.Lexeme.{Lexeme, Placed as PlacedLexeme}
 use Rattle.c_grammar.specs.Lines.{line_fault, uses_of}
-use Rattle.c_grammar.specs.Terminal.{Terminal, Fixed, Mark, Name, Num, Line, Unknown, End}
+use Rattle.c_grammar.specs.Terminal.{Terminal, Fixed, Mark, Name, Num, Line, Unknown, Unworked, End}
 use Rattle.c_grammar.specs.Texts.{Item, next_of}
 use Rattle.c_grammar.specs.Grammar.{for}
 use Rattle.c_grammar.specs.Rules.{Context, Rule, breaks, enter, inside, under_if, max_statements, source_grammar}
@@ -133,17 +133,17 @@ under_line sc over s ts t e h b d =
     ∙ item_under (context_of sc 0 0) over s (first_item t) (behind t) ts (lt-leb max_statements sc.statements h) b d
 
 -- a line with a fault of its own
-pub bad_line : (sc : Scope) (over : Bool) (s : Stack) (line : List ℕ) (column : ℕ) (f : LineFault) (t : Cursor) →
-    (first_item t).terminal ≡ Line (kinds_of (lexemes_of line column)) →
-    (first_item t).columns ≡ columns_of (lexemes_of line column) → sc.statements < max_statements →
-    inside (context_of sc 0 0) ≡ false → under_if (context_of sc 0 0) ≡ false → line_answer line column ≡ Some f →
+pub bad_line : (sc : Scope) (over : Bool) (s : Stack) (line : List PlacedLexeme) (f : LineFault) (t : Cursor) →
+    (first_item t).terminal ≡ Line (kinds_of line) →
+    (first_item t).columns ≡ columns_of line → sc.statements < max_statements →
+    inside (context_of sc 0 0) ≡ false → under_if (context_of sc 0 0) ≡ false → line_answer line ≡ Some f →
     took (context_of sc 0 0) (for (act_of over)) s (items t) ≡ Some
     (record { code = f.code; line = (first_item t).line; column = f.column })
 unfolding line_answer
-bad_line sc over s line column f t e cs h b d w = go (line_fault ts) refl
+bad_line sc over s line f t e cs h b d w = go (line_fault ts) refl
   where
     ts : List Lexeme
-    ts = kinds_of (lexemes_of line column)
+    ts = kinds_of line
 
     c : Context
     c = context_of sc 0 0
@@ -156,8 +156,8 @@ bad_line sc over s line column f t e cs h b d w = go (line_fault ts) refl
 
     go : (o : Option (ℕ × Code)) → line_fault ts ≡ o → took c (for (act_of over)) s (items t) ≡ Some
         (record { code = f.code; line = i.line; column = f.column })
-    go None o = absurd (let none : at_columns (columns_of (lexemes_of line column)) None ≡ Some f =
-        ap (at_columns (columns_of (lexemes_of line column))) (sym o) ∙ w in cc)
+    go None o = absurd (let none : at_columns (columns_of line) None ≡ Some f =
+        ap (at_columns (columns_of line)) (sym o) ∙ w in cc)
     go (Some g) o =
         at_put c over s ts t e
         ∙ took_line c over s i (behind t) ts (first_rule (at_line c ts (act_of over)
@@ -167,22 +167,22 @@ bad_line sc over s line column f t e cs h b d w = go (line_fault ts) refl
         ∙ ap (λ (p : Option LineFault). fault_on i.line p rest)
         (own_rule c over i ts (next_of source_grammar (behind t)) g o
         ∙ ap (λ (ks : List ℕ). at_columns ks (Some g)) cs
-        ∙ ap (at_columns (columns_of (lexemes_of line column))) (sym o)
+        ∙ ap (at_columns (columns_of line)) (sym o)
         ∙ w)
 
 -- a line with none, whose names may have one
-pub named_line : (sc : Scope) (over : Bool) (s : Stack) (line : List ℕ) (column : ℕ) (d : Directive) (t : Cursor) →
-    (first_item t).terminal ≡ Line (kinds_of (lexemes_of line column)) →
-    (first_item t).columns ≡ columns_of (lexemes_of line column) → sc.statements < max_statements →
-    inside (context_of sc 0 0) ≡ false → under_if (context_of sc 0 0) ≡ false → line_answer line column ≡ None →
-    IsInSource line column d →
+pub named_line : (sc : Scope) (over : Bool) (s : Stack) (line : List PlacedLexeme) (d : Directive) (t : Cursor) →
+    (first_item t).terminal ≡ Line (kinds_of line) →
+    (first_item t).columns ≡ columns_of line → sc.statements < max_statements →
+    inside (context_of sc 0 0) ≡ false → under_if (context_of sc 0 0) ≡ false → line_answer line ≡ None →
+    IsInSource line d →
     took (context_of sc 0 0) (for (act_of over)) s (items t) ≡ fault_on (first_item t).line (fault_in sc (names_in d))
-    (run (enter (context_of sc 0 0) (Line (kinds_of (lexemes_of line column)), for (act_of over))) s (behind t))
+    (run (enter (context_of sc 0 0) (Line (kinds_of line), for (act_of over))) s (behind t))
 unfolding line_answer fault_in
-named_line sc over s line column d t e cs h b g w known = go (line_fault ts) refl
+named_line sc over s line d t e cs h b g w known = go (line_fault ts) refl
   where
     ts : List Lexeme
-    ts = kinds_of (lexemes_of line column)
+    ts = kinds_of line
 
     c : Context
     c = context_of sc 0 0
@@ -195,8 +195,8 @@ named_line sc over s line column d t e cs h b g w known = go (line_fault ts) ref
 
     go : (o : Option (ℕ × Code)) → line_fault ts ≡ o →
         took c (for (act_of over)) s (items t) ≡ fault_on i.line (names_fault c (names_in d)) rest
-    go (Some f) o = absurd (let some : at_columns (columns_of (lexemes_of line column)) (Some f) ≡ None =
-        ap (at_columns (columns_of (lexemes_of line column))) (sym o) ∙ w in cc)
+    go (Some f) o = absurd (let some : at_columns (columns_of line) (Some f) ≡ None =
+        ap (at_columns (columns_of line)) (sym o) ∙ w in cc)
     go None o =
         at_put c over s ts t e
         ∙ took_line c over s i (behind t) ts (first_rule (at_line c ts (act_of over)
@@ -208,17 +208,17 @@ named_line sc over s line column d t e cs h b g w known = go (line_fault ts) ref
         ∙ ap (λ (ks : List ℕ). names_fault c (map (at_column ks) (uses_of ts))) cs
         ∙ ap (names_fault c) known.names)
 
-pub misnamed_line : (sc : Scope) (over : Bool) (s : Stack) (line : List ℕ) (column : ℕ) (d : Directive) (f : LineFault)
-    (t : Cursor) → (first_item t).terminal ≡ Line (kinds_of (lexemes_of line column)) →
-    (first_item t).columns ≡ columns_of (lexemes_of line column) → sc.statements < max_statements →
-    inside (context_of sc 0 0) ≡ false → under_if (context_of sc 0 0) ≡ false → line_answer line column ≡ None →
-    IsInSource line column d → fault_in sc (names_in d) ≡ Some f →
+pub misnamed_line : (sc : Scope) (over : Bool) (s : Stack) (line : List PlacedLexeme) (d : Directive) (f : LineFault)
+    (t : Cursor) → (first_item t).terminal ≡ Line (kinds_of line) →
+    (first_item t).columns ≡ columns_of line → sc.statements < max_statements →
+    inside (context_of sc 0 0) ≡ false → under_if (context_of sc 0 0) ≡ false → line_answer line ≡ None →
+    IsInSource line d → fault_in sc (names_in d) ≡ Some f →
     took (context_of sc 0 0) (for (act_of over)) s (items t) ≡ Some
     (record { code = f.code; line = (first_item t).line; column = f.column })
-misnamed_line sc over s line column d f t e cs h b g w known n =
-    named_line sc over s line column d t e cs h b g w known
+misnamed_line sc over s line d f t e cs h b g w known n =
+    named_line sc over s line d t e cs h b g w known
     ∙ ap (λ (o : Option LineFault). fault_on (first_item t).line o
-    (run (enter (context_of sc 0 0) (Line (kinds_of (lexemes_of line column)), for (act_of over))) s (behind t))) n
+    (run (enter (context_of sc 0 0) (Line (kinds_of line), for (act_of over))) s (behind t))) n
 
 -- ---- lines that are refused
 
@@ -229,6 +229,7 @@ line_is (Mark x) e = absurd cc
 line_is (Name x) e = absurd cc
 line_is (Num n) e = absurd cc
 line_is Unknown e = absurd cc
+line_is Unworked e = absurd cc
 line_is End e = absurd cc
 
 pub many_any : (sc : Scope) (over : Bool) (s : Stack) (t : Cursor) → is_line (first_item t).terminal ≡ true →

@@ -1,8 +1,7 @@
 //! The line of a directive.
 
-ghost use Rattle.std.specs.Prelude.{◌≡◌, ◌<◌, ◌≤◌, ◌^◌, Bool, IfOk, IfErr, OnOk, Some, None, true, false};
+ghost use Rattle.std.specs.Prelude.{◌≡◌, ◌<◌, ◌≤◌, Bool, IfOk, IfErr, OnOk, Some, None, true, false};
 ghost use Rattle.c_grammar.specs.Grammar.{for};
-ghost use Rattle.c_grammar.specs.Lexeme.{lexemes_of};
 ghost use Rattle.c_grammar.specs.LineRules.{max_collapse};
 ghost use Rattle.c_grammar.specs.Lines.{line_depth};
 ghost use Rattle.c_grammar.specs.Program.{Stack};
@@ -12,6 +11,7 @@ ghost use Rattle.c_expressions.specs.Cursor.{first_item, items};
 ghost use Rattle.c_expressions.specs.Reading.{Failed, is_line, took};
 ghost use Rattle.c_expressions.specs.Scopes.{context_of};
 ghost use Rattle.c_expressions.specs.Seen.{columns_on, kinds_on};
+ghost use Rattle.directives.specs.Ahead.{seen_line};
 ghost use Rattle.directives.specs.Names.{IsInSource};
 ghost use Rattle.directives.specs.Spells.{SpellsLine, line_answer};
 ghost use Rattle.directives.specs.Trees.{text_of};
@@ -21,7 +21,7 @@ ghost use Rattle.c_constructs.specs.Steps.{act_of, seen_error};
 use base::fault::{ReadCode, TextFault};
 use c_expressions::{Cursor, ReadError, Scope};
 use c_tokens::limits::MAX_STATEMENTS;
-use directives::{Directive, DirectiveFault, read_directive_at};
+use directives::{Directive, DirectiveFault, LineTokens, read_directive_in};
 
 /// A fault of a line of the source.
 pub fn text_fault(fault: DirectiveFault, line: usize) -> ReadError
@@ -42,27 +42,25 @@ pub fn text_fault(fault: DirectiveFault, line: usize) -> ReadError
 #[tactic(auto, using(crate::proofs::Taken::many_line, crate::proofs::Taken::bad_line))]
 pub fn directive_at<'a>(
     scope: &Scope<'_>,
-    tokens: &Cursor<'a>,
-    line: &'a [u8],
-    column: usize,
+    tokens: &Cursor<'a, '_>,
+    line: &LineTokens<'a>,
 ) -> Result<Directive<'a>, ReadError>
-    requires column { column ≤ 2 ^ 63 }
-    requires line { (first_item tokens.now).terminal ≡ Line (kinds_on (lexemes_of line.now column)) }
-    requires columns { (first_item tokens.now).columns ≡ columns_on (lexemes_of line.now column) }
+    requires line { (first_item tokens.now).terminal ≡ Line (kinds_on (seen_line line.now)) }
+    requires columns { (first_item tokens.now).columns ≡ columns_on (seen_line line.now) }
     requires outside { inside (context_of scope.now 0 0) ≡ false }
     requires always { under_if (context_of scope.now 0 0) ≡ false }
     ensures read { (over : Bool) (s : Stack) → IfErr result (λ e. Failed e
         (took (context_of scope.now 0 0) (for (act_of over)) s (items tokens.now))) }
     ensures few { OnOk result (scope.now.statements < MAX_STATEMENTS) }
-    ensures found { IfOk result (λ d. SpellsLine line.now column d) }
-    ensures sound { OnOk result (line_answer line.now column ≡ None) }
-    ensures source { IfOk result (λ d. IsInSource line.now column d) }
+    ensures found { IfOk result (λ d. SpellsLine (seen_line line.now) d) }
+    ensures sound { OnOk result (line_answer (seen_line line.now) ≡ None) }
+    ensures source { IfOk result (λ d. IsInSource (seen_line line.now) d) }
     ensures depth { IfOk result (λ d. line_depth (text_of d) ≤ max_collapse) }
 {
     if scope.statements >= MAX_STATEMENTS {
         return Err(ReadError::Fault(tokens.fault(ReadCode::TooMany)));
     }
-    match read_directive_at(scope.alloc, line, column) {
+    match read_directive_in(scope.alloc, line) {
         Ok(directive) => Ok(directive),
         Err(fault) => Err(text_fault(fault, tokens.place().line)),
     }
@@ -70,7 +68,7 @@ pub fn directive_at<'a>(
 
 /// The fault of a directive inside a target: the limit of statements comes first.
 #[tactic(auto, using(crate::proofs::Taken::many_any, crate::proofs::Taken::inside_any))]
-pub fn refuse_inside(scope: &Scope<'_>, tokens: &Cursor<'_>) -> TextFault
+pub fn refuse_inside(scope: &Scope<'_>, tokens: &Cursor<'_, '_>) -> TextFault
     requires line { is_line (first_item tokens.now).terminal ≡ true }
     requires inside { inside (context_of scope.now 0 0) ≡ true }
     ensures { (over : Bool) (s : Stack) → took (context_of scope.now 0 0) (for (act_of over)) s (items tokens.now) ≡
@@ -84,7 +82,7 @@ pub fn refuse_inside(scope: &Scope<'_>, tokens: &Cursor<'_>) -> TextFault
 
 /// The fault of a directive under an `if`, outside a target: the limit of statements comes first.
 #[tactic(auto, using(crate::proofs::Taken::many_any, crate::proofs::Taken::under_any))]
-pub fn refuse_under(scope: &Scope<'_>, tokens: &Cursor<'_>) -> TextFault
+pub fn refuse_under(scope: &Scope<'_>, tokens: &Cursor<'_, '_>) -> TextFault
     requires line { is_line (first_item tokens.now).terminal ≡ true }
     requires outside { inside (context_of scope.now 0 0) ≡ false }
     requires under { under_if (context_of scope.now 0 0) ≡ true }

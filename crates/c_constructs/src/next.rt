@@ -1,8 +1,7 @@
 //! The directive that stands next in a source.
 
-ghost use Rattle.std.specs.Prelude.{◌≡◌, ◌<◌, ◌≤◌, ◌^◌, Bool, IfOk, IfErr, OnOk, OnErr, None, true, false};
+ghost use Rattle.std.specs.Prelude.{◌≡◌, ◌<◌, ◌≤◌, Bool, IfOk, IfErr, OnOk, OnErr, None, true, false};
 ghost use Rattle.c_grammar.specs.Grammar.{for};
-ghost use Rattle.c_grammar.specs.Lexeme.{lexemes_of};
 ghost use Rattle.c_grammar.specs.LineRules.{IsLine, max_collapse};
 ghost use Rattle.c_grammar.specs.Lines.{holds, holds_kind, line_depth};
 ghost use Rattle.c_grammar.specs.Program.{Stack};
@@ -12,6 +11,7 @@ ghost use Rattle.c_expressions.specs.Cursor.{behind, first_item, items};
 ghost use Rattle.c_expressions.specs.Reading.{Failed, Outcome as Came, is_line, run, took};
 ghost use Rattle.c_expressions.specs.Scopes.{context_of, names_of};
 ghost use Rattle.c_expressions.specs.Seen.{columns_on, kinds_on};
+ghost use Rattle.directives.specs.Ahead.{seen_line};
 ghost use Rattle.directives.specs.Kinds.{seen_kind};
 ghost use Rattle.directives.specs.Names.{names_in};
 ghost use Rattle.directives.specs.Reading.{Outcome};
@@ -27,7 +27,7 @@ use crate::resolved::{Construct, Resolved, alone_at, construct_at};
 use base::tree::Place;
 use c_expressions::{Cursor, ReadError, Scope, Terminal};
 use c_tokens::limits::MAX_STATEMENTS;
-use directives::{Directive, DirectiveFault, DirectiveKind};
+use directives::{Directive, DirectiveFault, DirectiveKind, LineTokens};
 
 /// Whether a block or loop follows a directive of that kind.
 fn has_block(kind: DirectiveKind) -> bool
@@ -62,13 +62,11 @@ fn resolved_at(
 /// The directive of that line, which stands next, outside a target and under no `if`.
 fn next_on_line<'a>(
     scope: &Scope<'_>,
-    tokens: &Cursor<'a>,
-    line: &'a [u8],
-    column: usize,
+    tokens: &Cursor<'a, '_>,
+    line: &LineTokens<'a>,
 ) -> Result<Resolved, ReadError>
-    requires column { column ≤ 2 ^ 63 }
-    requires line { (first_item tokens.now).terminal ≡ Line (kinds_on (lexemes_of line.now column)) }
-    requires columns { (first_item tokens.now).columns ≡ columns_on (lexemes_of line.now column) }
+    requires line { (first_item tokens.now).terminal ≡ Line (kinds_on (seen_line line.now)) }
+    requires columns { (first_item tokens.now).columns ≡ columns_on (seen_line line.now) }
     requires outside { inside (context_of scope.now 0 0) ≡ false }
     requires always { under_if (context_of scope.now 0 0) ≡ false }
     ensures fault { (over : Bool) (s : Stack) → IfErr result (λ e. Failed e
@@ -78,7 +76,7 @@ fn next_on_line<'a>(
     ensures passes { (s : Stack) → IfOk result (λ r. took (context_of scope.now 0 0) (for (act_of (is_over r))) s
         (items tokens.now) ≡ run (context_of (scope_behind r scope.now) 0 0) s (behind tokens.now)) }
 {
-    let directive = directive_at(scope, tokens, line, column)?;
+    let directive = directive_at(scope, tokens, line)?;
     let place = tokens.place();
     match resolved_at(scope, place, &directive) {
         Ok(resolved) => Ok(resolved),
@@ -116,7 +114,7 @@ fn begin(scope: &mut Scope<'_>, resolved: &Resolved)
 /// The first fault is told: at the `#` the limit of statements, a directive inside a target, one under an `if`; then the
 /// line's own; then that of its names, from left to right. Want of memory comes in place of any answer. Neither the scope
 /// nor the tokens have then changed.
-pub fn directive(scope: &mut Scope<'_>, tokens: &mut Cursor<'_>) -> Result<Resolved, ReadError>
+pub fn directive(scope: &mut Scope<'_>, tokens: &mut Cursor<'_, '_>) -> Result<Resolved, ReadError>
     requires line { is_line (first_item tokens.old).terminal ≡ true }
     ensures read { (s : Stack) → Came result (took (context_of scope.old 0 0)
         (for (act_of (holds (lexemes_on (first_item tokens.old).terminal)))) s (items tokens.old))
@@ -133,10 +131,10 @@ pub fn directive(scope: &mut Scope<'_>, tokens: &mut Cursor<'_>) -> Result<Resol
     if scope.is_under_if() {
         return Err(ReadError::Fault(refuse_under(scope, tokens)));
     }
-    let Terminal::Line(line, column) = tokens.peek() else {
+    let Terminal::Line(line) = tokens.peek() else {
         unreachable!()
     };
-    let resolved = next_on_line(scope, tokens, line, column)?;
+    let resolved = next_on_line(scope, tokens, line)?;
     begin(scope, &resolved);
     tokens.take();
     Ok(resolved)

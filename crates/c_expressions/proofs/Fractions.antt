@@ -7,7 +7,7 @@ use Rattle.base.specs.declared.tree.DivideOp.{DivideOp}
 use Rattle.base.specs.declared.tree.DivideOp.TheVariants as divide
 use Rattle.base.specs.declared.tree.ShiftOp.{ShiftOp}
 use Rattle.base.specs.declared.tree.ShiftOp.TheVariants as shift
-use Rattle.c_grammar.specs.Terminal.{Terminal, Fixed, Mark, Name, Num, Line, Unknown, End}
+use Rattle.c_grammar.specs.Terminal.{Terminal, Fixed, Mark, Name, Num, Line, Unknown, Unworked, End}
 use Rattle.c_grammar.specs.Texts.{Item}
 use Rattle.c_grammar.specs.Machine.{run as machine_run}
 use Rattle.c_grammar.specs.Grammar.{Fraction, ShiftLeft, ShiftRight, Divide, Remainder}
@@ -47,6 +47,7 @@ fraction_none op s (Name x) h = refl
 fraction_none op s (Num n) h = absurd h
 fraction_none op s (Line ts) h = refl
 fraction_none op s Unknown h = refl
+fraction_none op s Unworked h = refl
 fraction_none op s End h = refl
 
 pub stop_right_number : (op : Fraction) (c : Context) (s : Stack) (t : Cursor) → NoNumber (first_item t).terminal →

@@ -4,13 +4,13 @@ use Rattle.std.specs.Prelude.{nat_lt, nat_le}
 use Rattle.std.proofs.lemmas.Bool.Decides.{nat_tests}
 use Rattle.std.proofs.Math.Bool.{and-false}
 use Rattle.base.specs.declared.fault.ReadCode.{ReadCode as Code}
-use Rattle.base.specs.declared.fault.ReadCode.TheVariants.{UnknownByte, BadNumber, TooMany, UnknownDirective}
+use Rattle.base.specs.declared.fault.ReadCode.TheVariants.{UnknownByte, BadNumber, TooMany, UnknownDirective, BadOperand}
 use Rattle.c_grammar.specs.Code.{code_number, lower_code}
 use Rattle.c_grammar.specs.Lexeme.{Lexeme, Placed, same}
 use Rattle.c_grammar.specs.LineRules.{max_name, line_breaks, line_wrong, line_enter}
 use Rattle.c_grammar.specs.LineMachine.{line_advance, line_place, line_first_broken, line_first_wrong}
 use Rattle.c_grammar.specs.Machine.{run as machine_run}
-use Rattle.c_grammar.specs.Terminal.{Terminal, Fixed, Mark, Name, Num, Line, Unknown, End}
+use Rattle.c_grammar.specs.Terminal.{Terminal, Fixed, Mark, Name, Num, Line, Unknown, Unworked, End}
 use Rattle.c_grammar.specs.Texts.{Item}
 use Rattle.c_grammar.specs.Lines.{is_omp, line_fault, Use, uses_of}
 use Rattle.c_grammar.specs.Rules.{Rule, rule_number, rule_here, foreign, wrong}
@@ -66,6 +66,16 @@ pub number_misfits : (code : Code) (i : Item Terminal) → i.terminal ≡ Num No
     misfit_at (Some (rule_here code)) i ≡ fault_at i (lower_code (Some BadNumber) code)
 number_misfits code i e = ap (misfit_at (Some (rule_here code))) (put_is i (Num None) e) ∙ item_number code i
 
+item_unworked : (code : Code) (i : Item Terminal) →
+    misfit_at (Some (rule_here code)) (put i Unworked) ≡ fault_at i BadOperand
+unfolding misfit_at first_wrong wrong
+item_unworked code i = refl
+
+-- it has its own code wherever it stands
+pub unworked_misfits : (code : Code) (i : Item Terminal) → i.terminal ≡ Unworked →
+    misfit_at (Some (rule_here code)) i ≡ fault_at i BadOperand
+unworked_misfits code i e = ap (misfit_at (Some (rule_here code))) (put_is i Unworked e) ∙ item_unworked code i
+
 pub long_misfits : (code : Code) (i : Item Terminal) (x : List ℕ) → i.terminal ≡ Name x → max_name < length x →
     misfit_at (Some (rule_here code)) i ≡ fault_at i (lower_code (Some TooMany) code)
 long_misfits code i x e h =
@@ -97,6 +107,7 @@ item_other code i End h = refl
 item_other code i (Name x) h = absurd h
 item_other code i (Line ts) h = absurd h
 item_other code i Unknown h = absurd h
+item_other code i Unworked h = absurd h
 
 pub others_misfit : (code : Code) (i : Item Terminal) → IsOrdinary i.terminal →
     misfit_at (Some (rule_here code)) i ≡ fault_at i code

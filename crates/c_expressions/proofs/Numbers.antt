@@ -4,7 +4,7 @@ use Rattle.std.proofs.lemmas.Bool.{or_left, or_right}
 use Rattle.std.specs.Prelude.{nat_lt, ◌||◌}
 use Rattle.std.proofs.lemmas.Bool.Decides.{nat_tests}
 use Rattle.base.specs.declared.fault.ReadCode.TheVariants.{Unexpected, BadNumber, BadOperand}
-use Rattle.c_grammar.specs.Terminal.{Terminal, Fixed, Mark, Name, Num, Line, Unknown, End}
+use Rattle.c_grammar.specs.Terminal.{Terminal, Fixed, Mark, Name, Num, Line, Unknown, Unworked, End}
 use Rattle.c_grammar.specs.Texts.{Item}
 use Rattle.c_grammar.specs.Machine.{run as machine_run}
 use Rattle.c_grammar.specs.Grammar.{Act, Plain, DeclaresGlobal, DeclaresLocal, DeclaresLoop, MakesArray, MakesScalar, Length, Limit, Step, Starts, StartsIf, Prints, Assigned, StartsBlock, Otherwise, Reads, Opens, Closes, Alone, Over, Operand, OpensBracket, ClosesBracket, Divisor, Count, Inner}
@@ -67,6 +67,7 @@ number_none act s (Name x) h = refl
 number_none act s (Num n) h = absurd h
 number_none act s (Line ts) h = refl
 number_none act s Unknown h = refl
+number_none act s Unworked h = refl
 number_none act s End h = refl
 
 pub stop_number : (act : Act) (c : Context) (s : Stack) (t : Cursor) → NoNumber (first_item t).terminal →

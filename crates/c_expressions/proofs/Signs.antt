@@ -1,7 +1,7 @@
 -- Which signs are operators behind an operand.
 use Rattle.std.proofs.Common.{◌≡◌, ◌<◌, ◌≤◌, ℕ, Some, None, refl, sym, ap, ◌∙◌, arith}
 use Rattle.c_tokens.specs.declared.kind.Sign.{Sign}
-use Rattle.c_grammar.specs.Terminal.{Terminal, Fixed, Mark, Name, Num, Line, Unknown, End}
+use Rattle.c_grammar.specs.Terminal.{Terminal, Fixed, Mark, Name, Num, Line, Unknown, Unworked, End}
 use Rattle.c_grammar.specs.Grammar.{Operator, LogicOr, LogicAnd, BitOr, BitXor, BitAnd, Equal, NotEqual, Less, LessEqual, Greater, GreaterEqual, Add, Subtract, Multiply, Fraction, ShiftLeft, ShiftRight, Divide, Remainder, operator_sign, fraction_sign, level, fraction_level}
 use Rattle.c_grammar.specs.Program.{operator_in, fraction_in, all_operators, all_fractions}
 use Rattle.c_expressions.specs.declared.operators.Infix.{Infix}
@@ -97,6 +97,7 @@ no_mark (Name y) x h e = cc
 no_mark (Num n) x h e = cc
 no_mark (Line ts) x h e = cc
 no_mark Unknown x h e = cc
+no_mark Unworked x h e = cc
 no_mark End x h e = cc
 
 pub no_sign : (least top : ℕ) (t : Terminal) → NoSign t → Stops least top t

@@ -7,7 +7,7 @@ use Rattle.c_tokens.specs.declared.kind.Sign.{Sign}
 use Rattle.c_tokens.specs.declared.kind.Sign.TheVariants as sign
 use Rattle.base.specs.declared.fault.ReadCode.TheVariants.{Undeclared, TooDeep, TooMany}
 use Rattle.c_grammar.specs.LineRules.{max_name}
-use Rattle.c_grammar.specs.Terminal.{Terminal, Fixed, Mark, Name, Num, Line, Unknown, End, same}
+use Rattle.c_grammar.specs.Terminal.{Terminal, Fixed, Mark, Name, Num, Line, Unknown, Unworked, End, same}
 use Rattle.c_grammar.specs.Texts.{Item, next_of}
 use Rattle.c_grammar.specs.Machine.{run as machine_run}
 use Rattle.c_grammar.specs.Grammar.{Inner, Operand, OpensBracket, ClosesBracket, for}
@@ -38,6 +38,7 @@ item_many c s i (Fixed w) is k h = absurd k
 item_many c s i (Name x) is k h = absurd k
 item_many c s i (Line ts) is k h = absurd k
 item_many c s i Unknown is k h = absurd k
+item_many c s i Unworked is k h = absurd k
 item_many c s i End is k h = absurd k
 
 item_inner : (c : Context) (s : Stack) (i : Item Terminal) (t : Terminal) (is : Items) → IsSound t →
@@ -50,6 +51,7 @@ item_inner c s i (Fixed w) is k h = absurd k
 item_inner c s i (Name x) is k h = absurd k
 item_inner c s i (Line ts) is k h = absurd k
 item_inner c s i Unknown is k h = absurd k
+item_inner c s i Unworked is k h = absurd k
 item_inner c s i End is k h = absurd k
 
 pub many_inner : (sc : Scope) (d n : ℕ) (s : Stack) (t : Cursor) → IsSound (first_item t).terminal →

@@ -12,7 +12,7 @@ use Rattle.base.specs.declared.tree.ShiftOp.{ShiftOp}
 use Rattle.base.specs.declared.tree.ShiftOp.TheVariants as shift
 use Rattle.base.specs.declared.tree.UnaryOp.{UnaryOp}
 use Rattle.base.specs.declared.tree.UnaryOp.TheVariants as unary
-use Rattle.c_grammar.specs.Terminal.{Terminal, Fixed, Mark, Name, Num, Line, Unknown, End, same}
+use Rattle.c_grammar.specs.Terminal.{Terminal, Fixed, Mark, Name, Num, Line, Unknown, Unworked, End, same}
 use Rattle.c_grammar.specs.Texts.{Item, next_of}
 use Rattle.c_grammar.specs.Machine.{Found, judged, run as machine_run}
 use Rattle.c_grammar.specs.Grammar.{Act, Inner, Operand, OpensBracket, ClosesBracket, for, Operator, Fraction, operator_sign, fraction_sign, prefix_sign, level, fraction_level}
@@ -111,6 +111,7 @@ NoOperand (Name x) = ⊥
 NoOperand (Num n) = ⊥
 NoOperand (Line ts) = Unit {0}
 NoOperand Unknown = Unit {0}
+NoOperand Unworked = Unit {0}
 NoOperand End = Unit {0}
 
 atom_none : (s : Stack) (t : Terminal) → NoOperand t → advance (Atom ∷ s) t ≡ None
@@ -121,6 +122,7 @@ atom_none s (Name x) h = absurd h
 atom_none s (Num n) h = absurd h
 atom_none s (Line ts) h = refl
 atom_none s Unknown h = refl
+atom_none s Unworked h = refl
 atom_none s End h = refl
 
 pub stop_operand : (c : Context) (s : Stack) (t : Cursor) → NoOperand (first_item t).terminal →

@@ -1,7 +1,6 @@
-//! The tokens of a source, of which the next can be seen.
+//! The written tokens of a source, of which the next can be seen.
 
-ghost use Rattle.std.specs.Prelude.{◌≡◌, true};
-ghost use Rattle.c_expressions.specs.Seen.{is_near_token};
+ghost use Rattle.std.specs.Prelude.{◌≡◌};
 ghost use Rattle.c_grammar.specs.Source.{end_of};
 
 use crate::fault::ReadError;
@@ -9,22 +8,21 @@ use crate::line::words_misfit;
 use crate::terminal::{Terminal, terminal_of};
 use base::fault::{ReadCode, TextFault};
 use base::tree::Place;
+use c_tokens::Sign;
 use c_tokens::limits::MAX_NAME;
-use c_tokens::{Sign, Token, Tokens, tokens};
-use directives::{Word, is_directive_at, lower};
+use c_written::Written;
+use directives::{Word, is_directive, lower};
 
 #[derive(Clone, Copy)]
-pub struct Cursor<'a> {
-    pub bytes: &'a [u8],
-    pub tokens: Tokens<'a>,
-    pub token: Option<Token>,
+pub struct Cursor<'a, 'l> {
+    /// The tokens that are left.
+    pub tokens: &'l [Written<'a>],
     pub end_line: usize,
     pub end_column: usize,
-    ghost column_fits: { is_near_token token ≡ true },
 }
 
-impl<'a> Cursor<'a> {
-    ghost use Rattle.std.specs.Prelude.{◌≡◌, ◌≢◌, ◌≤◌, ◌+◌, ◌^◌, ◌∷◌, [], length, OnOk, IfOk, IfErr, Some, None, true};
+impl<'a, 'l> Cursor<'a, 'l> {
+    ghost use Rattle.std.specs.Prelude.{◌≡◌, ◌≢◌, ◌≤◌, ◌+◌, ◌^◌, ◌∷◌, ◌++◌, [], map, length, OnOk, IfOk, IfErr, Some, None, true};
     ghost use Rattle.c_tokens.specs.declared.limits.TheConstants.{MAX_NAME};
     ghost use Rattle.c_tokens.specs.declared.kind.Sign.TheVariants as sign;
     ghost use Rattle.base.specs.declared.fault.ReadCode.TheVariants.{Unexpected};
@@ -33,23 +31,23 @@ impl<'a> Cursor<'a> {
     ghost use Rattle.c_grammar.specs.Grammar.{Act, Plain, Limit, Step, for};
     ghost use Rattle.c_grammar.specs.Rules.{Context, out, rule_here, source_grammar};
     ghost use Rattle.c_grammar.specs.Program.{Stack, Want, WantNum, m, w};
-    ghost use Rattle.c_grammar.specs.Source.{items_of};
+    ghost use Rattle.c_grammar.specs.Source.{end_of};
+    ghost use Rattle.c_written.specs.Held.{seen_written};
     ghost use Rattle.c_expressions.specs.Means.{place_of};
-    ghost use Rattle.c_expressions.specs.Seen.{HasColumns, is_near, seen};
+    ghost use Rattle.c_expressions.specs.Seen.{HasColumns, seen};
     ghost use Rattle.directives.specs.Seen.{seen_word};
     ghost use Rattle.c_expressions.specs.Cursor.{items, first_item, behind};
     ghost use Rattle.c_expressions.specs.Scopes.{limited};
     ghost use Rattle.c_expressions.specs.Reading.{run, Outcome, OutcomeBy, IsNumberAct, fault_at, misfit_at, is_line, is_directive, Failed};
 
     /// The next token.
-    pub fn peek(&self) -> Terminal<'a>
+    pub fn peek(&self) -> Terminal<'a, 'l>
         ensures token { seen result ≡ (first_item self.now).terminal }
         ensures columns { HasColumns result (first_item self.now).columns }
-        ensures near { is_near result ≡ true }
     {
-        match &self.token {
-            None => Terminal::End,
-            Some(token) => terminal_of(self.bytes, token),
+        match self.tokens {
+            [] => Terminal::End,
+            [token, ..] => terminal_of(token),
         }
     }
 
@@ -57,12 +55,12 @@ impl<'a> Cursor<'a> {
     pub fn place(&self) -> Place
         ensures { result ≡ place_of (items self.now) }
     {
-        match &self.token {
-            None => Place {
+        match self.tokens {
+            [] => Place {
                 line: self.end_line,
                 column: self.end_column,
             },
-            Some(token) => Place {
+            [token, ..] => Place {
                 line: token.line,
                 column: token.column,
             },
@@ -88,13 +86,14 @@ impl<'a> Cursor<'a> {
         match self.peek() {
             Terminal::Unknown => self.fault(lower(Some(ReadCode::UnknownByte), code)),
             Terminal::BadNumber => self.fault(lower(Some(ReadCode::BadNumber), code)),
+            Terminal::Unworked => self.fault(ReadCode::BadOperand),
             Terminal::Name(name) => {
                 if name.len() > MAX_NAME {
                     return self.fault(lower(Some(ReadCode::TooMany), code));
                 }
                 self.fault(code)
             }
-            Terminal::Line(line, column) => match words_misfit(line, column) {
+            Terminal::Line(line) => match words_misfit(line) {
                 None => self.fault(code),
                 Some(misfit) => TextFault {
                     code: misfit.code,
@@ -128,7 +127,7 @@ impl<'a> Cursor<'a> {
         ensures { result ≡ is_line (first_item self.now).terminal }
     {
         match self.peek() {
-            Terminal::Line(_, _) => true,
+            Terminal::Line(_) => true,
             _ => false,
         }
     }
@@ -138,7 +137,7 @@ impl<'a> Cursor<'a> {
         ensures { result ≡ is_directive (first_item self.now).terminal }
     {
         match self.peek() {
-            Terminal::Line(line, column) => is_directive_at(line, column),
+            Terminal::Line(line) => is_directive(line),
             _ => false,
         }
     }
@@ -158,11 +157,12 @@ impl<'a> Cursor<'a> {
     }
 
     /// Goes past the next token, which is not the end.
+    #[tactic(auto, using(crate::proofs::Ends::some_left, crate::proofs::Ends::one_taken))]
     pub fn take(&mut self)
         requires { (first_item self.old).terminal ≢ End }
         ensures { behind self.old ≡ items self.new }
     {
-        self.token = self.tokens.next_token();
+        self.tokens = &self.tokens[1..];
     }
 
     /// Whether the next token is that word.
@@ -234,23 +234,19 @@ impl<'a> Cursor<'a> {
         ensures read { (c : Context) → Outcome result (run c (Want End (for Plain) ∷ []) (items self.now)) None }
         ensures taken { OnOk result (terminals source_grammar (items self.now) ≡ End ∷ []) }
     {
-        match &self.token {
-            None => Ok(()),
-            Some(_) => Err(ReadError::Fault(self.refuse())),
+        match self.tokens {
+            [] => Ok(()),
+            _ => Err(ReadError::Fault(self.refuse())),
         }
     }
 
-    /// The tokens of a source.
-    pub fn new(bytes: &'a [u8]) -> Cursor<'a>
-        ensures { items result ≡ items_of bytes.now }
+    /// The tokens of a source, written out.
+    pub fn new(bytes: &[u8], tokens: &'l [Written<'a>]) -> Cursor<'a, 'l>
+        ensures { items result ≡ map seen_written tokens.now ++ end_of bytes.now ∷ [] }
     {
         let (end_line, end_column) = end_place(bytes);
-        let mut tokens = tokens(bytes);
-        let token = tokens.next_token();
         Cursor {
-            bytes,
             tokens,
-            token,
             end_line,
             end_column,
         }

@@ -81,7 +81,7 @@ impl Scope<'_> {
     #[tactic(auto, using(crate::proofs::Outcomes::on_from))]
     fn chain(
         &self,
-        tokens: &mut Cursor<'_>,
+        tokens: &mut Cursor<'_, '_>,
         tally: &mut Tally,
         depth: u32,
         least: u8,
@@ -109,7 +109,7 @@ impl Scope<'_> {
     #[tactic(auto, using(crate::proofs::Outcomes::on_from))]
     fn extended(
         &self,
-        tokens: &mut Cursor<'_>,
+        tokens: &mut Cursor<'_, '_>,
         tally: &mut Tally,
         depth: u32,
         op: Infix,
@@ -137,7 +137,7 @@ impl Scope<'_> {
     #[cycle(expr)]
     fn joined(
         &self,
-        tokens: &mut Cursor<'_>,
+        tokens: &mut Cursor<'_, '_>,
         tally: &mut Tally,
         depth: u32,
         op: Operator,
@@ -163,7 +163,7 @@ impl Scope<'_> {
     #[tactic(auto, using(crate::proofs::Outcomes::on_from, crate::proofs::Terms::go_shift, crate::proofs::Terms::sign_sound))]
     fn shifted(
         &self,
-        tokens: &mut Cursor<'_>,
+        tokens: &mut Cursor<'_, '_>,
         tally: &mut Tally,
         op: ShiftOp,
         left: Expr,
@@ -188,7 +188,7 @@ impl Scope<'_> {
     #[tactic(auto, using(crate::proofs::Outcomes::on_from, crate::proofs::Terms::go_division, crate::proofs::Terms::sign_sound))]
     fn divided(
         &self,
-        tokens: &mut Cursor<'_>,
+        tokens: &mut Cursor<'_, '_>,
         tally: &mut Tally,
         op: DivideOp,
         left: Expr,
@@ -214,7 +214,7 @@ impl Scope<'_> {
     #[tactic(auto, using(crate::proofs::Outcomes::on_from, crate::proofs::Terms::number_operand, crate::proofs::Terms::number_sound, crate::proofs::Terms::bad_operand_number, crate::proofs::Terms::stop_operand, crate::proofs::Expressions::read_number))]
     fn operand(
         &self,
-        tokens: &mut Cursor<'_>,
+        tokens: &mut Cursor<'_, '_>,
         tally: &mut Tally,
         depth: u32,
     ) -> Result<Expr, ReadError>
@@ -243,7 +243,7 @@ impl Scope<'_> {
     #[cycle(expr)]
     fn prefixed(
         &self,
-        tokens: &mut Cursor<'_>,
+        tokens: &mut Cursor<'_, '_>,
         tally: &mut Tally,
         depth: u32,
         op: UnaryOp,
@@ -266,7 +266,7 @@ impl Scope<'_> {
     #[tactic(auto, using(crate::proofs::Outcomes::on_from, crate::proofs::Terms::name_operand, crate::proofs::Terms::behind_cell, crate::proofs::Terms::behind_name, crate::proofs::Expressions::read_scalar, crate::proofs::Expressions::read_loop, crate::proofs::Expressions::read_cell))]
     fn named(
         &self,
-        tokens: &mut Cursor<'_>,
+        tokens: &mut Cursor<'_, '_>,
         tally: &mut Tally,
         depth: u32,
         name: &[u8],
@@ -296,7 +296,7 @@ impl Scope<'_> {
     #[tactic(auto, using(crate::proofs::Outcomes::on_from, crate::proofs::Terms::skip_tail, crate::proofs::Expressions::read_index))]
     fn index(
         &self,
-        tokens: &mut Cursor<'_>,
+        tokens: &mut Cursor<'_, '_>,
         tally: &mut Tally,
         depth: u32,
     ) -> Result<Expr, ReadError>
@@ -319,7 +319,7 @@ impl Scope<'_> {
     #[tactic(auto, using(crate::proofs::Outcomes::on_from, crate::proofs::Terms::group_operand, crate::proofs::Terms::skip_tail, crate::proofs::Expressions::read_group))]
     fn group(
         &self,
-        tokens: &mut Cursor<'_>,
+        tokens: &mut Cursor<'_, '_>,
         tally: &mut Tally,
         depth: u32,
     ) -> Result<Expr, ReadError>
@@ -338,7 +338,7 @@ impl Scope<'_> {
     }
 
     /// An expression before the sign that ends it, which is left.
-    pub fn value(&self, tokens: &mut Cursor<'_>, tally: &mut Tally) -> Result<Expr, ReadError>
+    pub fn value(&self, tokens: &mut Cursor<'_, '_>, tally: &mut Tally) -> Result<Expr, ReadError>
         ensures read { (x : Sign) (act : Act) (s : Stack) → Outcome result
             (run (context_of self.now 0 tally.old.tokens) (Atom ∷ Tail 9 ∷ Want (Mark x) (for act) ∷ s)
             (items tokens.old))
@@ -349,7 +349,7 @@ impl Scope<'_> {
     }
 
     /// An expression and the sign behind it.
-    pub fn expr(&self, tokens: &mut Cursor<'_>, closing: Sign) -> Result<Expr, ReadError>
+    pub fn expr(&self, tokens: &mut Cursor<'_, '_>, closing: Sign) -> Result<Expr, ReadError>
         ensures read { (s : Stack) → Outcome result
             (run (context_of self.now 0 0) (Atom ∷ Tail 9 ∷ m closing ∷ s) (items tokens.old))
             (run (context_of self.now 0 0) s (items tokens.new)) }

@@ -1,15 +1,15 @@
 //! Whether the words of a line that begins with `#` are `pragma omp`.
 
-ghost use Rattle.std.specs.Prelude.{◌≡◌, ◌≤◌, ◌^◌};
+ghost use Rattle.std.specs.Prelude.{◌≡◌};
 ghost use Rattle.std.specs.Option.{option_map};
-ghost use Rattle.c_grammar.specs.Lexeme.{lexemes_of};
 ghost use Rattle.c_grammar.specs.LineMachine.{line_first_wrong};
+ghost use Rattle.directives.specs.Ahead.{seen_line};
 ghost use Rattle.directives.specs.Seen.{seen_lexeme, seen_placed};
 ghost use Rattle.c_expressions.specs.Lines.{misfit_on, seen_misfit, words_misfit};
 
 use base::fault::ReadCode;
 use c_tokens::limits::MAX_NAME;
-use directives::{Lexeme, Lexemes, PlacedLexeme, lower, same_lexeme};
+use directives::{Lexeme, Lexemes, LineTokens, PlacedLexeme, lower, same_lexeme};
 
 /// A token that does not fit.
 #[derive(Clone, Copy)]
@@ -47,13 +47,12 @@ fn misplaced(placed: PlacedLexeme<'_>) -> Misfit
     }
 }
 
-/// The fault of a line that begins with `#` at the column, if its words are not `pragma omp`.
+/// The fault of a line that begins with `#`, if its words are not `pragma omp`.
 #[tactic(auto, using(crate::proofs::Words::none_words, crate::proofs::Words::first_words, crate::proofs::Words::one_words, crate::proofs::Words::second_words, crate::proofs::Words::sound_words))]
-pub fn words_misfit(line: &[u8], column: usize) -> Option<Misfit>
-    requires { column ≤ 2 ^ 63 }
-    ensures { option_map seen_misfit result ≡ words_misfit (lexemes_of line.now column) }
+pub fn words_misfit(line: &LineTokens<'_>) -> Option<Misfit>
+    ensures { option_map seen_misfit result ≡ words_misfit (seen_line line.now) }
 {
-    let mut lexemes = Lexemes::new(line, column);
+    let mut lexemes = Lexemes::new(line);
     let Some(first) = lexemes.next_token() else {
         return None;
     };

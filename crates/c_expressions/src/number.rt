@@ -5,7 +5,7 @@ use crate::fault::ReadError;
 use crate::terminal::Terminal;
 use base::fault::ReadCode;
 
-impl Cursor<'_> {
+impl Cursor<'_, '_> {
     ghost use Rattle.std.specs.Prelude.{◌≡◌, ◌≤◌, ◌+◌, ◌^◌, ◌∷◌, OnOk, IfOk, IfErr, Some};
     ghost use Rattle.c_grammar.specs.Terminal.{Num};
     ghost use Rattle.c_grammar.specs.Grammar.{Plain, Limit, Step, Fraction};

@@ -128,7 +128,7 @@ fn binary(op: BinaryOp) -> Option<Infix>
     Some(Infix::Operator(Operator::Binary(op)))
 }
 
-impl Cursor<'_> {
+impl Cursor<'_, '_> {
     ghost use Rattle.std.specs.Prelude.{◌≡◌, ◌≤◌, MatchOption};
     ghost use Rattle.c_grammar.specs.Terminal.{Mark};
     ghost use Rattle.c_expressions.specs.Cursor.{first_item};

@@ -49,7 +49,7 @@ impl Scope<'_> {
 
     /// Goes past a number or a sign of an expression.
     #[tactic(auto, using(crate::proofs::Spending::many_inner, crate::proofs::Spending::go_inner))]
-    pub fn spend(&self, tokens: &mut Cursor<'_>, tally: &mut Tally) -> Result<(), ReadError>
+    pub fn spend(&self, tokens: &mut Cursor<'_, '_>, tally: &mut Tally) -> Result<(), ReadError>
         requires { IsSound (first_item tokens.old).terminal }
         ensures read { (d : ℕ) (s : Stack) → Outcome result
             (took (context_of self.now d tally.old.tokens) (for Inner) s (items tokens.old))
@@ -66,7 +66,11 @@ impl Scope<'_> {
     }
 
     /// Goes past a divisor.
-    pub fn divisor(&self, tokens: &mut Cursor<'_>, tally: &mut Tally) -> Result<Divisor, ReadError>
+    pub fn divisor(
+        &self,
+        tokens: &mut Cursor<'_, '_>,
+        tally: &mut Tally,
+    ) -> Result<Divisor, ReadError>
         ensures read { (d : ℕ) (o : DivideOp) (s : Stack) →
             Outcome result (run (context_of self.now d tally.old.tokens) (Fractional (divide_of o) ∷ s)
             (items tokens.old)) (run (context_of self.now d tally.new.tokens) s (items tokens.new)) }
@@ -90,7 +94,7 @@ impl Scope<'_> {
     #[tactic(auto, using(crate::proofs::Fractions::large_count, crate::proofs::Fractions::many_count, crate::proofs::Fractions::go_count))]
     pub fn shift_count(
         &self,
-        tokens: &mut Cursor<'_>,
+        tokens: &mut Cursor<'_, '_>,
         tally: &mut Tally,
     ) -> Result<ShiftCount, ReadError>
         ensures read { (d : ℕ) (o : ShiftOp) (s : Stack) →
@@ -116,7 +120,7 @@ impl Scope<'_> {
     #[tactic(auto, using(crate::proofs::Spending::too_deep, crate::proofs::Spending::many_open, crate::proofs::Spending::go_open))]
     pub fn open_bracket(
         &self,
-        tokens: &mut Cursor<'_>,
+        tokens: &mut Cursor<'_, '_>,
         tally: &mut Tally,
         depth: u32,
         opening: Sign,
@@ -144,7 +148,7 @@ impl Scope<'_> {
     #[tactic(auto, using(crate::proofs::Going::stop_want, crate::proofs::Spending::many_close, crate::proofs::Spending::go_close, crate::proofs::Going::was_mark))]
     pub fn close_bracket(
         &self,
-        tokens: &mut Cursor<'_>,
+        tokens: &mut Cursor<'_, '_>,
         tally: &mut Tally,
         closing: Sign,
     ) -> Result<(), ReadError>
@@ -188,7 +192,7 @@ impl Scope<'_> {
     /// Goes past the name that stands next: that of an array where a bracket follows, else that of a scalar or loop.
     pub fn operand_name(
         &self,
-        tokens: &mut Cursor<'_>,
+        tokens: &mut Cursor<'_, '_>,
         tally: &mut Tally,
         name: &[u8],
     ) -> Result<Meaning, ReadError>

@@ -6,7 +6,7 @@ use Rattle.c_tokens.specs.declared.kind.Sign.TheVariants as sign
 use Rattle.base.specs.declared.fault.ReadCode.{ReadCode as Code}
 use Rattle.base.specs.declared.fault.ReadCode.TheVariants.{BadOperand}
 use Rattle.c_grammar.specs.Lexeme.{Read}
-use Rattle.c_grammar.specs.Terminal.{Terminal, Fixed, Mark, Name, Num, Line, Unknown, End, same}
+use Rattle.c_grammar.specs.Terminal.{Terminal, Fixed, Mark, Name, Num, Line, Unknown, Unworked, End, same}
 use Rattle.c_grammar.specs.Grammar.{Act, Plain, Reads, Operand, OpensBracket, Inner, Slots, for, inner, opening, closing, value_of, Prefix, Not, Complement, Operator, Fraction, prefix_sign, operator_sign, fraction_sign, fraction_act, level, fraction_level, Literal, Named, Element, Group, Prefixed, term, Input, Value as ValueOf}
 use Rattle.c_grammar.specs.Program.{Symbol, Want, WantName, WantNum, Value, Atom, Behind, Tail, Fractional, Stack, Move, m, expr, close, operand_step, atom_step, all_operators, all_fractions, operator_in, fraction_in, operator_step, fraction_step, fractional_step, num_step, name_step, value_step, advance}
 use Rattle.c_grammar.proofs.Ways.{some_of}
@@ -38,6 +38,7 @@ back_name act s (Fixed a) q e = absurd cc
 back_name act s (Mark a) q e = absurd cc
 back_name act s (Line a) q e = absurd cc
 back_name act s Unknown q e = absurd cc
+back_name act s Unworked q e = absurd cc
 back_name act s End q e = absurd cc
 
 pub back_num : (act : Act) (s : Stack) (t : Terminal) (q : Taken) → num_step act s t ≡ some_of q
@@ -48,6 +49,7 @@ back_num act s (Fixed a) q e = absurd cc
 back_num act s (Mark a) q e = absurd cc
 back_num act s (Line a) q e = absurd cc
 back_num act s Unknown q e = absurd cc
+back_num act s Unworked q e = absurd cc
 back_num act s End q e = absurd cc
 
 pub back_fractional : (op : Fraction) (s : Stack) (t : Terminal) (q : Taken) → fractional_step op s t ≡ some_of q
@@ -60,6 +62,7 @@ back_fractional op s (Fixed a) q e = absurd cc
 back_fractional op s (Mark a) q e = absurd cc
 back_fractional op s (Line a) q e = absurd cc
 back_fractional op s Unknown q e = absurd cc
+back_fractional op s Unworked q e = absurd cc
 back_fractional op s End q e = absurd cc
 
 -- ---- operands
@@ -82,6 +85,7 @@ back_operand s (Fixed a) q e = absurd cc
 back_operand s (Mark a) q e = absurd cc
 back_operand s (Line a) q e = absurd cc
 back_operand s Unknown q e = absurd cc
+back_operand s Unworked q e = absurd cc
 back_operand s End q e = absurd cc
 
 group_fits : (s : Stack) (ws : Slots) → Fits (expr (close sign.CloseParen ∷ s)) ws

@@ -4,7 +4,7 @@ use Rattle.std.proofs.lemmas.List.{append-nil}
 use Rattle.base.specs.declared.fault.ReadCode.TheVariants.{NoBody}
 use Rattle.c_tokens.specs.declared.kind.Sign.TheVariants as sign
 use Rattle.c_grammar.specs.Lexeme.{Uint64, For, If, Print}
-use Rattle.c_grammar.specs.Terminal.{Terminal, Fixed, Mark, Name, Num, Line, Unknown, End}
+use Rattle.c_grammar.specs.Terminal.{Terminal, Fixed, Mark, Name, Num, Line, Unknown, Unworked, End}
 use Rattle.c_grammar.specs.Grammar.{Plain, DeclaresLocal, DeclaresLoop, MakesScalar, Limit, Step, Starts, StartsIf, Prints, Assigned, StartsBlock, Slots, for, mark, word, term, source, Stmt, Declare, Assign, Store, Repeat, Choose, ChooseElse, Show, Block, stmt_in, stmts_in, stmt, IsStmt, IsNest, Done, Then, nest_slots, Head, head_rest, Stmts, stmts, AreStmts, body_opening, body_closing, end_mark}
 use Rattle.c_grammar.specs.Program.{Want, WantName, Body, OrElse, Nested, Turn, AfterName, Value, Stack, m, expr, body, inner_body, loop_body, head_of, turn_step, loop, after_name}
 use Rattle.c_grammar.proofs.Ways.{some_of}
@@ -140,6 +140,7 @@ back_turn d s (Fixed a) q e = absurd cc
 back_turn d s (Mark a) q e = absurd cc
 back_turn d s (Line a) q e = absurd cc
 back_turn d s Unknown q e = absurd cc
+back_turn d s Unworked q e = absurd cc
 back_turn d s End q e = absurd cc
 
 -- a loop behind its first word, and what follows it

@@ -6,7 +6,7 @@ use Rattle.c_tokens.specs.Text.{tokens_of}
 use Rattle.c_grammar.specs.Machine.{run}
 use Rattle.c_grammar.specs.Rules.{begin, source_grammar}
 use Rattle.c_grammar.specs.Program.{start, source_machine}
-use Rattle.c_grammar.specs.Source.{item_of, end_of, items_of, fault_of, max_source, answer}
+use Rattle.c_grammar.specs.Source.{item_of, end_of, written_out, items_of, fault_of, max_source, answer}
 use Rattle.c_grammar.specs.SourceClaims.{FaultIsFirst, TextIsSpelled, TextExists, FaultyTextIsNotSpelled}
 use Rattle.c_grammar.proofs.Endings.{end_is_last}
 use Rattle.c_grammar.proofs.Exists.{text_of}
@@ -39,7 +39,7 @@ text_spelled bytes t e tokens h =
 pub text_exists : TextExists
 text_exists bytes e =
     let t =
-    text_of source_grammar source_machine source_laws end_is_last (map (item_of bytes) (tokens_of bytes)) (end_of bytes)
+    text_of source_grammar source_machine source_laws end_is_last (written_out (map (item_of bytes) (tokens_of bytes))) (end_of bytes)
     refl (not_faulty bytes e).1 in
     (t.0, text_spelled bytes t.0 e t.2 t.1)
 

@@ -1,9 +1,7 @@
 -- From what the reader found to what is promised of the source.
-use Rattle.std.proofs.Common.{◌≡◌, ℕ, zero, suc, ◌<◌, ◌≤◌, true, false, cond, List, [], ◌∷◌, length, map, Option, Some, None, sym, ap, subst, ◌∙◌, arith}
-use Rattle.std.specs.Prelude.{nat_lt, slice_index}
-use Rattle.std.specs.declared.string.String.{String}
+use Rattle.std.proofs.Common.{◌≡◌, ℕ, ◌<◌, ◌≤◌, true, false, cond, List, length, Some, None, ap, ◌∙◌, arith}
+use Rattle.std.specs.Prelude.{nat_lt}
 use Rattle.std.proofs.lemmas.Bool.Decides.{nat_tests}
-use Rattle.base.specs.declared.tree.ArrayInfo.{ArrayInfo}
 use Rattle.base.specs.declared.tree.Program.{Program}
 use Rattle.base.specs.declared.fault.TextFault.{TextFault}
 use Rattle.base.specs.declared.fault.ReadCode.TheVariants.{TooMany}
@@ -12,7 +10,6 @@ use Rattle.c_grammar.specs.Rules.{begin}
 use Rattle.c_grammar.specs.Grammar.{Text}
 use Rattle.c_grammar.specs.Source.{items_of, max_source, answer, fault_in, IsFirstFault, Spells as SpellsText}
 use Rattle.c_grammar.proofs.Sources.{fault_first, text_spelled, text_not_spelled}
-use Rattle.c_expressions.specs.Means.{Items}
 use Rattle.c_expressions.specs.Reading.{run}
 use Rattle.c_read.specs.Spells.{Spells, IsTextRead}
 

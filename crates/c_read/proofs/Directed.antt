@@ -11,7 +11,7 @@ use Rattle.base.specs.declared.tree.Part.{Part, Data as DataOf, items_hidden-the
 use Rattle.base.specs.declared.tree.Part.TheVariants as part
 use Rattle.c_grammar.specs.Lexeme.{Lexeme, For}
 use Rattle.c_grammar.specs.Texts.{Item}
-use Rattle.c_grammar.specs.Terminal.{Terminal, Fixed, Mark, Name, Num, Line, Unknown, End}
+use Rattle.c_grammar.specs.Terminal.{Terminal, Fixed, Mark, Name, Num, Line, Unknown, Unworked, End}
 use Rattle.c_grammar.specs.Rules.{inside}
 use Rattle.c_grammar.specs.Lines.{depth_of}
 use Rattle.c_grammar.specs.Grammar.{Head, Stmt, Stmts, Done, Then, Repeat, Directive, OverBlock, OverLoop, stmt, stmts, IsStmt as IsText, IsNest, deeper, loop_slots, nest_slots}
@@ -43,6 +43,7 @@ line_is (Mark x) d = absurd cc
 line_is (Name x) d = absurd cc
 line_is (Num n) d = absurd cc
 line_is Unknown d = absurd cc
+line_is Unworked d = absurd cc
 line_is End d = absurd cc
 
 -- ---- a directive that stands alone

@@ -7,7 +7,7 @@ use Rattle.base.specs.declared.fault.ReadCode.{ReadCode as Code}
 use Rattle.base.specs.declared.fault.ReadCode.TheVariants.{Unexpected, AlreadyDeclared, TooMany}
 use Rattle.base.specs.declared.fault.TextFault.{TextFault}
 use Rattle.c_grammar.specs.LineRules.{max_name}
-use Rattle.c_grammar.specs.Terminal.{Terminal, Fixed, Mark, Name, Num, Line, Unknown, End, same}
+use Rattle.c_grammar.specs.Terminal.{Terminal, Fixed, Mark, Name, Num, Line, Unknown, Unworked, End, same}
 use Rattle.c_grammar.specs.Texts.{Item, next_of}
 use Rattle.c_grammar.specs.Machine.{run as machine_run}
 use Rattle.c_grammar.specs.Grammar.{DeclaresGlobal}
@@ -79,6 +79,7 @@ name_none s (Name x) h = absurd h
 name_none s (Num n) h = refl
 name_none s (Line ts) h = refl
 name_none s Unknown h = refl
+name_none s Unworked h = refl
 name_none s End h = refl
 
 pub stop_name : (c : Context) (s : Stack) (t : Cursor) → NoName (first_item t).terminal →

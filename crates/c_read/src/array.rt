@@ -23,7 +23,7 @@ use c_tokens::Sign;
 use c_tokens::limits::{MAX_ARRAYS, MAX_CELLS, MAX_NAME, MAX_SCALARS};
 
 /// Whether a limit is met at the name of a global, before the sign that stands next.
-fn is_over(scope: &Scope<'_>, next: &Cursor<'_>, name: &[u8]) -> bool
+fn is_over(scope: &Scope<'_>, next: &Cursor<'_, '_>, name: &[u8]) -> bool
     ensures { result ≡ is_over scope.now name.now (first_item next.now).terminal }
 {
     if name.len() > MAX_NAME {
@@ -36,7 +36,7 @@ fn is_over(scope: &Scope<'_>, next: &Cursor<'_>, name: &[u8]) -> bool
 }
 
 /// The fault of the name of a global, before the sign that stands next.
-fn global_fault(scope: &Scope<'_>, next: &Cursor<'_>, name: &[u8]) -> Option<ReadCode>
+fn global_fault(scope: &Scope<'_>, next: &Cursor<'_, '_>, name: &[u8]) -> Option<ReadCode>
     ensures code { result ≡ global_code scope.now name.now (first_item next.now).terminal }
     ensures fresh { result ≡ None → meaning_of (names_of scope.now) name.now ≡ None }
 {
@@ -52,7 +52,10 @@ fn global_fault(scope: &Scope<'_>, next: &Cursor<'_>, name: &[u8]) -> Option<Rea
 
 /// The name of a global, where it is declared.
 #[tactic(auto, using(crate::proofs::Names::stop_name, crate::proofs::Names::bad_name, crate::proofs::Names::go_name))]
-pub fn global_name<'a>(scope: &Scope<'a>, tokens: &mut Cursor<'a>) -> Result<&'a [u8], ReadError>
+pub fn global_name<'a>(
+    scope: &Scope<'a>,
+    tokens: &mut Cursor<'a, '_>,
+) -> Result<&'a [u8], ReadError>
     ensures read { (s : Stack) → OutcomeBy result
         (run (context_of scope.now 0 0) (WantName DeclaresGlobal ∷ AfterGlobal ∷ s) (items tokens.old))
         (λ x. run (naming x.now (context_of scope.now 0 0)) (AfterGlobal ∷ s) (items tokens.new)) }
@@ -80,7 +83,7 @@ pub fn global_name<'a>(scope: &Scope<'a>, tokens: &mut Cursor<'a>) -> Result<&'a
 
 /// The length of an array.
 #[tactic(auto, using(crate::proofs::Lengths::go_length, crate::proofs::Lengths::zero_length, crate::proofs::Lengths::large_length))]
-fn array_length(scope: &mut Scope<'_>, tokens: &mut Cursor<'_>) -> Result<u32, ReadError>
+fn array_length(scope: &mut Scope<'_>, tokens: &mut Cursor<'_, '_>) -> Result<u32, ReadError>
     ensures read { (s : Stack) → Outcome result
         (run (context_of scope.old 0 0) (WantNum Length ∷ s) (items tokens.old))
         (run (context_of scope.new 0 0) s (items tokens.new)) }
@@ -102,7 +105,7 @@ fn array_length(scope: &mut Scope<'_>, tokens: &mut Cursor<'_>) -> Result<u32, R
 #[tactic(auto, using(crate::proofs::Naming::begun_array, crate::proofs::Naming::array_named))]
 fn begin_array<'a>(
     scope: &mut Scope<'a>,
-    tokens: &mut Cursor<'a>,
+    tokens: &mut Cursor<'a, '_>,
     name: &'a [u8],
 ) -> Result<(), ReadError>
     requires few { scope.old.arrays < 64 }
@@ -126,7 +129,7 @@ fn begin_array<'a>(
 #[tactic(auto, using(c_expressions::proofs::Outcomes::on_from, crate::proofs::Naming::array_with_cells, crate::proofs::Naming::gone_array))]
 pub fn array<'a>(
     scope: &mut Scope<'a>,
-    tokens: &mut Cursor<'a>,
+    tokens: &mut Cursor<'a, '_>,
     name: &'a [u8],
 ) -> Result<u32, ReadError>
     requires few { scope.old.arrays < 64 }
@@ -151,7 +154,7 @@ pub fn array<'a>(
 #[tactic(auto, using(crate::proofs::Naming::begun_scalar, crate::proofs::Naming::scalar_named))]
 pub fn scalar<'a>(
     scope: &mut Scope<'a>,
-    tokens: &mut Cursor<'a>,
+    tokens: &mut Cursor<'a, '_>,
     name: &'a [u8],
 ) -> Result<(), ReadError>
     requires few { scope.old.scalars < 256 }

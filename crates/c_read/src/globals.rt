@@ -22,7 +22,7 @@ use indexmap::IndexMap;
 
 /// The word and the name with which a global begins.
 #[tactic(auto, using(c_expressions::proofs::Outcomes::on_from_by, crate::proofs::Declared::go_word, crate::proofs::Declared::named_at))]
-fn begin_global<'a>(scope: &Scope<'a>, tokens: &mut Cursor<'a>) -> Result<&'a [u8], ReadError>
+fn begin_global<'a>(scope: &Scope<'a>, tokens: &mut Cursor<'a, '_>) -> Result<&'a [u8], ReadError>
     requires { (first_item tokens.old).terminal ≡ Fixed Uint64 }
     ensures read { (s : Stack) → OutcomeBy result
         (run (context_of scope.now 0 0) (Globals ∷ s) (items tokens.old))
@@ -40,7 +40,7 @@ fn begin_global<'a>(scope: &Scope<'a>, tokens: &mut Cursor<'a>) -> Result<&'a [u
 #[tactic(auto, using(crate::proofs::Declared::array_added))]
 fn array_entry<'a>(
     scope: &mut Scope<'a>,
-    tokens: &mut Cursor<'a>,
+    tokens: &mut Cursor<'a, '_>,
     name: &'a [u8],
     arrays: &mut IndexMap<String, ArrayInfo>,
 ) -> Result<(), ReadError>
@@ -65,7 +65,7 @@ fn array_entry<'a>(
 #[tactic(auto, using(c_expressions::proofs::Outcomes::on_from, crate::proofs::Declared::read_array, crate::proofs::Declared::read_scalar, crate::proofs::Declared::few_arrays, crate::proofs::Declared::few_scalars, crate::proofs::Declared::name_ascii, crate::proofs::Declared::stop_global, crate::proofs::Declared::fewer_array, crate::proofs::Declared::fewer_scalar))]
 fn global<'a>(
     scope: &mut Scope<'a>,
-    tokens: &mut Cursor<'a>,
+    tokens: &mut Cursor<'a, '_>,
     arrays: &mut IndexMap<String, ArrayInfo>,
 ) -> Result<(), ReadError>
     requires word { (first_item tokens.old).terminal ≡ Fixed Uint64 }
@@ -91,7 +91,7 @@ fn global<'a>(
 #[tactic(auto, using(c_expressions::proofs::Outcomes::on_from, crate::proofs::Fronts::no_globals, crate::proofs::Fronts::globals_then, crate::proofs::Fronts::ascii_behind, crate::proofs::Fronts::known_so_far))]
 pub fn globals<'a>(
     scope: &mut Scope<'a>,
-    tokens: &mut Cursor<'a>,
+    tokens: &mut Cursor<'a, '_>,
 ) -> Result<IndexMap<String, ArrayInfo>, ReadError>
     requires { AreAscii (terminals (items tokens.old)) }
     ensures read { (s : Stack) → Outcome result (run (context_of scope.old 0 0) (Globals ∷ s) (items tokens.old))

@@ -29,7 +29,7 @@ use directives::Word;
 #[tactic(auto, using(c_expressions::proofs::Outcomes::on_from))]
 pub fn nest<'a>(
     scope: &mut Scope<'a>,
-    tokens: &mut Cursor<'a>,
+    tokens: &mut Cursor<'a, '_>,
     depth: u8,
 ) -> Result<Stmt, ReadError>
     requires loops { loops_in (names_of scope.old) ≤ scope.old.scalars }
@@ -54,7 +54,7 @@ pub fn nest<'a>(
 #[tactic(auto, using(c_expressions::proofs::Outcomes::on_from))]
 fn nest_body<'a>(
     scope: &mut Scope<'a>,
-    tokens: &mut Cursor<'a>,
+    tokens: &mut Cursor<'a, '_>,
     turn: Turn<'a>,
     depth: u8,
 ) -> Result<Vec<Stmt>, ReadError>
@@ -80,7 +80,7 @@ fn nest_body<'a>(
 #[tactic(auto, using(c_expressions::proofs::Outcomes::on_from))]
 fn nested<'a>(
     scope: &mut Scope<'a>,
-    tokens: &mut Cursor<'a>,
+    tokens: &mut Cursor<'a, '_>,
     depth: u8,
 ) -> Result<Vec<Stmt>, ReadError>
     requires ready { IsReady scope.old }
@@ -107,7 +107,7 @@ fn nested<'a>(
 #[tactic(auto, using(c_expressions::proofs::Outcomes::on_from, crate::proofs::Nests::nested_begins, crate::proofs::Nests::stop_nested))]
 fn next_loop<'a>(
     scope: &mut Scope<'a>,
-    tokens: &mut Cursor<'a>,
+    tokens: &mut Cursor<'a, '_>,
     depth: u8,
 ) -> Result<Stmt, ReadError>
     requires ready { IsReady scope.old }

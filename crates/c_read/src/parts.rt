@@ -35,7 +35,7 @@ use directives::Word;
 /// The statement or part that stands next.
 #[cycle(piece)]
 #[tactic(auto, using(c_expressions::proofs::Outcomes::on_from, c_statements::proofs::Begins::at_loop, c_statements::proofs::Begins::at_block, crate::proofs::Pieces::read_statement))]
-fn piece<'a>(scope: &mut Scope<'a>, tokens: &mut Cursor<'a>) -> Result<Piece, ReadError>
+fn piece<'a>(scope: &mut Scope<'a>, tokens: &mut Cursor<'a, '_>) -> Result<Piece, ReadError>
     requires outside { IsOutside scope.old }
     requires goes_on { same (Mark sign.CloseBrace) (first_item tokens.old).terminal ≡ false }
     ensures read { (s : Stack) → Outcome result (run (context_of scope.old 0 0) (Body ∷ s) (items tokens.old))
@@ -60,7 +60,7 @@ fn piece<'a>(scope: &mut Scope<'a>, tokens: &mut Cursor<'a>) -> Result<Piece, Re
 /// The loop whose word stands next.
 #[cycle(piece)]
 #[tactic(auto, using(c_expressions::proofs::Outcomes::on_from))]
-fn looped<'a>(scope: &mut Scope<'a>, tokens: &mut Cursor<'a>) -> Result<Piece, ReadError>
+fn looped<'a>(scope: &mut Scope<'a>, tokens: &mut Cursor<'a, '_>) -> Result<Piece, ReadError>
     requires outside { IsOutside scope.old }
     requires word { (first_item tokens.old).terminal ≡ Fixed For }
     ensures read { (s : Stack) → Outcome result (took (context_of scope.old 0 0) (for Starts) (loop 0 s)
@@ -78,7 +78,7 @@ fn looped<'a>(scope: &mut Scope<'a>, tokens: &mut Cursor<'a>) -> Result<Piece, R
 /// A loop behind its word.
 #[cycle(piece)]
 #[tactic(auto, using(c_expressions::proofs::Outcomes::on_from))]
-fn turns<'a>(scope: &mut Scope<'a>, tokens: &mut Cursor<'a>) -> Result<Piece, ReadError>
+fn turns<'a>(scope: &mut Scope<'a>, tokens: &mut Cursor<'a, '_>) -> Result<Piece, ReadError>
     requires { IsOutside scope.old }
     ensures read { (s : Stack) → Outcome result (run (context_of scope.old 0 0) (loop 0 s) (items tokens.old))
         (run (context_of scope.new 0 0) s (items tokens.new)) }
@@ -99,7 +99,7 @@ fn turns<'a>(scope: &mut Scope<'a>, tokens: &mut Cursor<'a>) -> Result<Piece, Re
 /// The block whose brace stands next.
 #[cycle(piece)]
 #[tactic(auto, using(c_expressions::proofs::Outcomes::on_from))]
-fn blocked<'a>(scope: &mut Scope<'a>, tokens: &mut Cursor<'a>) -> Result<Piece, ReadError>
+fn blocked<'a>(scope: &mut Scope<'a>, tokens: &mut Cursor<'a, '_>) -> Result<Piece, ReadError>
     requires outside { IsOutside scope.old }
     requires opening { (first_item tokens.old).terminal ≡ Mark sign.OpenBrace }
     ensures read { (s : Stack) → Outcome result (took (context_of scope.old 0 0) (for StartsBlock) (Body ∷ s)
@@ -118,7 +118,7 @@ fn blocked<'a>(scope: &mut Scope<'a>, tokens: &mut Cursor<'a>) -> Result<Piece, 
 /// The part of the directive whose line stands next.
 #[cycle(piece)]
 #[tactic(auto, using(c_expressions::proofs::Outcomes::on_from, c_constructs::proofs::AtStatement::directive_begins))]
-fn directed<'a>(scope: &mut Scope<'a>, tokens: &mut Cursor<'a>) -> Result<Part, ReadError>
+fn directed<'a>(scope: &mut Scope<'a>, tokens: &mut Cursor<'a, '_>) -> Result<Part, ReadError>
     requires outside { IsOutside scope.old }
     requires line { is_directive (first_item tokens.old).terminal ≡ true }
     ensures read { (s : Stack) → Outcome result (run (context_of scope.old 0 0) (Body ∷ s) (items tokens.old))
@@ -143,7 +143,7 @@ fn directed<'a>(scope: &mut Scope<'a>, tokens: &mut Cursor<'a>) -> Result<Part, 
 #[tactic(auto, using(c_expressions::proofs::Outcomes::on_from))]
 fn over<'a>(
     scope: &mut Scope<'a>,
-    tokens: &mut Cursor<'a>,
+    tokens: &mut Cursor<'a, '_>,
     construct: Construct,
 ) -> Result<Part, ReadError>
     requires { IsOverNext construct scope.old }
@@ -169,7 +169,10 @@ fn over<'a>(
 /// The block or loop that must follow the line of a `target data`.
 #[cycle(piece)]
 #[tactic(auto, using(c_expressions::proofs::Outcomes::on_from, crate::proofs::Unders::under_brace, crate::proofs::Unders::under_loop, crate::proofs::Unders::stop_under))]
-fn data_parts<'a>(scope: &mut Scope<'a>, tokens: &mut Cursor<'a>) -> Result<Vec<Part>, ReadError>
+fn data_parts<'a>(
+    scope: &mut Scope<'a>,
+    tokens: &mut Cursor<'a, '_>,
+) -> Result<Vec<Part>, ReadError>
     requires { IsOutside scope.old }
     ensures read { (s : Stack) → Outcome result (run (context_of scope.old 0 0) (Under 0 ∷ s) (items tokens.old))
         (run (context_of scope.new 0 0) s (items tokens.new)) }
@@ -198,7 +201,7 @@ fn data_parts<'a>(scope: &mut Scope<'a>, tokens: &mut Cursor<'a>) -> Result<Vec<
 /// The statements and parts of a block, and the brace that ends it.
 #[cycle(piece)]
 #[tactic(auto, using(c_expressions::proofs::Outcomes::on_from))]
-pub fn gather<'a>(scope: &mut Scope<'a>, tokens: &mut Cursor<'a>) -> Result<Gathered, ReadError>
+pub fn gather<'a>(scope: &mut Scope<'a>, tokens: &mut Cursor<'a, '_>) -> Result<Gathered, ReadError>
     requires { IsOutside scope.old }
     ensures read { (s : Stack) → Outcome result (run (context_of scope.old 0 0) (Body ∷ s) (items tokens.old))
         (run (context_of scope.new 0 0) s (items tokens.new)) }

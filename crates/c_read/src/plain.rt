@@ -18,7 +18,7 @@ use directives::Word;
 
 /// A declaration, an `if`, a print, an assignment or a store.
 #[tactic(auto, using(c_expressions::proofs::Outcomes::on_from, c_statements::proofs::Begins::at_declaration, c_statements::proofs::Begins::at_choice, c_statements::proofs::Begins::at_print, c_statements::proofs::Begins::at_name, c_statements::proofs::Begins::stop_stmt, c_statements::proofs::Levels::same_counted))]
-pub fn plain<'a>(scope: &mut Scope<'a>, tokens: &mut Cursor<'a>) -> Result<Stmt, ReadError>
+pub fn plain<'a>(scope: &mut Scope<'a>, tokens: &mut Cursor<'a, '_>) -> Result<Stmt, ReadError>
     requires ready { IsReady scope.old }
     requires goes_on { same (Mark sign.CloseBrace) (first_item tokens.old).terminal ≡ false }
     requires no_loop { same (Fixed For) (first_item tokens.old).terminal ≡ false }

@@ -1,6 +1,6 @@
 //! Whole programs.
 
-ghost use Rattle.std.specs.Prelude.{◌≡◌, [], ◌∷◌, OnOk, IfOk, IfErr, None, false};
+ghost use Rattle.std.specs.Prelude.{◌≡◌, [], ◌∷◌, map, OnOk, IfOk, IfErr, None, false};
 ghost use Rattle.base.specs.declared.tree.Program.{Program};
 ghost use Rattle.c_grammar.specs.AsciiNames.{AreAscii};
 ghost use Rattle.c_grammar.specs.Grammar.{Plain, for};
@@ -8,7 +8,9 @@ ghost use Rattle.c_grammar.specs.Lexeme.{Uint64};
 ghost use Rattle.c_grammar.specs.Program.{Stack, Body, Globals, Want, start};
 ghost use Rattle.c_grammar.specs.Rules.{begin};
 ghost use Rattle.c_grammar.specs.Grammar.{Text};
-ghost use Rattle.c_grammar.specs.Source.{items_of, IsFirstFault, Spells as SpellsText};
+ghost use Rattle.c_grammar.specs.Source.{item_of, items_of, written_out, IsFirstFault, Spells as SpellsText};
+ghost use Rattle.c_tokens.specs.Text.{tokens_of};
+ghost use Rattle.c_written.specs.Held.{written_all};
 ghost use Rattle.c_grammar.specs.Terminal.{End, Fixed, same};
 ghost use Rattle.c_expressions.specs.Cursor.{items, first_item};
 ghost use Rattle.c_expressions.specs.Reading.{run, terminals, Outcome};
@@ -30,12 +32,13 @@ use c_expressions::{Cursor, Frame, ReadError, Scope};
 use c_statements::open_body;
 use c_tokens::Sign;
 use c_tokens::limits::MAX_SOURCE;
+use c_written::{Written, written};
 use directives::Word;
 use std::alloc::{AllocError, Global};
 
 /// The words of `main`, up to its brace, behind the globals.
 #[tactic(auto, using(c_expressions::proofs::Outcomes::on_from, crate::proofs::Programs::main_comes, crate::proofs::Programs::gone_six))]
-fn main_head<'a>(scope: &mut Scope<'a>, tokens: &mut Cursor<'a>) -> Result<(), ReadError>
+fn main_head<'a>(scope: &mut Scope<'a>, tokens: &mut Cursor<'a, '_>) -> Result<(), ReadError>
     requires { same (Fixed Uint64) (first_item tokens.old).terminal ≡ false }
     ensures read { (s : Stack) → Outcome result (run (context_of scope.old 0 0) (Globals ∷ s) (items tokens.old))
         (run (context_of scope.new 0 0) (Body ∷ Want End (for Plain) ∷ s) (items tokens.new)) }
@@ -55,7 +58,10 @@ fn main_head<'a>(scope: &mut Scope<'a>, tokens: &mut Cursor<'a>) -> Result<(), R
 
 /// The parts of `main` behind its brace, and the end of the source.
 #[tactic(auto, using(c_expressions::proofs::Outcomes::on_from))]
-fn main_parts<'a>(scope: &mut Scope<'a>, tokens: &mut Cursor<'a>) -> Result<Vec<Part>, ReadError>
+fn main_parts<'a>(
+    scope: &mut Scope<'a>,
+    tokens: &mut Cursor<'a, '_>,
+) -> Result<Vec<Part>, ReadError>
     requires { IsOutside scope.old }
     ensures read { Outcome result (run (context_of scope.old 0 0) (Body ∷ Want End (for Plain) ∷ [])
         (items tokens.old)) None }
@@ -72,7 +78,7 @@ fn main_parts<'a>(scope: &mut Scope<'a>, tokens: &mut Cursor<'a>) -> Result<Vec<
 
 /// The whole source.
 #[tactic(auto, using(c_expressions::proofs::Outcomes::on_from, crate::proofs::Programs::main_outside, crate::proofs::Programs::read_text))]
-fn program<'a>(scope: &mut Scope<'a>, tokens: &mut Cursor<'a>) -> Result<Program, ReadError>
+fn program<'a>(scope: &mut Scope<'a>, tokens: &mut Cursor<'a, '_>) -> Result<Program, ReadError>
     requires fresh { IsStart scope.old }
     requires text { AreAscii (terminals (items tokens.old)) }
     ensures read { Outcome result (run begin start (items tokens.old)) None }
@@ -114,13 +120,22 @@ fn new_scope<'a>(alloc: Global) -> Result<Scope<'a>, AllocError>
     })
 }
 
+/// The tokens of a source, which are written out.
+fn source_tokens<'a, 'l>(bytes: &[u8], written: &'l [Written<'a>]) -> Cursor<'a, 'l>
+    requires { written_all written.now ≡ written_out (map (item_of bytes.now) (tokens_of bytes.now)) }
+    ensures { items result ≡ items_of bytes.now }
+{
+    Cursor::new(bytes, written)
+}
+
 /// The program of a source that is not too long.
 #[tactic(auto, using(c_grammar::proofs::AsciiNames::names_are_ascii))]
 fn read_short(alloc: Global, bytes: &[u8]) -> Result<Program, ReadError>
     ensures read { Outcome result (run begin start (items_of bytes.now)) None }
     ensures tree { IfOk result (λ p. IsTextRead (items_of bytes.now) p) }
 {
-    let mut tokens = Cursor::new(bytes);
+    let written = written(alloc, bytes)?;
+    let mut tokens = source_tokens(bytes, &written);
     let mut scope = new_scope(alloc)?;
     let program = program(&mut scope, &mut tokens)?;
     Ok(program)

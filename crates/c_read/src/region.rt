@@ -24,7 +24,7 @@ use c_tokens::Sign;
 use directives::Word;
 
 /// Whether the brace of a block stands next, where no nest of loops must come.
-fn at_block(tokens: &Cursor<'_>, depth: u8) -> bool
+fn at_block(tokens: &Cursor<'_, '_>, depth: u8) -> bool
     ensures { result ≡ ((depth == 0) && same (Mark sign.OpenBrace) (first_item tokens.now).terminal) }
 {
     depth == 0 && tokens.at(Sign::OpenBrace)
@@ -44,7 +44,7 @@ fn deeper(depth: u8) -> u8
 /// The loop of a target, whose word stands next, with a nest of so many loops in it.
 fn target_loop<'a>(
     scope: &mut Scope<'a>,
-    tokens: &mut Cursor<'a>,
+    tokens: &mut Cursor<'a, '_>,
     depth: u8,
 ) -> Result<Stmt, ReadError>
     requires target { IsTargetNext scope.old }
@@ -66,7 +66,7 @@ fn target_loop<'a>(
 #[tactic(auto, using(c_expressions::proofs::Outcomes::on_from, crate::proofs::Unders::block_under, crate::proofs::Unders::nest_under, crate::proofs::Unders::stop_nest, crate::proofs::Regions::region_block, crate::proofs::Regions::region_loop))]
 pub fn region<'a>(
     scope: &mut Scope<'a>,
-    tokens: &mut Cursor<'a>,
+    tokens: &mut Cursor<'a, '_>,
     depth: u8,
 ) -> Result<Region, ReadError>
     requires { IsTargetNext scope.old }

@@ -3,7 +3,7 @@ use Rattle.std.proofs.Common.{◌≡◌, true, false, List, ◌∷◌, Some, Non
 use Rattle.c_tokens.specs.declared.kind.Sign.TheVariants as sign
 use Rattle.base.specs.declared.fault.ReadCode.TheVariants.{Unexpected}
 use Rattle.c_grammar.specs.Lexeme.{Uint64, For, If, Else, Print}
-use Rattle.c_grammar.specs.Terminal.{Terminal, Fixed, Mark, Name, Num, Line, Unknown, End, same}
+use Rattle.c_grammar.specs.Terminal.{Terminal, Fixed, Mark, Name, Num, Line, Unknown, Unworked, End, same}
 use Rattle.c_grammar.specs.Grammar.{DeclaresLocal, Starts, StartsIf, Prints, Assigned, StartsBlock, for}
 use Rattle.c_grammar.specs.Rules.{Context, rule_here}
 use Rattle.c_grammar.specs.Program.{Stack, WantName, Value, AfterName, Atom, Tail, Body, OrElse, m, body, loop, advance, place_code}
@@ -94,6 +94,7 @@ body_none s (Name x) h e d = absurd h
 body_none s (Num n) h e d = refl
 body_none s (Line ts) h e d = rw d refl
 body_none s Unknown h e d = refl
+body_none s Unworked h e d = refl
 body_none s End h e d = refl
 
 pub stop_stmt : (c : Context) (s : Stack) (t : Cursor) → NoStmt (first_item t).terminal →

@@ -7,7 +7,7 @@ use Rattle.std.proofs.lemmas.Bool.Decides.{nat_tests}
 use Rattle.c_tokens.specs.declared.kind.Sign.TheVariants as sign
 use Rattle.base.specs.declared.fault.ReadCode.TheVariants.{Unexpected, AlreadyDeclared, TooMany}
 use Rattle.c_grammar.specs.LineRules.{max_name}
-use Rattle.c_grammar.specs.Terminal.{Terminal, Fixed, Mark, Name, Num, Line, Unknown, End}
+use Rattle.c_grammar.specs.Terminal.{Terminal, Fixed, Mark, Name, Num, Line, Unknown, Unworked, End}
 use Rattle.c_grammar.specs.Texts.{Item}
 use Rattle.c_grammar.specs.Machine.{run as machine_run}
 use Rattle.c_grammar.specs.Grammar.{DeclaresLocal}
@@ -91,6 +91,7 @@ name_none s (Name x) h = absurd h
 name_none s (Num n) h = refl
 name_none s (Line ts) h = refl
 name_none s Unknown h = refl
+name_none s Unworked h = refl
 name_none s End h = refl
 
 pub stop_local : (c : Context) (s : Stack) (t : Cursor) → NoName (first_item t).terminal →

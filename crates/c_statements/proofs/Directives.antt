@@ -3,7 +3,7 @@ use Rattle.std.proofs.Common.{◌≡◌, Bool, true, false, List, ◌∷◌, Som
 use Rattle.std.specs.Prelude.{nat_le, ◌||◌}
 use Rattle.c_grammar.specs.Lexeme.{Lexeme}
 use Rattle.c_grammar.specs.Lines.{is_omp, holds}
-use Rattle.c_grammar.specs.Terminal.{Terminal, Fixed, Mark, Name, Num, Line, Unknown, End}
+use Rattle.c_grammar.specs.Terminal.{Terminal, Fixed, Mark, Name, Num, Line, Unknown, Unworked, End}
 use Rattle.c_grammar.specs.Texts.{Item}
 use Rattle.c_grammar.specs.Machine.{run as machine_run}
 use Rattle.c_grammar.specs.Rules.{Context, breaks, inside, under_if, max_statements}
@@ -42,6 +42,7 @@ line_at c s i is (Mark x) d k = absurd cc
 line_at c s i is (Name x) d k = absurd cc
 line_at c s i is (Num n) d k = absurd cc
 line_at c s i is Unknown d k = absurd cc
+line_at c s i is Unworked d k = absurd cc
 line_at c s i is End d k = absurd cc
 
 pub stop_line : (c : Context) (s : Stack) (t : Cursor) → is_directive (first_item t).terminal ≡ true →

@@ -8,7 +8,7 @@ use Rattle.c_tokens.specs.declared.kind.Sign.TheVariants as sign
 use Rattle.base.specs.declared.fault.ReadCode.TheVariants.{Unexpected, AlreadyDeclared, TooMany}
 use Rattle.base.specs.declared.tree.Bounds.{Bounds}
 use Rattle.c_grammar.specs.LineRules.{max_name}
-use Rattle.c_grammar.specs.Terminal.{Terminal, Fixed, Mark, Name, Num, Line, Unknown, End}
+use Rattle.c_grammar.specs.Terminal.{Terminal, Fixed, Mark, Name, Num, Line, Unknown, Unworked, End}
 use Rattle.c_grammar.specs.Texts.{Item}
 use Rattle.c_grammar.specs.Machine.{run as machine_run}
 use Rattle.c_grammar.specs.Rules.{Context, breaks, enter, out, is_visible, sort_of, max_scalars, rule_here}
@@ -98,6 +98,7 @@ turn_none d s (Name x) h = absurd h
 turn_none d s (Num n) h = refl
 turn_none d s (Line ts) h = refl
 turn_none d s Unknown h = refl
+turn_none d s Unworked h = refl
 turn_none d s End h = refl
 
 pub stop_turn : (c : Context) (d : ℕ) (s : Stack) (t : Cursor) → NoName (first_item t).terminal →

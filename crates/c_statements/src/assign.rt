@@ -70,7 +70,7 @@ fn is_over(scope: &Scope<'_>, name: &[u8]) -> bool
 #[tactic(auto, using(crate::proofs::Assigns::kept_of))]
 fn name_fault(
     scope: &Scope<'_>,
-    next: &Cursor<'_>,
+    next: &Cursor<'_, '_>,
     name: &[u8],
     meaning: Option<Meaning>,
 ) -> Option<ReadCode>
@@ -90,7 +90,7 @@ fn name_fault(
 #[tactic(auto, using(crate::proofs::Assigns::few_assigned, crate::proofs::Assigns::go_meant))]
 fn begin_assigned(
     scope: &mut Scope<'_>,
-    tokens: &mut Cursor<'_>,
+    tokens: &mut Cursor<'_, '_>,
     name: &[u8],
 ) -> Result<Option<Meaning>, ReadError>
     requires { (first_item tokens.old).terminal ≡ Name name.now }
@@ -118,7 +118,7 @@ fn begin_assigned(
 
 /// The equals sign that must stand next, what is assigned, and the semicolon behind it.
 #[tactic(auto, using(c_expressions::proofs::Outcomes::on_from, crate::proofs::Stores::read_assign_rest))]
-fn assigned_source(scope: &Scope<'_>, tokens: &mut Cursor<'_>) -> Result<Source, ReadError>
+fn assigned_source(scope: &Scope<'_>, tokens: &mut Cursor<'_, '_>) -> Result<Source, ReadError>
     ensures read { (s : Stack) → Outcome result
         (run (context_of scope.now 0 0) (m sign.Equal ∷ Value ∷ m sign.Semicolon ∷ s) (items tokens.old))
         (run (context_of scope.now 0 0) s (items tokens.new)) }
@@ -129,7 +129,7 @@ fn assigned_source(scope: &Scope<'_>, tokens: &mut Cursor<'_>) -> Result<Source,
 }
 
 /// What is stored, behind an array's name: the subscript and the value.
-fn element(scope: &Scope<'_>, tokens: &mut Cursor<'_>) -> Result<(Expr, Source), ReadError>
+fn element(scope: &Scope<'_>, tokens: &mut Cursor<'_, '_>) -> Result<(Expr, Source), ReadError>
     requires { same (Mark sign.Equal) (first_item tokens.old).terminal ≡ false }
     ensures read { (s : Stack) → Outcome result (run (context_of scope.now 0 0) (AfterName ∷ s) (items tokens.old))
         (run (context_of scope.now 0 0) s (items tokens.new)) }
@@ -143,7 +143,7 @@ fn element(scope: &Scope<'_>, tokens: &mut Cursor<'_>) -> Result<(Expr, Source),
 /// The statement that begins with the name that stands next.
 pub fn assigned(
     scope: &mut Scope<'_>,
-    tokens: &mut Cursor<'_>,
+    tokens: &mut Cursor<'_, '_>,
     name: &[u8],
 ) -> Result<Stmt, ReadError>
     requires { (first_item tokens.old).terminal ≡ Name name.now }

@@ -22,7 +22,7 @@ use c_tokens::limits::{MAX_BRACES, MAX_STATEMENTS};
 /// Goes past the brace with which a body begins, that of a loop with its name.
 pub fn open_body<'a>(
     scope: &mut Scope<'a>,
-    tokens: &mut Cursor<'a>,
+    tokens: &mut Cursor<'a, '_>,
     turn: Option<Turn<'a>>,
 ) -> Result<(), ReadError>
     ensures read { (s : Stack) → Outcome result (run (turned (turn_name turn.entry) scope.old)
@@ -46,7 +46,7 @@ pub fn open_body<'a>(
 }
 
 /// Goes past the brace that ends a block, which stands next.
-pub fn close_body(scope: &mut Scope<'_>, tokens: &mut Cursor<'_>)
+pub fn close_body(scope: &mut Scope<'_>, tokens: &mut Cursor<'_, '_>)
     requires { (first_item tokens.old).terminal ≡ Mark sign.CloseBrace }
     ensures read { (s : Stack) → run (context_of scope.old 0 0) (Body ∷ s) (items tokens.old) ≡
         run (context_of scope.new 0 0) s (items tokens.new) }
@@ -62,7 +62,7 @@ pub fn close_body(scope: &mut Scope<'_>, tokens: &mut Cursor<'_>)
 
 /// Goes past the word `for`.
 #[tactic(auto, using(crate::proofs::Braces::many_starts, crate::proofs::Braces::go_starts))]
-pub fn begin_loop(scope: &mut Scope<'_>, tokens: &mut Cursor<'_>) -> Result<(), ReadError>
+pub fn begin_loop(scope: &mut Scope<'_>, tokens: &mut Cursor<'_, '_>) -> Result<(), ReadError>
     requires { (first_item tokens.old).terminal ≡ Fixed For }
     ensures read { (s : Stack) → Outcome result (took (context_of scope.old 0 0) (for Starts) s (items tokens.old))
         (run (context_of scope.new 0 0) s (items tokens.new)) }
@@ -79,7 +79,7 @@ pub fn begin_loop(scope: &mut Scope<'_>, tokens: &mut Cursor<'_>) -> Result<(), 
 
 /// Goes past the word `if`.
 #[tactic(auto, using(crate::proofs::Braces::many_ifs, crate::proofs::Braces::go_ifs))]
-pub fn begin_choice(scope: &mut Scope<'_>, tokens: &mut Cursor<'_>) -> Result<(), ReadError>
+pub fn begin_choice(scope: &mut Scope<'_>, tokens: &mut Cursor<'_, '_>) -> Result<(), ReadError>
     requires { (first_item tokens.old).terminal ≡ Fixed If }
     ensures read { (s : Stack) → Outcome result (took (context_of scope.old 0 0) (for StartsIf) s
         (items tokens.old)) (run (context_of scope.new 0 0) s (items tokens.new)) }
@@ -97,7 +97,7 @@ pub fn begin_choice(scope: &mut Scope<'_>, tokens: &mut Cursor<'_>) -> Result<()
 
 /// Goes past the brace with which a statement begins.
 #[tactic(auto, using(crate::proofs::Braces::deep_block, crate::proofs::Braces::many_block))]
-pub fn begin_block(scope: &mut Scope<'_>, tokens: &mut Cursor<'_>) -> Result<(), ReadError>
+pub fn begin_block(scope: &mut Scope<'_>, tokens: &mut Cursor<'_, '_>) -> Result<(), ReadError>
     requires { (first_item tokens.old).terminal ≡ Mark sign.OpenBrace }
     ensures read { (s : Stack) → Outcome result (took (context_of scope.old 0 0) (for StartsBlock) s
         (items tokens.old)) (run (context_of scope.new 0 0) s (items tokens.new)) }
@@ -120,7 +120,7 @@ pub fn begin_block(scope: &mut Scope<'_>, tokens: &mut Cursor<'_>) -> Result<(),
 
 /// Goes past the word `else`.
 #[tactic(auto, using(crate::proofs::Braces::go_else))]
-pub fn otherwise(scope: &mut Scope<'_>, tokens: &mut Cursor<'_>)
+pub fn otherwise(scope: &mut Scope<'_>, tokens: &mut Cursor<'_, '_>)
     requires { (first_item tokens.old).terminal ≡ Fixed Else }
     ensures read { (s : Stack) → run (context_of scope.old 0 0) (OrElse ∷ s) (items tokens.old) ≡
         run (context_of scope.new 0 0) (body s) (items tokens.new) }

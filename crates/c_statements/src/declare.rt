@@ -26,7 +26,7 @@ use c_tokens::limits::{MAX_NAME, MAX_SCALARS, MAX_STATEMENTS};
 
 /// Goes past the word `uint64_t`.
 #[tactic(auto, using(crate::proofs::Braces::many_starts, crate::proofs::Braces::go_starts))]
-fn begin_declaration(scope: &mut Scope<'_>, tokens: &mut Cursor<'_>) -> Result<(), ReadError>
+fn begin_declaration(scope: &mut Scope<'_>, tokens: &mut Cursor<'_, '_>) -> Result<(), ReadError>
     requires { (first_item tokens.old).terminal ≡ Fixed Uint64 }
     ensures read { (s : Stack) → Outcome result (took (context_of scope.old 0 0) (for Starts) s (items tokens.old))
         (run (context_of scope.new 0 0) s (items tokens.new)) }
@@ -43,7 +43,7 @@ fn begin_declaration(scope: &mut Scope<'_>, tokens: &mut Cursor<'_>) -> Result<(
 
 /// The name that is declared.
 #[tactic(auto, using(crate::proofs::Declares::bad_local, crate::proofs::Declares::long_local, crate::proofs::Declares::many_local, crate::proofs::Declares::go_local, crate::proofs::Declares::stop_local))]
-fn local_name<'a>(scope: &mut Scope<'a>, tokens: &mut Cursor<'a>) -> Result<&'a [u8], ReadError>
+fn local_name<'a>(scope: &mut Scope<'a>, tokens: &mut Cursor<'a, '_>) -> Result<&'a [u8], ReadError>
     ensures read { (s : Stack) → Outcome result (run (context_of scope.old 0 0) (WantName DeclaresLocal ∷ s)
         (items tokens.old)) (run (context_of scope.new 0 0) s (items tokens.new)) }
     ensures scope { IfOk result (λ x. scope.new ≡ naming scope.old x) }
@@ -94,7 +94,7 @@ pub fn new_scalar<'a>(scope: &mut Scope<'a>, name: &'a [u8]) -> Result<ScalarId,
 
 /// A declaration, whose word stands next.
 #[tactic(auto, using(c_expressions::proofs::Outcomes::on_from))]
-pub fn declared<'a>(scope: &mut Scope<'a>, tokens: &mut Cursor<'a>) -> Result<Stmt, ReadError>
+pub fn declared<'a>(scope: &mut Scope<'a>, tokens: &mut Cursor<'a, '_>) -> Result<Stmt, ReadError>
     requires { (first_item tokens.old).terminal ≡ Fixed Uint64 }
     ensures read { (s : Stack) → Outcome result (took (context_of scope.old 0 0) (for Starts)
         (WantName DeclaresLocal ∷ m sign.Equal ∷ Value ∷ ending true ∷ s) (items tokens.old))

@@ -30,7 +30,7 @@ fn line_code(scope: &Scope<'_>) -> ReadCode
 
 /// The fault of the directive that stands next, inside a target or under an `if`.
 #[tactic(auto, using(crate::proofs::Directives::stop_line))]
-pub fn line_fault(scope: &Scope<'_>, tokens: &Cursor<'_>) -> TextFault
+pub fn line_fault(scope: &Scope<'_>, tokens: &Cursor<'_, '_>) -> TextFault
     requires within { (inside (context_of scope.now 0 0) || under_if (context_of scope.now 0 0)) ≡ true }
     requires line { is_directive (first_item tokens.now).terminal ≡ true }
     ensures { (s : Stack) → run (context_of scope.now 0 0) (Body ∷ s) (items tokens.now) ≡ Some result }

@@ -30,7 +30,7 @@ pub fn is_visible(scope: &Scope<'_>, name: &[u8]) -> bool
 
 /// The name of a loop, where it is declared.
 #[tactic(auto, using(crate::proofs::Heads::bad_turn, crate::proofs::Heads::long_turn, crate::proofs::Heads::many_turn, crate::proofs::Heads::go_turn, crate::proofs::Heads::stop_turn, crate::proofs::Heads::gone_one))]
-fn turn_name<'a>(scope: &mut Scope<'a>, tokens: &mut Cursor<'a>) -> Result<&'a [u8], ReadError>
+fn turn_name<'a>(scope: &mut Scope<'a>, tokens: &mut Cursor<'a, '_>) -> Result<&'a [u8], ReadError>
     ensures read { (d : ℕ) (s : Stack) → OutcomeBy result (run (context_of scope.old 0 0) (Turn d ∷ s) (items tokens.old))
         (λ x. run (waiting x.now (context_of scope.new 0 0)) (head_of x.now (loop_body d s)) (items tokens.new)) }
     ensures scope { OnOk result (IsNamedMore scope.old scope.new) }
@@ -59,7 +59,7 @@ fn turn_name<'a>(scope: &mut Scope<'a>, tokens: &mut Cursor<'a>) -> Result<&'a [
 
 /// The first value of a loop.
 #[tactic(auto, using(c_expressions::proofs::Outcomes::on_from, crate::proofs::Heads::gone_three))]
-fn initial(tokens: &mut Cursor<'_>) -> Result<u64, ReadError>
+fn initial(tokens: &mut Cursor<'_, '_>) -> Result<u64, ReadError>
     ensures read { (c : Context) (s : Stack) → Outcome result
         (run c (m sign.Equal ∷ WantNum Plain ∷ m sign.Semicolon ∷ s) (items tokens.old))
         (run (out c) s (items tokens.new)) }
@@ -74,7 +74,7 @@ fn initial(tokens: &mut Cursor<'_>) -> Result<u64, ReadError>
 
 /// The value at which the loop of that name ends.
 #[tactic(auto, using(c_expressions::proofs::Outcomes::on_from_by, crate::proofs::Heads::gone_four))]
-fn limit(tokens: &mut Cursor<'_>, name: &[u8]) -> Result<u64, ReadError>
+fn limit(tokens: &mut Cursor<'_, '_>, name: &[u8]) -> Result<u64, ReadError>
     requires { length name.now ≤ MAX_NAME }
     ensures read { (c : Context) (s : Stack) → OutcomeBy result
         (run c (Want (Name name.now) (for Plain) ∷ m sign.Less ∷ WantNum Limit ∷ m sign.Semicolon ∷ s)
@@ -91,7 +91,7 @@ fn limit(tokens: &mut Cursor<'_>, name: &[u8]) -> Result<u64, ReadError>
 
 /// The step of the loop of that name and limit.
 #[tactic(auto, using(c_expressions::proofs::Outcomes::on_from, crate::proofs::Heads::gone_four))]
-fn stride(tokens: &mut Cursor<'_>, name: &[u8], limit: u64) -> Result<u64, ReadError>
+fn stride(tokens: &mut Cursor<'_, '_>, name: &[u8], limit: u64) -> Result<u64, ReadError>
     requires { length name.now ≤ MAX_NAME }
     ensures read { (c : Context) (s : Stack) → Outcome result
         (run (limited limit c) (Want (Name name.now) (for Plain) ∷ m sign.PlusEqual ∷ WantNum Step ∷
@@ -111,7 +111,7 @@ fn stride(tokens: &mut Cursor<'_>, name: &[u8], limit: u64) -> Result<u64, ReadE
 #[tactic(auto, using(c_expressions::proofs::Outcomes::on_from, c_expressions::proofs::Outcomes::on_from_by, crate::proofs::Heads::gone_bounds))]
 pub fn bounds(
     scope: &mut Scope<'_>,
-    tokens: &mut Cursor<'_>,
+    tokens: &mut Cursor<'_, '_>,
     name: &[u8],
 ) -> Result<Bounds, ReadError>
     requires { length name.now ≤ MAX_NAME }
@@ -130,7 +130,10 @@ pub fn bounds(
 
 /// The head of a loop behind its word, up to its name.
 #[tactic(auto, using(c_expressions::proofs::Outcomes::on_from_by, crate::proofs::Heads::gone_head))]
-pub fn head_name<'a>(scope: &mut Scope<'a>, tokens: &mut Cursor<'a>) -> Result<&'a [u8], ReadError>
+pub fn head_name<'a>(
+    scope: &mut Scope<'a>,
+    tokens: &mut Cursor<'a, '_>,
+) -> Result<&'a [u8], ReadError>
     ensures read { (d : ℕ) (s : Stack) → OutcomeBy result (run (context_of scope.old 0 0) (loop d s) (items tokens.old))
         (λ x. run (waiting x.now (context_of scope.new 0 0)) (head_of x.now (loop_body d s)) (items tokens.new)) }
     ensures scope { OnOk result (IsNamedMore scope.old scope.new) }

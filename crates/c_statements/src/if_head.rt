@@ -14,7 +14,7 @@ use c_tokens::Sign;
 
 /// The condition of an `if`, behind the word.
 #[tactic(auto, using(c_expressions::proofs::Outcomes::on_from, crate::proofs::Conditions::read_condition))]
-pub fn condition(scope: &Scope<'_>, tokens: &mut Cursor<'_>) -> Result<Expr, ReadError>
+pub fn condition(scope: &Scope<'_>, tokens: &mut Cursor<'_, '_>) -> Result<Expr, ReadError>
     ensures read { (s : Stack) → Outcome result (run (context_of scope.now 0 0)
         (m sign.OpenParen ∷ Atom ∷ Tail 9 ∷ m sign.CloseParen ∷ s) (items tokens.old))
         (run (context_of scope.now 0 0) s (items tokens.new)) }

@@ -19,7 +19,7 @@ use c_tokens::limits::MAX_STATEMENTS;
 
 /// Goes past the word `print`.
 #[tactic(auto, using(crate::proofs::Prints::many_prints))]
-fn begin_print(scope: &mut Scope<'_>, tokens: &mut Cursor<'_>) -> Result<(), ReadError>
+fn begin_print(scope: &mut Scope<'_>, tokens: &mut Cursor<'_, '_>) -> Result<(), ReadError>
     requires { (first_item tokens.old).terminal ≡ Fixed Print }
     ensures read { (s : Stack) → Outcome result (took (context_of scope.old 0 0) (for Prints) s (items tokens.old))
         (run (context_of scope.new 0 0) s (items tokens.new)) }
@@ -38,7 +38,7 @@ fn begin_print(scope: &mut Scope<'_>, tokens: &mut Cursor<'_>) -> Result<(), Rea
 }
 
 /// What is printed, behind the word.
-fn print_value(scope: &Scope<'_>, tokens: &mut Cursor<'_>) -> Result<Expr, ReadError>
+fn print_value(scope: &Scope<'_>, tokens: &mut Cursor<'_, '_>) -> Result<Expr, ReadError>
     ensures read { (s : Stack) → Outcome result (run (context_of scope.now 0 0) (print_rest s) (items tokens.old))
         (run (context_of scope.now 0 0) s (items tokens.new)) }
     ensures tree { IfOk result (λ e. IsPrintRead (names_of scope.now) (items tokens.old) (items tokens.new) e) }
@@ -50,7 +50,7 @@ fn print_value(scope: &Scope<'_>, tokens: &mut Cursor<'_>) -> Result<Expr, ReadE
 }
 
 /// A print, whose word stands next.
-pub fn printed(scope: &mut Scope<'_>, tokens: &mut Cursor<'_>) -> Result<Stmt, ReadError>
+pub fn printed(scope: &mut Scope<'_>, tokens: &mut Cursor<'_, '_>) -> Result<Stmt, ReadError>
     requires { (first_item tokens.old).terminal ≡ Fixed Print }
     ensures read { (s : Stack) → Outcome result (took (context_of scope.old 0 0) (for Prints) (print_rest s)
         (items tokens.old)) (run (context_of scope.new 0 0) s (items tokens.new)) }

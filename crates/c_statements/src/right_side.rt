@@ -26,7 +26,7 @@ pub fn is_inside(scope: &Scope<'_>) -> bool
 }
 
 /// Goes past the word `read`.
-fn begin_input(scope: &Scope<'_>, tokens: &mut Cursor<'_>) -> Result<(), ReadError>
+fn begin_input(scope: &Scope<'_>, tokens: &mut Cursor<'_, '_>) -> Result<(), ReadError>
     requires { (first_item tokens.old).terminal ≡ Fixed Read }
     ensures read { (s : Stack) → Outcome result (run (context_of scope.now 0 0) (Value ∷ s) (items tokens.old))
         (run (context_of scope.now 0 0) (m sign.OpenParen ∷ m sign.CloseParen ∷ s) (items tokens.new)) }
@@ -41,7 +41,7 @@ fn begin_input(scope: &Scope<'_>, tokens: &mut Cursor<'_>) -> Result<(), ReadErr
 
 /// The word `read` that stands next, with its brackets.
 #[tactic(auto, using(c_expressions::proofs::Outcomes::on_from, crate::proofs::Sources::read_input))]
-fn input(scope: &Scope<'_>, tokens: &mut Cursor<'_>) -> Result<(), ReadError>
+fn input(scope: &Scope<'_>, tokens: &mut Cursor<'_, '_>) -> Result<(), ReadError>
     requires { (first_item tokens.old).terminal ≡ Fixed Read }
     ensures read { (s : Stack) → Outcome result (run (context_of scope.now 0 0) (Value ∷ s) (items tokens.old))
         (run (context_of scope.now 0 0) s (items tokens.new)) }
@@ -54,7 +54,7 @@ fn input(scope: &Scope<'_>, tokens: &mut Cursor<'_>) -> Result<(), ReadError>
 }
 
 /// The expression that stands next, before a semicolon.
-fn value(scope: &Scope<'_>, tokens: &mut Cursor<'_>) -> Result<Expr, ReadError>
+fn value(scope: &Scope<'_>, tokens: &mut Cursor<'_, '_>) -> Result<Expr, ReadError>
     requires { same (Fixed Read) (first_item tokens.old).terminal ≡ false }
     ensures read { (b : Bool) (s : Stack) → Outcome result (run (context_of scope.now 0 0) (Value ∷ ending b ∷ s)
         (items tokens.old)) (run (context_of scope.now 0 0) (ending b ∷ s) (items tokens.new)) }
@@ -74,7 +74,7 @@ fn value(scope: &Scope<'_>, tokens: &mut Cursor<'_>) -> Result<Expr, ReadError>
 
 /// Whether a semicolon stands next.
 #[tactic(auto, using(crate::proofs::Sources::no_end, c_expressions::proofs::Going::was_mark))]
-fn ended(tokens: &Cursor<'_>) -> Result<(), ReadError>
+fn ended(tokens: &Cursor<'_, '_>) -> Result<(), ReadError>
     ensures fault { (c : Context) (b : Bool) (s : Stack) → IfErr result
         (λ e. Failed e (run c (ending b ∷ s) (items tokens.now))) }
     ensures stands { OnOk result ((first_item tokens.now).terminal ≡ Mark sign.Semicolon) }
@@ -87,7 +87,7 @@ fn ended(tokens: &Cursor<'_>) -> Result<(), ReadError>
 
 /// What is assigned, up to the semicolon behind it, which ends an assignment or a declaration.
 #[tactic(auto, using(c_expressions::proofs::Outcomes::on_from, crate::proofs::Sources::was_read))]
-pub fn source(scope: &Scope<'_>, tokens: &mut Cursor<'_>) -> Result<Source, ReadError>
+pub fn source(scope: &Scope<'_>, tokens: &mut Cursor<'_, '_>) -> Result<Source, ReadError>
     ensures read { (b : Bool) (s : Stack) → Outcome result (run (context_of scope.now 0 0) (Value ∷ ending b ∷ s)
         (items tokens.old)) (run (context_of scope.now 0 0) (ending b ∷ s) (items tokens.new)) }
     ensures stands { OnOk result ((first_item tokens.new).terminal ≡ Mark sign.Semicolon) }
@@ -102,7 +102,7 @@ pub fn source(scope: &Scope<'_>, tokens: &mut Cursor<'_>) -> Result<Source, Read
 }
 
 /// What is assigned, and the semicolon behind it.
-pub fn ended_source(scope: &Scope<'_>, tokens: &mut Cursor<'_>) -> Result<Source, ReadError>
+pub fn ended_source(scope: &Scope<'_>, tokens: &mut Cursor<'_, '_>) -> Result<Source, ReadError>
     ensures read { (s : Stack) → Outcome result (run (context_of scope.now 0 0) (Value ∷ m sign.Semicolon ∷ s)
         (items tokens.old)) (run (context_of scope.now 0 0) s (items tokens.new)) }
     ensures tree { IfOk result (λ v. IsSourceBefore (env_of scope.now) (items tokens.old) (items tokens.new) v) }

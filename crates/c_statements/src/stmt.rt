@@ -31,7 +31,7 @@ use directives::Word;
 /// The statement that stands next.
 #[cycle(statement)]
 #[tactic(auto, using(c_expressions::proofs::Outcomes::on_from, crate::proofs::Begins::at_declaration, crate::proofs::Begins::at_loop, crate::proofs::Begins::at_choice, crate::proofs::Begins::at_print, crate::proofs::Begins::at_block, crate::proofs::Begins::at_name, crate::proofs::Begins::stop_stmt, crate::proofs::Levels::same_counted))]
-pub fn statement<'a>(scope: &mut Scope<'a>, tokens: &mut Cursor<'a>) -> Result<Stmt, ReadError>
+pub fn statement<'a>(scope: &mut Scope<'a>, tokens: &mut Cursor<'a, '_>) -> Result<Stmt, ReadError>
     requires ready { IsReady scope.old }
     requires within { (inside (context_of scope.old 0 0) || under_if (context_of scope.old 0 0)) ≡ true }
     requires goes_on { same (Mark sign.CloseBrace) (first_item tokens.old).terminal ≡ false }
@@ -57,7 +57,7 @@ pub fn statement<'a>(scope: &mut Scope<'a>, tokens: &mut Cursor<'a>) -> Result<S
 
 /// The loop whose word stands next.
 #[cycle(statement)]
-fn looped<'a>(scope: &mut Scope<'a>, tokens: &mut Cursor<'a>) -> Result<Stmt, ReadError>
+fn looped<'a>(scope: &mut Scope<'a>, tokens: &mut Cursor<'a, '_>) -> Result<Stmt, ReadError>
     requires ready { IsReady scope.old }
     requires within { (inside (context_of scope.old 0 0) || under_if (context_of scope.old 0 0)) ≡ true }
     requires word { (first_item tokens.old).terminal ≡ Fixed For }
@@ -78,7 +78,7 @@ fn looped<'a>(scope: &mut Scope<'a>, tokens: &mut Cursor<'a>) -> Result<Stmt, Re
 /// The `if` whose word stands next, with its `else` if it has one.
 #[cycle(statement)]
 #[tactic(auto, using(c_expressions::proofs::Outcomes::on_from))]
-pub fn choice<'a>(scope: &mut Scope<'a>, tokens: &mut Cursor<'a>) -> Result<Stmt, ReadError>
+pub fn choice<'a>(scope: &mut Scope<'a>, tokens: &mut Cursor<'a, '_>) -> Result<Stmt, ReadError>
     requires ready { IsReady scope.old }
     requires word { (first_item tokens.old).terminal ≡ Fixed If }
     ensures read { (s : Stack) → Outcome result (took (context_of scope.old 0 0) (for StartsIf)
@@ -102,7 +102,7 @@ pub fn choice<'a>(scope: &mut Scope<'a>, tokens: &mut Cursor<'a>) -> Result<Stmt
 /// The block whose brace stands next.
 #[cycle(statement)]
 #[tactic(auto, using(c_expressions::proofs::Outcomes::on_from))]
-fn blocked<'a>(scope: &mut Scope<'a>, tokens: &mut Cursor<'a>) -> Result<Stmt, ReadError>
+fn blocked<'a>(scope: &mut Scope<'a>, tokens: &mut Cursor<'a, '_>) -> Result<Stmt, ReadError>
     requires ready { IsReady scope.old }
     requires within { (inside (context_of scope.old 0 0) || under_if (context_of scope.old 0 0)) ≡ true }
     requires opening { (first_item tokens.old).terminal ≡ Mark sign.OpenBrace }
@@ -122,7 +122,7 @@ fn blocked<'a>(scope: &mut Scope<'a>, tokens: &mut Cursor<'a>) -> Result<Stmt, R
 #[tactic(auto, using(c_expressions::proofs::Outcomes::on_from))]
 pub fn body<'a>(
     scope: &mut Scope<'a>,
-    tokens: &mut Cursor<'a>,
+    tokens: &mut Cursor<'a, '_>,
     turn: Option<Turn<'a>>,
 ) -> Result<Vec<Stmt>, ReadError>
     requires loops { loops_in (turn_names turn ++ names_of scope.old) ≤ scope.old.scalars }
@@ -146,7 +146,7 @@ pub fn body<'a>(
 #[tactic(auto, using(c_expressions::proofs::Outcomes::on_from))]
 pub fn statements<'a>(
     scope: &mut Scope<'a>,
-    tokens: &mut Cursor<'a>,
+    tokens: &mut Cursor<'a, '_>,
 ) -> Result<Vec<Stmt>, ReadError>
     requires ready { IsReady scope.old }
     requires within { (inside (context_of scope.old 0 0) || under_if (context_of scope.old 0 0)) ≡ true }

@@ -1,6 +1,6 @@
 -- From the machine's answer to the line's.
-use Rattle.std.proofs.Common.{◌≡◌, ℕ, List, [], ◌∷◌, map, Option, Some, None, refl, sym, ap, subst, ◌∙◌}
-use Rattle.c_grammar.specs.Lexeme.{Lexeme, lexemes_of}
+use Rattle.std.proofs.Common.{◌≡◌, List, [], ◌∷◌, map, Option, Some, None, refl, sym, ap, subst, ◌∙◌}
+use Rattle.c_grammar.specs.Lexeme.{Lexeme, Placed}
 use Rattle.c_grammar.specs.Texts.{terminals}
 use Rattle.c_grammar.specs.Machine.{Found, run as machine_run}
 use Rattle.c_grammar.specs.LineRules.{line_begin, line_grammar, IsLine}
@@ -36,11 +36,11 @@ fits_kinds (x ∷ xs) [] e = absurd e
 fits_kinds (x ∷ xs) (i ∷ is) e = let more = fits_kinds xs is e.2 in
     ap (λ (t : Lexeme). t ∷ terminals line_grammar is) e.0 ∙ ap (λ (ts : List Lexeme). x.0 ∷ ts) more
 
-pub spells : (line : List ℕ) (column : ℕ) (d : Directive) → run line_begin line_start (line_items line column) ≡ None →
-    IsSpelled (line_marks d) (line_items line column) [] → IsLine (text_of d) → SpellsLine line column d
+pub spells : (ps : List Placed) (d : Directive) → run line_begin line_start (line_items ps) ≡ None →
+    IsSpelled (line_marks d) (line_items ps) [] → IsLine (text_of d) → SpellsLine ps d
 unfolding run
-spells line column d e r h =
-    let is : Items = line_items line column in
+spells ps d e r h =
+    let is : Items = line_items ps in
     record {
       spelled = spelled line_grammar line_machine line_laws is (text_of d)
           (found_none (machine_run line_grammar line_machine line_begin line_start is) e)
@@ -48,24 +48,24 @@ spells line column d e r h =
       placed = r;
     }
 
-pub first_line_fault : (line : List ℕ) (column : ℕ) (f : LineFault) →
-    run line_begin line_start (line_items line column) ≡ Some f → IsFirstLineFault line column f
+pub first_line_fault : (ps : List Placed) (f : LineFault) →
+    run line_begin line_start (line_items ps) ≡ Some f → IsFirstLineFault ps f
 unfolding run
-first_line_fault line column f e =
-    let is : Items = line_items line column in
+first_line_fault ps f e =
+    let is : Items = line_items ps in
     let g = found_some (machine_run line_grammar line_machine line_begin line_start is) f e in
-    subst (λ (h : LineFault). IsFirstLineFault line column h) (sym g.2)
+    subst (λ (h : LineFault). IsFirstLineFault ps h) (sym g.2)
     (record { item = g.0.item; place = refl; first = first_fault line_grammar line_machine line_laws is g.0 g.1 })
 
-pub no_directive : (line : List ℕ) (column : ℕ) (f : LineFault) →
-    run line_begin line_start (line_items line column) ≡ Some f → (d : Directive) → SpellsLine line column d → ⊥
+pub no_directive : (ps : List Placed) (f : LineFault) →
+    run line_begin line_start (line_items ps) ≡ Some f → (d : Directive) → SpellsLine ps d → ⊥
 unfolding run
-no_directive line column f e d s =
-    let is : Items = line_items line column in
+no_directive ps f e d s =
+    let is : Items = line_items ps in
     let g = found_some (machine_run line_grammar line_machine line_begin line_start is) f e in
     not_spelled line_grammar line_machine line_laws is g.0 (text_of d) g.1 s.spelled
 
-pub told : (line : List ℕ) (column : ℕ) (o : Option LineFault) →
-    run line_begin line_start (line_items line column) ≡ o → line_answer line column ≡ o
+pub told : (ps : List Placed) (o : Option LineFault) →
+    run line_begin line_start (line_items ps) ≡ o → line_answer ps ≡ o
 unfolding line_answer
-told line column o e = answer_is (lexemes_of line column) ∙ e
+told ps o e = answer_is ps ∙ e

@@ -1,5 +1,5 @@
 -- The machine at the words before the clauses.
-use Rattle.std.proofs.Common.{◌≡◌, ℕ, true, false, cond, List, [], ◌∷◌, ◌++◌, Some, None, refl, sym}
+use Rattle.std.proofs.Common.{◌≡◌, ℕ, true, false, List, [], ◌∷◌, ◌++◌, Some, None, refl, sym}
 use Rattle.std.specs.Prelude.{codes}
 use Rattle.base.specs.declared.fault.ReadCode.TheVariants.{UnknownDirective, UnknownClause}
 use Rattle.c_grammar.specs.Lexeme.{Lexeme, For, Reserved, Worded, Ended, same}

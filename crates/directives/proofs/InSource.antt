@@ -1,6 +1,6 @@
 -- What a source's rules find on a line.
 use Rattle.std.proofs.Common.{◌≡◌, ℕ, ◌+◌, true, List, [], ◌∷◌, drop, map, Option, Some, None, refl, sym, ap, ◌∙◌}
-use Rattle.c_grammar.specs.Lexeme.{Lexeme, Ended, Placed, lexemes_of}
+use Rattle.c_grammar.specs.Lexeme.{Lexeme, Ended, Placed}
 use Rattle.c_grammar.specs.Texts.{terminals, kinds}
 use Rattle.c_grammar.specs.LineGrammar as grammar
 use Rattle.c_grammar.specs.LineRules.{line_grammar}
@@ -77,10 +77,9 @@ words_are : (t : grammar.LineText) → is_omp (kinds line_grammar (grammar.line_
 unfolding is_omp
 words_are t = refl
 
-pub in_source : (line : List ℕ) (column : ℕ) (d : Directive) → SpellsLine line column d → IsInSource line column d
+pub in_source : (ps : List Placed) (d : Directive) → SpellsLine ps d → IsInSource ps d
 unfolding uses_of
-in_source line column d s =
-    let ps : List Placed = lexemes_of line column in
+in_source ps d s =
     let t = text_of d in
     let same : kinds_of ps ≡ kinds line_grammar (grammar.line_slots t) = sym (kinds_are ps) ∙ s.spelled.tokens in
     let pass : uses_of (kinds line_grammar (grammar.line_slots t)) ≡ slot_uses 0 (grammar.line_slots t) =
@@ -91,6 +90,6 @@ in_source line column d s =
       depth = ap depth_of same ∙ depth_is t s.spelled.is_text;
       names = ap (λ (ts : List Lexeme). map (at_column (columns_of ps)) (uses_of ts)) same
           ∙ ap (λ (us : Uses). map (at_column (columns_of ps)) us) pass
-          ∙ placed_uses (columns_of ps) 0 (line_marks d) (grammar.line_slots t) (line_items line column) (names_in d)
+          ∙ placed_uses (columns_of ps) 0 (line_marks d) (grammar.line_slots t) (line_items ps) (names_in d)
           (columns_are ps) s.placed.fits (line_tells d);
     }

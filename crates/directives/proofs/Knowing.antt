@@ -6,10 +6,10 @@ use Rattle.std.specs.Str.{bytes_eq}
 use Rattle.std.specs.Borrow.{Bor}
 use Rattle.std.proofs.Math.Bool.{or-false}
 use Rattle.base.specs.declared.fault.ReadCode.{ReadCode as Code}
-use Rattle.base.specs.declared.fault.ReadCode.TheVariants.{UnknownByte, BadNumber, BadOperand, TooMany, ClauseCount, ArrayTwice, BadDevice}
+use Rattle.base.specs.declared.fault.ReadCode.TheVariants.{UnknownByte, BadNumber, TooMany, ClauseCount, ArrayTwice, BadDevice}
 use Rattle.c_grammar.specs.Lexeme.{Lexeme, Reserved, Signed, Worded, Numbered, Strange, Ended}
 use Rattle.c_grammar.specs.LineGrammar.{Amount}
-use Rattle.c_grammar.specs.LineRules.{LineContext, max_depends, max_terms, has_single, is_among, is_name_among, is_no_device, is_no_amount, is_no_chunk, same_amount, is_strange, is_bad_number, is_long, line_wrong, line_breaks}
+use Rattle.c_grammar.specs.LineRules.{LineContext, max_depends, max_terms, has_single, is_among, is_name_among, is_no_device, same_amount, is_strange, is_bad_number, is_long, line_wrong, line_breaks}
 use Rattle.c_grammar.specs.LineMachine.{line_first_broken, line_first_wrong}
 use Rattle.directives.specs.declared.known.Act.{Act}
 use Rattle.directives.specs.declared.known.Act.TheVariants as act

@@ -17,6 +17,7 @@ pub mod Heading
 pub mod SameKinds
 pub mod Answering
 pub mod Numbered
+pub mod Wholes
 pub mod Words
 pub mod Telling
 pub mod InSource

@@ -5,9 +5,9 @@ use Rattle.c_tokens.specs.declared.kind.Mood.{Mood}
 use Rattle.c_tokens.specs.declared.kind.Piece.TheVariants as piece
 use Rattle.c_tokens.specs.Text.{after_kind}
 use Rattle.c_grammar.specs.Lexeme.{Strange, Ended, Placed, lexeme_of, lexemes_from}
-use Rattle.directives.specs.declared.lexemes.Lexemes.{Lexemes}
+use Rattle.directives.specs.declared.line_bytes.LineBytes.{LineBytes}
 use Rattle.directives.specs.Pieces.{piece_on}
-use Rattle.directives.specs.Ahead.{ahead_on_line}
+use Rattle.directives.specs.Ahead.{ahead_in_bytes}
 
 skips : (bs : List ℕ) (k : ℕ) (mood : Mood) (c : ℕ) → k ≤ length bs → lexemes_from bs k mood c ≡ lexemes_from
     (drop k bs) 0 mood (c + k)
@@ -53,35 +53,35 @@ unfolding lexemes_from
 end_from [] mood c e = refl
 end_from (b ∷ bs) mood c e = absurd (omega arith)
 
-going : (l : Lexemes) → l.over ≡ false → ahead_on_line l ≡ lexemes_from l.rest.now 0 l.mood l.column
+going : (l : LineBytes) → l.over ≡ false → ahead_in_bytes l ≡ lexemes_from l.rest.now 0 l.mood l.column
 going l e = rw e refl
 
 -- another reader that has come this far
-pub behind_is : (l' : Lexemes) (bs : List ℕ) (m : Mood) (c : ℕ) → l'.over ≡ false → l'.rest.now ≡ bs → l'.mood ≡ m →
-    l'.column ≡ c → lexemes_from bs 0 m c ≡ ahead_on_line l'
+pub behind_is : (l' : LineBytes) (bs : List ℕ) (m : Mood) (c : ℕ) → l'.over ≡ false → l'.rest.now ≡ bs → l'.mood ≡ m →
+    l'.column ≡ c → lexemes_from bs 0 m c ≡ ahead_in_bytes l'
 behind_is l' bs m c o e f g = sym (going l' o ∙ rw (e, f, g) refl)
 
-pub at_layout : (l l' : Lexemes) (n : ℕ) (m : Mood) → l.over ≡ false → piece_on l.mood l.rest.now ≡ piece.Layout n m →
+pub at_layout : (l l' : LineBytes) (n : ℕ) (m : Mood) → l.over ≡ false → piece_on l.mood l.rest.now ≡ piece.Layout n m →
     0 < n → n ≤ length l.rest.now → l'.over ≡ l.over → l'.rest.now ≡ drop n l.rest.now → l'.mood ≡ m → l'.column ≡
-    l.column + n → ahead_on_line l ≡ ahead_on_line l'
+    l.column + n → ahead_in_bytes l ≡ ahead_in_bytes l'
 at_layout l l' n m o e lt le o' r f g = going l o ∙ layout_from l.rest.now l.mood l.column n m e lt le ∙ behind_is l'
     (drop n l.rest.now) m (l.column + n) (o' ∙ o) r f g
 
-pub at_token : (l l' : Lexemes) (k : Kind) (n : ℕ) → l.over ≡ false → piece_on l.mood l.rest.now ≡ piece.Token k n →
+pub at_token : (l l' : LineBytes) (k : Kind) (n : ℕ) → l.over ≡ false → piece_on l.mood l.rest.now ≡ piece.Token k n →
     0 < n → n ≤ length l.rest.now → l'.over ≡ l.over → l'.rest.now ≡ drop n l.rest.now → l'.mood ≡ after_kind k →
-    l'.column ≡ l.column + n → ahead_on_line l ≡ record {
+    l'.column ≡ l.column + n → ahead_in_bytes l ≡ record {
       lexeme = lexeme_of k (take n l.rest.now);
       column =
           l.column;
-    } ∷ ahead_on_line l'
+    } ∷ ahead_in_bytes l'
 at_token l l' k n o e lt le o' r f g = going l o ∙ token_from l.rest.now l.mood l.column k n e lt le ∙ ap
     (λ (ps : List Placed). record { lexeme = lexeme_of k (take n l.rest.now); column = l.column } ∷ ps)
     (behind_is l' (drop n l.rest.now) (after_kind k) (l.column + n) (o' ∙ o) r f g)
 
-pub at_unknown : (l : Lexemes) → l.over ≡ false → 0 < length l.rest.now → piece_on l.mood l.rest.now ≡ piece.Unknown →
-    ahead_on_line l ≡ record { lexeme = Strange; column = l.column } ∷ []
+pub at_unknown : (l : LineBytes) → l.over ≡ false → 0 < length l.rest.now → piece_on l.mood l.rest.now ≡ piece.Unknown →
+    ahead_in_bytes l ≡ record { lexeme = Strange; column = l.column } ∷ []
 at_unknown l o lt e = going l o ∙ unknown_from l.rest.now l.mood l.column lt e
 
-pub at_end : (l : Lexemes) → l.over ≡ false → length l.rest.now ≡ 0 → ahead_on_line l ≡
+pub at_end : (l : LineBytes) → l.over ≡ false → length l.rest.now ≡ 0 → ahead_in_bytes l ≡
     record { lexeme = Ended; column = l.column } ∷ []
 at_end l o e = going l o ∙ end_from l.rest.now l.mood l.column e

@@ -1,13 +1,11 @@
 -- The machine at the clauses with numbers that say how turns are shared out, and what was read of them.
-use Rattle.std.proofs.Common.{◌≡◌, ℕ, true, false, cond, List, [], ◌∷◌, ◌++◌, Option, Some, None, refl, sym, ap, ◌∙◌}
-use Rattle.std.specs.Prelude.{codes, ◌&&◌}
+use Rattle.std.proofs.Common.{◌≡◌, ℕ, true, false, cond, List, [], ◌∷◌, Option, Some, None, refl, ap, ◌∙◌}
+use Rattle.std.specs.Prelude.{codes}
 use Rattle.std.proofs.lemmas.Bool.{and_parts}
 use Rattle.c_tokens.specs.declared.kind.Sign.TheVariants as sign
 use Rattle.base.specs.declared.fault.ReadCode.TheVariants.{Unexpected, BadNumber, BadOperand, UnknownClause}
 use Rattle.c_grammar.specs.Lexeme.{Lexeme, Reserved, Signed, Worded, Numbered, Strange, Ended, same}
-use Rattle.c_grammar.specs.LineGrammar as grammar
 use Rattle.c_grammar.specs.LineGrammar.{Amount, OnSchedule, OnAmount, Once, Amounts, Chunks, plain, of, DirectiveKind, ScheduleType, Static, Dynamic, Guided, Auto, Runtime, amount_word, schedule_word, takes_amount, takes_schedule, takes_chunk}
-use Rattle.c_grammar.specs.LineRules.{IsChunk}
 use Rattle.c_grammar.specs.LineMachine.{LineStack, Clauses, AmountNumber, ScheduleHead, AfterSchedule, ChunkNumber, w, is_word, line_advance, line_place}
 use Rattle.c_grammar.proofs.LineGoes.{amount_clause_step, schedule_clause_step}
 use Rattle.directives.specs.declared.known.Act.TheVariants as act

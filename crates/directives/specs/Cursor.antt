@@ -1,6 +1,6 @@
 -- What a reader of a line has left.
-use Rattle.std.specs.Prelude.{ℕ, List, [], ◌∷◌, map}
-use Rattle.c_grammar.specs.Lexeme.{Lexeme, Placed, lexemes_of}
+use Rattle.std.specs.Prelude.{List, [], ◌∷◌, map}
+use Rattle.c_grammar.specs.Lexeme.{Lexeme, Placed}
 use Rattle.c_grammar.specs.Texts.{Item}
 use Rattle.directives.specs.declared.line.Line.{Line}
 use Rattle.directives.specs.Seen.{seen_placed}
@@ -12,9 +12,9 @@ Items = List (Item Lexeme)
 abbrev pub item_of : Placed → Item Lexeme
 item_of p = record { terminal = p.lexeme; line = 0; column = p.column; columns = [] }
 
--- the tokens of a line that begins with # at a column
-abbrev pub line_items : List ℕ → ℕ → Items
-line_items line column = map item_of (lexemes_of line column)
+-- the tokens of a line
+abbrev pub line_items : List Placed → Items
+line_items ps = map item_of ps
 
 -- the next token
 abbrev pub first_item : Line → Item Lexeme

@@ -1,6 +1,6 @@
 -- The names of a directive, and what a source's rules ask of its line.
 use Rattle.std.specs.Prelude.{◌≡◌, ℕ, true, List, [], ◌∷◌, ◌++◌, map, Option, Some, None}
-use Rattle.c_grammar.specs.Lexeme.{lexemes_of}
+use Rattle.c_grammar.specs.Lexeme.{Placed}
 use Rattle.c_grammar.specs.Lines.{Use, OfArray, OfLoop, is_omp, kind_of, depth_of, line_depth, uses_of}
 use Rattle.c_grammar.specs.Source.{nth}
 use Rattle.directives.specs.declared.tree.Term.{Term}
@@ -61,9 +61,9 @@ at_column columns u = (nth columns u.0, u.1)
 
 -- what a source's rules find on the line is what the directive says: its words, its kind, how many of its loops are
 -- unordered, and its names with their columns
-pub record IsInSource (line : List ℕ) (column : ℕ) (d : Directive) : Type 0 where
-  pub words : is_omp (kinds_of (lexemes_of line column)) ≡ true
-  pub kind : kind_of (kinds_of (lexemes_of line column)) ≡ seen_kind d.kind
-  pub depth : depth_of (kinds_of (lexemes_of line column)) ≡ line_depth (text_of d)
-  pub names : map (at_column (columns_of (lexemes_of line column))) (uses_of (kinds_of (lexemes_of line column))) ≡
+pub record IsInSource (ps : List Placed) (d : Directive) : Type 0 where
+  pub words : is_omp (kinds_of ps) ≡ true
+  pub kind : kind_of (kinds_of ps) ≡ seen_kind d.kind
+  pub depth : depth_of (kinds_of ps) ≡ line_depth (text_of d)
+  pub names : map (at_column (columns_of ps)) (uses_of (kinds_of ps)) ≡
       names_in d

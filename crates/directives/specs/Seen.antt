@@ -1,5 +1,5 @@
 -- What the reader's values stand for in the grammar.
-use Rattle.std.specs.Prelude.{Bool, true, not, Some, None}
+use Rattle.std.specs.Prelude.{Bool, true, false, not, ◌&&◌, List, [], ◌∷◌, Some, None}
 use Rattle.c_grammar.specs.Lexeme.{Word, Uint64, Int, Main, Void, For, If, Else, Print, Read, Lexeme, Reserved, Signed, Worded, Numbered, Strange, Ended, Placed}
 use Rattle.directives.specs.declared.word.Word.{Word as GivenWord}
 use Rattle.directives.specs.declared.word.Word.TheVariants as word
@@ -40,3 +40,16 @@ ends_well (Reserved w) over = not over
 ends_well (Worded x) over = not over
 ends_well (Numbered n) over = not over
 ends_well (Signed s) over = not over
+
+abbrev pub is_empty : {X : Type 0} → List X → Bool
+is_empty [] = true
+is_empty (x ∷ xs) = false
+
+-- so does each of these tokens
+abbrev pub all_end_well : List Placed → Bool
+all_end_well [] = true
+all_end_well (p ∷ ps) = ends_well p.lexeme (is_empty ps) && all_end_well ps
+
+-- a line has at least its end
+abbrev pub is_whole : List Placed → Bool
+is_whole ps = not (is_empty ps) && all_end_well ps

@@ -18,7 +18,7 @@ use Rattle.directives.specs.declared.tree.Construct.{Construct}
 use Rattle.directives.specs.declared.tree.Construct.TheVariants as construct
 use Rattle.directives.specs.declared.tree.DirectiveKind.{DirectiveKind as GivenKind}
 use Rattle.directives.specs.declared.tree.DirectiveKind.TheVariants as kind
-use Rattle.directives.specs.Kinds.{seen_amount, seen_schedule, seen_construct, seen_kind, seen_modifier, seen_map, seen_depend, seen_motion}
+use Rattle.directives.specs.Kinds.{seen_amount, seen_schedule, seen_kind, seen_modifier, seen_map, seen_depend, seen_motion}
 
 -- ---- the tree
 

@@ -9,7 +9,7 @@ use crate::tree::{Amount, DirectiveKind, ScheduleType};
 use base::fault::ReadCode;
 use c_tokens::Sign;
 
-impl<'a> Line<'a> {
+impl<'a, 'l> Line<'a, 'l> {
     ghost use Rattle.std.specs.Prelude.{◌≡◌, ◌∷◌, [], true, false, IfOk, IfSome, IfNone, if◌then◌else◌};
     ghost use Rattle.c_tokens.specs.declared.kind.Sign.TheVariants as sign;
     ghost use Rattle.c_grammar.specs.Lexeme.{Worded};

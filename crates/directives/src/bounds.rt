@@ -8,7 +8,7 @@ use crate::tree::{Bound, Name, Term};
 use base::fault::ReadCode;
 use c_tokens::Sign;
 
-impl<'a> Line<'a> {
+impl<'a, 'l> Line<'a, 'l> {
     ghost use Rattle.std.specs.Prelude.{◌≡◌, ◌∷◌, [], Bool, true, false, IfOk, OnOk, Some};
     ghost use Rattle.c_tokens.specs.declared.kind.Sign.TheVariants as sign;
     ghost use Rattle.c_grammar.specs.Lexeme.{Numbered, Signed, same};

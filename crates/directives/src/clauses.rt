@@ -8,7 +8,7 @@ use base::fault::ReadCode;
 use base::tree::DeviceId;
 use c_tokens::Sign;
 
-impl<'a> Line<'a> {
+impl<'a, 'l> Line<'a, 'l> {
     ghost use Rattle.std.specs.Prelude.{◌≡◌, ◌∷◌, ◌++◌, [], true, false, map, IfOk, IfSome, IfNone, None};
     ghost use Rattle.c_grammar.specs.Lexeme.{Ended, Worded, same};
     ghost use Rattle.c_grammar.specs.LineGrammar as grammar;

@@ -1,8 +1,10 @@
 //! A whole line.
 
-ghost use Rattle.std.specs.Prelude.{◌≡◌, ◌≤◌, ◌^◌, [], IfOk, IfErr, OnOk, None, Some};
+ghost use Rattle.std.specs.Prelude.{◌≡◌, [], IfOk, IfErr, OnOk, None, Some};
 ghost use Rattle.c_grammar.specs.LineRules.{IsLine, line_begin};
 ghost use Rattle.c_grammar.specs.LineMachine.{line_start};
+ghost use Rattle.c_grammar.specs.Lexeme.{lexemes_of};
+ghost use Rattle.directives.specs.Ahead.{seen_line};
 ghost use Rattle.directives.specs.Cursor.{line_items};
 ghost use Rattle.directives.specs.Names.{IsInSource};
 ghost use Rattle.directives.specs.Reading.{IsSpelled, Outcome, run};
@@ -12,11 +14,12 @@ ghost use Rattle.directives.specs.Trees.{line_marks, text_of};
 use crate::fault::DirectiveFault;
 use crate::known::Act;
 use crate::line::Line;
+use crate::line_tokens::LineTokens;
 use crate::tree::{Construct, Directive, DirectiveKind};
 use base::fault::ReadCode;
 use std::alloc::Global;
 
-impl<'a> Line<'a> {
+impl<'a, 'l> Line<'a, 'l> {
     ghost use Rattle.std.specs.Prelude.{◌≡◌, ◌∷◌, ◌++◌, [], false, IfOk, None, codes, if◌then◌else◌};
     ghost use Rattle.c_grammar.specs.LineGrammar as grammar;
     ghost use Rattle.c_grammar.specs.LineRules.{IsLine};
@@ -205,37 +208,30 @@ impl<'a> Line<'a> {
     }
 }
 
-/// The directive of a line whose `#` stands at the column.
-fn read_line<'a>(
-    alloc: Global,
-    line: &'a [u8],
-    column: usize,
-) -> Result<Directive<'a>, DirectiveFault>
-    requires { column ≤ 2 ^ 63 }
-    ensures read { Outcome result (run line_begin line_start (line_items line.now column)) None }
-    ensures tree { IfOk result (λ d. IsSpelled (line_marks d) (line_items line.now column) []) }
+/// The directive of a line.
+fn read_line<'a>(alloc: Global, line: &LineTokens<'a>) -> Result<Directive<'a>, DirectiveFault>
+    ensures read { Outcome result (run line_begin line_start (line_items (seen_line line.now))) None }
+    ensures tree { IfOk result (λ d. IsSpelled (line_marks d) (line_items (seen_line line.now)) []) }
     ensures line { IfOk result (λ d. IsLine (text_of d)) }
 {
-    let mut rest = Line::new(alloc, line, column);
+    let mut rest = Line::new(alloc, line);
     rest.directive()
 }
 
-/// Reads one directive line, its `#` first, which stands at the column. Columns count bytes. No name is looked up.
+/// Reads one directive line of these tokens. No name is looked up.
 /// A fault is the first of the line, the lowest code at its token. Want of memory comes in place of any answer.
-pub fn read_directive_at<'a>(
+pub fn read_directive_in<'a>(
     alloc: Global,
-    line: &'a [u8],
-    column: usize,
+    line: &LineTokens<'a>,
 ) -> Result<Directive<'a>, DirectiveFault>
-    requires { column ≤ 2 ^ 63 }
-    ensures found { IfOk result (λ d. SpellsLine line.now column d) }
-    ensures sound { OnOk result (line_answer line.now column ≡ None) }
-    ensures source { IfOk result (λ d. IsInSource line.now column d) }
-    ensures fault { IfErr result (OnLine (λ f. IsFirstLineFault line.now column f)) }
-    ensures told { IfErr result (OnLine (λ f. line_answer line.now column ≡ Some f)) }
-    ensures refused { IfErr result (OnLine (λ _. (d : Directive) → SpellsLine line.now column d → ⊥)) }
+    ensures found { IfOk result (λ d. SpellsLine (seen_line line.now) d) }
+    ensures sound { OnOk result (line_answer (seen_line line.now) ≡ None) }
+    ensures source { IfOk result (λ d. IsInSource (seen_line line.now) d) }
+    ensures fault { IfErr result (OnLine (λ f. IsFirstLineFault (seen_line line.now) f)) }
+    ensures told { IfErr result (OnLine (λ f. line_answer (seen_line line.now) ≡ Some f)) }
+    ensures refused { IfErr result (OnLine (λ _. (d : Directive) → SpellsLine (seen_line line.now) d → ⊥)) }
 {
-    match read_line(alloc, line, column) {
+    match read_line(alloc, line) {
         Ok(directive) => Ok(directive),
         Err(DirectiveFault::OutOfMemory) => Err(DirectiveFault::OutOfMemory),
         Err(DirectiveFault::Line(fault)) => Err(DirectiveFault::Line(fault)),
@@ -245,12 +241,13 @@ pub fn read_directive_at<'a>(
 /// Reads one directive line, its `#` first. Columns count bytes of the line from 1. No name is looked up.
 /// A fault is the first of the line, the lowest code at its token. Want of memory comes in place of any answer.
 pub fn read_directive<'a>(alloc: Global, line: &'a [u8]) -> Result<Directive<'a>, DirectiveFault>
-    ensures found { IfOk result (λ d. SpellsLine line.now 1 d) }
-    ensures sound { OnOk result (line_answer line.now 1 ≡ None) }
-    ensures source { IfOk result (λ d. IsInSource line.now 1 d) }
-    ensures fault { IfErr result (OnLine (λ f. IsFirstLineFault line.now 1 f)) }
-    ensures told { IfErr result (OnLine (λ f. line_answer line.now 1 ≡ Some f)) }
-    ensures refused { IfErr result (OnLine (λ _. (d : Directive) → SpellsLine line.now 1 d → ⊥)) }
+    ensures found { IfOk result (λ d. SpellsLine (lexemes_of line.now 1) d) }
+    ensures sound { OnOk result (line_answer (lexemes_of line.now 1) ≡ None) }
+    ensures source { IfOk result (λ d. IsInSource (lexemes_of line.now 1) d) }
+    ensures fault { IfErr result (OnLine (λ f. IsFirstLineFault (lexemes_of line.now 1) f)) }
+    ensures told { IfErr result (OnLine (λ f. line_answer (lexemes_of line.now 1) ≡ Some f)) }
+    ensures refused { IfErr result (OnLine (λ _. (d : Directive) → SpellsLine (lexemes_of line.now 1) d → ⊥)) }
 {
-    read_directive_at(alloc, line, 1)
+    let tokens = LineTokens::new(alloc, line, 1)?;
+    read_directive_in(alloc, &tokens)
 }

@@ -8,7 +8,7 @@ use crate::tree::{Name, Section, Sections};
 use base::fault::ReadCode;
 use c_tokens::Sign;
 
-impl<'a> Line<'a> {
+impl<'a, 'l> Line<'a, 'l> {
     ghost use Rattle.std.specs.Prelude.{◌≡◌, ◌∷◌, ◌++◌, [], true, false, IfOk, OnOk};
     ghost use Rattle.c_tokens.specs.declared.kind.Sign.TheVariants as sign;
     ghost use Rattle.c_grammar.specs.Lexeme.{Signed, same};

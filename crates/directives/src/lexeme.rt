@@ -8,8 +8,8 @@ ghost use Rattle.directives.specs.Pieces.{piece_on};
 
 use crate::word::{Word, word_of};
 use c_tokens::{
-    Kind, Mood, Piece, Sign, after_blank, digits_len, is_blank, is_digit, is_name_start, name_len,
-    number_of, sign_at,
+    Kind, Mood, Piece, Sign, after_blank, is_blank, is_digit, is_name_start, name_len,
+    number_piece, sign_at,
 };
 
 /// A token of such a line.
@@ -73,8 +73,7 @@ pub fn piece_on(mood: Mood, bytes: &[u8]) -> Piece
                 return Piece::Layout(1, after_blank(*b, mood));
             }
             if is_digit(*b) {
-                let len = digits_len(bytes);
-                return Piece::Token(number_of(&bytes[..len]), len);
+                return number_piece(&bytes[..name_len(bytes)]);
             }
             if is_name_start(*b) {
                 return match mood {

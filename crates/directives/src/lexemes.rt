@@ -1,79 +1,42 @@
 //! The tokens of a line that begins with `#`, one after another.
 
-ghost use Rattle.std.specs.Prelude.{◌+◌, ◌<◌, ◌^◌, length};
+ghost use Rattle.std.specs.Prelude.{◌≡◌, map, true};
+ghost use Rattle.directives.specs.Seen.{seen_placed, all_end_well};
 
-use crate::lexeme::{Lexeme, PlacedLexeme, lexeme_of, piece_on};
-use c_tokens::{Mood, Piece, mood_after};
+use crate::lexeme::PlacedLexeme;
+use crate::line_tokens::LineTokens;
 
 /// What is left of a line.
 #[derive(Clone, Copy)]
-pub struct Lexemes<'a> {
-    rest: &'a [u8],
-    mood: Mood,
-    column: usize,
-    /// Nothing follows the end of the line, nor a byte that begins no token.
-    over: bool,
-    ghost fits: { column + length rest.now < 2 ^ 64 },
+pub struct Lexemes<'a, 'l> {
+    rest: &'l [PlacedLexeme<'a>],
+    ghost ends: { all_end_well (map seen_placed rest.now) ≡ true },
 }
 
-impl<'a> Lexemes<'a> {
-    ghost use Rattle.std.specs.Prelude.{◌≡◌, ◌+◌, ◌≤◌, ◌<◌, ◌^◌, ◌∷◌, [], length, drop, MatchOption, true, false};
-    ghost use Rattle.c_grammar.specs.Lexeme.{lexemes_of};
+impl<'a, 'l> Lexemes<'a, 'l> {
+    ghost use Rattle.std.specs.Prelude.{◌≡◌, ◌∷◌, [], MatchOption, true, false};
     ghost use Rattle.directives.specs.Seen.{seen_lexeme, seen_placed, ends_well};
-    ghost use Rattle.directives.specs.Ahead.{ahead_on_line};
+    ghost use Rattle.directives.specs.Ahead.{ahead_on_line, is_over, seen_line};
 
-    /// The line behind its `#`, which stands at the column.
-    pub fn new(line: &'a [u8], column: usize) -> Lexemes<'a>
-        requires { column ≤ 2 ^ 63 }
-        ensures ahead { ahead_on_line result ≡ lexemes_of line.now column }
-        ensures going { result.over ≡ false }
+    /// The line behind its `#`.
+    pub fn new(line: &'l LineTokens<'a>) -> Lexemes<'a, 'l>
+        ensures ahead { ahead_on_line result ≡ seen_line line.now }
+        ensures going { is_over result ≡ false }
     {
-        let rest = match line {
-            [] => line,
-            [_, rest @ ..] => rest,
-        };
         Lexemes {
-            rest,
-            mood: Mood::Inside,
-            column: column + 1,
-            over: false,
+            rest: line.tokens(),
         }
-    }
-
-    /// Goes past some bytes.
-    fn pass(&mut self, len: usize, mood: Mood)
-        requires { len ≤ length self.old.rest.now }
-        ensures rest { self.new.rest.now ≡ drop len self.old.rest.now }
-        ensures column { self.new.column ≡ self.old.column + len }
-        ensures mood { self.new.mood ≡ mood }
-        ensures over { self.new.over ≡ self.old.over }
-    {
-        self.column += len;
-        self.rest = &self.rest[len..];
-        self.mood = mood;
     }
 
     /// The next token.
     pub fn next(&mut self) -> PlacedLexeme<'a>
-        requires { self.old.over ≡ false }
+        requires { is_over self.old ≡ false }
         ensures next { ahead_on_line self.old ≡ seen_placed result ∷ ahead_on_line self.new }
-        ensures last { ends_well (seen_lexeme result.lexeme) self.new.over ≡ true }
+        ensures last { ends_well (seen_lexeme result.lexeme) (is_over self.new) ≡ true }
     {
-        'pieces: while !self.rest.is_empty() {
-            match piece_on(self.mood, self.rest) {
-                Piece::Layout(len, mood) => self.pass(len, mood),
-                Piece::Token(kind, len) => {
-                    let placed = PlacedLexeme {
-                        lexeme: lexeme_of(kind, &self.rest[..len]),
-                        column: self.column,
-                    };
-                    self.pass(len, mood_after(kind));
-                    return placed;
-                }
-                Piece::Unknown => return self.end(Lexeme::Strange),
-            }
-        }
-        self.end(Lexeme::Ended)
+        let first = self.rest[0];
+        self.rest = &self.rest[1..];
+        first
     }
 
     /// The next token, if there is one.
@@ -81,22 +44,9 @@ impl<'a> Lexemes<'a> {
         ensures { MatchOption result (ahead_on_line self.old ≡ [])
             (λ p. ahead_on_line self.old ≡ seen_placed p ∷ ahead_on_line self.new) }
     {
-        if self.over {
+        if self.rest.is_empty() {
             return None;
         }
         Some(self.next())
-    }
-
-    /// The last token.
-    fn end(&mut self, lexeme: Lexeme<'a>) -> PlacedLexeme<'a>
-        ensures lexeme { result.lexeme ≡ lexeme.entry }
-        ensures column { result.column ≡ self.old.column }
-        ensures over { self.new.over ≡ true }
-    {
-        self.over = true;
-        PlacedLexeme {
-            lexeme,
-            column: self.column,
-        }
     }
 }

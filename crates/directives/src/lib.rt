@@ -14,16 +14,19 @@ mod known;
 mod lexeme;
 mod lexemes;
 mod line;
+mod line_bytes;
+mod line_tokens;
 mod tree;
 mod types;
 mod word;
 
 pub use code::lower;
 pub use fault::{DirectiveFault, LineFault};
-pub use first_words::is_directive_at;
-pub use heads::{read_directive, read_directive_at};
+pub use first_words::{is_directive, is_directive_at};
+pub use heads::{read_directive, read_directive_in};
 pub use lexeme::{Lexeme, PlacedLexeme, same_lexeme};
 pub use lexemes::Lexemes;
+pub use line_tokens::LineTokens;
 pub use tree::{
     Amount, Bound, Clause, Construct, DependClause, DependType, Directive, DirectiveKind,
     MapClause, MapType, Modifier, MotionClause, MotionType, Name, ScheduleType, Section, Sections,

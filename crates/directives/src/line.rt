@@ -1,6 +1,7 @@
 //! A line of which the next token can be seen.
 
 ghost use Rattle.std.specs.Prelude.{◌≡◌, true};
+ghost use Rattle.directives.specs.Ahead.{is_over};
 ghost use Rattle.directives.specs.Seen.{ends_well, seen_lexeme};
 
 use crate::code::lower;
@@ -8,6 +9,7 @@ use crate::fault::{DirectiveFault, LineFault};
 use crate::known::{Act, Known, own_code};
 use crate::lexeme::{Lexeme, PlacedLexeme, same_lexeme};
 use crate::lexemes::Lexemes;
+use crate::line_tokens::LineTokens;
 use crate::word::Word;
 use base::fault::ReadCode;
 use c_tokens::Sign;
@@ -15,35 +17,35 @@ use std::alloc::Global;
 
 /// What is left of a line, and what is known of it.
 #[derive(Drop)]
-pub struct Line<'a> {
+pub struct Line<'a, 'l> {
     pub alloc: Global,
-    pub lexemes: Lexemes<'a>,
+    pub lexemes: Lexemes<'a, 'l>,
     /// The next token.
     pub token: PlacedLexeme<'a>,
     pub known: Known<'a>,
-    ghost ends: { ends_well (seen_lexeme token.lexeme) lexemes.over ≡ true },
+    ghost ends: { ends_well (seen_lexeme token.lexeme) (is_over lexemes) ≡ true },
 }
 
-impl<'a> Line<'a> {
-    ghost use Rattle.std.specs.Prelude.{◌≡◌, ◌≢◌, ◌≤◌, ◌^◌, ◌∷◌, [], OnOk, Option, None};
+impl<'a, 'l> Line<'a, 'l> {
+    ghost use Rattle.std.specs.Prelude.{◌≡◌, ◌≢◌, ◌≤◌, ◌∷◌, [], OnOk, Option, None};
     ghost use Rattle.base.specs.declared.fault.ReadCode.{ReadCode};
     ghost use Rattle.base.specs.declared.fault.ReadCode.TheVariants.{Unexpected, UnknownDirective};
     ghost use Rattle.c_grammar.specs.Lexeme.{For, Reserved, Signed, Worded, Ended, same};
     ghost use Rattle.c_grammar.specs.LineGrammar.{Ends, Plain, of};
     ghost use Rattle.c_grammar.specs.LineRules.{line_begin};
     ghost use Rattle.c_grammar.specs.LineMachine.{LineStack, Want, w, is_word};
+    ghost use Rattle.directives.specs.Ahead.{seen_line};
     ghost use Rattle.directives.specs.Seen.{seen_lexeme};
     ghost use Rattle.directives.specs.Known.{broken_by, known_of, seen_act};
     ghost use Rattle.directives.specs.Cursor.{first_item, behind, items, line_items};
     ghost use Rattle.directives.specs.Reading.{Outcome, rest, took, fault_at, misfit_at};
 
-    /// The line, whose `#` stands at the column.
-    pub fn new(alloc: Global, line: &'a [u8], column: usize) -> Line<'a>
-        requires { column ≤ 2 ^ 63 }
-        ensures items { items result ≡ line_items line.now column }
+    /// The line of these tokens.
+    pub fn new(alloc: Global, line: &'l LineTokens<'a>) -> Line<'a, 'l>
+        ensures items { items result ≡ line_items (seen_line line.now) }
         ensures known { known_of result.known ≡ line_begin }
     {
-        let mut lexemes = Lexemes::new(line, column);
+        let mut lexemes = Lexemes::new(line);
         let token = lexemes.next();
         Line {
             alloc,

@@ -9,7 +9,7 @@ use base::fault::ReadCode;
 use base::tree::DeviceId;
 use c_tokens::Sign;
 
-impl<'a> Line<'a> {
+impl<'a, 'l> Line<'a, 'l> {
     ghost use Rattle.std.specs.Prelude.{◌≡◌, ◌∷◌, [], map, true, false, IfOk, IfSome, IfNone, OnOk};
     ghost use Rattle.c_tokens.specs.declared.kind.Sign.TheVariants as sign;
     ghost use Rattle.c_grammar.specs.Lexeme.{Worded};

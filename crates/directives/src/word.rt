@@ -50,6 +50,9 @@ pub fn word_of(text: &[u8]) -> Option<Word>
     if text == b"uint64_t".as_slice() {
         return Some(Word::Uint64);
     }
+    if text == b"size_t".as_slice() {
+        return Some(Word::Uint64);
+    }
     if text == b"int".as_slice() {
         return Some(Word::Int);
     }

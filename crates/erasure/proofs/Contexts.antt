@@ -6,10 +6,13 @@ use Rattle.std.proofs.lemmas.Bool.Decides.{nat_tests}
 use Rattle.base.specs.declared.fault.ReadCode.{ReadCode as Code}
 use Rattle.base.specs.declared.fault.ReadCode.TheVariants.{UnknownByte, Unexpected, Undeclared, AlreadyDeclared, BadNumber, BadLength, LoopNameAssigned, BadOperand, TooDeep, TooMany, UnknownDirective, UnknownClause, ClauseCount, BadMapType, BadBound, ArrayTwice, DirectiveInTarget, OuterAssigned, HostOnly, NoBody, DirectiveUnderIf, BadDevice}
 use Rattle.c_tokens.specs.declared.kind.Sign.TheVariants as sign
-use Rattle.c_grammar.specs.Terminal.{Terminal, Fixed, Mark, Name, Num, Line, Unknown, End, same}
+use Rattle.c_grammar.specs.Terminal.{Terminal, Fixed, Mark, Name, Num, Line, Unknown, Unworked, End, same}
 use Rattle.c_grammar.specs.Grammar.{Act, Plain, DeclaresGlobal, DeclaresLocal, DeclaresLoop, MakesArray, MakesScalar, Length, Limit, Step, Starts, StartsIf, Prints, Assigned, StartsBlock, Otherwise, Reads, Opens, Closes, Alone, Over, Operand, OpensBracket, ClosesBracket, Divisor, Count, Inner}
 use Rattle.c_grammar.specs.Rules.{Context, declared, opened, out, begun, Frame, Sort, AnArray, AScalar, ALoop, max_statements, top, below, with_name, inside, act, found, sort_in, sort_of, sort_at, is_array, is_scalar, is_visible, is_loop, breaks_act}
-use Rattle.erasure.specs.Erased.{is_line_terminal}
+
+abbrev pub is_line_terminal : Terminal → Bool
+is_line_terminal (Line ts) = true
+is_line_terminal _ = false
 
 -- ---- nothing is inside a target
 
@@ -59,6 +62,7 @@ plain_sort_at n c (Mark s) = refl
 plain_sort_at n c (Num v) = refl
 plain_sort_at n c (Line ts) = refl
 plain_sort_at n c Unknown = refl
+plain_sort_at n c Unworked = refl
 plain_sort_at n c End = refl
 
 array_same : (o : Option Sort) → is_array (plain_known o) ≡ is_array o
@@ -251,6 +255,7 @@ plain_enter c n (Mark s) Over h l = (n + 1, refl, omega (arith, h))
 plain_enter c n (Name x) Over h l = (n + 1, refl, omega (arith, h))
 plain_enter c n (Num v) Over h l = (n + 1, refl, omega (arith, h))
 plain_enter c n Unknown Over h l = (n + 1, refl, omega (arith, h))
+plain_enter c n Unworked Over h l = (n + 1, refl, omega (arith, h))
 plain_enter c n End Over h l = (n + 1, refl, omega (arith, h))
 plain_enter c n (Line ts) Over h l = absurd cc
 plain_enter c n t Operand h l = (n, refl, h)

@@ -3,12 +3,11 @@ use Rattle.std.proofs.Common.{◌≡◌, ℕ, zero, suc, ◌≤◌, Bool, true, 
 use Rattle.std.specs.Prelude.{◌||◌}
 use Rattle.base.specs.declared.fault.ReadCode.{ReadCode as Code}
 use Rattle.base.specs.declared.fault.ReadCode.TheVariants.{UnknownByte, Unexpected, Undeclared, AlreadyDeclared, BadNumber, BadLength, LoopNameAssigned, BadOperand, TooDeep, TooMany, UnknownDirective, UnknownClause, ClauseCount, BadMapType, BadBound, ArrayTwice, DirectiveInTarget, OuterAssigned, HostOnly, NoBody, DirectiveUnderIf, BadDevice}
-use Rattle.c_grammar.specs.Terminal.{Terminal, Fixed, Mark, Name, Num, Line, Unknown, End}
+use Rattle.c_grammar.specs.Terminal.{Terminal, Fixed, Mark, Name, Num, Line, Unknown, Unworked, End}
 use Rattle.c_grammar.specs.Grammar.{Act, Plain, DeclaresGlobal, DeclaresLocal, DeclaresLoop, MakesArray, MakesScalar, Length, Limit, Step, Starts, StartsIf, Prints, Assigned, StartsBlock, Otherwise, Reads, Opens, Closes, Alone, Over, Operand, OpensBracket, ClosesBracket, Divisor, Count, Inner, Slot, Slots}
 use Rattle.c_grammar.specs.Rules.{Context, begin, act, enter, breaks, breaks_act, breaks_part, misuses, wrong_token, Rule, source_grammar}
 use Rattle.c_grammar.specs.Texts.{KeepsRules, enter_all, next_slot}
-use Rattle.erasure.specs.Erased.{is_line_terminal}
-use Rattle.erasure.proofs.Contexts.{plain, Follows, plain_breaks, plain_enter}
+use Rattle.erasure.proofs.Contexts.{is_line_terminal, plain, Follows, plain_breaks, plain_enter}
 
 abbrev pub entered : Context → Slots → Context
 entered c xs = enter_all source_grammar c xs
@@ -167,6 +166,7 @@ no_misuse c code k (Mark s) e = refl
 no_misuse c code k (Name y) e = refl
 no_misuse c code k (Num v) e = refl
 no_misuse c code k Unknown e = refl
+no_misuse c code k Unworked e = refl
 no_misuse c code k End e = refl
 
 plain_part : (c : Context) (n : ℕ) (t : Terminal) (a : Act) (next : Terminal) → n ≤ c.statements → is_line_terminal t ≡ false →
@@ -245,6 +245,7 @@ free_out c (Name x) Over f = (refl, refl)
 free_out c (Num v) Over f = (refl, refl)
 free_out c (Line ts) Over f = (refl, refl)
 free_out c Unknown Over f = (refl, refl)
+free_out c Unworked Over f = (refl, refl)
 free_out c End Over f = (refl, refl)
 free_out c t Operand f = absurd f
 free_out c t OpensBracket f = absurd f

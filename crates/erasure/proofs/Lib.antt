@@ -1,4 +1,8 @@
+pub mod Columns
 pub mod Pieces
+pub mod Signs
+pub mod Formats
+pub mod Numbers
 pub mod Sound
 pub mod Cuts
 pub mod Items

@@ -6,10 +6,10 @@ use Rattle.std.specs.List.{prefix_len}
 use Rattle.std.proofs.lemmas.Bool.Decides.{nat_tests}
 use Rattle.c_tokens.specs.Piece.{is_name_part, is_not_feed, is_space, first_word, is_include, comment_end_from}
 
--- the first k bytes and the one behind them are the same
+-- the first k bytes and the one behind them are the same; so are those behind letters and digits, up to one that is none
 abbrev pub Alike : ℕ → List ℕ → List ℕ → Type 0
 Alike k [] [] = Unit {0}
-Alike zero (b ∷ bs) (c ∷ cs) = b ≡ c
+Alike zero (b ∷ bs) (c ∷ cs) = (b ≡ c) × (is_name_part b ≡ true → Alike zero bs cs)
 Alike (suc k) (b ∷ bs) (c ∷ cs) = (b ≡ c) × Alike k bs cs
 Alike k _ _ = ⊥
 
@@ -17,11 +17,15 @@ pub alike_front : (k : ℕ) (bs cs : List ℕ) → Alike k bs cs → Alike 0 bs 
 alike_front zero [] [] a = tt
 alike_front (suc k) [] [] a = tt
 alike_front zero (b ∷ bs) (c ∷ cs) a = a
-alike_front (suc k) (b ∷ bs) (c ∷ cs) a = a.0
+alike_front (suc k) (b ∷ bs) (c ∷ cs) a = (a.0, λ e. alike_front k bs cs a.1)
 alike_front zero [] (c ∷ cs) a = absurd a
 alike_front (suc k) [] (c ∷ cs) a = absurd a
 alike_front zero (b ∷ bs) [] a = absurd a
 alike_front (suc k) (b ∷ bs) [] a = absurd a
+
+pub alike_same : (bs : List ℕ) → Alike 0 bs bs
+alike_same [] = tt
+alike_same (b ∷ bs) = (refl, λ e. alike_same bs)
 
 pub alike_take : (k : ℕ) (bs cs : List ℕ) → Alike k bs cs → take k bs ≡ take k cs
 alike_take zero bs cs a = refl
@@ -42,7 +46,7 @@ pub alike_cons : (n b : ℕ) (bs cs : List ℕ) → 0 < n → Alike (n - 1) bs c
 alike_cons zero b bs cs h a = absurd (omega arith)
 alike_cons (suc n) b bs cs h a = let P : ℕ → Type 0 = λ k. Alike k bs cs in (refl, subst P (omega arith) a)
 
-more_prefix : (p : ℕ → Bool) (b : ℕ) (bs : List ℕ) → p b ≡ true → prefix_len p (b ∷ bs) ≡ suc (prefix_len p bs)
+pub more_prefix : (p : ℕ → Bool) (b : ℕ) (bs : List ℕ) → p b ≡ true → prefix_len p (b ∷ bs) ≡ suc (prefix_len p bs)
 more_prefix p b bs e = let one : 1 + prefix_len p bs ≡ suc (prefix_len p bs) = omega arith in rw (e, one) refl
 
 no_prefix : (p : ℕ → Bool) (b : ℕ) (bs : List ℕ) → p b ≡ false → prefix_len p (b ∷ bs) ≡ 0
@@ -56,7 +60,7 @@ alike_prefix p zero (b ∷ bs) (c ∷ cs) h a = first (p b) refl
   where
     first : (t : Bool) → p b ≡ t → prefix_len p (c ∷ cs) ≡ prefix_len p (b ∷ bs)
     first true e = let more = more_prefix p b bs e in absurd (omega (arith, h, more))
-    first false e = no_prefix p c cs (ap p (sym a) ∙ e) ∙ sym (no_prefix p b bs e)
+    first false e = no_prefix p c cs (ap p (sym a.0) ∙ e) ∙ sym (no_prefix p b bs e)
 alike_prefix p (suc k) (b ∷ bs) (c ∷ cs) h a = first (p b) refl (λ l. alike_prefix p k bs cs l a.1)
   where
     first : (t : Bool) → p b ≡ t → (prefix_len p bs ≤ k → prefix_len p cs ≡ prefix_len p bs) →
@@ -84,6 +88,28 @@ prefix_less p q h (x ∷ xs) = first (p x) refl (prefix_less p q h xs)
         omega (arith, one, other, l)
     first false e l = let none = no_prefix p x xs e in omega (arith, none)
 
+-- the letters and digits at the front
+pub word_same : (bs cs : List ℕ) → Alike 0 bs cs →
+    take (prefix_len is_name_part cs) cs ≡ take (prefix_len is_name_part bs) bs
+word_same [] [] a = refl
+word_same [] (c ∷ cs) a = absurd a
+word_same (b ∷ bs) [] a = absurd a
+word_same (b ∷ bs) (c ∷ cs) a = step (is_name_part b) refl (word_same bs cs)
+  where
+    step : (t : Bool) → is_name_part b ≡ t →
+        (Alike 0 bs cs → take (prefix_len is_name_part cs) cs ≡ take (prefix_len is_name_part bs) bs) →
+        take (prefix_len is_name_part (c ∷ cs)) (c ∷ cs) ≡ take (prefix_len is_name_part (b ∷ bs)) (b ∷ bs)
+    step true e ih =
+        let here = more_prefix is_name_part b bs e in
+        let there = more_prefix is_name_part c cs (ap is_name_part (sym a.0) ∙ e) in
+        ap (λ (k : ℕ). take k (c ∷ cs)) there
+        ∙ ap (λ (x : ℕ). x ∷ take (prefix_len is_name_part cs) cs) (sym a.0)
+        ∙ ap (λ (xs : List ℕ). b ∷ xs) (ih (a.1 e))
+        ∙ sym (ap (λ (k : ℕ). take k (b ∷ bs)) here)
+    step false e ih =
+        ap (λ (k : ℕ). take k (c ∷ cs)) (no_prefix is_name_part c cs (ap is_name_part (sym a.0) ∙ e))
+        ∙ sym (ap (λ (k : ℕ). take k (b ∷ bs)) (no_prefix is_name_part b bs e))
+
 -- ---- the word of a line
 
 word_more : (b : ℕ) (bs : List ℕ) → is_space b ≡ true → first_word (b ∷ bs) ≡ first_word bs
@@ -109,7 +135,7 @@ word_alike (suc k) [] (c ∷ cs) h a = absurd a
 word_alike zero (b ∷ bs) [] h a = absurd a
 word_alike (suc k) (b ∷ bs) [] h a = absurd a
 word_alike k (b ∷ bs) (c ∷ cs) h a =
-    first (is_space b) refl (alike_front k (b ∷ bs) (c ∷ cs) a) (λ j l m. word_alike j bs cs l m) k h a
+    first (is_space b) refl (alike_front k (b ∷ bs) (c ∷ cs) a).0 (λ j l m. word_alike j bs cs l m) k h a
   where
     first : (t : Bool) → is_space b ≡ t → b ≡ c →
         ((j : ℕ) → prefix_len is_not_feed bs ≤ j → Alike j bs cs → first_word cs ≡ first_word bs) →
@@ -165,7 +191,7 @@ comment_alike j (b ∷ c ∷ bs) r (suc k) (d ∷ f ∷ cs) e h a =
         (comment_end_from (j + 1) (c ∷ bs) ≡ Some r → comment_end_from (j + 1) (f ∷ cs) ≡ Some r) →
         comment_end_from j (d ∷ f ∷ cs) ≡ Some r
     step t i e go =
-        let second : c ≡ f = alike_front k (c ∷ bs) (f ∷ cs) a.1 in
+        let second : c ≡ f = (alike_front k (c ∷ bs) (f ∷ cs) a.1).0 in
         let one : eqb d 42 ≡ eqb b 42 = ap (λ (x : ℕ). eqb x 42) (sym a.0) in
         let two : eqb f 47 ≡ eqb c 47 = ap (λ (x : ℕ). eqb x 47) (sym second) in
         let test : (eqb d 42 && eqb f 47) ≡ t = rw (one, two) i in

@@ -3,17 +3,20 @@ use Rattle.std.proofs.Common.{◌≡◌, ℕ, suc, ◌+◌, ◌-◌, ◌<◌, �
 use Rattle.std.specs.Prelude.{◌&&◌}
 use Rattle.std.specs.List.{prefix_len}
 use Rattle.std.proofs.lemmas.List.Sums.{prefix_len-le-length}
-use Rattle.std.proofs.lemmas.Bool.{cond-true, cond-false, true≢false, or_left}
+use Rattle.std.proofs.lemmas.List.Folds.{length-prefix_len}
+use Rattle.std.proofs.lemmas.Bool.{cond-true, cond-false, true≢false, or_left, or_right}
 use Rattle.std.proofs.lemmas.Bool.Decides.{nat_tests}
 use Rattle.c_tokens.specs.declared.kind.Sign.{Sign}
-use Rattle.c_tokens.specs.declared.kind.Kind.{Kind}
 use Rattle.c_tokens.specs.declared.kind.Kind.TheVariants as kind
 use Rattle.c_tokens.specs.declared.kind.Mood.{Mood}
 use Rattle.c_tokens.specs.declared.kind.Mood.TheVariants.{Fresh, Inside, AfterNumber}
 use Rattle.c_tokens.specs.declared.kind.Piece.{Piece}
 use Rattle.c_tokens.specs.declared.kind.Piece.TheVariants as piece
-use Rattle.c_tokens.specs.Piece.{is_blank, is_digit, is_name_start, is_name_part, is_not_feed, is_include, after_blank, comment_end, comment_end_from, sign_one, sign_two, sign_at, one_of, two_or, starts_with_byte, piece_at, number_of, name_piece, line_piece, comment_piece, sign_piece}
-use Rattle.erasure.proofs.Pieces.{Alike, alike_front, alike_take, alike_cons, alike_prefix, positive, include_alike, comment_above, comment_alike}
+use Rattle.c_tokens.specs.Piece.{is_blank, is_digit, is_name_start, is_name_part, is_not_feed, is_include, after_blank, comment_end, comment_end_from, sign_at, format_at, mark_at, starts_with_byte, piece_at, number_piece, name_piece, line_piece, comment_piece, sign_piece}
+use Rattle.erasure.proofs.Pieces.{Alike, alike_front, alike_take, alike_cons, alike_prefix, more_prefix, positive, word_same, include_alike, comment_above, comment_alike}
+use Rattle.erasure.proofs.Signs.{IsFit, sign_fits}
+use Rattle.erasure.proofs.Formats.{IsFormatFit, format_fits}
+use Rattle.erasure.proofs.Numbers.{IsNumber, number_is}
 
 -- the piece of f at the front of b ∷ bs, where f takes what stands behind b: it has at least one byte and no more than
 -- there are; f answers the same where the piece's bytes and the one behind it are the same
@@ -58,27 +61,34 @@ module _ (mood : Mood) (b : ℕ) (bs : List ℕ) where
   within : (p : ℕ → Bool) → prefix_len p (b ∷ bs) ≤ suc (length bs)
   within p = prefix_len-le-length p (b ∷ bs)
 
-  token_is : (g : List ℕ → Kind) (n m : ℕ) (x y : List ℕ) → n ≡ m → x ≡ y → piece.Token (g x) n ≡ piece.Token (g y) m
-  token_is g n m x y e i = cc
-
-  no_line : (t : Bool) (n : ℕ) → cond t (kind.Number n) kind.BadNumber ≡ kind.Line → ⊥
-  no_line true n e = absurd cc
-  no_line false n e = absurd cc
-
-  number_no_line : (ds : List ℕ) → number_of ds ≡ kind.Line → ⊥
-  unfolding number_of
-  number_no_line ds e = no_line _ _ e
-
   abbrev digits : List ℕ → Piece
-  digits u = piece.Token (number_of (take (prefix_len is_digit (b ∷ u)) (b ∷ u))) (prefix_len is_digit (b ∷ u))
+  digits u = number_piece (take (prefix_len is_name_part (b ∷ u)) (b ∷ u))
 
   digits_sound : is_digit b ≡ true → IsSound digits mood b bs (digits bs)
-  digits_sound e = (
-    positive is_digit b bs e,
-    within is_digit,
-    λ i. absurd (number_no_line _ i),
-    λ cs a. let both = run is_digit cs e a in token_is number_of _ _ _ _ both.0 both.1,
-  )
+  digits_sound e = go (digits bs) refl (subst (λ (w : List ℕ). IsNumber (length w) (number_piece w)) (sym word) (number_is (b ∷ rest) (positive is_digit b rest e)))
+    where
+      rest : List ℕ
+      rest = take (prefix_len is_name_part bs) bs
+
+      is_part : is_name_part b ≡ true
+      is_part = or_right (is_name_start b) (is_digit b) e
+
+      word : take (prefix_len is_name_part (b ∷ bs)) (b ∷ bs) ≡ b ∷ rest
+      word = ap (λ (k : ℕ). take k (b ∷ bs)) (more_prefix is_name_part b bs is_part)
+
+      short : length (take (prefix_len is_name_part (b ∷ bs)) (b ∷ bs)) ≤ suc (length bs)
+      short = omega (arith, length-prefix_len is_name_part (b ∷ bs), prefix_len-le-length is_name_part (b ∷ bs))
+
+      go : (q : Piece) → digits bs ≡ q → IsNumber (length (take (prefix_len is_name_part (b ∷ bs)) (b ∷ bs))) q →
+          IsSound digits mood b bs q
+      go (piece.Token k n) f h = (
+        h.0,
+        omega (arith, h.1, short),
+        λ i. absurd (h.2 i),
+        λ cs a. ap number_piece (word_same (b ∷ bs) (b ∷ cs) (refl, λ j. alike_front (n - 1) bs cs a)) ∙ f,
+      )
+      go (piece.Layout n m) f h = absurd h
+      go piece.Unknown f h = absurd h
 
   name_sound : is_name_start b ≡ true → IsSound (λ u. name_piece mood (b ∷ u)) mood b bs (name_piece mood (b ∷ bs))
   name_sound e = go mood
@@ -145,50 +155,33 @@ starts_alike x k bs cs a = go bs cs (alike_front k bs cs a)
   where
     go : (bs cs : List ℕ) → Alike 0 bs cs → starts_with_byte x cs ≡ starts_with_byte x bs
     go [] [] a = refl
-    go (b ∷ bs) (c ∷ cs) a = ap (λ (y : ℕ). eqb y x) (sym a)
+    go (b ∷ bs) (c ∷ cs) a = ap (λ (y : ℕ). eqb y x) (sym a.0)
     go [] (c ∷ cs) a = absurd a
     go (b ∷ bs) [] a = absurd a
-
-sign_alike : (b k : ℕ) (bs cs : List ℕ) → Alike k bs cs → sign_at (b ∷ cs) ≡ sign_at (b ∷ bs)
-unfolding sign_at
-sign_alike b k bs cs a = go bs cs (alike_front k bs cs a)
-  where
-    go : (bs cs : List ℕ) → Alike 0 bs cs → sign_at (b ∷ cs) ≡ sign_at (b ∷ bs)
-    go [] [] a = refl
-    go (c ∷ bs) (d ∷ cs) a = ap (λ (y : ℕ). two_or (sign_two b y) (one_of (sign_one b))) (sym a)
-    go [] (c ∷ cs) a = absurd a
-    go (b ∷ bs) [] a = absurd a
-
--- a sign has one or two bytes
-abbrev IsFit : ℕ → Option (Sign × ℕ) → Type 0
-IsFit n None = Unit {0}
-IsFit n (Some s) = (0 < s.1) × (s.1 ≤ n)
-
-sign_fits : (b : ℕ) (bs : List ℕ) → IsFit (suc (length bs)) (sign_at (b ∷ bs))
-unfolding sign_at
-sign_fits b [] = one (sign_one b)
-  where
-    one : (o : Option Sign) → IsFit 1 (one_of o)
-    one None = tt
-    one (Some s) = (omega arith, omega arith)
-sign_fits b (c ∷ bs) = two (sign_two b c)
-  where
-    one : (o : Option Sign) → IsFit (suc (suc (length bs))) (one_of o)
-    one None = tt
-    one (Some s) = (omega arith, omega arith)
-
-    two : (o : Option Sign) → IsFit (suc (suc (length bs))) (two_or o (one_of (sign_one b)))
-    two None = one (sign_one b)
-    two (Some s) = (omega arith, omega arith)
 
 sign_sound : (mood : Mood) (b : ℕ) (bs : List ℕ) → IsSound (λ u. sign_piece (sign_at (b ∷ u))) mood b bs (sign_piece (sign_at (b ∷ bs)))
-sign_sound mood b bs = go (sign_at (b ∷ bs)) (sign_fits b bs) (λ k cs a. ap sign_piece (sign_alike b k bs cs a))
+sign_sound mood b bs = go (sign_at (b ∷ bs)) (sign_fits b bs)
   where
-    go : (o : Option (Sign × ℕ)) → IsFit (suc (length bs)) o →
-        ((k : ℕ) (cs : List ℕ) → Alike k bs cs → sign_piece (sign_at (b ∷ cs)) ≡ sign_piece o) →
-        IsSound (λ u. sign_piece (sign_at (b ∷ u))) mood b bs (sign_piece o)
-    go None f h = tt
-    go (Some s) f h = (f.0, f.1, λ i. absurd cc, λ cs a. h (s.1 - 1) cs a)
+    go : (o : Option (Sign × ℕ)) → IsFit b bs o → IsSound (λ u. sign_piece (sign_at (b ∷ u))) mood b bs (sign_piece o)
+    go None f = tt
+    go (Some s) f = (f.0, f.1, λ i. absurd cc, λ cs a. ap sign_piece (f.2 cs a))
+
+format_sound : (mood : Mood) (b : ℕ) (bs : List ℕ) →
+    IsSound (λ u. sign_piece (format_at (b ∷ u))) mood b bs (sign_piece (format_at (b ∷ bs)))
+format_sound mood b bs = go (format_at (b ∷ bs)) (format_fits b bs)
+  where
+    go : (o : Option (Sign × ℕ)) → IsFormatFit b bs o → IsSound (λ u. sign_piece (format_at (b ∷ u))) mood b bs (sign_piece o)
+    go None f = tt
+    go (Some s) f = (f.0, f.1, λ i. absurd cc, λ cs a. ap sign_piece (f.2 cs a))
+
+mark_sound : (mood : Mood) (b : ℕ) (bs : List ℕ) →
+    IsSound (λ u. sign_piece (mark_at (b ∷ u))) mood b bs (sign_piece (mark_at (b ∷ bs)))
+mark_sound mood b bs = go (eqb b 34)
+  where
+    go : (t : Bool) → IsSound (λ u. sign_piece (cond t (format_at (b ∷ u)) (sign_at (b ∷ u)))) mood b bs
+        (sign_piece (cond t (format_at (b ∷ bs)) (sign_at (b ∷ bs))))
+    go true = format_sound mood b bs
+    go false = sign_sound mood b bs
 
 comment_sound : (mood : Mood) (b : ℕ) (bs : List ℕ) →
     IsSound (λ u. comment_piece (comment_end (drop 1 u))) mood b bs (comment_piece (comment_end (drop 1 bs)))
@@ -220,7 +213,7 @@ slash_no_feed b t e = grind (arith, nat_tests)
 pub piece_sound : (mood : Mood) (b : ℕ) (bs : List ℕ) → is_blank b ≡ false → IsSound (piece_at mood b) mood b bs (piece_at mood b bs)
 unfolding piece_at
 piece_sound mood b bs not_blank =
-    let sixth : List ℕ → Piece = λ u. sign_piece (sign_at (b ∷ u)) in
+    let sixth : List ℕ → Piece = λ u. sign_piece (mark_at (b ∷ u)) in
     let comment : List ℕ → Piece = λ u. comment_piece (comment_end (drop 1 u)) in
     let fifth : List ℕ → Piece = λ u. cond (eqb b 47 && starts_with_byte 42 u) (comment u) (sixth u) in
     let remark : List ℕ → Piece = λ u. piece.Layout (prefix_len is_not_feed (b ∷ u)) Inside in
@@ -241,4 +234,4 @@ piece_sound mood b bs not_blank =
     (λ i. remark_sound mood b bs (slash_no_feed b _ i))
     (λ i. chosen mood b bs (λ u. eqb b 47 && starts_with_byte 42 u) comment sixth
     (λ k cs a. ap (λ (t : Bool). eqb b 47 && t) (starts_alike 42 k bs cs a))
-    (λ j. comment_sound mood b bs) (λ j. sign_sound mood b bs))))))
+    (λ j. comment_sound mood b bs) (λ j. mark_sound mood b bs))))))

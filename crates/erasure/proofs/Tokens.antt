@@ -72,13 +72,15 @@ after_column p b = step (eqb b 10) refl
 
 -- ---- the tokens as items
 
+pub text_is : (bytes : List ℕ) (b : ℕ) (bs : List ℕ) (p : Place) (k : Kind) (n : ℕ) → 0 < n → b ∷ bs ≡ drop p.at bytes →
+    text_of bytes (token_at k n p) ≡ take n (b ∷ bs)
+text_is bytes b bs p k n more e =
+    let size : p.at + n - 1 - p.at + 1 ≡ n = omega (arith, more) in
+    ap (λ (j : ℕ). take j (drop p.at bytes)) size ∙ ap (take n) (sym e)
+
 item_is : (bytes : List ℕ) (b : ℕ) (bs : List ℕ) (p : Place) (k : Kind) (n : ℕ) → 0 < n → b ∷ bs ≡ drop p.at bytes →
     item_of bytes (token_at k n p) ≡ item_at k (take n (b ∷ bs)) p.line p.column
-item_is bytes b bs p k n more e =
-    let size : p.at + n - 1 - p.at + 1 ≡ n = omega (arith, more) in
-    let text : text_of bytes (token_at k n p) ≡ take n (b ∷ bs) =
-    ap (λ (j : ℕ). take j (drop p.at bytes)) size ∙ ap (take n) (sym e) in
-    at_kind k text
+item_is bytes b bs p k n more e = at_kind k (text_is bytes b bs p k n more e)
   where
     at_kind : (k : Kind) → text_of bytes (token_at k n p) ≡ take n (b ∷ bs) →
         item_of bytes (token_at k n p) ≡ item_at k (take n (b ∷ bs)) p.line p.column

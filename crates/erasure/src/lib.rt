@@ -3,4 +3,4 @@
 
 mod lines;
 
-pub use lines::erase;
+pub use lines::{erase, is_directive};

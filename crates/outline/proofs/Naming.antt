@@ -8,7 +8,8 @@ use Rattle.base.specs.declared.tree.Expr.{Expr}
 use Rattle.base.specs.declared.tree.Bounds.{Bounds}
 use Rattle.base.specs.declared.tree.Stmt.{Stmt, Block, Loop, If, Row_of-Stmt, end_of-Stmt, more_of-Stmt, items-the_row-Stmt, items_hidden-the_row-Stmt-0}
 use Rattle.base.specs.Items.{expr_uses, stmt_uses, row_uses}
-use Rattle.outline.specs.Captures.{expr_reads, stmt_reads, row_reads, stmt_declares, row_declares}
+use Rattle.base.specs.ScalarUse.{expr_reads}
+use Rattle.outline.specs.Captures.{stmt_reads, row_reads, stmt_declares, row_declares}
 use Rattle.base.proofs.StmtRows.{StmtRow, first_row, second_row}
 
 uses_list : (a : ℕ) (n : Count) (row : Row_of-Stmt n) → row_uses a row ≡ list_any (stmt_uses a)

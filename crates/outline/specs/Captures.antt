@@ -3,31 +3,11 @@ use Rattle.std.specs.Prelude.{ℕ, Bool, false, not, ◌&&◌, ◌||◌, ◌==�
 use Rattle.std.specs.List.{list_any, range_with_len}
 use Rattle.base.specs.declared.tree.ArrayId.{ArrayId}
 use Rattle.base.specs.declared.tree.ScalarId.{ScalarId}
-use Rattle.base.specs.declared.tree.Expr.{Expr}
-use Rattle.base.specs.declared.tree.Expr.TheVariants.{Number, Scalar, LoopName, Cell', Unary', Binary', And', Or', Shift', Divide'}
-use Rattle.base.specs.declared.tree.Source.{Source}
-use Rattle.base.specs.declared.tree.Source.TheVariants.{Value, Read}
 use Rattle.base.specs.declared.tree.Stmt.{Stmt, Row_of-Stmt, end_of-Stmt, more_of-Stmt}
 use Rattle.base.specs.declared.tree.Stmt.TheVariants.{Declare, Assign, Store, Combine, Print, Block', Loop', If'}
 use Rattle.base.specs.declared.tree.Region.{Region}
 use Rattle.base.specs.Items.{stmt_uses}
-
--- whether an expression reads the scalar
-abbrev pub expr_reads : ℕ → Expr → Bool
-expr_reads x (Number n) = false
-expr_reads x (Scalar y) = x == y.0
-expr_reads x (LoopName level) = false
-expr_reads x (Cell' a place p e) = expr_reads x e
-expr_reads x (Unary' op p e) = expr_reads x e
-expr_reads x (Binary' op p e q f) = expr_reads x e || expr_reads x f
-expr_reads x (And' p e q f) = expr_reads x e || expr_reads x f
-expr_reads x (Or' p e q f) = expr_reads x e || expr_reads x f
-expr_reads x (Shift' op p e n) = expr_reads x e
-expr_reads x (Divide' op p e n) = expr_reads x e
-
-abbrev pub source_reads : ℕ → Source → Bool
-source_reads x (Value e) = expr_reads x e
-source_reads x Read = false
+use Rattle.base.specs.ScalarUse.{expr_reads, source_reads}
 
 abbrev mutual
   -- whether a statement reads the scalar

@@ -2,7 +2,8 @@
 
 ghost use Rattle.std.specs.Prelude.{◌≡◌, ◌≤◌, IfOk};
 ghost use Rattle.std.specs.List.{list_any};
-ghost use Rattle.outline.specs.Captures.{captures_of, expr_reads, is_captured, source_reads, stmt_declares, stmt_reads};
+ghost use Rattle.base.specs.ScalarUse.{expr_reads, source_reads};
+ghost use Rattle.outline.specs.Captures.{captures_of, is_captured, stmt_declares, stmt_reads};
 
 use base::tree::{Expr, Region, ScalarId, Source, Stmt};
 use std::alloc::{AllocError, Global};

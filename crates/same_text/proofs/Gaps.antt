@@ -8,7 +8,7 @@ use Rattle.c_tokens.specs.Piece.{is_not_feed, piece_at}
 use Rattle.c_tokens.specs.Text.{Place, after, token_at, tokens_from}
 use Rattle.c_grammar.proofs.AsciiNames.{next_rest, after_at}
 use Rattle.erasure.proofs.Cuts.{feed_blank}
-use Rattle.mend.specs.Bare.{start_before, behind, outside}
+use Rattle.mend.specs.Bare.{start_before, behind, gap, outside}
 use Rattle.same_text.proofs.Whole.{whole_from}
 use Rattle.same_text.proofs.Places.{byte_at, start_feed, behind_feed, gap_is, front_is}
 use Rattle.same_text.proofs.Copies.{Copied}
@@ -21,7 +21,8 @@ module _ (bytes : List ℕ) where
   pub line_gone : (b : ℕ) (bs : List ℕ) (p : Place) (before rest : List ℕ) (j n : ℕ) → Gone bs → 0 < n →
       n ≡ prefix_len is_not_feed (b ∷ bs) → b ∷ bs ≡ drop p.at bytes → drop j bytes ≡ before ++ rest →
       start_before bytes p.at ≡ Some (j + length before) →
-      outside bytes j (token_at kind.Line n p ∷ tokens_from bs (n - 1) Inside (after p b))
+      take ((gap bytes (token_at kind.Line n p)).0 - j) (drop j bytes)
+      ++ outside bytes (gap bytes (token_at kind.Line n p)).1 (tokens_from bs (n - 1) Inside (after p b))
       ≡ before ++ whole_from bs (n - 1) false Inside []
   line_gone b bs p before rest j n gone more e here text line =
       let t : Token = token_at kind.Line n p in

@@ -12,7 +12,7 @@ use Rattle.same_text.proofs.Outside.{without_is_whole}
 pub bare_tokens_stay : BareTokensStay
 bare_tokens_stay bytes =
     bare_told (without_directives bytes)
-    ∙ ap (λ (xs : List ℕ). told_from xs 0 Fresh) (without_is_whole bytes) ∙ whole_told bytes ∙ sym (bare_told bytes)
+    ∙ ap (λ (xs : List ℕ). told_from xs 0 Fresh 1) (without_is_whole bytes) ∙ whole_told bytes ∙ sym (bare_told bytes)
 
 -- texts that are the same without lines have the same other tokens
 same_tokens : (a b : List ℕ) → without_directives a ≡ without_directives b → bare_tokens a ≡ bare_tokens b

@@ -1,3 +1,14 @@
+mod Unlined
+mod UnlinedPrints
+mod UnlinedExpressions
+mod UnlinedDefinitions
+mod UnlinedConstants
+mod UnlinedDropped
+mod UnlinedTargets
+mod UnlinedStatements
+mod UnlinedGlobals
+mod UnlinedChanges
+mod UnlinedTexts
 mod Told
 mod Whole
 mod Pieces

@@ -1,5 +1,5 @@
 -- The bytes of a text that are in no gap are the text without its directive lines.
-use Rattle.std.proofs.Common.{◌≡◌, ℕ, zero, suc, ◌+◌, ◌-◌, Bool, true, false, cond, List, [], ◌∷◌, ◌++◌, length, take, drop, refl, sym, ap, subst, ◌∙◌, arith, append-nil}
+use Rattle.std.proofs.Common.{◌≡◌, ℕ, zero, suc, ◌+◌, ◌-◌, ◌<◌, Bool, true, false, cond, List, [], ◌∷◌, ◌++◌, length, take, drop, refl, sym, ap, subst, ◌∙◌, arith, append-nil}
 use Rattle.c_tokens.specs.declared.kind.Kind.{Kind}
 use Rattle.c_tokens.specs.declared.kind.Mood.{Mood}
 use Rattle.c_tokens.specs.declared.kind.Mood.TheVariants.{Fresh, Inside}
@@ -8,13 +8,14 @@ use Rattle.c_tokens.specs.declared.kind.Piece.TheVariants as piece
 use Rattle.c_tokens.specs.declared.kind.Token.{Token}
 use Rattle.c_tokens.specs.Piece.{is_blank, after_blank, piece_at}
 use Rattle.c_tokens.specs.Text.{Place, start, after, after_kind, token_at, given, tokens_from}
-use Rattle.erasure.specs.Erased.{is_line}
+use Rattle.erasure.specs.Erased.{is_taken}
+use Rattle.erasure.proofs.Columns.{directs}
+use Rattle.erasure.proofs.Tokens.{text_is}
 use Rattle.erasure.proofs.Sound.{IsSound, piece_sound}
-use Rattle.erasure.proofs.Cuts.{line_is, not_fresh, piece_blank}
+use Rattle.erasure.proofs.Cuts.{line_is, taken_is, not_fresh, piece_blank, inside_not_fresh}
 use Rattle.mend.specs.Bare.{gap, outside, without_directives}
 use Rattle.same_text.proofs.Whole.{waits, whole_piece, whole_from}
 use Rattle.same_text.proofs.Places.{behind_end, blank_feed}
-use Rattle.erasure.proofs.Items.{inside_not_fresh}
 use Rattle.same_text.proofs.Copies.{Split, Stands, Copied, kept_byte, wait_byte}
 use Rattle.same_text.proofs.Gaps.{Gone, line_gone, gone_byte}
 
@@ -28,24 +29,33 @@ module _ (bytes : List ℕ) where
     abbrev left : ℕ → Bool → Mood → List ℕ
     left k keep m = whole_from bs k keep m []
 
+    taken : (k : Kind) (n : ℕ) → 0 < n → is_taken bytes (token_at k n p) ≡ directs k (take n (b ∷ bs))
+    taken k n l = taken_is bytes (token_at k n p) ∙ ap (directs k) (text_is bytes b bs p k n l s.here)
+
     piece_copied : (q : Piece) → IsSound (piece_at mood b) mood b bs q →
         outside bytes j (given q p go) ≡ before ++ whole_piece q b bs blanks left
     piece_copied (piece.Layout n m) u =
         kept_byte bytes b bs p before blanks j (n - 1) m ih s (λ e. absurd (inside_not_fresh m u.2 e))
-    piece_copied (piece.Token k n) u = pick (is_line k) refl
+    piece_copied (piece.Token k n) u =
+        ap
+        (λ (v : Bool). cond v (take ((gap bytes (token_at k n p)).0 - j) (drop j bytes)
+        ++ outside bytes (gap bytes (token_at k n p)).1 (go (n - 1) (after_kind k)))
+        (outside bytes j (go (n - 1) (after_kind k)))) (taken k n u.0)
+        ∙ pick (directs k (take n (b ∷ bs))) refl
       where
-        pick : (v : Bool) → is_line k ≡ v →
+        pick : (v : Bool) → directs k (take n (b ∷ bs)) ≡ v →
             cond v (take ((gap bytes (token_at k n p)).0 - j) (drop j bytes)
             ++ outside bytes (gap bytes (token_at k n p)).1 (go (n - 1) (after_kind k)))
             (outside bytes j (go (n - 1) (after_kind k)))
             ≡ before ++ cond v (left (n - 1) false Inside) (blanks ++ b ∷ left (n - 1) true (after_kind k))
         pick true i =
-            let line = u.2 (line_is k i) in
+            let is_one = line_is k (take n (b ∷ bs)) i in
+            let line = u.2 is_one in
             subst
             (λ (k : Kind). take ((gap bytes (token_at k n p)).0 - j) (drop j bytes)
             ++ outside bytes (gap bytes (token_at k n p)).1 (go (n - 1) (after_kind k))
             ≡ before ++ left (n - 1) false Inside)
-            (sym (line_is k i))
+            (sym is_one)
             (line_gone bytes b bs p before (blanks ++ b ∷ bs) j n gone u.0 line.1 s.here s.text (t.fresh line.0).1)
         pick false i =
             kept_byte bytes b bs p before blanks j (n - 1) (after_kind k) ih s (λ e. absurd (not_fresh k e))

@@ -3,12 +3,13 @@ use Rattle.std.proofs.Common.{◌≡◌, ◌≤◌, ℕ, Bool, true, false, cond
 use Rattle.base.specs.declared.tree.Program.{Program}
 use Rattle.c_grammar.specs.Grammar.{Text, slots}
 use Rattle.c_grammar.specs.Rules.{source_grammar}
-use Rattle.c_grammar.specs.Source.{items_of, end_of, max_source, Spells as SpellsText}
+use Rattle.c_grammar.specs.Source.{items_of, written_out, end_of, max_source, Spells as SpellsText}
 use Rattle.c_grammar.specs.Terminal.{Terminal, End}
-use Rattle.c_grammar.specs.Texts.{Item, kinds}
+use Rattle.c_grammar.specs.Texts.{kinds}
 use Rattle.c_grammar.proofs.SourceOne.{same_text}
 use Rattle.c_read.specs.Spells.{IsProgram, Spells}
-use Rattle.erasure.specs.Erased.{erased_text, items_in, unlined, is_line_terminal}
+use Rattle.c_grammar.specs.Blocks.{Items, is_directive, bare}
+use Rattle.erasure.specs.Erased.{erased_text, items_in}
 use Rattle.erasure.specs.Plain.{plain_tree}
 use Rattle.erasure.proofs.Covered.{erased_items}
 use Rattle.erasure.proofs.Spelled.{kinds_in, with_end, erased_shorter, spells_plain}
@@ -16,33 +17,35 @@ use Rattle.erased_meaning.specs.Laws.{IsErased}
 use Rattle.erased_meaning.proofs.ErasedRuns.{erased_is}
 use Rattle.erased_meaning.proofs.Globals.{main_safe}
 use Rattle.same_text.specs.Laws.{bare_tokens, RunAlike}
+use Rattle.same_text.proofs.Unlined.{all_unlined}
+use Rattle.same_text.proofs.UnlinedTexts.{written_kinds}
 
--- all tokens of the text without its lines
-erased_tokens : (bytes : List ℕ) → kinds_in (items_of (erased_text bytes)) ≡ bare_tokens bytes ++ End ∷ []
+-- all tokens of the text without its directive lines
+erased_tokens : (bytes : List ℕ) → kinds_in (items_of (erased_text bytes)) ≡ kinds_in (written_out (bare_tokens bytes)) ++ End ∷ []
 erased_tokens bytes =
-    with_end (items_in (erased_text bytes)) (end_of (erased_text bytes))
-    ∙ ap (λ (is : List (Item Terminal)). kinds_in is ++ End ∷ []) (erased_items bytes)
+    with_end (written_out (items_in (erased_text bytes))) (end_of (erased_text bytes))
+    ∙ ap (λ (is : Items). kinds_in (written_out is) ++ End ∷ []) (erased_items bytes)
+    ∙ ap (λ (ts : List Terminal). ts ++ End ∷ []) (written_kinds (bare (items_in bytes)))
 
-unlined_twice : (is : List (Item Terminal)) → unlined (unlined is) ≡ unlined is
-unlined_twice [] = refl
-unlined_twice (i ∷ is) = step (is_line_terminal i.terminal) refl (unlined_twice is)
+bare_twice : (is : Items) → bare (bare is) ≡ bare is
+bare_twice [] = refl
+bare_twice (i ∷ is) = step (is_directive i.terminal) refl (bare_twice is)
   where
-    step : (t : Bool) → is_line_terminal i.terminal ≡ t → unlined (unlined is) ≡ unlined is →
-        unlined (cond t (unlined is) (i ∷ unlined is)) ≡ cond t (unlined is) (i ∷ unlined is)
+    step : (t : Bool) → is_directive i.terminal ≡ t → bare (bare is) ≡ bare is →
+        bare (cond t (bare is) (i ∷ bare is)) ≡ cond t (bare is) (i ∷ bare is)
     step true e h = h
     step false e h =
-        ap (λ (t : Bool). cond t (unlined (unlined is)) (i ∷ unlined (unlined is))) e
-        ∙ ap (λ (js : List (Item Terminal)). i ∷ js) h
+        ap (λ (t : Bool). cond t (bare (bare is)) (i ∷ bare (bare is))) e ∙ ap (λ (js : Items). i ∷ js) h
 
--- without its lines a text has no lines
+-- without its directive lines a text has none
 twice_bare : (bytes : List ℕ) → bare_tokens (erased_text bytes) ≡ bare_tokens bytes
-twice_bare bytes = ap kinds_in (ap unlined (erased_items bytes) ∙ unlined_twice (items_in bytes))
+twice_bare bytes = ap all_unlined (ap bare (erased_items bytes) ∙ bare_twice (items_in bytes))
 
--- the tokens of the second text without lines are those of the tree of the first without its directives
+-- the tokens of the second text without directive lines are those of the tree of the first without its directives
 tree_tokens : (a b : List ℕ) (t : Text) → bare_tokens a ≡ bare_tokens b → SpellsText (erased_text a) (plain_tree t) →
     kinds_in (items_of (erased_text b)) ≡ kinds source_grammar (slots (plain_tree t))
 tree_tokens a b t e plain =
-    erased_tokens b ∙ ap (λ (ts : List Terminal). ts ++ End ∷ []) (sym e) ∙ sym (erased_tokens a)
+    erased_tokens b ∙ ap (λ (is : Items). kinds_in (written_out is) ++ End ∷ []) (sym e) ∙ sym (erased_tokens a)
     ∙ plain.spelled.tokens
 
 one_tree : (a b : List ℕ) (t u : Text) → bare_tokens a ≡ bare_tokens b → SpellsText a t →
@@ -58,14 +61,14 @@ same_tokens_erase a b p q e s u =
     erased_is s.text (items_of a) (items_of (erased_text b)) p q (main_safe s.text s.spelled.spelled.keeps) s.means
     (subst (λ (t : Text). IsProgram (items_of (erased_text b)) t q) one u.means)
 
--- a text without its lines has the same tokens, and its program no directive
+-- a text without its directive lines has the same tokens, and its program no directive
 pub same_tokens_run : (a b : List ℕ) (p q : Program) → bare_tokens a ≡ bare_tokens b → Spells (erased_text a) p →
     Spells (erased_text b) q → RunAlike p q
 same_tokens_run a b p q e s u =
     let all : IsErased p q = same_tokens_erase (erased_text a) b p q (twice_bare a ∙ e) s u in
     record { lengths = sym all.lengths; runs = all.runs }
 
--- ---- the second text without lines is one of the grammar
+-- ---- the second text without directive lines is one of the grammar
 
 pub same_tokens_text : (a b : List ℕ) (t : Text) → bare_tokens a ≡ bare_tokens b → SpellsText a t →
     length b ≤ max_source → SpellsText (erased_text b) (plain_tree t)

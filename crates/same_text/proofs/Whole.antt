@@ -1,15 +1,15 @@
 -- The text without its directive lines, which go whole, byte by byte.
-use Rattle.std.proofs.Common.{◌≡◌, ℕ, zero, suc, ◌-◌, Bool, true, false, cond, List, [], ◌∷◌, ◌++◌, refl}
+use Rattle.std.proofs.Common.{◌≡◌, ℕ, zero, suc, ◌-◌, Bool, true, false, cond, List, [], ◌∷◌, ◌++◌, take, refl}
 use Rattle.c_tokens.specs.declared.kind.Mood.{Mood}
 use Rattle.c_tokens.specs.declared.kind.Mood.TheVariants.{Fresh, Inside, AfterNumber}
 use Rattle.c_tokens.specs.declared.kind.Piece.{Piece}
 use Rattle.c_tokens.specs.declared.kind.Piece.TheVariants as piece
 use Rattle.c_tokens.specs.Piece.{is_blank, piece_at}
 use Rattle.c_tokens.specs.Text.{after_kind}
-use Rattle.erasure.specs.Erased.{is_line}
-use Rattle.erasure.proofs.Pieces.{Alike}
+use Rattle.erasure.proofs.Columns.{directs}
+use Rattle.erasure.proofs.Pieces.{Alike, alike_same, alike_front}
 use Rattle.erasure.proofs.Sound.{IsSound, piece_sound}
-use Rattle.erasure.proofs.Cuts.{line_is, piece_blank}
+use Rattle.erasure.proofs.Cuts.{line_is, not_fresh, piece_blank, inside_not_fresh, blank_no_part}
 use Rattle.mend.specs.Bare.{is_space}
 
 -- a blank at the front of a line is kept or not as what follows it
@@ -22,10 +22,10 @@ waits AfterNumber b = false
 abbrev pub whole_piece : Piece → ℕ → List ℕ → List ℕ → (ℕ → Bool → Mood → List ℕ) → List ℕ
 whole_piece (piece.Layout n m) b bs blanks go = blanks ++ b ∷ go (n - 1) true m
 whole_piece (piece.Token k n) b bs blanks go =
-    cond (is_line k) (go (n - 1) false Inside) (blanks ++ b ∷ go (n - 1) true (after_kind k))
+    cond (directs k (take n (b ∷ bs))) (go (n - 1) false Inside) (blanks ++ b ∷ go (n - 1) true (after_kind k))
 whole_piece piece.Unknown b bs blanks go = blanks ++ b ∷ bs
 
--- a text without its lines, of which the first k bytes are the rest of a piece that is kept or not; behind one that is
+-- a text without its directive lines, of which the first k bytes are the rest of a piece that is kept or not; behind one that is
 -- not kept its line feed goes too
 unfoldable pub whole_from : List ℕ → ℕ → Bool → Mood → List ℕ → List ℕ
 whole_from [] k keep mood blanks = blanks
@@ -43,25 +43,26 @@ no_wait AfterNumber b h = refl
 
 -- where no line can begin the first byte is kept
 whole_front : (mood : Mood) (b : ℕ) (bs : List ℕ) → (mood ≡ Fresh → ⊥) →
+    ((k : ℕ) (m : Mood) → (m ≡ Fresh → ⊥) → Alike 0 bs (whole_from bs k true m [])) →
     Alike 0 (b ∷ bs) (whole_from (b ∷ bs) 0 true mood [])
 unfolding whole_from
-whole_front mood b bs h = rw (no_wait mood b h) (start (is_blank b) refl)
+whole_front mood b bs h more = rw (no_wait mood b h) (start (is_blank b) refl)
   where
     go : (q : Piece) → IsSound (piece_at mood b) mood b bs q →
         Alike 0 (b ∷ bs) (whole_piece q b bs [] (λ k keep m. whole_from bs k keep m []))
-    go (piece.Layout n m) s = refl
-    go (piece.Token k n) s = pick (is_line k) refl
+    go (piece.Layout n m) s = (refl, λ e. more (n - 1) m (inside_not_fresh m s.2))
+    go (piece.Token k n) s = pick (directs k (take n (b ∷ bs))) refl
       where
-        pick : (t : Bool) → is_line k ≡ t →
+        pick : (t : Bool) → directs k (take n (b ∷ bs)) ≡ t →
             Alike 0 (b ∷ bs)
             (cond t (whole_from bs (n - 1) false Inside []) (b ∷ whole_from bs (n - 1) true (after_kind k) []))
-        pick true e = absurd (h (s.2 (line_is k e)).0)
-        pick false e = refl
-    go piece.Unknown s = refl
+        pick true e = absurd (h (s.2 (line_is k (take n (b ∷ bs)) e)).0)
+        pick false e = (refl, λ i. more (n - 1) (after_kind k) (not_fresh k))
+    go piece.Unknown s = (refl, λ e. alike_same bs)
 
     start : (t : Bool) → is_blank b ≡ t →
         Alike 0 (b ∷ bs) (whole_piece (piece_at mood b bs) b bs [] (λ k keep m. whole_from bs k keep m []))
-    start true e = rw (piece_blank mood b bs e) refl
+    start true e = rw (piece_blank mood b bs e) (refl, λ f. absurd (blank_no_part b e f))
     start false e = go (piece_at mood b bs) (piece_sound mood b bs e)
 
 -- the rest of a piece and the byte behind it are kept
@@ -69,5 +70,5 @@ pub whole_alike : (bs : List ℕ) (k : ℕ) (mood : Mood) → (mood ≡ Fresh �
 unfolding whole_from
 whole_alike [] zero mood h = tt
 whole_alike [] (suc k) mood h = tt
-whole_alike (b ∷ bs) zero mood h = whole_front mood b bs h
+whole_alike (b ∷ bs) zero mood h = whole_front mood b bs h (λ k m g. alike_front k bs _ (whole_alike bs k m g))
 whole_alike (b ∷ bs) (suc k) mood h = (refl, whole_alike bs k mood h)

@@ -1,20 +1,24 @@
 -- Texts that differ in their directive lines alone.
-use Rattle.std.specs.Prelude.{◌≡◌, ◌≤◌, ℕ, List, length}
+use Rattle.std.specs.Prelude.{◌≡◌, ◌≤◌, ℕ, List, length, map}
 use Rattle.base.specs.declared.tree.Program.{Program}
 use Rattle.base.specs.Meaning.{erased, lengths_of}
+use Rattle.c_grammar.specs.Blocks.{bare}
 use Rattle.c_grammar.specs.Grammar.{Text}
-use Rattle.c_grammar.specs.Rules.{source_grammar}
 use Rattle.c_grammar.specs.Source.{max_source, Spells as SpellsText}
 use Rattle.c_grammar.specs.Terminal.{Terminal}
-use Rattle.c_grammar.specs.Texts.{terminals}
+use Rattle.c_grammar.specs.Texts.{Item}
 use Rattle.c_read.specs.Spells.{Spells}
-use Rattle.erasure.specs.Erased.{erased_text, items_in, unlined}
+use Rattle.erasure.specs.Erased.{erased_text, items_in}
 use Rattle.erased_meaning.specs.Laws.{SameRun, IsErased}
 use Rattle.mend.specs.Bare.{without_directives}
 
--- the tokens of a text that are no directive lines, without their places
-abbrev pub bare_tokens : List ℕ → List Terminal
-bare_tokens bytes = terminals source_grammar (unlined (items_in bytes))
+-- a token without its line
+abbrev pub unlined : Item Terminal → Item Terminal
+unlined i = record { terminal = i.terminal; line = 0; column = i.column; columns = i.columns }
+
+-- the tokens of a text that are no directive lines, as they stand, with their columns and without their lines
+abbrev pub bare_tokens : List ℕ → List (Item Terminal)
+bare_tokens bytes = map unlined (bare (items_in bytes))
 
 -- arrays of the same lengths, and the same numbers printed, memory and input left without directives
 pub record RunAlike (p q : Program) : Type 0 where

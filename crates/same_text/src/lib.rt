@@ -3,7 +3,7 @@
 
 ghost use Rattle.same_text.specs.Laws.{BareTokensStay, MendErases, SameTextRuns, SourceIsText};
 
-/// Deleting the directive lines of a text whole leaves the kinds, names and numbers of its other tokens.
+/// Deleting the directive lines of a text whole leaves the kinds, names, numbers and columns of its other tokens.
 pub fn bare_tokens_stay()
     ensures { BareTokensStay }
 {}

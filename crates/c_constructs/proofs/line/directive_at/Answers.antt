@@ -1,3 +1,4 @@
+use Rattle.directives.specs.Ahead.{seen_line}
 use Rattle.c_constructs.proofs.FewLoops.{few_loops}
 use Rattle.c_constructs.proofs.Taken.{bad_line}
 use Rattle.std.proofs.Common.{arith}
@@ -8,4 +9,4 @@ returns-in-Err-clause-read c = grind (arith, bad_line)
 
 pub returns-in-Ok-clause-depth : goal.returns-in-Ok-clause-depth
 returns-in-Ok-clause-depth c =
-    few_loops c.args.line.now c.args.column c.in-Ok.directive c.in-Ok.ensures.sound c.in-Ok.ensures.source
+    few_loops (seen_line c.args.line.now) c.in-Ok.directive c.in-Ok.ensures.sound c.in-Ok.ensures.source

@@ -7,4 +7,4 @@ use Rattle.c_read.proofs.program.read_short.Goals as goal
 
 pub program-requires-clause-text : goal.program-requires-clause-text
 program-requires-clause-text c =
-    subst (λ (is : Items). AreAscii (terminals is)) (sym c.new-tokens.ensures) (names_are_ascii c.args.bytes.now)
+    subst (λ (is : Items). AreAscii (terminals is)) (sym c.source_tokens-tokens.ensures) (names_are_ascii c.args.bytes.now)

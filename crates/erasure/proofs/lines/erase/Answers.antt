@@ -30,18 +30,23 @@ overflow_add-next c =
     let place = token_within _ _ _ _ _ _ c.in-Some.ensures.steps c.loop-token.invariant.2 in
     let bound : c.in-Some.token.last + 1 ≤ length c.args.bytes.now = place.2 in search (rules, bound)
 
-pub loop-token-preserved-in-Line : goal.loop-token-preserved-in-Line
-loop-token-preserved-in-Line c = (
+pub loop-token-preserved-then-is_directive : goal.loop-token-preserved-then-is_directive
+loop-token-preserved-then-is_directive c = (
   tt,
   tt,
   subst (λ (xs : List ℕ). IsCopied c.args.bytes.now xs (c.in-Some.token.last + 1) (ahead c.next.new.self))
       (sym c.in_ok-extend_from_slice.ensures.items)
-      (copy_line _ _ _ _ _ _ c.in-Some.ensures.steps c.in-Line.is c.loop-token.invariant.2),
+      (copy_line _ _ _ _ _ _ c.in-Some.ensures.steps (sym c.is_directive.ensures ∙ c.if-is_directive.true)
+      c.loop-token.invariant.2),
 )
 
 pub loop-token-preserved : goal.loop-token-preserved
-loop-token-preserved c =
-    (tt, tt, copy_other _ _ _ _ _ _ c.in-Some.ensures.steps c.in_default.not-Line c.loop-token.invariant.2)
+loop-token-preserved c = (
+  tt,
+  tt,
+  copy_other _ _ _ _ _ _ c.in-Some.ensures.steps (sym c.is_directive.ensures ∙ c.if-is_directive.false)
+      c.loop-token.invariant.2,
+)
 
 pub returns : goal.returns
 returns c =

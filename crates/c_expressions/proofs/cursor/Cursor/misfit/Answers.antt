@@ -1,4 +1,4 @@
-use Rattle.c_expressions.proofs.Misfits.{unknown_misfits, short_misfits, others_misfit, number_misfits, long_misfits, line_misfits, foreign_misfits}
+use Rattle.c_expressions.proofs.Misfits.{unworked_misfits, unknown_misfits, short_misfits, others_misfit, number_misfits, long_misfits, line_misfits, foreign_misfits}
 use Rattle.std.proofs.Common.{arith}
 use Rattle.c_expressions.proofs.cursor.Cursor.misfit.Goals as goal
 
@@ -22,3 +22,6 @@ returns-in-Some c = grind (arith, foreign_misfits)
 
 pub returns-in_default : goal.returns-in_default
 returns-in_default c = grind (arith, others_misfit)
+
+pub returns-in-Unworked : goal.returns-in-Unworked
+returns-in-Unworked c = grind (arith, unworked_misfits)

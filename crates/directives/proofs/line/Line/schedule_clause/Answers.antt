@@ -1,4 +1,4 @@
-use Rattle.directives.proofs.Sharing.{at_schedule, schedule_is, schedule_taken, read_schedule}
+use Rattle.directives.proofs.Sharing.{at_schedule, schedule_is, read_schedule}
 use Rattle.std.proofs.Common.{arith}
 use Rattle.directives.proofs.line.Line.schedule_clause.Goals as goal
 

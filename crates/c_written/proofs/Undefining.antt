@@ -1,0 +1,52 @@
+-- One token after another, with or without a definition.
+use Rattle.std.proofs.Common.{◌≡◌, ◌∙◌, ℕ, zero, suc, ◌+◌, ◌-◌, ◌<◌, Bool, true, false, List, [], ◌∷◌, Option, Some, None, refl, sym, ap, arith}
+use Rattle.std.specs.Prelude.{OnOk, Result, Ok, Err}
+use Rattle.c_grammar.specs.Terminal.{Terminal}
+use Rattle.c_grammar.specs.Texts.{Item}
+use Rattle.c_grammar.specs.Blocks.{Items, bare, is_directive}
+use Rattle.c_grammar.specs.Constants.{Names, definition_len, depth_behind, drop_on, undefined, with_global}
+
+pub undefined_line : (ns : Names) (d k : ℕ) (i : Item Terminal) (is : Items) → is_directive i.terminal ≡ true →
+    undefined ns d k (i ∷ is) ≡ i ∷ undefined ns d k is
+unfolding undefined
+undefined_line ns d k i is e = rw e refl
+
+pub undefined_left : (ns : Names) (d k : ℕ) (i : Item Terminal) (is : Items) → is_directive i.terminal ≡ false → 0 < k →
+    undefined ns d k (i ∷ is) ≡ undefined ns d (k - 1) is
+unfolding undefined
+undefined_left ns d zero i is e h = absurd (omega arith)
+undefined_left ns d (suc k) i is e h = rw e (ap (λ (n : ℕ). undefined ns d n is) (let one : k ≡ suc k - 1 = omega arith in one))
+
+-- a definition outside of blocks
+pub undefined_definition : (ns : Names) (d k n : ℕ) (i : Item Terminal) (is : Items) → k ≡ 0 → d ≡ 0 → is_directive i.terminal ≡ false →
+    definition_len ns i.terminal (bare is) ≡ Some n → undefined ns d k (i ∷ is) ≡ undefined ns d n is
+unfolding undefined
+undefined_definition ns zero zero n i is a b e f = rw e (ap (λ (o : Option ℕ). drop_on ns zero i (bare is) o (λ ns d k. undefined ns d k is)) f)
+undefined_definition ns (suc d) zero n i is a b e f = absurd (omega (arith, b))
+undefined_definition ns d (suc k) n i is a b e f = absurd (omega (arith, a))
+
+-- a token that is none
+pub undefined_none : (ns : Names) (d k : ℕ) (i : Item Terminal) (is : Items) → k ≡ 0 → d ≡ 0 → is_directive i.terminal ≡ false →
+    definition_len ns i.terminal (bare is) ≡ None →
+    undefined ns d k (i ∷ is) ≡ i ∷ undefined (with_global i.terminal (bare is) ns) (depth_behind i.terminal d) k is
+unfolding undefined
+undefined_none ns zero zero i is a b e f = rw e (ap (λ (o : Option ℕ). drop_on ns zero i (bare is) o (λ ns d k. undefined ns d k is)) f)
+undefined_none ns (suc d) zero i is a b e f = absurd (omega (arith, b))
+undefined_none ns d (suc k) i is a b e f = absurd (omega (arith, a))
+
+-- a token in a block
+pub undefined_inside : (ns : Names) (d k : ℕ) (i : Item Terminal) (is : Items) → k ≡ 0 → (d ≡ 0 → ⊥) → is_directive i.terminal ≡ false →
+    undefined ns d k (i ∷ is) ≡ i ∷ undefined (with_global i.terminal (bare is) ns) (depth_behind i.terminal d) k is
+unfolding undefined
+undefined_inside ns zero zero i is a b e = absurd (b refl)
+undefined_inside ns (suc d) zero i is a b e = rw e refl
+undefined_inside ns d (suc k) i is a b e = absurd (omega (arith, a))
+
+pub undefined_end : (ns : Names) (d k : ℕ) → undefined ns d k [] ≡ []
+unfolding undefined
+undefined_end ns d k = refl
+
+-- what holds where four things do, on success
+pub all_four : {T E P Q R S : Type 0} {Goal : Type 0} (r : Result T E) → OnOk r P → OnOk r Q → OnOk r R → OnOk r S → (P → Q → R → S → Goal) → OnOk r Goal
+all_four (Ok x) p q r s f = f p q r s
+all_four (Err e) p q r s f = tt

@@ -1,0 +1,30 @@
+use Rattle.std.proofs.Common.{◌≡◌, ◌∙◌, ◌++◌, ◌∷◌, ap, sym, true, false, arith}
+use Rattle.c_grammar.specs.Terminal.{Terminal}
+use Rattle.c_grammar.specs.Texts.{Item}
+use Rattle.c_grammar.specs.Blocks.{is_directive, typed}
+use Rattle.c_written.specs.Seen.{seen, seen_all, seen_terminal}
+use Rattle.c_written.proofs.Lists.{written_one}
+use Rattle.c_written.proofs.Typing.{typed_line, typed_left, typed_one, typed_more}
+use Rattle.c_written.proofs.types.Types.take.Goals as goal
+
+pub returns-then-is_directive : goal.returns-then-is_directive
+returns-then-is_directive c =
+    written_one _ _ c.args.token _ _ c.in_ok-push.ensures.items
+    (typed_line _ _ _ (sym c.is_directive.ensures ∙ c.if-is_directive.true))
+
+pub returns-then-self-gt0 : goal.returns-then-self-gt0
+returns-then-self-gt0 c =
+    ap (λ is. seen_all c.args.self.now.done.items ++ is)
+    (typed_left _ _ _ (sym c.is_directive.ensures ∙ c.if-is_directive.false) c.if-self-gt0.true)
+
+pub returns-then-count-gt0 : goal.returns-then-count-gt0
+returns-then-count-gt0 c =
+    written_one _ _ _ _ _ c.in_ok-push-2.ensures.items
+    (typed_more _ _ _ _ (omega (arith, c.if-self-gt0.false)) (sym c.is_directive.ensures ∙ c.if-is_directive.false)
+    c.more_words-count.ensures c.if-count-gt0.true ∙ ap (λ (i : Item Terminal). i ∷ typed c.more_words-count.result (seen_all c.args.rest.now)) (sym c.at.ensures))
+
+pub returns : goal.returns
+returns c =
+    written_one _ _ c.args.token _ _ c.in_ok-push-3.ensures.items
+    (typed_one _ _ _ _ (omega (arith, c.if-self-gt0.false)) (sym c.is_directive.ensures ∙ c.if-is_directive.false)
+    c.more_words-count.ensures (omega (arith, c.if-count-gt0.false)))

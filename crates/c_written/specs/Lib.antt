@@ -1,0 +1,16 @@
+pub mod Seen
+pub mod Ahead
+pub mod Values
+pub mod Work
+pub mod Passes
+pub mod Stack
+pub mod Past
+pub mod Reader
+pub mod Held
+pub mod Lines
+pub mod Forms
+pub mod Opens
+pub mod Changes
+pub mod Definitions
+pub mod Constants
+pub mod Globals

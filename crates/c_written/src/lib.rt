@@ -1,0 +1,31 @@
+//! The tokens of a source with what C lets be left out.
+#![tactic(auto)]
+
+mod ahead;
+mod blocks;
+mod changes;
+mod constants;
+mod definition;
+mod definitions;
+mod expressions;
+mod globals;
+mod held;
+mod initial;
+mod line_forms;
+mod operators;
+mod prints;
+mod shapes;
+mod source;
+mod stack;
+mod targets;
+mod token;
+mod types;
+mod values;
+mod work;
+
+pub use held::{Written, WrittenTerminal};
+pub use source::written;
+pub use token::{Terminal, Token};
+
+#[cfg(test)]
+mod tests;

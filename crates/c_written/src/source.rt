@@ -1,0 +1,108 @@
+//! The written tokens of a source.
+
+ghost use Rattle.std.specs.Prelude.{◌≡◌, ◌≤◌, ◌^◌, IfOk, [], map};
+ghost use Rattle.c_tokens.specs.Text.{tokens_of};
+ghost use Rattle.c_grammar.specs.Blocks.{in_blocks, nothing_read, typed};
+ghost use Rattle.c_grammar.specs.Changes.{begin, in_full};
+ghost use Rattle.c_grammar.specs.Constants.{undefined, worked};
+ghost use Rattle.c_grammar.specs.Initial.{initialized, no_globals};
+ghost use Rattle.c_grammar.specs.Prints.{printed};
+ghost use Rattle.c_grammar.specs.Source.{item_of, text_of, written_out};
+ghost use Rattle.c_written.specs.Held.{columns_held, seen_held, written_all};
+
+use crate::blocks::in_blocks;
+use crate::changes::in_full;
+use crate::constants::worked;
+use crate::definitions::undefined;
+use crate::globals::initialized;
+use crate::held::{Written, WrittenTerminal, borrowed, owned};
+use crate::prints::printed;
+use crate::types::typed;
+use c_tokens::{Kind, Token, tokens};
+use directives::{LineTokens, word_of};
+use std::alloc::{AllocError, Global};
+
+fn text_of<'a>(bytes: &'a [u8], token: Token) -> &'a [u8]
+    ensures { result.now ≡ text_of bytes.now token }
+{
+    let start = token.first.min(bytes.len());
+    let rest = &bytes[start..];
+    let len = token.last.saturating_sub(token.first);
+    if rest.len() <= len {
+        return rest;
+    }
+    &rest[..len + 1]
+}
+
+fn terminal_of<'a>(
+    alloc: Global,
+    bytes: &'a [u8],
+    token: Token,
+) -> Result<WrittenTerminal<'a>, AllocError>
+    requires { token.column ≤ 2 ^ 63 }
+    ensures terminal { IfOk result (λ t. seen_held t ≡ (item_of bytes.now token).terminal) }
+    ensures columns { IfOk result (λ t. columns_held t ≡ (item_of bytes.now token).columns) }
+{
+    let text = text_of(bytes, token);
+    Ok(match token.kind {
+        Kind::Name => match word_of(text) {
+            Some(word) => WrittenTerminal::Word(word),
+            None => WrittenTerminal::Name(text),
+        },
+        Kind::Number(n) => WrittenTerminal::Number(n),
+        Kind::BadNumber => WrittenTerminal::BadNumber,
+        Kind::Sign(sign) => WrittenTerminal::Sign(sign),
+        Kind::Line => WrittenTerminal::Line(LineTokens::new(alloc, text, token.column)?),
+        Kind::Unknown => WrittenTerminal::Unknown,
+    })
+}
+
+/// The tokens of a source as they stand.
+fn raw<'a>(alloc: Global, bytes: &'a [u8]) -> Result<Vec<Written<'a>>, AllocError>
+    ensures { IfOk result (λ v. written_all v.items ≡ map (item_of bytes.now) (tokens_of bytes.now)) }
+{
+    let mut written = Vec::new(alloc);
+    let mut stream = tokens(bytes);
+    'tokens: while let Some(token) = stream.next_token() {
+        written.push(Written {
+            terminal: terminal_of(alloc, bytes, token)?,
+            line: token.line,
+            column: token.column,
+        })?;
+    }
+    Ok(written)
+}
+
+/// The tokens with their calls of `printf`, types, blocks and constants.
+fn with_constants<'a>(alloc: Global, raw: &[Written<'a>]) -> Result<Vec<Written<'a>>, AllocError>
+    ensures { IfOk result (λ v. written_all v.items ≡
+        worked [] [] 0 (in_blocks nothing_read (typed 0 (printed 0 (written_all raw.now))))) }
+{
+    let tokens = borrowed(alloc, raw)?;
+    let tokens = printed(alloc, &tokens)?;
+    let tokens = typed(alloc, &tokens)?;
+    let tokens = in_blocks(alloc, &tokens)?;
+    worked(alloc, &tokens)
+}
+
+/// The tokens without definitions and initializers, and with their changes in full.
+fn with_changes<'a>(alloc: Global, worked: &[Written<'a>]) -> Result<Vec<Written<'a>>, AllocError>
+    ensures { IfOk result (λ v. written_all v.items ≡
+        in_full begin 0 (initialized no_globals 0 (undefined [] 0 0 (written_all worked.now)))) }
+{
+    let tokens = borrowed(alloc, worked)?;
+    let tokens = undefined(alloc, &tokens)?;
+    let tokens = initialized(alloc, &tokens)?;
+    let tokens = in_full(alloc, &tokens)?;
+    owned(alloc, &tokens)
+}
+
+/// The tokens of a source, with what C lets be left out. Each has the place of a token of the source. Fails where memory
+/// ran out.
+pub fn written<'a>(alloc: Global, bytes: &'a [u8]) -> Result<Vec<Written<'a>>, AllocError>
+    ensures { IfOk result (λ v. written_all v.items ≡ written_out (map (item_of bytes.now) (tokens_of bytes.now))) }
+{
+    let raw = raw(alloc, bytes)?;
+    let worked = with_constants(alloc, &raw)?;
+    with_changes(alloc, &worked)
+}

@@ -1,0 +1,43 @@
+-- Tokens are written out without a look at their lines.
+use Rattle.std.proofs.Common.{◌≡◌, List, [], ◌∷◌, refl, sym, ap, ◌∙◌}
+use Rattle.c_grammar.specs.Terminal.{Terminal}
+use Rattle.c_grammar.specs.Blocks.{Items, nothing_read, in_blocks, typed}
+use Rattle.c_grammar.specs.Changes.{begin, in_full}
+use Rattle.c_grammar.specs.Constants.{undefined, worked}
+use Rattle.c_grammar.specs.Initial.{initialized, no_globals}
+use Rattle.c_grammar.specs.Prints.{printed}
+use Rattle.c_grammar.specs.Source.{written_out}
+use Rattle.erasure.proofs.Spelled.{kinds_in}
+use Rattle.same_text.proofs.Unlined.{all_unlined, AreUnlined, typed_unlined, blocks_unlined}
+use Rattle.same_text.proofs.UnlinedPrints.{printed_unlined}
+use Rattle.same_text.proofs.UnlinedConstants.{worked_unlined}
+use Rattle.same_text.proofs.UnlinedDropped.{undefined_unlined}
+use Rattle.same_text.proofs.UnlinedGlobals.{initialized_unlined}
+use Rattle.same_text.proofs.UnlinedChanges.{full_unlined}
+
+written_unlined : (is : Items) → AreUnlined (written_out (all_unlined is)) (written_out is)
+written_unlined is =
+    let p : Items = printed 0 is in
+    let a : Items = typed 0 p in
+    let b : Items = in_blocks nothing_read a in
+    let c : Items = worked [] [] 0 b in
+    let d : Items = undefined [] 0 0 c in
+    let e : Items = initialized no_globals 0 d in
+    ap
+    (λ (js : Items). in_full begin 0
+    (initialized no_globals 0 (undefined [] 0 0 (worked [] [] 0 (in_blocks nothing_read (typed 0 js))))))
+    (printed_unlined is 0)
+    ∙ ap (λ (js : Items). in_full begin 0 (initialized no_globals 0 (undefined [] 0 0 (worked [] [] 0 (in_blocks nothing_read js)))))
+    (typed_unlined p 0)
+    ∙ ap (λ (js : Items). in_full begin 0 (initialized no_globals 0 (undefined [] 0 0 (worked [] [] 0 js))))
+    (blocks_unlined a nothing_read)
+    ∙ ap (λ (js : Items). in_full begin 0 (initialized no_globals 0 (undefined [] 0 0 js))) (worked_unlined b [] [] 0)
+    ∙ ap (λ (js : Items). in_full begin 0 (initialized no_globals 0 js)) (undefined_unlined c [] 0 0)
+    ∙ ap (λ (js : Items). in_full begin 0 js) (initialized_unlined d no_globals 0) ∙ full_unlined e begin 0
+
+kinds_unlined : (is : Items) → kinds_in is ≡ kinds_in (all_unlined is)
+kinds_unlined [] = refl
+kinds_unlined (i ∷ is) = ap (λ (ts : List Terminal). i.terminal ∷ ts) (kinds_unlined is)
+
+pub written_kinds : (is : Items) → kinds_in (written_out is) ≡ kinds_in (written_out (all_unlined is))
+written_kinds is = kinds_unlined (written_out is) ∙ ap kinds_in (sym (written_unlined is))
