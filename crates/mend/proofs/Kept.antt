@@ -1,12 +1,10 @@
 -- Copying the bytes between directive lines.
-use Rattle.std.proofs.Common.{◌≡◌, ℕ, ◌+◌, ◌-◌, ◌<◌, ◌≤◌, Bool, true, false, List, [], ◌∷◌, ◌++◌, length, take, drop, refl, sym, ap, subst, ◌∙◌, arith, append_assoc}
+use Rattle.std.proofs.Common.{◌≡◌, ℕ, ◌+◌, ◌-◌, ◌<◌, ◌≤◌, Bool, true, false, List, [], ◌∷◌, ◌++◌, length, take, drop, sym, ap, subst, ◌∙◌, arith, append_assoc}
 use Rattle.std.specs.Prelude.{if◌then◌else◌}
 use Rattle.std.proofs.lemmas.List.{length-drop, take_all}
-use Rattle.c_tokens.specs.declared.kind.Kind.{Kind}
-use Rattle.c_tokens.specs.declared.kind.Kind.TheVariants as kind
 use Rattle.c_tokens.specs.declared.kind.Token.{Token}
 use Rattle.c_tokens.specs.Text.{tokens_of}
-use Rattle.erasure.specs.Erased.{is_line}
+use Rattle.erasure.specs.Erased.{is_taken}
 use Rattle.erasure.proofs.Covered.{AreFrom, from_less}
 use Rattle.erasure.proofs.Copies.{copy_starts}
 use Rattle.mend.specs.Bare.{gap, outside, without_directives}
@@ -22,35 +20,26 @@ kept_starts bytes ts e =
     record { text = ap (λ (us : List Token). outside bytes 0 us) e; order = (copy_starts bytes ts e).order }
 
 pub kept_line : (bytes kept : List ℕ) (k : ℕ) (all : List Token) (t : Token) (ts : List Token) → all ≡ t ∷ ts →
-    t.kind ≡ kind.Line → IsKept bytes kept k all → IsKept bytes (kept ++ take ((gap bytes t).0 - k) (drop k bytes)) (gap bytes t).1 ts
-kept_line bytes kept k all t ts same e d =
+    is_taken bytes t ≡ true → IsKept bytes kept k all → IsKept bytes (kept ++ take ((gap bytes t).0 - k) (drop k bytes)) (gap bytes t).1 ts
+kept_line bytes kept k all t ts same line d =
     let c : IsKept bytes kept k (t ∷ ts) = subst (λ (us : List Token). IsKept bytes kept k us) same d in
     let front : List ℕ = take ((gap bytes t).0 - k) (drop k bytes) in
     let rest : List ℕ = outside bytes (gap bytes t).1 ts in
-    let line : is_line t.kind ≡ true = ap is_line e in
     record {
       text = append_assoc kept front rest
           ∙ (sym (ap (λ (b : Bool). kept ++ (if b then front ++ rest else outside bytes k ts)) line) ∙ c.text);
       order = from_less 0 (t.last + 1) (length bytes) ts (omega arith) c.order.2;
     }
 
-other_kind : (k : Kind) → (k ≡ kind.Line → ⊥) → is_line k ≡ false
-other_kind kind.Name h = refl
-other_kind (kind.Number n) h = refl
-other_kind kind.BadNumber h = refl
-other_kind (kind.Sign s) h = refl
-other_kind kind.Line h = absurd (h refl)
-other_kind kind.Unknown h = refl
-
 pub kept_other : (bytes kept : List ℕ) (k : ℕ) (all : List Token) (t : Token) (ts : List Token) → all ≡ t ∷ ts →
-    (t.kind ≡ kind.Line → ⊥) → IsKept bytes kept k all → IsKept bytes kept k ts
+    is_taken bytes t ≡ false → IsKept bytes kept k all → IsKept bytes kept k ts
 kept_other bytes kept k all t ts same h d =
     let c : IsKept bytes kept k (t ∷ ts) = subst (λ (us : List Token). IsKept bytes kept k us) same d in
     let front : List ℕ = take ((gap bytes t).0 - k) (drop k bytes) in
     record {
       text =
           sym (ap (λ (b : Bool). kept ++ (if b then front ++ outside bytes (gap bytes t).1 ts else outside bytes k ts))
-          (other_kind t.kind h)) ∙ c.text;
+          h) ∙ c.text;
       order = from_less 0 (t.last + 1) (length bytes) ts (omega arith) c.order.2;
     }
 

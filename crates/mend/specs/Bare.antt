@@ -3,7 +3,7 @@ use Rattle.std.specs.Prelude.{ℕ, zero, suc, ◌+◌, ◌-◌, ◌==◌, Bool, 
 use Rattle.std.specs.Option.{option_map_or}
 use Rattle.c_tokens.specs.declared.kind.Token.{Token}
 use Rattle.c_tokens.specs.Text.{tokens_of}
-use Rattle.erasure.specs.Erased.{is_line}
+use Rattle.erasure.specs.Erased.{is_taken}
 
 abbrev pub is_space : ℕ → Bool
 is_space b = (b == 32) || ((b == 9) || (b == 13))
@@ -28,7 +28,7 @@ gap bytes t = option_map_or (λ start. (start, behind bytes (t.last + 1))) (star
 abbrev pub outside : List ℕ → ℕ → List Token → List ℕ
 outside bytes k [] = drop k bytes
 outside bytes k (t ∷ ts) =
-    if is_line t.kind then take ((gap bytes t).0 - k) (drop k bytes) ++ outside bytes (gap bytes t).1 ts
+    if is_taken bytes t then take ((gap bytes t).0 - k) (drop k bytes) ++ outside bytes (gap bytes t).1 ts
     else outside bytes k ts
 
 unfoldable pub without_directives : List ℕ → List ℕ

@@ -4,7 +4,8 @@ ghost use Rattle.std.specs.Prelude.{◌≡◌, ◌<◌, ◌≤◌, IfOk, length}
 ghost use Rattle.mend.specs.Bare.{behind, gap, start_before, without_directives};
 
 use crate::lines::{cut, is_space};
-use c_tokens::{Kind, Token, tokens};
+use c_tokens::{Token, tokens};
+use erasure::is_directive;
 use std::alloc::{AllocError, Global};
 
 // Where the line of a place begins, where nothing but blanks stands before it.
@@ -49,7 +50,7 @@ fn gap(bytes: &[u8], token: &Token) -> (usize, usize)
     }
 }
 
-/// The text without its directive lines: those that begin with `#`, but for `#include` lines. Each is deleted with the
+/// The text without its directive lines: those whose words are `pragma omp`. Each is deleted with the
 /// blanks before its `#` and its line feed. Where something else than blanks stands before the `#` on its line, it is
 /// deleted from the `#` on, and the line feed stays. Fails where memory ran out.
 pub fn without_directives(alloc: Global, bytes: &[u8]) -> Result<Vec<u8>, AllocError>
@@ -58,7 +59,7 @@ pub fn without_directives(alloc: Global, bytes: &[u8]) -> Result<Vec<u8>, AllocE
     let mut kept = Vec::new(alloc);
     let mut next = 0;
     for token in tokens(bytes) {
-        if let Kind::Line = token.kind {
+        if is_directive(bytes, &token) {
             let (start, end) = gap(bytes, &token);
             kept.extend_from_slice(cut(bytes, next, start))?;
             next = end;

@@ -1,7 +1,9 @@
 // Which loops are around a line, and where the block behind a line ends.
 
 use crate::lines::cut;
+use base::tree::Place;
 use c_tokens::{Kind, Sign, Token, tokens};
+use erasure::is_directive;
 use std::alloc::{AllocError, Global};
 
 // A block that is open.
@@ -45,9 +47,10 @@ impl Blocks {
             }
             _ => {}
         }
-        self.directive = match token.kind {
-            Kind::Line => Some(token.line),
-            _ => None,
+        self.directive = if is_directive(text, token) {
+            Some(token.line)
+        } else {
+            None
         };
         Ok(())
     }
@@ -98,4 +101,70 @@ pub fn block_end(text: &[u8], directive: usize) -> Option<usize> {
         }
     }
     None
+}
+
+// The heads of loops that are read. Each but the first begins the body of the one before it.
+#[derive(Drop)]
+struct Heads {
+    places: Vec<Place>,
+    in_head: bool,
+    /// How many brackets are open in the head.
+    brackets: usize,
+}
+
+impl Heads {
+    fn take_in_head(&mut self, token: &Token) {
+        match token.kind {
+            Kind::Sign(Sign::OpenParen) => self.brackets = self.brackets.saturating_add(1),
+            Kind::Sign(Sign::CloseParen) => {
+                self.brackets = self.brackets.saturating_sub(1);
+                self.in_head = self.brackets > 0;
+            }
+            _ => {}
+        }
+    }
+
+    // Whether a token between two heads may stand there.
+    fn take(&mut self, text: &[u8], token: &Token) -> Result<bool, AllocError> {
+        if self.in_head {
+            self.take_in_head(token);
+            return Ok(true);
+        }
+        if let Kind::Sign(Sign::OpenBrace) = token.kind {
+            return Ok(true);
+        }
+        if cut(text, token.first, token.last.saturating_add(1)) != b"for".as_slice() {
+            return Ok(false);
+        }
+        self.places.push(Place {
+            line: token.line,
+            column: token.column,
+        })?;
+        self.in_head = true;
+        Ok(true)
+    }
+}
+
+/// Where the loops inside the one behind a directive stand, the outermost first, as far as each begins the body of the one
+/// around it.
+pub fn loops_inside(
+    alloc: Global,
+    text: &[u8],
+    directive: usize,
+) -> Result<Vec<Place>, AllocError> {
+    let mut heads = Heads {
+        places: Vec::new(alloc),
+        in_head: false,
+        brackets: 0,
+    };
+    for token in tokens(text) {
+        if token.line > directive && !heads.take(text, &token)? {
+            break;
+        }
+    }
+    let Heads { mut places, .. } = heads;
+    if !places.is_empty() {
+        let _ = places.remove(0);
+    }
+    Ok(places)
 }

@@ -7,6 +7,7 @@ mod candidates;
 mod combined;
 mod currency;
 mod edits;
+mod inner;
 mod judge;
 mod lines;
 mod ordering;

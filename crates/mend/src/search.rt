@@ -161,8 +161,9 @@ fn search(alloc: Global, bytes: &[u8], most: usize) -> Result<Option<Mended>, Al
 /// the number of items; want of memory may come in place of any answer.
 ///
 /// What is tried is what the first fault asks for: another type for a map item, a section that is wider or
-/// narrower, a map or depend item more, an entry, an update or a wait on a line of its own, or a `target` whose turns
-/// are in order. Of the texts of a step the first that is accepted is taken, else the first whose first fault is later.
+/// narrower, a map or depend item more, an entry, an update or a wait on a line of its own, or a target fewer of whose
+/// loops are in any order. Of the texts of a step the first that is accepted is taken, else the first whose first fault
+/// is later.
 pub fn mend(alloc: Global, bytes: &[u8]) -> Result<Option<Mended>, SourceFault>
     ensures mended { IfOk result (λ found. IfSome found (λ m. IsMend bytes.now m.text.items)) }
     ensures fault { IfErr result (IsUnfit bytes.now) }

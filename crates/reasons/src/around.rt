@@ -29,6 +29,8 @@ pub struct Around<'a> {
     pub word: &'a str,
     /// The byte behind it, blanks aside; 0 at the end of the line.
     pub next: u8,
+    /// What stands behind it on its line.
+    pub rest: &'a [u8],
     /// The byte right before it on its line, 0 where there is none.
     pub last: u8,
     /// The token before it, and the one before that; nothing where there is none.
@@ -40,7 +42,7 @@ pub struct Around<'a> {
     pub in_head: bool,
     /// A body is to stand there.
     pub wants_body: bool,
-    /// What stands before it on a directive's line; nothing elsewhere.
+    /// What stands before it on a line that begins with `#`; nothing elsewhere.
     pub line: &'a [u8],
 }
 
@@ -96,6 +98,19 @@ fn tokens_before(bytes: &[u8], place: Place) -> Scan<'_> {
     scan
 }
 
+/// Whether a name or a number begins so.
+pub fn begins_word(word: &str) -> bool {
+    match word.as_bytes() {
+        [first, ..] => first.is_ascii_alphanumeric() || *first == b'_',
+        [] => false,
+    }
+}
+
+/// Whether an operand may end by this token.
+pub fn ends_operand(before: &str) -> bool {
+    begins_word(before) || before == ")" || before == "]"
+}
+
 // The first byte that is no blank; 0 where there is none.
 fn first_of(text: &[u8]) -> u8 {
     for byte in text {
@@ -123,9 +138,18 @@ impl Around<'_> {
         last_of(self.line)
     }
 
-    /// It stands right behind these bytes on a directive's line.
+    /// An operand ends before it.
+    pub fn is_behind_operand(&self) -> bool {
+        if self.line.is_empty() {
+            return ends_operand(self.before);
+        }
+        let last = self.before_on_line();
+        last.is_ascii_alphanumeric() || last == b'_' || last == b')'
+    }
+
+    /// It stands behind these bytes on a directive's line, blanks aside.
     pub fn is_behind(&self, bytes: &[u8]) -> bool {
-        self.line.ends_with(bytes)
+        self.line.trim_ascii_end().ends_with(bytes)
     }
 
     /// It stands between the brackets of a section on a directive's line.
@@ -142,7 +166,7 @@ impl Around<'_> {
     }
 }
 
-// What stands before a place on its line, if this is a directive's.
+// What stands before a place on its line, if this begins with `#`.
 fn on_directive<'a>(line: &'a [u8], place: Place) -> &'a [u8] {
     match line.get(..place.column.saturating_sub(1)) {
         Some(before) if first_of(before) == b'#' => before,
@@ -165,6 +189,7 @@ pub fn look_around(bytes: &[u8], place: Place) -> Around<'_> {
     Around {
         word,
         next: first_of(behind),
+        rest: behind,
         last,
         before: scan.before,
         earlier: scan.earlier,

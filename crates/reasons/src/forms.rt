@@ -1,8 +1,9 @@
 // Which form is read where a text has another one that people write.
 
-use crate::around::Around;
+use crate::around::{Around, begins_word, ends_operand};
+use crate::lines::{BOUND, unexpected_on_line};
 use crate::rules::{read_help, read_words};
-use crate::source::Naming;
+use crate::source::{Naming, is_type};
 use base::fault::ReadCode;
 
 /// What is said of what stands at a place, and what can be written.
@@ -12,69 +13,98 @@ pub struct Telling {
     pub help: &'static str,
 }
 
-/// A loop.
+// A loop.
 const LOOP: &str =
-    "a loop is `for (uint64_t i = NUM; i < NUM; i += NUM) { .. }`, each NUM a number by itself";
+    "a loop counts upwards, `for (uint64_t i = NUM; i < NUM; i += NUM) { .. }`, also with `i <= NUM` and with `i++`, each NUM a constant expression";
 
 const MAIN: &str = "a program is its globals, and then `int main(void) { .. }`";
 
-const TYPE: &str = "the one type is `uint64_t`, without other words before it";
+const TYPE: &str =
+    "the one type is `uint64_t`, also written `size_t`, `unsigned long` or `unsigned long long`, without other words before it";
+
+const CONSTANT: &str =
+    "a constant is `const uint64_t N = NUM;` or `#define N NUM`, before `main`: it has a name of its own, and NUM is a constant expression, with `#define` in brackets";
+
+const ENUMERATION: &str =
+    "an enumeration is `enum { A = NUM, B = NUM };` before `main`: each of its names has a value, a constant expression";
 
 const POINTER: &str = "there are no pointers: an array is a global, `uint64_t A[4];`";
 
-const ONE_NAME: &str = "a declaration has one name: `uint64_t a; uint64_t b;`";
+const COMMA: &str =
+    "of statements the declarations alone have commas, between their names: `uint64_t a = 1, b = 2;`";
 
-const BOUND: &str =
-    "a bound is a sum of numbers, names of loops around, and terms `NUM * NAME` of both";
+const LOCAL: &str = "a local is declared with its value: `uint64_t a = 0, b = 0;`";
 
 const LENGTH: &str =
-    "an array is `uint64_t A[NUM];`, of one dimension: the cell in row i and column j is `A[NUM * i + j]`";
+    "an array is `uint64_t A[NUM];`, NUM a constant expression, of one dimension: the cell in row i and column j is `A[NUM * i + j]`";
+
+const FUNCTION: &str =
+    "there are no functions but `main`: write the statements where they are called";
+
+const READ: &str = "`read()` is all of a right side: `x = read();`";
+
+const ASSIGNMENT: &str =
+    "an assignment, `x = e;`, `x += e;` or `x++;`, is a statement by itself, and has no value";
 
 // Words of C that stand where a type is.
 const TYPES: [&str; 16] = [
-    "auto", "bool", "char", "const", "double", "float", "int32_t", "int64_t", "long", "short",
-    "size_t", "static", "struct", "uint32_t", "unsigned", "volatile",
+    "auto", "bool", "char", "double", "float", "int", "int32_t", "int64_t", "long", "short",
+    "static", "struct", "typedef", "uint32_t", "unsigned", "volatile",
 ];
 
 // Words of C that begin a jump or a loop.
 const JUMPS: [&str; 7] = ["while", "do", "break", "continue", "goto", "switch", "case"];
 
-// The parts of a combined construct.
-const PARTS: [&str; 6] = ["teams", "distribute", "parallel", "for", "simd", "loop"];
+/// The parts of a combined construct.
+pub const PARTS: [&str; 6] = ["teams", "distribute", "parallel", "for", "simd", "loop"];
 
-fn is_one_of(word: &str, words: &[&str]) -> bool {
+/// Whether it is one of these words.
+pub fn is_one_of(word: &str, words: &[&str]) -> bool {
     words.iter().any(|it| *it == word)
 }
 
-// An operand has to stand where this stands before.
-fn wants_operand(before: &str) -> bool {
-    is_one_of(
-        before,
-        &[
-            "=", "(", "[", ",", "+", "-", "*", "/", "%", "&", "|", "^", "<", ">", "<=", ">=", "==",
-            "!=", "<<", ">>", "&&", "||", "!", "~",
-        ],
-    )
-}
-
-fn begins_word(word: &str) -> bool {
-    match word.as_bytes() {
-        [first, ..] => first.is_ascii_alphanumeric() || *first == b'_',
-        [] => false,
-    }
-}
-
-// An operand may end by this.
-fn ends_operand(before: &str) -> bool {
-    begins_word(before) || before == ")" || before == "]"
-}
-
-// It ends by `=`, and compares nothing.
+// An operator of an assignment.
 fn is_compound(word: &str) -> bool {
     is_one_of(
         word,
         &["+=", "-=", "*=", "/=", "%=", "&=", "|=", "^=", "<<=", ">>="],
     )
+}
+
+// An operand has to stand where this stands before.
+fn wants_operand(before: &str) -> bool {
+    is_compound(before)
+        || is_one_of(
+            before,
+            &[
+                "=", "(", "[", ",", "+", "-", "*", "/", "%", "&", "|", "^", "<", ">", "<=", ">=",
+                "==", "!=", "<<", ">>", "&&", "||", "!", "~",
+            ],
+        )
+}
+
+// A declaration of such a word, which is none that is read.
+fn foreign_type(word: &str) -> Option<&'static str> {
+    match word {
+        "const" => Some(CONSTANT),
+        "enum" => Some(ENUMERATION),
+        _ if is_one_of(word, &TYPES) => Some(TYPE),
+        _ => None,
+    }
+}
+
+// A sign before `main`, or behind it.
+fn sign_outside(around: &Around<'_>) -> Option<&'static str> {
+    match around.word {
+        "=" => Some(
+            "a global begins as 0, or as numbers or constants, `uint64_t n = 8;` or `uint64_t A[4] = {1, 2};`, no more than it has cells; anything else is assigned in `main`",
+        ),
+        "*" if is_type(around.before) => Some(POINTER),
+        "," if around.next == b'*' => Some(POINTER),
+        "," => Some(COMMA),
+        "(" => Some(FUNCTION),
+        _ => None,
+    }
 }
 
 // Before `main`, or behind it.
@@ -85,50 +115,43 @@ fn outside(around: &Around<'_>) -> Option<&'static str> {
         earlier,
         ..
     } = *around;
-    if word == "=" {
-        return Some("a global has no initializer: it begins as 0, and is assigned in `main`");
-    }
-    if word == "*" && before == "uint64_t" {
-        return Some(POINTER);
+    if before == "(" && earlier == "main" {
+        return Some("`main` is `int main(void) { .. }` or `int main() { .. }`");
     }
     if before == "[" || word == "[" || earlier == "[" {
         return Some(LENGTH);
     }
-    if before == "(" && earlier == "main" {
-        return Some("`main` is `int main(void) { .. }`");
+    if let Some(form) = sign_outside(around) {
+        return Some(form);
     }
-    if word == "(" || word == "void" {
-        return Some(
-            "there are no functions but `main`: write the statements where they are called",
-        );
+    if word == "void" || (before == "int" && around.next == b'(') {
+        return Some(FUNCTION);
     }
-    if word == "," {
-        return Some(ONE_NAME);
-    }
-    if is_one_of(word, &TYPES) || word == "int" {
+    if before == "int" {
         return Some(TYPE);
     }
-    if word.is_empty() { Some(MAIN) } else { None }
+    if word.is_empty() {
+        return Some(MAIN);
+    }
+    foreign_type(word)
 }
 
-// Behind a type and a name.
+// Behind a name that is declared.
 fn declared(word: &str) -> Option<&'static str> {
-    if word == ";" {
-        return Some("a local is declared with its value: `uint64_t x = 0;`");
+    match word {
+        ";" | "," => Some(LOCAL),
+        "[" => Some("arrays are global: declare it before `main`"),
+        _ => None,
     }
-    if word == "[" {
-        return Some("arrays are global: declare it before `main`");
-    }
-    None
 }
 
-// What an assignment is written as.
-fn assignment(word: &str) -> Option<&'static str> {
-    if is_compound(word) {
-        return Some("write `x = x + e;` for `x += e;`, and so for each operator, and for cells");
+// A word in an expression, or at its end.
+fn word_in_expression(around: &Around<'_>) -> Option<&'static str> {
+    if wants_operand(around.before) && around.word == "read" {
+        return Some(READ);
     }
-    if word == "++" || word == "--" {
-        return Some("write `x = x + 1;` for `x++;`, `x = x - 1;` for `x--;`, and so for cells");
+    if ends_operand(around.before) {
+        return Some("an operator or a `;` is missing before it");
     }
     None
 }
@@ -141,22 +164,18 @@ fn in_expression(around: &Around<'_>) -> Option<&'static str> {
         earlier,
         ..
     } = *around;
-    if word == "-" && wants_operand(before) {
-        return Some("there is no minus with one operand: write `0 - e`");
+    match word {
+        "-" if wants_operand(before) => Some("there is no minus with one operand: write `0 - e`"),
+        "*" | "&" if !ends_operand(before) => Some(POINTER),
+        _ if before == ")" && earlier == "(" => Some(READ),
+        "=" | "++" | "--" => Some(ASSIGNMENT),
+        _ if is_compound(word) => Some(ASSIGNMENT),
+        "," => Some(COMMA),
+        "[" if before == "]" => Some(LENGTH),
+        "}" if ends_operand(before) => Some("an operator or a `;` is missing before it"),
+        _ if begins_word(word) => word_in_expression(around),
+        _ => None,
     }
-    if before == ")" && earlier == "(" {
-        return Some("`read()` is all of a right side: `x = read();`");
-    }
-    if word == "=" {
-        return Some("an assignment is a statement, and has no value");
-    }
-    if word == "," {
-        return Some(ONE_NAME);
-    }
-    if ends_operand(before) && (word == "}" || begins_word(word)) {
-        return Some("an operator or a `;` is missing before it");
-    }
-    None
 }
 
 // In `main`.
@@ -167,36 +186,38 @@ fn inside(around: &Around<'_>) -> Option<&'static str> {
         earlier,
         ..
     } = *around;
-    if word == "*" && before == "uint64_t" {
+    if word == "*" && is_type(before) {
         return Some(POINTER);
     }
-    if is_one_of(word, &TYPES) || word == "int" {
-        return Some(TYPE);
+    if let Some(form) = foreign_type(word) {
+        return Some(form);
     }
     if before == "print" {
         return Some("a number is printed by `print(e);`");
     }
-    if earlier == "uint64_t"
+    if (is_type(earlier) || earlier == ",")
         && let Some(form) = declared(word)
     {
         return Some(form);
     }
-    match assignment(word) {
-        Some(form) => Some(form),
-        None => in_expression(around),
-    }
+    in_expression(around)
 }
 
 /// Of a token that cannot stand where it does.
 pub fn unexpected(around: &Around<'_>) -> Option<&'static str> {
+    if !around.line.is_empty() {
+        return unexpected_on_line(around);
+    }
     if around.in_head {
         return Some(LOOP);
     }
-    if around.before == "else" && around.word == "if" {
-        return Some("write `else { if (c) { .. } }`");
-    }
     if around.wants_body {
-        return Some("a body has braces: `{ .. }`");
+        return Some(
+            "a body is a statement: one that is a declaration, a directive or nothing has braces, `{ .. }`",
+        );
+    }
+    if around.word == "else" {
+        return Some("an `else` stands right behind the body of an `if`");
     }
     if around.is_outside {
         return outside(around);
@@ -232,16 +253,20 @@ fn misused(naming: Naming, around: &Around<'_>) -> Option<Telling> {
 fn foreign(around: &Around<'_>) -> Option<&'static str> {
     let word = around.word;
     if word == "return" {
-        return Some("take it away: `main` ends at its last brace");
+        return Some(
+            "take it away: `main` ends at its last brace, before which `return 0;` may stand",
+        );
     }
     if is_one_of(word, &JUMPS) {
         return Some(LOOP);
     }
-    if is_one_of(word, &TYPES) {
-        return Some(TYPE);
+    if let Some(form) = foreign_type(word) {
+        return Some(form);
     }
     if word == "printf" {
-        return Some("a number and a line feed are printed by `print(e);`");
+        return Some(
+            "a number and a line feed are printed by `print(e);` or `printf(\"%lu\\n\", e);`",
+        );
     }
     if around.next == b'(' && around.line.is_empty() {
         return Some("there are no functions but `main`: write the statements in its place");
@@ -279,7 +304,9 @@ fn foreign_byte(around: &Around<'_>) -> Option<&'static str> {
         return Some("nothing but blanks stands before the `#` of a line, no comment either");
     }
     if around.last.is_ascii_digit() {
-        return Some("a number is decimal and has no suffix: 255 for 0xff, 8 for 8UL");
+        return Some(
+            "a number is decimal or hexadecimal, 255 or 0xff, with a suffix of C or none: 8ul",
+        );
     }
     None
 }
@@ -295,52 +322,14 @@ pub fn unknown_byte(around: &Around<'_>) -> Telling {
     with_help(ReadCode::UnknownByte, foreign_byte(around))
 }
 
-/// Of a number that is too large, or begins with a zero.
-pub fn bad_number(around: &Around<'_>) -> Telling {
-    if around.word.as_bytes().first() == Some(&b'0') {
-        return Telling {
-            said: "begins with a superfluous 0",
-            help: "take the 0 away: a number is decimal",
-        };
-    }
-    with_help(ReadCode::BadNumber, None)
-}
-
-// A number behind a word of a directive's line.
-fn bad_amount(around: &Around<'_>) -> Telling {
-    if around.is_behind(b"collapse(") {
-        return Telling {
-            said: "is no number of loops that `collapse` takes: these are 1, 2, 3 and 4",
-            help: "write one of these numbers",
-        };
+/// Of a bracket that opens one too many, or a body without braces that is one block too many.
+pub fn too_deep(around: &Around<'_>) -> Telling {
+    if is_one_of(around.word, &["(", "["]) {
+        return with_help(ReadCode::TooDeep, None);
     }
     Telling {
-        said: "is no number from 1 on",
-        help: "write a number by itself",
-    }
-}
-
-/// Of a number that is none or is out of range: an operand, one in the head of a loop, or one of a clause.
-pub fn bad_operand(around: &Around<'_>) -> Telling {
-    let before = around.before;
-    if !around.line.is_empty() {
-        return bad_amount(around);
-    }
-    if before == "/" || before == "%" {
-        return Telling {
-            said: "is no divisor: that is a number by itself, from 1 on",
-            help: "write a number; to divide by a scalar, count in a loop",
-        };
-    }
-    if before == "<<" || before == ">>" {
-        return Telling {
-            said: "is no shift count: that is a number by itself, from 0 to 63",
-            help: "write a number; to shift by a scalar, count in a loop",
-        };
-    }
-    Telling {
-        said: "is no step that can stand here",
-        help: "a step is at least 1, and the limit plus the step at most 18446744073709551616",
+        said: "begins one block too many: 16 may be open at once, a body without braces is one",
+        help: "write the conditions or loops one behind the other",
     }
 }
 
@@ -361,56 +350,4 @@ pub fn with_help(code: ReadCode, help: Option<&'static str>) -> Telling {
         said: read_words(code),
         help: help.unwrap_or(read_help(code)),
     }
-}
-
-/// Of a word that begins no directive.
-pub fn unknown_directive(around: &Around<'_>) -> Option<&'static str> {
-    let word = around.word;
-    if word == "define" || word == "undef" {
-        return Some("no macro is read: write its value in each place of its name");
-    }
-    if around.last == b'#' {
-        return Some(
-            "of the lines that begin with `#` those of `include` and `pragma omp` are read",
-        );
-    }
-    if is_one_of(word, &PARTS) {
-        return Some("a loop of the host is written without a directive: take the line away");
-    }
-    None
-}
-
-/// Of what is no clause.
-pub fn unknown_clause(around: &Around<'_>) -> Option<&'static str> {
-    let word = around.word;
-    if word == "," {
-        return Some("clauses have blanks between them: take the comma away");
-    }
-    if word == "{" {
-        return Some("the block of a directive stands on the lines behind it");
-    }
-    if is_one_of(word, &PARTS) {
-        return Some(
-            "a construct is `target` with `parallel for`, `simd`, `parallel loop`, `teams loop` or `teams distribute` behind it",
-        );
-    }
-    None
-}
-
-/// Of a token that does not fit into a section.
-pub fn bad_bound(around: &Around<'_>) -> Option<&'static str> {
-    let word = around.word;
-    if word == ":" {
-        return Some("write the first cell too: `A[0:LENGTH]`");
-    }
-    if word == "]" && around.before_on_line() == b':' {
-        return Some("write the length too: `A[FIRST:LENGTH]`, or the whole array by its name");
-    }
-    if word == "]" {
-        return Some("one cell is the section `A[FIRST:1]`");
-    }
-    if word == "-" {
-        return Some("a bound has no `-`: let the loop begin so that a sum is enough");
-    }
-    Some(BOUND)
 }

@@ -2,8 +2,10 @@
 #![tactic(auto)]
 
 mod absent;
+mod amounts;
 mod around;
 mod conflicts;
+mod constants;
 mod diagnosis;
 mod events;
 mod faults;
@@ -11,7 +13,9 @@ mod forms;
 mod further;
 mod limit;
 mod limits;
+mod lines;
 mod meeting;
+mod nest;
 mod past;
 mod rules;
 mod scene;

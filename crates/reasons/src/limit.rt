@@ -1,7 +1,8 @@
 // Which limit a text passes.
 
 use crate::around::Around;
-use crate::forms::{Telling, with_help};
+use crate::forms::{Telling, is_one_of, with_help};
+use crate::source::is_type;
 use base::fault::ReadCode;
 use c_tokens::limits::{MAX_NAME, MAX_SOURCE};
 
@@ -40,9 +41,11 @@ const STATEMENTS: Telling = Telling {
     help: "write a loop, or split the program",
 };
 
-// What stands before the beginning of a statement.
-fn ends_statement(before: &str) -> bool {
-    before == ";" || before == "{" || before == "}" || before.as_bytes().first() == Some(&b'#')
+// A statement begins there, of which `++` or `--` may stand before.
+fn begins_statement(around: &Around<'_>) -> bool {
+    around.wants_body
+        || around.before.as_bytes().first() == Some(&b'#')
+        || is_one_of(around.before, &[";", "{", "}", "++", "--"])
 }
 
 /// The limit that is passed at a place.
@@ -56,10 +59,14 @@ pub fn limit_of(bytes: &[u8], around: &Around<'_>) -> Telling {
     if around.word.len() > MAX_NAME {
         return NAME;
     }
-    if around.before == "uint64_t" {
+    // a further name of a declaration is a statement of its own
+    if around.word == "," {
+        return STATEMENTS;
+    }
+    if is_type(around.before) || around.before == "," {
         return if around.next == b'[' { ARRAYS } else { SCALARS };
     }
-    if ends_statement(around.before) {
+    if begins_statement(around) {
         return STATEMENTS;
     }
     with_help(ReadCode::TooMany, None)

@@ -1,10 +1,11 @@
 // Sections, subscripts and counts out of range (E301 to E303, E401).
 
 use crate::diagnosis::{Diagnosis, Note, Weight};
+use crate::nest::loops_around;
 use crate::rules::{ITEMS_CODE, ITEMS_RULE, range_rule};
 use crate::scene::Scene;
 use crate::search::{Access, Wanted};
-use crate::source::{declaration_of, loops_around};
+use crate::source::declaration_of;
 use crate::words::add;
 use base::fault::{Interval, RangeCode, RangeFault};
 use base::item::{Item, Section};

@@ -6,9 +6,13 @@ use crate::scene::Scene;
 use crate::search::{Access, Wanted, first_but};
 use crate::words::add;
 use base::fault::Refusal;
-use base::item::Item;
+use base::item::{Cell, Item};
 use base::tree::Region;
 use std::alloc::AllocError;
+
+const FEWER: &str = "with a smaller `collapse`, or with none, fewer loops are in any order";
+
+const IN_ORDER: &str = "as a `target` alone it has its turns in order";
 
 impl Scene<'_> {
     // Where a turn reads or writes the cell.
@@ -24,50 +28,89 @@ impl Scene<'_> {
         add(notes, Weight::Note, access.place, told)
     }
 
-    // What another turn than the one of an access does to the cell.
-    fn note_other(
+    // The first access in another turn than that of this one.
+    fn in_another_turn(
         &self,
-        refusal: &Refusal,
         item: &Item,
         region: &Region,
         access: &Access,
-        notes: &mut Vec<Note>,
-    ) -> Result<(), AllocError> {
+        wanted: Wanted,
+    ) -> Result<Option<Access>, AllocError> {
         let around = item
             .loops
             .values
             .len()
             .saturating_add(region.depth as usize);
         let Some(turn) = access.loops.get(..around) else {
-            return Ok(());
+            return Ok(None);
         };
-        let (lengths, wanted) = (self.outlined.lengths(), Wanted::Touch(refusal.cell));
-        match first_but(self.alloc, lengths, region, &item.loops, wanted, turn)? {
-            None => Ok(()),
-            Some(other) => self.note_turn(&self.cell_text(refusal.cell)?, &other, notes),
+        let lengths = self.outlined.lengths();
+        first_but(self.alloc, lengths, region, &item.loops, wanted, turn)
+    }
+
+    // What other turns read and one alone writes may be written elsewhere.
+    fn help_other_array(
+        &self,
+        cell: Cell,
+        item: &Item,
+        region: &Region,
+        write: &Access,
+        notes: &mut Vec<Note>,
+    ) -> Result<(), AllocError> {
+        let writer = self.in_another_turn(item, region, write, Wanted::Write(cell))?;
+        if writer.is_some() {
+            return Ok(());
         }
+        let help = format!(in self.alloc;
+            "let this write to another array: then other turns read what {} has before the loop",
+            self.name_of(cell.array)
+        )?;
+        add(notes, Weight::Help, write.place, help)
     }
 
     // The first turn that writes the cell, and another one that reads or writes it.
     fn note_turns(
         &self,
-        refusal: &Refusal,
+        cell: Cell,
         item: &Item,
+        region: &Region,
         notes: &mut Vec<Note>,
     ) -> Result<(), AllocError> {
-        let Some(entry) = self.region_of(item) else {
+        let Some(write) = self.access(item, Wanted::Write(cell))? else {
             return Ok(());
         };
-        let Some(access) = self.access(item, Wanted::Write(refusal.cell))? else {
+        let name = self.cell_text(cell)?;
+        self.note_turn(&name, &write, notes)?;
+        let touch = self.in_another_turn(item, region, &write, Wanted::Touch(cell))?;
+        let Some(other) = touch else {
             return Ok(());
         };
-        self.note_turn(&self.cell_text(refusal.cell)?, &access, notes)?;
-        self.note_other(refusal, item, entry.region, &access, notes)
+        self.note_turn(&name, &other, notes)?;
+        self.help_other_array(cell, item, region, &write, notes)
     }
 
-    fn help_turns_meet(&self, item: &Item, notes: &mut Vec<Note>) -> Result<(), AllocError> {
-        let help = String::from_str(self.alloc, "as a `target` alone it has its turns in order")?;
-        add(notes, Weight::Help, item.place, help)
+    fn help_in_order(
+        &self,
+        item: &Item,
+        region: &Region,
+        notes: &mut Vec<Note>,
+    ) -> Result<(), AllocError> {
+        if region.depth > 1 {
+            let fewer = String::from_str(self.alloc, FEWER)?;
+            add(notes, Weight::Help, item.place, fewer)?;
+        }
+        let in_order = String::from_str(self.alloc, IN_ORDER)?;
+        add(notes, Weight::Help, item.place, in_order)
+    }
+
+    // Of the kernel of an item.
+    fn notes_of_meeting(&self, cell: Cell, item: &Item) -> Result<Vec<Note>, AllocError> {
+        let mut notes = Vec::new(self.alloc);
+        if let Some(entry) = self.region_of(item) {
+            self.note_turns(cell, item, entry.region, &mut notes)?;
+            self.help_in_order(item, entry.region, &mut notes)?;
+        }
+        Ok(notes)
     }
 
     fn meeting_text(&self, refusal: &Refusal, item: &Item) -> Result<String, AllocError> {
@@ -85,9 +128,6 @@ impl Scene<'_> {
             return Ok(None);
         };
         let message = self.meeting_text(refusal, item)?;
-        let mut notes = Vec::new(self.alloc);
-        self.note_turns(refusal, item, &mut notes)?;
-        self.help_turns_meet(item, &mut notes)?;
         Ok(Some(Diagnosis {
             code: refusal.code.as_str(),
             rule: refusal_rule(refusal.code),
@@ -98,7 +138,7 @@ impl Scene<'_> {
             since: None,
             conflict: None,
             loops: self.turns(item.place, &item.loops.values)?,
-            notes,
+            notes: self.notes_of_meeting(refusal.cell, item)?,
         }))
     }
 }

@@ -51,19 +51,20 @@ pub fn read_rule(code: ReadCode) -> &'static str {
         ReadCode::BadLength => "an array has from 1 to 65536 cells",
         ReadCode::LoopNameAssigned => "the name of a loop is not assigned in it",
         ReadCode::BadOperand =>
-            "divisors, shift counts, steps and what `collapse` and its like say are numbers: a shift count is at most 63, that of `collapse` at most 4, none of the others is 0, and no loop wraps",
-        ReadCode::TooDeep => "at most 16 brackets of a kind are open at once",
+            "divisors, shift counts, limits, steps and what `collapse` and its like say are constant expressions, each operator of which gives a number below 2^64: a shift count is at most 63, what `collapse` says at most 4, no divisor, no step and none of these is 0, and no loop wraps",
+        ReadCode::TooDeep =>
+            "at most 16 brackets of a kind are open at once, and a body without braces counts as one with them",
         ReadCode::TooMany =>
             "a source stays below the limits of its length, its names, its statements and the tokens of an expression",
         ReadCode::UnknownDirective =>
-            "a directive is `target`, alone or as in `target parallel for`, `target data`, `target enter data`, `target exit data`, `target update` or `taskwait`",
+            "a line that begins with `#` is an `include`, the `define` of a constant or a directive, and this is `target`, alone or as in `target parallel for`, `target data`, `target enter data`, `target exit data`, `target update` or `taskwait`",
         ReadCode::UnknownClause => "a directive has clauses that it takes, and nothing else",
         ReadCode::ClauseCount =>
             "a directive has the clauses that it needs, and `nowait`, `device`, a modifier and each clause of a number at most once",
         ReadCode::BadMapType =>
             "a `map` clause has modifiers, each of `always` and `present` at most once, and a map type that its directive takes",
         ReadCode::BadBound =>
-            "a section is NAME[FIRST:LENGTH], of numbers, names of loops around, sums, and a number times a name",
+            "a section is NAME[FIRST:LENGTH], of constant expressions, or of constants, names of loops around, sums, and a constant times a name",
         ReadCode::ArrayTwice => "an array stands once at most among the map items of a directive",
         ReadCode::DirectiveInTarget => "no directive stands inside a `target`",
         ReadCode::OuterAssigned =>

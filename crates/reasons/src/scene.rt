@@ -4,9 +4,9 @@ ghost use Rattle.std.specs.Prelude.{◌≡◌};
 ghost use Rattle.base.specs.Memory.{is_in};
 
 use crate::diagnosis::{NamedCell, Turn};
+use crate::nest::loops_around;
 use crate::past::{Entered, Past};
 use crate::search::{Access, Wanted, first_access};
-use crate::source::loops_around;
 use base::item::{Cell, Item, ItemKind, MapItem, Section};
 use base::tree::{ArrayId, Place, Program};
 use mapwalk::Acts;

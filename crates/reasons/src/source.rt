@@ -1,8 +1,7 @@
 // What stands in a source.
 
 use base::tree::Place;
-use c_tokens::{Kind, Sign, Token, Tokens};
-use std::alloc::{AllocError, Global};
+use c_tokens::{Kind, Token, Tokens};
 
 /// Whether a token stands before a place.
 pub fn is_before(token: &Token, place: Place) -> bool {
@@ -15,78 +14,6 @@ pub fn text_of<'a>(bytes: &'a [u8], token: &Token) -> &'a str {
         return "";
     };
     str::from_utf8(span).unwrap_or("")
-}
-
-/// The braces that are open, and the name of the loop to which each belongs.
-#[derive(Drop)]
-struct Open<'a> {
-    loops: Vec<Option<&'a str>>,
-    // How many tokens of a loop's head stand before its name.
-    ahead: u32,
-    name: Option<&'a str>,
-}
-
-impl<'a> Open<'a> {
-    // The head of a loop is `for ( uint64_t NAME`.
-    fn take_name(&mut self, text: &'a str) {
-        if self.ahead == 1 {
-            self.name = Some(text);
-        }
-        self.ahead = if text == "for" {
-            3
-        } else {
-            self.ahead.saturating_sub(1)
-        };
-    }
-
-    fn take_sign(&mut self, sign: Sign) -> Result<(), AllocError> {
-        self.ahead = self.ahead.saturating_sub(1);
-        match sign {
-            Sign::OpenBrace => {
-                self.loops.push(self.name)?;
-                self.name = None;
-            }
-            Sign::CloseBrace => {
-                let _ = self.loops.pop();
-            }
-            _ => {}
-        }
-        Ok(())
-    }
-}
-
-/// The names of the loops around a place, the outermost first.
-pub fn loops_around<'a>(
-    alloc: Global,
-    bytes: &'a [u8],
-    place: Place,
-) -> Result<Vec<&'a str>, AllocError> {
-    let mut open = Open {
-        loops: Vec::new(alloc),
-        ahead: 0,
-        name: None,
-    };
-    'tokens: for token in Tokens::new(bytes) {
-        if !is_before(&token, place) {
-            break;
-        }
-        match token.kind {
-            Kind::Name => open.take_name(text_of(bytes, &token)),
-            Kind::Sign(sign) => open.take_sign(sign)?,
-            _ => {}
-        }
-    }
-    named(alloc, &open.loops)
-}
-
-fn named<'a>(alloc: Global, loops: &[Option<&'a str>]) -> Result<Vec<&'a str>, AllocError> {
-    let mut names = Vec::new(alloc);
-    'loops: for name in loops {
-        if let Some(name) = name {
-            names.push(*name)?;
-        }
-    }
-    Ok(names)
 }
 
 // How many bytes of a name or a number stand at the front.
@@ -159,25 +86,36 @@ pub enum Naming {
     Scalar,
 }
 
-/// What the first declaration of a name declares it as: it stands behind `uint64_t`, and an array has a `[` behind it.
+/// Whether a type ends by this word.
+pub fn is_type(word: &str) -> bool {
+    word == "uint64_t" || word == "size_t" || word == "long"
+}
+
+// Whether a declaration has ended at this token.
+fn ends_declaration(text: &str) -> bool {
+    text == ";" || text == "{" || text == "}" || text == ")"
+}
+
+/// What the first declaration of a name declares it as: it stands behind a type, or a comma of a declaration, and an
+/// array has a `[` behind it.
 pub fn naming_of(bytes: &[u8], name: &str) -> Naming {
-    let mut is_typed = false;
-    let mut found = Naming::Nothing;
+    let mut in_declaration = false;
+    let mut names_next = false;
+    let mut is_declared = false;
     'tokens: for token in Tokens::new(bytes) {
         let text = text_of(bytes, &token);
-        if found != Naming::Nothing {
+        if is_declared {
             return if text == "[" {
                 Naming::Array
             } else {
                 Naming::Scalar
             };
         }
-        if is_typed && text == name {
-            found = Naming::Scalar;
-        }
-        is_typed = text == "uint64_t";
+        is_declared = names_next && text == name;
+        names_next = is_type(text) || (in_declaration && text == ",");
+        in_declaration = is_type(text) || (in_declaration && !ends_declaration(text));
     }
-    found
+    Naming::Nothing
 }
 
 /// A line of a source, which counts from 1, without its end.

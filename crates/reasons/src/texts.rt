@@ -1,12 +1,14 @@
 // Faults of the text (E1xx, E2xx).
 
 use crate::around::{Around, look_around};
+use crate::constants::renamed;
 use crate::diagnosis::{Diagnosis, Note, Weight};
 use crate::forms::{self, Telling, with_help};
 use crate::limit::limit_of;
 use crate::rules::read_rule;
 use crate::source::{declaration_of, naming_of};
 use crate::words::add;
+use crate::{amounts, lines};
 use base::fault::{ReadCode, TextFault};
 use base::tree::Place;
 use std::alloc::{AllocError, Global};
@@ -39,19 +41,30 @@ fn note_earlier(
     }
 }
 
+// What can be written where a token cannot stand.
+fn unexpected(bytes: &[u8], around: &Around<'_>) -> Option<&'static str> {
+    match renamed(bytes, around) {
+        Some(form) => Some(form),
+        None => forms::unexpected(around),
+    }
+}
+
 // What is wrong with what stands at the place, and what can be written.
 fn telling_of(bytes: &[u8], code: ReadCode, around: &Around<'_>) -> Telling {
     match code {
         ReadCode::TooMany => limit_of(bytes, around),
         ReadCode::Undeclared => forms::undeclared(naming_of(bytes, around.word), around),
         ReadCode::UnknownByte => forms::unknown_byte(around),
-        ReadCode::BadNumber => forms::bad_number(around),
+        ReadCode::BadNumber => amounts::bad_number(around),
+        ReadCode::BadLength => amounts::bad_length(around),
+        ReadCode::BadDevice => amounts::bad_device(around),
+        ReadCode::BadOperand => amounts::bad_operand(around),
+        ReadCode::TooDeep => forms::too_deep(around),
         ReadCode::ClauseCount => forms::clause_count(around),
-        ReadCode::Unexpected => with_help(code, forms::unexpected(around)),
-        ReadCode::UnknownDirective => with_help(code, forms::unknown_directive(around)),
-        ReadCode::UnknownClause => with_help(code, forms::unknown_clause(around)),
-        ReadCode::BadOperand => forms::bad_operand(around),
-        ReadCode::BadBound => with_help(code, forms::bad_bound(around)),
+        ReadCode::Unexpected => with_help(code, unexpected(bytes, around)),
+        ReadCode::UnknownDirective => with_help(code, lines::unknown_directive(around)),
+        ReadCode::UnknownClause => with_help(code, lines::unknown_clause(around)),
+        ReadCode::BadBound => with_help(code, lines::bad_bound(around)),
         _ => with_help(code, None),
     }
 }

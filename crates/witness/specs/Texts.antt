@@ -19,16 +19,21 @@ abbrev pub end_bytes : Ended → List ℕ
 end_bytes (Done a) = prefixed (codes "output ") true a.out.items
 end_bytes Absent = codes "stopped F4\n"
 
-abbrev pub choices_option : List ℕ → List ℕ
-choices_option [] = []
-choices_option (n ∷ ns) = codes " --choices" ++ comma_list (codes " ") (n ∷ ns)
+-- a word and numbers behind it; nothing where there are none
+abbrev pub list_option : List ℕ → List ℕ → List ℕ
+list_option word [] = []
+list_option word (n ∷ ns) = word ++ comma_list (codes " ") (n ∷ ns)
 
--- the choices, both outputs, and the command that makes the run again
+abbrev pub turns_line : List ℕ → List ℕ
+turns_line [] = []
+turns_line (n ∷ ns) = codes "turns" ++ (comma_list (codes " ") (n ∷ ns) ++ codes "\n")
+
+-- the choices and the order of turns, both outputs, and the command that makes the run again
 abbrev pub witness_bytes : List ℕ → Witness → Answer → List ℕ
 witness_bytes name w plain =
-    codes "choices" ++ (comma_list (codes " ") w.choices.items ++ (codes "\n" ++ (end_bytes w.end
-    ++ (prefixed (codes "erased output ") true plain.out.items
-    ++ (codes "ompc step --fine " ++ (name ++ (choices_option w.choices.items ++ codes "\n")))))))
+    codes "choices" ++ (comma_list (codes " ") w.choices.items ++ (codes "\n" ++ (turns_line w.turns.items ++ (end_bytes w.end
+    ++ (prefixed (codes "erased output ") true plain.out.items ++ (codes "ompc step --fine " ++ (name
+    ++ (list_option (codes " --choices") w.choices.items ++ (list_option (codes " --turns") w.turns.items ++ codes "\n")))))))))
 
 -- that no run of an accepted program differs, and that none of the 512 tries does
 abbrev pub accepted_line : List ℕ

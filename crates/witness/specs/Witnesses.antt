@@ -19,28 +19,28 @@ use Rattle.witness.specs.declared.trial.Witness.{Witness}
 use Rattle.witness.specs.declared.search.Finding.{Finding}
 use Rattle.witness.specs.declared.search.Finding.TheVariants as finding
 
--- what the run of a source by these choices, action by action, ends with
-abbrev pub IsEnd : List ℕ → List ℕ → List ℕ → ℕ → Ended → Type 0
-IsEnd bytes input choices capacity (Done a) = IsFineSourceAnswer bytes input choices [] capacity a
-IsEnd bytes input choices capacity Absent = IsFineSourceFault bytes input choices [] capacity (Run run.Absent)
+-- what the run of a source by these choices and this order of turns, action by action, ends with
+abbrev pub IsEnd : List ℕ → List ℕ → List ℕ → List ℕ → ℕ → Ended → Type 0
+IsEnd bytes input choices turns capacity (Done a) = IsFineSourceAnswer bytes input choices turns capacity a
+IsEnd bytes input choices turns capacity Absent = IsFineSourceFault bytes input choices turns capacity (Run run.Absent)
 
 -- it printed something else, or stopped
 abbrev pub IsOther : List ℕ → Ended → Type 0
 IsOther plain (Done a) = a.out.items ≢ plain
 IsOther plain Absent = ⊤
 
-abbrev pub IsRun : Trials → List ℕ → RunOutcome → Type 0
-IsRun t choices (EndedSo e) = IsEnd t.bytes.now t.input.now choices t.capacity e
-IsRun t choices Full = ⊤
+abbrev pub IsRun : Trials → List ℕ → List ℕ → RunOutcome → Type 0
+IsRun t choices turns (EndedSo e) = IsEnd t.bytes.now t.input.now choices turns t.capacity e
+IsRun t choices turns Full = ⊤
 
 pub record IsTrial (t : Trials) (w : Witness) : Type 0 where
-  pub end : IsEnd t.bytes.now t.input.now w.choices.items t.capacity w.end
+  pub end : IsEnd t.bytes.now t.input.now w.choices.items w.turns.items t.capacity w.end
   pub differs : IsOther t.plain.now w.end
 
--- a run of the source by choices that prints something else than its text without directive lines, or that stops, and what
--- that text prints
+-- a run of the source by choices and an order of turns that prints something else than its text without directive lines, or
+-- that stops, and what that text prints
 pub record IsWitness (bytes input : List ℕ) (capacity : ℕ) (w : Witness) (plain : Answer) : Type 0 where
-  pub end : IsEnd bytes input w.choices.items capacity w.end
+  pub end : IsEnd bytes input w.choices.items w.turns.items capacity w.end
   pub without : IsFineSourceAnswer (erased_text bytes) input [] [] capacity plain
   pub differs : IsOther plain.out.items w.end
 

@@ -2,6 +2,7 @@
 #![tactic(auto)]
 
 mod lists;
+mod orders;
 mod search;
 mod shorten;
 mod text;

@@ -8,8 +8,9 @@ ghost use Rattle.pipeline.specs.Checking.{IsRefused};
 ghost use Rattle.witness.specs.Witnesses.{IsFinding, IsTrial};
 
 use crate::lists::{drawn_list, last_first};
+use crate::orders::{drawn_order, orders, turns_that_meet};
 use crate::shorten::{MOST_CUTS, shorten};
-use crate::trial::{Budget, Trials, Witness, try_list};
+use crate::trial::{Budget, Trials, Witness, try_lists};
 use base::fault::{CheckFault, ReadFault, SourceFault};
 use base::item::Answer;
 use erasure::erase;
@@ -18,10 +19,10 @@ use outline::Outlined;
 use pipeline::{items, read, run_source_fine};
 use std::alloc::{AllocError, Global};
 
-/// The most lists of choices that are tried.
+/// The most runs that are tried.
 pub const MOST_TRIES: usize = 512;
 
-/// Once the runs had so many events together, no list is tried any more.
+/// Once the runs had so many events together, none is tried any more.
 pub const MOST_EVENTS: usize = 16_777_216;
 
 /// What a search finds.
@@ -29,7 +30,7 @@ pub const MOST_EVENTS: usize = 16_777_216;
 pub enum Finding {
     /// A run that differs, and what the source prints without its directives.
     Differs(Witness, Answer),
-    /// No list of choices that was tried makes a run that differs.
+    /// No lists that were tried make a run that differs.
     None,
     /// The program is accepted, so that no run differs.
     Accepted,
@@ -37,37 +38,102 @@ pub enum Finding {
     OutOfRange(CheckFault),
 }
 
-// Tries lists, the empty one first.
-fn search(trials: Trials<'_>, budget: &mut Budget) -> Result<Option<Witness>, AllocError>
+// Choices and an order of turns, by a number that says which: where no turns meet choices alone, else by every second
+// number an order alone.
+fn drawn(
+    alloc: Global,
+    which: usize,
+    length: usize,
+    meet: bool,
+) -> Result<(Vec<u32>, Vec<u32>), AllocError> {
+    if !meet {
+        return Ok((drawn_list(alloc, which, length)?, Vec::new(alloc)));
+    }
+    let turns = drawn_order(alloc, which, length)?;
+    if which % 2 == 0 {
+        return Ok((Vec::new(alloc), turns));
+    }
+    Ok((drawn_list(alloc, which, length)?, turns))
+}
+
+// Tries lists that are drawn.
+fn search_drawn(
+    trials: Trials<'_>,
+    length: usize,
+    meet: bool,
+    budget: &mut Budget,
+) -> Result<Option<Witness>, AllocError>
     ensures { IfOk result (λ found. IfSome found (IsTrial trials.entry)) }
 {
-    let alloc = trials.alloc;
-    let length = match try_list(trials, Vec::new(alloc), budget)? {
-        Ok(found) => return Ok(Some(found)),
-        Err(events) => events,
-    };
-    if let Ok(found) = try_list(trials, last_first(alloc, length)?, budget)? {
-        return Ok(Some(found));
-    }
     for which in 0..MOST_TRIES {
         if budget.is_over() {
             return Ok(None);
         }
-        if let Ok(found) = try_list(trials, drawn_list(alloc, which, length)?, budget)? {
+        let (choices, turns) = drawn(trials.alloc, which, length, meet)?;
+        if let Ok(found) = try_lists(trials, choices, turns, budget)? {
             return Ok(Some(found));
         }
     }
     Ok(None)
 }
 
-fn search_and_shorten(trials: Trials<'_>) -> Result<Option<Witness>, AllocError>
+// Tries orders in which one of so many turns goes before the others.
+fn search_orders(
+    trials: Trials<'_>,
+    turns: u64,
+    budget: &mut Budget,
+) -> Result<Option<Witness>, AllocError>
+    ensures { IfOk result (λ found. IfSome found (IsTrial trials.entry)) }
+{
+    for order in orders(trials.alloc, turns)? {
+        if budget.is_over() {
+            return Ok(None);
+        }
+        if let Ok(found) = try_lists(trials, Vec::new(trials.alloc), order, budget)? {
+            return Ok(Some(found));
+        }
+    }
+    Ok(None)
+}
+
+// Tries lists, the empty ones first. Where two turns of a kernel meet, `meeting` is how many it has.
+fn search(
+    trials: Trials<'_>,
+    meeting: Option<u64>,
+    budget: &mut Budget,
+) -> Result<Option<Witness>, AllocError>
+    ensures { IfOk result (λ found. IfSome found (IsTrial trials.entry)) }
+{
+    let alloc = trials.alloc;
+    let length = match try_lists(trials, Vec::new(alloc), Vec::new(alloc), budget)? {
+        Ok(found) => return Ok(Some(found)),
+        Err(events) => events,
+    };
+    if let Some(turns) = meeting {
+        if let Some(found) = search_orders(trials, turns, budget)? {
+            return Ok(Some(found));
+        }
+    }
+    if budget.is_over() {
+        return Ok(None);
+    }
+    if let Ok(found) = try_lists(trials, last_first(alloc, length)?, Vec::new(alloc), budget)? {
+        return Ok(Some(found));
+    }
+    search_drawn(trials, length, meeting.is_some(), budget)
+}
+
+fn search_and_shorten(
+    trials: Trials<'_>,
+    meeting: Option<u64>,
+) -> Result<Option<Witness>, AllocError>
     ensures { IfOk result (λ found. IfSome found (IsTrial trials.entry)) }
 {
     let mut budget = Budget {
         tries: MOST_TRIES,
         events: MOST_EVENTS,
     };
-    let Some(found) = search(trials, &mut budget)? else {
+    let Some(found) = search(trials, meeting, &mut budget)? else {
         return Ok(None);
     };
     let mut budget = Budget {
@@ -77,8 +143,15 @@ fn search_and_shorten(trials: Trials<'_>) -> Result<Option<Witness>, AllocError>
     Ok(Some(shorten(trials, &mut budget, found)?))
 }
 
-// What is found of a program that is refused without a fault of range.
-fn find(alloc: Global, bytes: &[u8], input: &[u64], capacity: u64) -> Result<Finding, SourceFault>
+// What is found of a program that is refused without a fault of range. Where two turns of a kernel meet, `meeting` is how
+// many it has.
+fn find(
+    alloc: Global,
+    bytes: &[u8],
+    input: &[u64],
+    capacity: u64,
+    meeting: Option<u64>,
+) -> Result<Finding, SourceFault>
     ensures found { IfOk result (IsFinding bytes.now input.now capacity) }
     ensures fault { IfErr result (IsRefused bytes.now) }
 {
@@ -95,7 +168,7 @@ fn find(alloc: Global, bytes: &[u8], input: &[u64], capacity: u64) -> Result<Fin
         capacity,
         plain: &plain.out,
     };
-    match search_and_shorten(trials) {
+    match search_and_shorten(trials, meeting) {
         Ok(Some(found)) => Ok(Finding::Differs(found, plain)),
         Ok(None) => Ok(Finding::None),
         Err(_) => Err(SourceFault::Read(ReadFault::OutOfMemory)),
@@ -116,12 +189,13 @@ fn checked(alloc: Global, outlined: &Outlined<'_>) -> Result<(), CheckFault>
     }
 }
 
-/// Looks for choices by which the run of a program that is refused, action by action, prints something else than the source
-/// does without its directives, or stops because a cell is not on the device. It tries at most [`MOST_TRIES`] lists, and
-/// none once the runs had [`MOST_EVENTS`] events: the empty one; one that lets later items go first; and lists drawn by a
-/// generator with fixed seeds. The list that is found is made shorter, by at most [`MOST_CUTS`] runs. Runs in which a device
-/// is full say nothing. The fault is that of the text or of the number of items; want of memory may come in place of any
-/// answer.
+/// Looks for choices and an order of turns by which the run of a program that is refused, action by action, prints something
+/// else than the source does without its directives, or stops because a cell is not on the device. It tries at most
+/// [`MOST_TRIES`] runs, and none once they had [`MOST_EVENTS`] events: that by no choices; where the program is refused
+/// because two turns meet, runs in which one turn of each kernel goes before the others; one that lets later items go
+/// first; and runs by lists that a generator with fixed seeds draws. The lists that are found are made shorter, by at most
+/// [`MOST_CUTS`] runs. Runs in which a device is full say nothing. The fault is that of the text or of the number of items;
+/// want of memory may come in place of any answer.
 #[tactic(auto, using(pipeline::proofs::Texts::unlisted_refused))]
 pub fn witness(
     alloc: Global,
@@ -140,6 +214,12 @@ pub fn witness(
         Err(CheckFault::Range { item, fault }) => {
             Ok(Finding::OutOfRange(CheckFault::Range { item, fault }))
         }
-        Err(_) => find(alloc, bytes, input, capacity),
+        Err(fault) => find(
+            alloc,
+            bytes,
+            input,
+            capacity,
+            turns_that_meet(&outlined, &fault),
+        ),
     }
 }

@@ -1,53 +1,90 @@
-// A shorter list of choices whose run differs too.
+// Shorter lists whose run differs too.
 
 ghost use Rattle.std.specs.Prelude.{IfOk};
 ghost use Rattle.witness.specs.Witnesses.{IsTrial};
 
-use crate::trial::{Budget, Trials, Witness, try_list};
+use crate::trial::{Budget, Trials, Witness, try_lists};
 use std::alloc::{AllocError, Global};
 
-/// The most runs by which a list is made shorter.
+/// The most runs by which the lists are made shorter.
 pub const MOST_CUTS: usize = 512;
 
-// The first choices of a list.
-fn front(alloc: Global, choices: &[u32], length: usize) -> Result<Vec<u32>, AllocError> {
-    let mut list = Vec::new(alloc);
+// Which list of a witness.
+#[derive(Clone, Copy)]
+enum Which {
+    Choices,
+    Turns,
+}
+
+// The first numbers of a list.
+fn front(alloc: Global, list: &[u32], length: usize) -> Result<Vec<u32>, AllocError> {
+    let mut shorter = Vec::new(alloc);
     let mut left = length;
-    for choice in choices {
+    for number in list {
         if left > 0 {
-            list.push(*choice)?;
+            shorter.push(*number)?;
             left -= 1;
         }
     }
-    Ok(list)
+    Ok(shorter)
 }
 
 // The list with one number in the place of those from one place up to another.
 fn with_all(
     alloc: Global,
-    choices: &[u32],
+    list: &[u32],
     from: usize,
     to: usize,
-    choice: u32,
+    number: u32,
 ) -> Result<Vec<u32>, AllocError> {
-    let mut list = Vec::new(alloc);
+    let mut other = Vec::new(alloc);
     let mut place = 0usize;
-    for old in choices {
-        list.push(if from <= place && place < to {
-            choice
+    for old in list {
+        other.push(if from <= place && place < to {
+            number
         } else {
             *old
         })?;
         place = place.saturating_add(1);
     }
-    Ok(list)
+    Ok(other)
 }
 
-// Takes the end of the list off, in pieces of this length, as long as the run differs.
+fn list_of(witness: &Witness, which: Which) -> &[u32] {
+    match which {
+        Which::Choices => &witness.choices,
+        Which::Turns => &witness.turns,
+    }
+}
+
+// The run of a witness with this list in the place of one of its own, where it differs.
+fn try_other(
+    trials: Trials<'_>,
+    witness: &Witness,
+    which: Which,
+    list: Vec<u32>,
+    budget: &mut Budget,
+) -> Result<Result<Witness, usize>, AllocError>
+    ensures { IfOk result (λ r. IfOk r (IsTrial trials.entry)) }
+{
+    match which {
+        Which::Choices => {
+            let turns = Vec::from_slice(trials.alloc, &witness.turns)?;
+            try_lists(trials, list, turns, budget)
+        }
+        Which::Turns => {
+            let choices = Vec::from_slice(trials.alloc, &witness.choices)?;
+            try_lists(trials, choices, list, budget)
+        }
+    }
+}
+
+// Takes the end of a list off, in pieces of this length, as long as the run differs.
 fn drop_tail(
     trials: Trials<'_>,
     budget: &mut Budget,
     witness: Witness,
+    which: Which,
     piece: usize,
 ) -> Result<Witness, AllocError>
     requires { IsTrial trials witness }
@@ -55,12 +92,13 @@ fn drop_tail(
 {
     let mut kept = witness;
     'cuts: for _ in 0..MOST_CUTS {
-        let length = kept.choices.len();
+        let list = list_of(&kept, which);
+        let length = list.len();
         if budget.is_over() || length < piece || piece == 0 {
             return Ok(kept);
         }
-        let shorter = front(trials.alloc, &kept.choices, length - piece)?;
-        match try_list(trials, shorter, budget)? {
+        let shorter = front(trials.alloc, list, length - piece)?;
+        match try_other(trials, &kept, which, shorter, budget)? {
             Ok(found) => kept = found,
             Err(_) => return Ok(kept),
         }
@@ -68,11 +106,11 @@ fn drop_tail(
     Ok(kept)
 }
 
-// Whether a choice from one place up to another is greater than this one.
-fn has_greater(choices: &[u32], from: usize, to: usize, choice: u32) -> bool {
+// Whether a number from one place up to another is greater than this one.
+fn has_greater(list: &[u32], from: usize, to: usize, number: u32) -> bool {
     let mut place = 0usize;
-    for old in choices {
-        if from <= place && place < to && *old > choice {
+    for old in list {
+        if from <= place && place < to && *old > number {
             return true;
         }
         place = place.saturating_add(1);
@@ -80,13 +118,14 @@ fn has_greater(choices: &[u32], from: usize, to: usize, choice: u32) -> bool {
     false
 }
 
-// Puts a smaller choice in the place of those in pieces of this length, wherever the run differs then too.
+// Puts a smaller number in the place of those in pieces of this length, wherever the run differs then too.
 fn lower(
     trials: Trials<'_>,
     budget: &mut Budget,
     witness: Witness,
+    which: Which,
     piece: usize,
-    choice: u32,
+    number: u32,
 ) -> Result<Witness, AllocError>
     requires { IsTrial trials witness }
     ensures { IfOk result (IsTrial trials.entry) }
@@ -95,12 +134,13 @@ fn lower(
     let mut from = 0usize;
     'cuts: for _ in 0..MOST_CUTS {
         let to = from.saturating_add(piece);
-        if budget.is_over() || from >= kept.choices.len() {
+        let list = list_of(&kept, which);
+        if budget.is_over() || from >= list.len() {
             return Ok(kept);
         }
-        if has_greater(&kept.choices, from, to, choice) {
-            let list = with_all(trials.alloc, &kept.choices, from, to, choice)?;
-            if let Ok(found) = try_list(trials, list, budget)? {
+        if has_greater(list, from, to, number) {
+            let other = with_all(trials.alloc, list, from, to, number)?;
+            if let Ok(found) = try_other(trials, &kept, which, other, budget)? {
                 kept = found;
             }
         }
@@ -109,7 +149,30 @@ fn lower(
     Ok(kept)
 }
 
-/// The witness with a shorter list, and smaller numbers in it, as far as the tries go.
+// The witness with one list shorter, and smaller numbers in it.
+fn shorten_list(
+    trials: Trials<'_>,
+    budget: &mut Budget,
+    witness: Witness,
+    which: Which,
+) -> Result<Witness, AllocError>
+    requires { IsTrial trials witness }
+    ensures { IfOk result (IsTrial trials.entry) }
+{
+    let mut kept = witness;
+    'tails: for piece in [1024usize, 256, 64, 16, 4, 1] {
+        kept = drop_tail(trials, budget, kept, which, piece)?;
+    }
+    'zeros: for piece in [256usize, 64, 16, 4, 1] {
+        kept = lower(trials, budget, kept, which, piece, 0)?;
+    }
+    'numbers: for number in [1u32, 2, 3] {
+        kept = lower(trials, budget, kept, which, 1, number)?;
+    }
+    drop_tail(trials, budget, kept, which, 1)
+}
+
+/// The witness with shorter lists, and smaller numbers in them, as far as the tries go.
 pub fn shorten(
     trials: Trials<'_>,
     budget: &mut Budget,
@@ -118,15 +181,6 @@ pub fn shorten(
     requires { IsTrial trials witness }
     ensures { IfOk result (IsTrial trials.entry) }
 {
-    let mut kept = witness;
-    'tails: for piece in [1024usize, 256, 64, 16, 4, 1] {
-        kept = drop_tail(trials, budget, kept, piece)?;
-    }
-    'zeros: for piece in [256usize, 64, 16, 4, 1] {
-        kept = lower(trials, budget, kept, piece, 0)?;
-    }
-    'choices: for choice in [1u32, 2, 3] {
-        kept = lower(trials, budget, kept, 1, choice)?;
-    }
-    drop_tail(trials, budget, kept, 1)
+    let kept = shorten_list(trials, budget, witness, Which::Choices)?;
+    shorten_list(trials, budget, kept, Which::Turns)
 }

@@ -2,7 +2,7 @@
 
 ghost use Rattle.std.specs.Prelude.{◌++◌, ◌∷◌, [], OnOk, codes, if◌then◌else◌, true};
 ghost use Rattle.std.specs.Io.KnownBytes.{Appends};
-ghost use Rattle.witness.specs.Texts.{accepted_line, choices_option, comma_list, end_bytes, none_line, prefixed, witness_bytes};
+ghost use Rattle.witness.specs.Texts.{accepted_line, comma_list, end_bytes, list_option, none_line, prefixed, turns_line, witness_bytes};
 
 use crate::search::MOST_TRIES;
 use crate::trial::{Ended, Witness};
@@ -11,12 +11,12 @@ use std::io;
 use std::io::Write;
 
 // The numbers with commas between them, and a blank before the first.
-fn choices_text<W: Write>(choices: &[u32], out: &mut W) -> io::Result<()>
-    ensures { OnOk result (Appends (W.contents out.old) (W.contents out.new) (comma_list (codes " ") choices.now)) }
+fn list_text<W: Write>(list: &[u32], out: &mut W) -> io::Result<()>
+    ensures { OnOk result (Appends (W.contents out.old) (W.contents out.new) (comma_list (codes " ") list.now)) }
 {
     let mut before = " ";
-    'choices: for choice in choices {
-        write!(out, "{before}{choice}")?;
+    'numbers: for number in list {
+        write!(out, "{before}{number}")?;
         before = ",";
     }
     Ok(())
@@ -53,19 +53,32 @@ fn end_text<W: Write>(end: &Ended, out: &mut W) -> io::Result<()>
     }
 }
 
-// The option that gives the choices; nothing where there are none.
-fn choices_option<W: Write>(choices: &[u32], out: &mut W) -> io::Result<()>
-    ensures { OnOk result (Appends (W.contents out.old) (W.contents out.new) (choices_option choices.now)) }
+// An option that gives a list; nothing where that is empty.
+fn list_option<W: Write>(word: &str, list: &[u32], out: &mut W) -> io::Result<()>
+    ensures { OnOk result (Appends (W.contents out.old) (W.contents out.new) (list_option word.now list.now)) }
 {
-    if choices.is_empty() {
+    if list.is_empty() {
         return Ok(());
     }
-    write!(out, " --choices")?;
-    choices_text(choices, out)
+    write!(out, "{word}")?;
+    list_text(list, out)
 }
 
-/// Writes a witness: the choices, what their run prints, what the source prints without its directives, and a command that
-/// makes the run of the source of that name again. An error of the writer is answered, and ends the text.
+// The line with an order of turns; nothing where that is empty.
+fn turns_line<W: Write>(turns: &[u32], out: &mut W) -> io::Result<()>
+    ensures { OnOk result (Appends (W.contents out.old) (W.contents out.new) (turns_line turns.now)) }
+{
+    if turns.is_empty() {
+        return Ok(());
+    }
+    write!(out, "turns")?;
+    list_text(turns, out)?;
+    writeln!(out)
+}
+
+/// Writes a witness: the choices and the order of turns, what their run prints, what the source prints without its
+/// directives, and a command that makes the run of the source of that name again. An error of the writer is answered, and
+/// ends the text.
 pub fn witness_text<W: Write>(
     name: &str,
     witness: &Witness,
@@ -75,12 +88,14 @@ pub fn witness_text<W: Write>(
     ensures { OnOk result (Appends (W.contents out.old) (W.contents out.new) (witness_bytes name.now witness.now plain.now)) }
 {
     write!(out, "choices")?;
-    choices_text(&witness.choices, out)?;
+    list_text(&witness.choices, out)?;
     writeln!(out)?;
+    turns_line(&witness.turns, out)?;
     end_text(&witness.end, out)?;
     lines_text(b"erased output ".as_slice(), &plain.out, out)?;
     write!(out, "ompc step --fine {name}")?;
-    choices_option(&witness.choices, out)?;
+    list_option(" --choices", &witness.choices, out)?;
+    list_option(" --turns", &witness.turns, out)?;
     writeln!(out)
 }
 

@@ -20,6 +20,8 @@ pub enum Ended {
 #[derive(Drop)]
 pub struct Witness {
     pub choices: Vec<u32>,
+    /// The order of turns of each kernel whose turns may run in any order.
+    pub turns: Vec<u32>,
     pub end: Ended,
 }
 
@@ -59,9 +61,9 @@ pub enum Run {
     Full,
 }
 
-// The run by these choices.
-fn run_by(trials: Trials<'_>, choices: &[u32]) -> Result<Run, AllocError>
-    ensures { IfOk result (IsRun trials.entry choices.now) }
+// The run by these choices, and this order of turns.
+fn run_by(trials: Trials<'_>, choices: &[u32], turns: &[u32]) -> Result<Run, AllocError>
+    ensures { IfOk result (IsRun trials.entry choices.now turns.now) }
 {
     let Trials {
         alloc,
@@ -70,7 +72,7 @@ fn run_by(trials: Trials<'_>, choices: &[u32]) -> Result<Run, AllocError>
         capacity,
         plain: _,
     } = trials;
-    match run_source_fine(alloc, bytes, input, choices, &[], capacity) {
+    match run_source_fine(alloc, bytes, input, choices, turns, capacity) {
         Ok(answer) => Ok(Run::Ended(Ended::Done(answer))),
         Err(SourceFault::Run(RunFault::Absent)) => Ok(Run::Ended(Ended::Absent)),
         Err(SourceFault::Run(RunFault::DeviceFull)) => Ok(Run::Full),
@@ -78,15 +80,16 @@ fn run_by(trials: Trials<'_>, choices: &[u32]) -> Result<Run, AllocError>
     }
 }
 
-/// The run by these choices, where it differs. Of one that does not, how many events it has.
-pub fn try_list(
+/// The run by these choices and this order of turns, where it differs. Of one that does not, how many events it has.
+pub fn try_lists(
     trials: Trials<'_>,
     choices: Vec<u32>,
+    turns: Vec<u32>,
     budget: &mut Budget,
 ) -> Result<Result<Witness, usize>, AllocError>
     ensures { IfOk result (λ r. IfOk r (IsTrial trials.entry)) }
 {
-    match run_by(trials, &choices)? {
+    match run_by(trials, &choices, &turns)? {
         Run::Ended(Ended::Done(answer)) => {
             let events = answer.history.len();
             budget.spend(events);
@@ -94,12 +97,20 @@ pub fn try_list(
                 return Ok(Err(events));
             }
             let end = Ended::Done(answer);
-            Ok(Ok(Witness { choices, end }))
+            Ok(Ok(Witness {
+                choices,
+                turns,
+                end,
+            }))
         }
         Run::Ended(Ended::Absent) => {
             budget.spend(0);
             let end = Ended::Absent;
-            Ok(Ok(Witness { choices, end }))
+            Ok(Ok(Witness {
+                choices,
+                turns,
+                end,
+            }))
         }
         Run::Full => {
             budget.spend(0);

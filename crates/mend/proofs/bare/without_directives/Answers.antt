@@ -16,8 +16,8 @@ loop-token-init c =
 pub gap-start-requires-clause-within : goal.gap-start-requires-clause-within
 gap-start-requires-clause-within c = (token_within _ _ _ _ _ _ c.in-Some.ensures.steps c.loop-token.invariant.2).1
 
-pub loop-token-preserved-in-Line : goal.loop-token-preserved-in-Line
-loop-token-preserved-in-Line c =
+pub loop-token-preserved-then-is_directive : goal.loop-token-preserved-then-is_directive
+loop-token-preserved-then-is_directive c =
     let bytes : List ℕ = c.args.bytes.now in
     let next : ℕ = c.loop-token.next in
     let g : c.gap-start.result ≡ gap bytes c.in-Some.token = c.gap-start.ensures in
@@ -30,9 +30,14 @@ loop-token-preserved-in-Line c =
       tt,
       subst (λ (xs : List ℕ). IsKept bytes xs c.gap-start.result.1 (ahead c.next.new.self)) (sym items)
           (subst (λ (r : ℕ × ℕ). IsKept bytes (kept ++ before) r.1 (ahead c.next.new.self)) (sym g)
-          (kept_line _ _ _ _ _ _ c.in-Some.ensures.steps c.in-Line.is c.loop-token.invariant.2)),
+          (kept_line _ _ _ _ _ _ c.in-Some.ensures.steps (sym c.is_directive.ensures ∙ c.if-is_directive.true)
+          c.loop-token.invariant.2)),
     )
 
 pub loop-token-preserved : goal.loop-token-preserved
-loop-token-preserved c =
-    (tt, tt, kept_other _ _ _ _ _ _ c.in-Some.ensures.steps c.in_default.not-Line c.loop-token.invariant.2)
+loop-token-preserved c = (
+  tt,
+  tt,
+  kept_other _ _ _ _ _ _ c.in-Some.ensures.steps (sym c.is_directive.ensures ∙ c.if-is_directive.false)
+      c.loop-token.invariant.2,
+)

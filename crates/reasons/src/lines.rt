@@ -1,0 +1,110 @@
+// Which form is read where a line that begins with `#` has another one.
+
+use crate::around::Around;
+use crate::forms::{PARTS, is_one_of};
+
+/// What a bound of a section is.
+pub const BOUND: &str =
+    "a bound is a constant expression, or a sum of constants, names of loops around, and terms `NUM * NAME` of both";
+
+fn is_name_part(byte: u8) -> bool {
+    byte.is_ascii_alphanumeric() || byte == b'_'
+}
+
+// What stands behind the name that is defined, the blanks between too.
+fn behind_name(rest: &[u8]) -> &[u8] {
+    let mut in_name = false;
+    'bytes: for (at, byte) in rest.iter().enumerate() {
+        if is_name_part(*byte) {
+            in_name = true;
+        } else if in_name {
+            return rest.get(at..).unwrap_or(&[]);
+        }
+    }
+    &[]
+}
+
+// Of a line whose word is `define`.
+fn definition(rest: &[u8]) -> &'static str {
+    let behind = behind_name(rest);
+    if behind.first() == Some(&b'(') {
+        return "no macro with parameters is read: write its text in each place of its name";
+    }
+    if behind.trim_ascii().is_empty() {
+        return "a constant has a value, `#define N 8`: take the line away, or write one";
+    }
+    "a constant is defined once, as a number, a constant or an expression of them in brackets: `#define N 8`, `#define M (N + 4)`"
+}
+
+/// Of a word that begins no directive.
+pub fn unknown_directive(around: &Around<'_>) -> Option<&'static str> {
+    let word = around.word;
+    if word == "define" {
+        return Some(definition(around.rest));
+    }
+    if word == "undef" {
+        return Some(
+            "a constant holds up to the end of the text: take another name for the next one",
+        );
+    }
+    if around.before_on_line() == b'#' {
+        return Some(
+            "of the lines that begin with `#` those of `include`, `define` and `pragma omp` are read",
+        );
+    }
+    if is_one_of(word, &PARTS) {
+        return Some("a loop of the host is written without a directive: take the line away");
+    }
+    None
+}
+
+/// Of what is no clause.
+pub fn unknown_clause(around: &Around<'_>) -> Option<&'static str> {
+    let word = around.word;
+    if word == "," {
+        return Some("a comma stands between two clauses alone: take it away");
+    }
+    if word == "{" {
+        return Some("the block of a directive stands on the lines behind it");
+    }
+    if is_one_of(word, &PARTS) {
+        return Some(
+            "a construct is `target` with `parallel for`, `simd`, `parallel loop`, `teams loop` or `teams distribute` behind it",
+        );
+    }
+    None
+}
+
+/// Of a token that cannot stand where it does on such a line.
+pub fn unexpected_on_line(around: &Around<'_>) -> Option<&'static str> {
+    match around.before_on_line() {
+        b':' | b',' => Some(
+            "the name of an array stands here: constants and scalars are not mapped",
+        ),
+        _ => None,
+    }
+}
+
+/// Of a token that does not fit into a section.
+pub fn bad_bound(around: &Around<'_>) -> Option<&'static str> {
+    let word = around.word;
+    if word == ":" {
+        return Some("a section has no stride: write `A[FIRST:LENGTH]`");
+    }
+    if word == "]" && around.before_on_line() == b':' {
+        return Some(
+            "write the length too, `A[FIRST:LENGTH]`: it is left out behind one number alone, that of a cell of the array",
+        );
+    }
+    if word == "]" {
+        return Some(
+            "one cell is the section `A[FIRST:1]`: `A[FIRST]` is read in `depend`, `to` and `from`",
+        );
+    }
+    if word == "-" {
+        return Some(
+            "a bound has a `-` between constants alone, where it gives a number: let the loop begin so that a sum is enough",
+        );
+    }
+    Some(BOUND)
+}
