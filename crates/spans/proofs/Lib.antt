@@ -1,0 +1,15 @@
+pub mod Known
+pub mod Shifts
+pub mod ScalarNeeds
+pub mod DoneBeside
+pub mod ScalarTurns
+pub mod Unassigned
+pub mod Together
+pub mod Looped
+pub mod PlainTouches
+pub mod Pairs
+pub mod Cuts
+pub mod Halves
+pub mod ScalarLists
+pub mod SureLists
+pub mod Onlies
