@@ -8,7 +8,7 @@
 set -eu
 
 # The files to compare with, of the sources that are accepted: a refusal begins with its code.
-accepted() { grep -L '^E[0-9]' -- *.out; }
+accepted() { grep -L '^E[0-9]' -- *.out known/*.out; }
 
 input_of() { if [ -e "$1.in" ]; then echo "$1.in"; else echo /dev/null; fi; }
 
@@ -34,6 +34,9 @@ same() {
 run_all() {
     for source in *.c; do
         same "${source%.c}.out" "$(input_of "${source%.c}")" run "$source" --finals
+    done
+    for source in known/*.c; do
+        same "${source%.c}.out" /dev/null run "$source"
     done
     for source in refused/*.c; do
         same "${source%.c}.out" /dev/null check "$source"

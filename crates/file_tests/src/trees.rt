@@ -2,13 +2,16 @@
 //! what came of them.
 //!
 //! What is wanted of NAME.c stands in NAME.txt: its tree, or why it is refused. Where there is a NAME.erased.c, it is the
-//! text of NAME.c without its directives. NAME.rows has small sources, each below what is wanted of it. Of each source
+//! text of NAME.c without its directives. NAME.rows has small sources, each below what is wanted of it, and NAME.pairs two
+//! that have one tree. Of each source
 //! that is read, a part that ends before its last brace must be refused. For a new NAME.c, run this program in its
 //! folder `data`: it prints what would stand in NAME.txt.
 
+mod pairs;
 mod printed;
 mod rows;
 
+use self::pairs::compare_pairs;
 use self::printed::add_program;
 use self::rows::compare_rows;
 pub(crate) use self::rows::rows_of;
@@ -100,6 +103,10 @@ fn compare_file(rt: &HostRuntime, tally: &mut Tally, file: &str) -> io::Result<(
     if file.ends_with(".rows") {
         let path = format!(in rt.alloc(); "sources/{file}")?;
         return compare_rows(rt.alloc(), tally, &fs::read_to_string(rt, &path)?);
+    }
+    if file.ends_with(".pairs") {
+        let path = format!(in rt.alloc(); "sources/{file}")?;
+        return compare_pairs(rt.alloc(), tally, &fs::read_to_string(rt, &path)?);
     }
     Ok(())
 }

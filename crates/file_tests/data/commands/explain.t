@@ -26,6 +26,18 @@ too_far.c:5:39: help: put it under an `if` that the values of the loops decide, 
                                           ^
 ! E301 item 1 line 5 column 39
 [1]
+$ ompc explain loops_without_braces.c
+loops_without_braces.c:4:81: error: the subscript of A is 8, and A has 8 cells (in the turn i = 3, j = 2) [E301]
+    for (size_t i = 0; i < 4; i++) if (i & 1) for (unsigned long j = 0; j < 4; ++j) A[i * 2 + j] += j; else A[i] = 0;
+                                                                                    ^
+loops_without_braces.c:1:10: note: A has the cells 0 to 7
+    uint64_t A[8];
+             ^
+loops_without_braces.c:4:81: help: put it under an `if` that the values of the loops decide, or change the bounds of the loop
+    for (size_t i = 0; i < 4; i++) if (i & 1) for (unsigned long j = 0; j < 4; ++j) A[i * 2 + j] += j; else A[i] = 0;
+                                                                                    ^
+! E301 item 0 line 4 column 81
+[1]
 $ ompc explain past_the_array.c
 past_the_array.c:3:39: error: the section A[1:4] has the cells 1 to 4, and A has 4 cells [E302]
     #pragma omp target enter data map(to: A[1:4])
@@ -298,6 +310,9 @@ next_cell.c:4:39: note: A[1] is written here (in the turn i = 0)
 next_cell.c:4:50: note: A[1] is read here (in the turn i = 1)
     for (uint64_t i = 0; i < 3; i += 1) { A[i + 1] = A[i]; }
                                                      ^
+next_cell.c:4:39: help: let this write to another array: then other turns read what A has before the loop
+    for (uint64_t i = 0; i < 3; i += 1) { A[i + 1] = A[i]; }
+                                          ^
 next_cell.c:3:1: help: as a `target` alone it has its turns in order
     #pragma omp target parallel for map(tofrom: A)
     ^
@@ -317,15 +332,16 @@ one_cell_of_two_turns.c:5:41: note: A[0] is written here (in the turn i = 0, j =
       for (uint64_t j = 0; j < 2; j += 1) { A[i] = j; }
                                             ^
 one_cell_of_two_turns.c:5:41: note: A[0] is written here (in the turn i = 0, j = 1)
-one_cell_of_two_turns.c:3:1: help: as a `target` alone it has its turns in order
+one_cell_of_two_turns.c:3:1: help: with a smaller `collapse`, or with none, fewer loops are in any order
     #pragma omp target teams distribute parallel for simd collapse(2) num_teams(2) map(from: A) schedule(static)
     ^
+one_cell_of_two_turns.c:3:1: help: as a `target` alone it has its turns in order
 one_cell_of_two_turns.c:3:1: help: this change is accepted
 --- one_cell_of_two_turns.c
 +++ one_cell_of_two_turns.c
 @@ -3 +3 @@
 -#pragma omp target teams distribute parallel for simd collapse(2) num_teams(2) map(from: A) schedule(static)
-+#pragma omp target map(from: A)
++#pragma omp target teams distribute parallel for simd num_teams(2) map(from: A) schedule(static)
 ! E510 item 0 A[0]
 [1]
 

@@ -33,7 +33,7 @@ fn add_expanded(out: &mut Text, line: &str) {
 }
 
 /// The source that a row stands for.
-fn expanded(alloc: Global, row: &str) -> Result<Vec<u8>, AllocError> {
+pub(crate) fn expanded(alloc: Global, row: &str) -> Result<Vec<u8>, AllocError> {
     let mut out = Text::new(alloc);
     for line in row.split_inclusive('\n') {
         add_expanded(&mut out, line);

@@ -1,5 +1,5 @@
 uint64_t A[4];
 int main(void) {
-#pragma omp target map(to: A), nowait
+#pragma omp target, nowait
 { }
 }

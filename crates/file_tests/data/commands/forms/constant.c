@@ -1,4 +1,5 @@
-const uint64_t N = 4;
+uint64_t n;
+const uint64_t N = n;
 int main(void) {
 
 }

@@ -1,4 +1,4 @@
-uint64_t n = 8;
+uint64_t n = 2 * 8;
 int main(void) {
 
 }

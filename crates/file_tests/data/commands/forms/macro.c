@@ -1,4 +1,4 @@
-#define N 4
+#define N 2 + 4
 int main(void) {
 
 }

@@ -1,5 +1,5 @@
 uint64_t A[4];
 int main(void) {
-#pragma omp target depend(out: A[1])
+#pragma omp target map(tofrom: A[1])
 { }
 }

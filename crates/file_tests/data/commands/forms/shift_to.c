@@ -1,4 +1,4 @@
-uint64_t A[4];
+uint64_t x;
 int main(void) {
-A[0] <<= 2;
+x <<= x;
 }

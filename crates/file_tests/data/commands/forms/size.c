@@ -1,3 +1,3 @@
 int main(void) {
-size_t x = 4;
+unsigned x = 4;
 }

@@ -1,4 +1,3 @@
-uint64_t a, b;
 int main(void) {
-
+uint64_t a, b = 1;
 }

@@ -1,4 +1,4 @@
 uint64_t x;
 int main(void) {
-if (x) x = 1;
+x = 0x10000000000000000;
 }

@@ -1,4 +1,4 @@
-uint64_t x;
+#define N(x) 4
 int main(void) {
-x++;
+
 }

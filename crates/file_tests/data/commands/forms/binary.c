@@ -1,4 +1,4 @@
 uint64_t x;
 int main(void) {
-x = 0xff;
+x = 0b11;
 }

@@ -1,5 +1,5 @@
 uint64_t A[4];
 int main(void) {
-#pragma omp target map(to: A[:4])
+#pragma omp target map(to: A[0:4:2])
 { }
 }

@@ -1,4 +1,4 @@
 uint64_t A[4];
 int main(void) {
-A[0] += 2;
+A[0] = A[1] += 2;
 }

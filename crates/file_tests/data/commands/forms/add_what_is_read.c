@@ -1,0 +1,4 @@
+uint64_t x;
+int main(void) {
+x += read();
+}

@@ -1,0 +1,4 @@
+#define N 4
+int main(void) {
+N = 5;
+}

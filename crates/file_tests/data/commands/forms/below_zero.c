@@ -1,0 +1,4 @@
+#define N (3 - 4)
+int main(void) {
+
+}

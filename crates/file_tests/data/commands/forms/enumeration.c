@@ -1,0 +1,4 @@
+enum { ROWS, COLUMNS };
+int main(void) {
+
+}

@@ -1,0 +1,5 @@
+#define N 4
+int main(void) {
+#pragma omp target map(to: N)
+{ }
+}

@@ -1,0 +1,4 @@
+#define N
+int main(void) {
+
+}

@@ -1,0 +1,5 @@
+uint64_t n;
+uint64_t A[n];
+int main(void) {
+
+}

@@ -1,0 +1,5 @@
+#define N 4
+#undef N
+int main(void) {
+
+}

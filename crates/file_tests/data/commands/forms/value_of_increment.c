@@ -1,0 +1,4 @@
+uint64_t x, y;
+int main(void) {
+y = x++;
+}

@@ -1,0 +1,18 @@
+// HeCBench histogram-omp: bins that are counted up, one turn after another.
+#include <stdint.h>
+#include <stdio.h>
+#define NPIX 4096
+#define BINS 256
+
+uint64_t data[NPIX], hist[BINS];
+
+int main() {
+  for (size_t i = 0; i < NPIX; i++)
+    data[i] = (i * 2654435761) >> 5;
+  #pragma omp target map(to: data[0:NPIX]) map(tofrom: hist[0:BINS])
+  for (size_t i = 0; i < NPIX; i++)
+    hist[data[i] & 0xFF]++;
+  for (size_t b = 0; b < BINS; b += 37)
+    printf("%lu\n", hist[b]);
+  return 0;
+}
