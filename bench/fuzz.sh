@@ -9,7 +9,7 @@ here=$(dirname "$(realpath "$0")")
 folder=$(mktemp -d)
 trap 'rm -r "$folder"' EXIT
 mkdir "$folder/seeds"
-cp "$here"/../examples/*.c "$here"/../examples/refused/*.c "$folder/seeds"
+cp "$here"/../examples/*.c "$here"/../examples/known/*.c "$here"/../examples/refused/*.c "$folder/seeds"
 export AFL_NO_UI=1 AFL_SKIP_CPUFREQ=1 AFL_I_DONT_CARE_ABOUT_MISSING_CRASHES=1 AFL_NO_AFFINITY=1
 found=0
 for command in check explain run; do
