@@ -7,3 +7,5 @@ for script in list check read region copies run items fine explain; do
     echo "== $script"
     "./$script.sh" "$ompc"
 done
+echo "== unordered"
+./unordered.py "$ompc"

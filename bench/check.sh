@@ -1,6 +1,6 @@
 #!/usr/bin/env bash
 # How long `ompc check` takes beside the rest of `ompc step` and beside `ompc run`, and how much memory, on time loops of kernels, on many tasks, on
-# regions whose turns have to be walked, and on kernels whose turns may run in any order; beside clang's offloading to the host where it is installed. The argument is the built program.
+# regions whose turns have to be walked; beside clang's offloading to the host where it is installed. The argument is the built program.
 set -eu
 ompc=$(realpath "$1")
 folder=$(mktemp -d)
@@ -80,26 +80,6 @@ thirds() { region 'for (uint64_t n = 0; n < 48; n += 1) { for (uint64_t i = 0; i
 condition() { region 'for (uint64_t n = 0; n < 16; n += 1) { for (uint64_t i = 0; i < 65504; i += 1) { if (i % 3 == 0) { A[i + n] = B[i]; } else { C[i] = A[i + n] + 1; } } }'; }
 hash() { region 'for (uint64_t n = 0; n < 16; n += 1) { for (uint64_t i = 0; i < 65504; i += 1) { A[(i * 40503 + n) % 65536] = B[(i * 7 + n) & 65535] + i; } }'; }
 
-# one kernel whose turns may run in any order: cell by cell, every third cell, rows, a product of matrices, a transposition,
-# and one whose turns have to be gone through
-unordered() {
-    printf 'uint64_t A[65536];\nuint64_t B[65536];\nuint64_t C[65536];\nint main(void) {\n'
-    printf '#pragma omp target teams distribute parallel for %s\n%s\n}\n' "$1" "$2"
-}
-each_cell() { unordered '' 'for (uint64_t i = 0; i < 65535; i += 1) { A[i] = B[i + 1] * 3 + C[i]; }'; }
-each_third() { unordered '' 'for (uint64_t i = 0; i < 21845; i += 1) { C[3 * i + 2] = B[i + 1] + C[3 * i]; }'; }
-rows() { unordered '' 'for (uint64_t i = 0; i < 256; i += 1) { for (uint64_t j = 0; j < 256; j += 1) { A[256 * i + j] = B[256 * j + i] + 1; } }'; }
-matrices() { unordered 'collapse(2)' 'for (uint64_t i = 0; i < 100; i += 1) { for (uint64_t j = 0; j < 100; j += 1) { for (uint64_t k = 0; k < 100; k += 1) { C[100 * i + j] = C[100 * i + j] + A[100 * i + k] * B[100 * k + j]; } } }'; }
-transposed() { unordered 'collapse(2)' 'for (uint64_t i = 0; i < 256; i += 1) { for (uint64_t j = 0; j < 256; j += 1) { B[256 * j + i] = A[256 * i + j]; } }'; }
-scattered() { unordered '' 'for (uint64_t i = 0; i < 65536; i += 1) { A[(i * 40503) % 65536] = B[i] + 1; }'; }
-# a time loop of them
-unordered_often() {
-    printf 'uint64_t A[65536];\nuint64_t B[65536];\nint main(void) {\n#pragma omp target data map(tofrom: A, B)\n'
-    printf 'for (uint64_t k = 0; k < %d; k += 1) {\n#pragma omp target teams distribute parallel for\n' "$1"
-    printf 'for (uint64_t i = 1; i < 65535; i += 1) { B[i] = A[i - 1] + A[i + 1] + k; }\n'
-    printf '#pragma omp target teams distribute parallel for\nfor (uint64_t i = 1; i < 65535; i += 1) { A[i] = B[i]; }\n}\n}\n'
-}
-
 # milliseconds and KiB that a command takes
 take() {
     /usr/bin/time -f '%e %M' -o "$folder/time" "$@" < /dev/null > /dev/null 2>&1 || true
@@ -135,5 +115,3 @@ for tasks in 16000 60000; do measure cells "$tasks"; measure chain "$tasks"; don
 for places in 4000 16000; do measure blocks "$places"; done
 measure host 2000
 for source in product histogram thirds condition hash; do measure "$source"; done
-for source in each_cell each_third rows matrices transposed scattered; do measure "$source"; done
-measure unordered_often 1000
