@@ -9,3 +9,5 @@ for script in list check read region copies run items fine explain; do
 done
 echo "== unordered"
 ./unordered.py "$ompc"
+echo "== expressions"
+./expressions.py "$ompc"

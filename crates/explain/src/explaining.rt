@@ -7,6 +7,7 @@ ghost use Rattle.explain.specs.Explained.{SpellsAccepted};
 ghost use Rattle.pipeline.specs.Checking.{IsRefused, IsSilent, IsUnaccepted};
 
 use crate::telling::all_told;
+use crate::warnings::warnings_of;
 use base::fault::{CheckFault, OutlineFault, ReadFault, SourceFault};
 use base::tree::Program;
 use c_read::read_program;
@@ -56,13 +57,21 @@ impl Report<'_> {
         out.write_all(&text)
     }
 
-    // That the program is accepted.
-    fn write_none<W: Write>(&self, out: &mut W) -> io::Result<()> {
-        self.write(&Told::new(self.alloc), out)
+    // What is told of a program that is read, and its warnings.
+    fn write_told<W: Write>(
+        &self,
+        program: &Program,
+        told: Result<Told, AllocError>,
+        out: &mut W,
+    ) -> io::Result<()> {
+        let mut told = told?;
+        told.warnings = warnings_of(self.alloc, self.bytes, program)?;
+        self.write(&told, out)
     }
 
-    fn write_told<W: Write>(&self, told: Result<Told, AllocError>, out: &mut W) -> io::Result<()> {
-        self.write(&told?, out)
+    // That the program is accepted.
+    fn write_accepted<W: Write>(&self, program: &Program, out: &mut W) -> io::Result<()> {
+        self.write_told(program, Ok(Told::new(self.alloc)), out)
     }
 
     fn write_one<W: Write>(
@@ -90,13 +99,13 @@ fn explain_outlined<W: Write, E: Write>(
     let fault = match check(report.alloc, outlined) {
         Ok(accepted) => {
             accepted.is_accepted();
-            return Ok(report.write_none(out));
+            return Ok(report.write_accepted(outlined.program(), out));
         }
         Err(CheckFault::OutOfMemory) => return Err(SourceFault::Check(CheckFault::OutOfMemory)),
         Err(fault) => fault,
     };
     let told = all_told(report.alloc, report.bytes, outlined, &fault);
-    match report.write_told(told, out) {
+    match report.write_told(outlined.program(), told, out) {
         Ok(()) => Err(tell(report.alloc, outlined.program(), fault, err)),
         Err(error) => Ok(Err(error)),
     }

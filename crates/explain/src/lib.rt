@@ -1,9 +1,11 @@
-//! Why a program is refused, told to a reader, with a change by which it is accepted.
+//! Why a program is refused, told to a reader, with a change by which it is accepted, and what of it has another value in
+//! C.
 #![tactic(auto)]
 
 mod explaining;
 mod remedy;
 mod telling;
+mod warnings;
 mod weights;
 
 pub use explaining::{Form, explain_source};

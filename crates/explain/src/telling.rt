@@ -50,5 +50,6 @@ pub fn all_told(
         diagnoses,
         more,
         remedy,
+        warnings: Vec::new(alloc),
     })
 }

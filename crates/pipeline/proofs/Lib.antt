@@ -1,4 +1,5 @@
 pub mod FineRuns
+pub mod InC
 pub mod Listings
 pub mod Runs
 pub mod Texts

@@ -2,3 +2,4 @@ pub mod Source
 pub mod Fine
 pub mod Checking
 pub mod Listing
+pub mod InC

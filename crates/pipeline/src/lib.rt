@@ -3,6 +3,7 @@
 
 mod checking;
 mod fine;
+mod in_c;
 mod listing;
 mod source;
 mod text;
@@ -10,6 +11,7 @@ mod threads;
 
 pub use checking::{check_source, tell};
 pub use fine::run_source_fine;
+pub use in_c::answers_are_those_in_c;
 pub use listing::list_source;
 pub use source::{run_accepted, run_source};
 pub use text::{items, read};

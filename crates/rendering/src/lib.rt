@@ -1,4 +1,4 @@
-//! What is told of a program that is refused, written as text, as JSON or in the Static Analysis Results Interchange Format.
+//! What is told of a program, written as text, as JSON or in the Static Analysis Results Interchange Format.
 #![tactic(auto)]
 
 mod objects;

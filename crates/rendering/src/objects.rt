@@ -68,6 +68,14 @@ fn diagnosis_object(alloc: Global, diagnosis: &Diagnosis) -> Result<Value, Alloc
     })
 }
 
+fn diagnosis_objects(alloc: Global, diagnoses: &[Diagnosis]) -> Result<Value, AllocError> {
+    let mut list = Vec::new(alloc);
+    'diagnoses: for diagnosis in diagnoses {
+        push(&mut list, diagnosis_object(alloc, diagnosis)?)?;
+    }
+    Ok(Value::Array(list))
+}
+
 // The text of a line that is changed or inserted, which is UTF-8.
 fn line_text(line: &[u8]) -> &str {
     str::from_utf8(line).unwrap_or("")
@@ -107,12 +115,9 @@ fn fix_objects(alloc: Global, remedy: &Remedy) -> Result<Value, AllocError> {
 
 /// What is told of a file, as one object.
 pub fn as_json(alloc: Global, file: &str, told: &Told) -> Result<String, AllocError> {
-    let mut list = Vec::new(alloc);
-    'diagnoses: for diagnosis in &told.diagnoses {
-        push(&mut list, diagnosis_object(alloc, diagnosis)?)?;
-    }
     let accepted = told.diagnoses.is_empty();
-    let all = Value::Array(list);
+    let all = diagnosis_objects(alloc, &told.diagnoses)?;
+    let warnings = diagnosis_objects(alloc, &told.warnings)?;
     let fixes = fix_objects(alloc, &told.remedy)?;
     let report = json!(in alloc; {
         "version": FORM,
@@ -120,6 +125,7 @@ pub fn as_json(alloc: Global, file: &str, told: &Told) -> Result<String, AllocEr
         "accepted": accepted,
         "diagnostics": all,
         "more": told.more,
+        "warnings": warnings,
         "fixes": fixes
     })?;
     report.to_string_pretty(alloc)

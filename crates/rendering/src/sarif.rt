@@ -62,10 +62,11 @@ fn properties(alloc: Global, diagnosis: &Diagnosis) -> Result<Value, AllocError>
     }
 }
 
-// A fault with the changes that mend the file.
+// A fault with the changes that mend the file, or a warning.
 fn result(
     alloc: Global,
     file: &str,
+    level: &str,
     diagnosis: &Diagnosis,
     fixes: Value,
 ) -> Result<Value, AllocError> {
@@ -74,7 +75,7 @@ fn result(
     let properties = properties(alloc, diagnosis)?;
     json!(in alloc; {
         "ruleId": diagnosis.code,
-        "level": "error",
+        "level": level,
         "message": {"text": &diagnosis.message},
         "locations": [location],
         "relatedLocations": related,
@@ -97,17 +98,41 @@ fn is_told(diagnoses: &[Diagnosis], code: &str) -> bool {
     false
 }
 
-fn rules(alloc: Global, diagnoses: &[Diagnosis]) -> Result<Value, AllocError> {
-    let mut list = Vec::new(alloc);
+// The rules of faults, or of warnings. No code is one of both.
+fn add_rules(
+    alloc: Global,
+    diagnoses: &[Diagnosis],
+    list: &mut Vec<Value>,
+) -> Result<(), AllocError> {
     'diagnoses: for (number, diagnosis) in diagnoses.iter().enumerate() {
         if !is_told(&diagnoses[..number], diagnosis.code) {
-            push(&mut list, rule(alloc, diagnosis)?)?;
+            push(list, rule(alloc, diagnosis)?)?;
         }
     }
+    Ok(())
+}
+
+fn rules(alloc: Global, told: &Told) -> Result<Value, AllocError> {
+    let mut list = Vec::new(alloc);
+    add_rules(alloc, &told.diagnoses, &mut list)?;
+    add_rules(alloc, &told.warnings, &mut list)?;
     Ok(Value::Array(list))
 }
 
-// The faults, the first of which has the change that was found.
+fn add_warnings(
+    alloc: Global,
+    file: &str,
+    warnings: &[Diagnosis],
+    list: &mut Vec<Value>,
+) -> Result<(), AllocError> {
+    'warnings: for warning in warnings {
+        let none = Value::Array(Vec::new(alloc));
+        push(list, result(alloc, file, "warning", warning, none)?)?;
+    }
+    Ok(())
+}
+
+// The faults, the first of which has the change that was found, and the warnings.
 fn results(alloc: Global, file: &str, told: &Told) -> Result<Value, AllocError> {
     let mut list = Vec::new(alloc);
     'diagnoses: for (number, diagnosis) in told.diagnoses.iter().enumerate() {
@@ -116,14 +141,15 @@ fn results(alloc: Global, file: &str, told: &Told) -> Result<Value, AllocError> 
         } else {
             Value::Array(Vec::new(alloc))
         };
-        push(&mut list, result(alloc, file, diagnosis, fixes)?)?;
+        push(&mut list, result(alloc, file, "error", diagnosis, fixes)?)?;
     }
+    add_warnings(alloc, file, &told.warnings, &mut list)?;
     Ok(Value::Array(list))
 }
 
 /// What is told of a file, as one log with one run.
 pub fn as_sarif(alloc: Global, file: &str, told: &Told) -> Result<String, AllocError> {
-    let rules = rules(alloc, &told.diagnoses)?;
+    let rules = rules(alloc, told)?;
     let results = results(alloc, file, told)?;
     let driver = json!(in alloc; {"name": TOOL, "version": TOOL_VERSION, "rules": rules})?;
     let log = json!(in alloc; {

@@ -66,9 +66,9 @@ impl Page<'_> {
     }
 
     // A line that was shown just before is not shown again.
-    fn add_diagnosis(&mut self, diagnosis: &Diagnosis) -> Result<(), AllocError> {
+    fn add_diagnosis(&mut self, diagnosis: &Diagnosis, word: &str) -> Result<(), AllocError> {
         let message = format!(in self.alloc; "{} [{}]", diagnosis.message, diagnosis.code)?;
-        self.add_place(diagnosis.place, "error", &message)?;
+        self.add_place(diagnosis.place, word, &message)?;
         self.add_line(diagnosis.place)?;
         let mut shown = diagnosis.place;
         'notes: for note in &diagnosis.notes {
@@ -140,7 +140,7 @@ impl Page<'_> {
     }
 }
 
-/// What is told of a file whose bytes these are; where that is nothing, that its program is accepted.
+/// What is told of a file whose bytes these are; where it has no faults, that its program is accepted.
 pub fn as_text(
     alloc: Global,
     file: &str,
@@ -158,11 +158,14 @@ pub fn as_text(
         page.add(&line)?;
     }
     'diagnoses: for diagnosis in &told.diagnoses {
-        page.add_diagnosis(diagnosis)?;
+        page.add_diagnosis(diagnosis, "error")?;
     }
     page.add_more(told.more)?;
     if let Remedy::Found(mended) = &told.remedy {
         page.add_fix(mended)?;
+    }
+    'warnings: for warning in &told.warnings {
+        page.add_diagnosis(warning, "warning")?;
     }
     let Page { text, .. } = page;
     Ok(text)

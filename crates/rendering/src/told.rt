@@ -1,4 +1,4 @@
-// What is told of a program that is refused.
+// What is told of a program.
 
 use mend::Mended;
 use reasons::Diagnosis;
@@ -19,14 +19,16 @@ pub enum Remedy {
     Unsought,
 }
 
-/// What is told of a program that is refused; nothing of one that is accepted.
+/// What is told of a program. One that is accepted has no faults.
 #[derive(Drop)]
 pub struct Told {
-    /// The first fault first.
+    /// The faults, the first one first.
     pub diagnoses: Vec<Diagnosis>,
     /// How many more faults were found.
     pub more: u64,
     pub remedy: Remedy,
+    /// What else is told, in the order of the source.
+    pub warnings: Vec<Diagnosis>,
 }
 
 impl Told {
@@ -36,6 +38,7 @@ impl Told {
             diagnoses: Vec::new(alloc),
             more: 0,
             remedy: Remedy::Missing,
+            warnings: Vec::new(alloc),
         }
     }
 }

@@ -1,0 +1,210 @@
+// The types in C of the numbers of a source: as they are written, or those of constants.
+
+use crate::literal::{Type, decimal_type, type_of_text};
+use base::tree::Place;
+use c_tokens::{Kind, Sign, Token, Tokens};
+use std::alloc::{AllocError, Global};
+
+// A constant, and the type of its number in C.
+#[derive(Clone, Copy)]
+struct Constant<'a> {
+    name: &'a [u8],
+    ctype: Type,
+}
+
+/// The tokens of a source as they stand, and its constants.
+#[derive(Drop)]
+pub struct Numbers<'a> {
+    bytes: &'a [u8],
+    tokens: Vec<Token>,
+    constants: Vec<Constant<'a>>,
+}
+
+fn text_of<'a>(bytes: &'a [u8], token: &Token) -> &'a [u8] {
+    match bytes.get(token.first..token.last.saturating_add(1)) {
+        None => &[],
+        Some(text) => text,
+    }
+}
+
+fn are_digits(text: &[u8]) -> bool {
+    for byte in text {
+        if !byte.is_ascii_digit() {
+            return false;
+        }
+    }
+    true
+}
+
+fn is_before(token: &Token, place: Place) -> bool {
+    token.line < place.line || (token.line == place.line && token.column < place.column)
+}
+
+fn type_of_name(constants: &[Constant<'_>], name: &[u8]) -> Option<Type> {
+    for constant in constants {
+        if constant.name == name {
+            return Some(constant.ctype);
+        }
+    }
+    None
+}
+
+// The common type of the numbers and the constants of an expression, up to the bracket that closes its first one.
+fn type_of_group(bytes: &[u8], constants: &[Constant<'_>], tokens: Tokens<'_>) -> Type {
+    let mut ctype = Type::Int;
+    let mut depth = 0u32;
+    'tokens: for token in tokens {
+        match token.kind {
+            Kind::Number(n) => ctype = ctype.common(type_of_text(text_of(bytes, &token), n)),
+            Kind::Name => {
+                let named = type_of_name(constants, text_of(bytes, &token));
+                ctype = ctype.common(named.unwrap_or(Type::Int));
+            }
+            Kind::Sign(Sign::OpenParen) => depth = depth.saturating_add(1),
+            Kind::Sign(Sign::CloseParen) => depth = depth.saturating_sub(1),
+            _ => {}
+        }
+        if depth == 0 {
+            break;
+        }
+    }
+    ctype
+}
+
+// What stands behind `#define` on a line: the name, and the text behind it.
+fn definition_on(line: &[u8]) -> Option<(&[u8], &[u8])> {
+    let mut words = Tokens::new(line.get(1..)?);
+    let define = words.next_token()?;
+    let inner = line.get(1..)?;
+    if text_of(inner, &define) != b"define".as_slice() {
+        return None;
+    }
+    let name = words.next_token()?;
+    Some((
+        text_of(inner, &name),
+        inner.get(name.last.saturating_add(1)..)?,
+    ))
+}
+
+impl<'a> Numbers<'a> {
+    /// The numbers of a source.
+    pub fn new(alloc: Global, bytes: &'a [u8]) -> Result<Numbers<'a>, AllocError> {
+        let mut tokens = Vec::new(alloc);
+        'tokens: for token in Tokens::new(bytes) {
+            tokens.push(token)?;
+        }
+        let mut numbers = Numbers {
+            bytes,
+            tokens,
+            constants: Vec::new(alloc),
+        };
+        numbers.define()?;
+        Ok(numbers)
+    }
+
+    fn add(&mut self, name: &'a [u8], ctype: Type) -> Result<(), AllocError> {
+        self.constants.push(Constant { name, ctype })?;
+        Ok(())
+    }
+
+    // The constant of a line.
+    fn define_on(&mut self, token: Token) -> Result<(), AllocError> {
+        let line = text_of(self.bytes, &token);
+        if let Some((name, text)) = definition_on(line) {
+            let ctype = type_of_group(text, &self.constants, Tokens::new(text));
+            self.add(name, ctype)?;
+        }
+        Ok(())
+    }
+
+    // Every constant of the source, in its order: of a `const`, of an enumeration, or of a line.
+    fn define(&mut self) -> Result<(), AllocError> {
+        let mut in_const = false;
+        let mut in_enum = false;
+        for number in 0..self.tokens.len() {
+            let Some(token) = self.tokens.get(number).copied() else {
+                break;
+            };
+            let text = text_of(self.bytes, &token);
+            match token.kind {
+                Kind::Line => self.define_on(token)?,
+                Kind::Name if text == b"const".as_slice() => in_const = true,
+                Kind::Name if text == b"enum".as_slice() => in_enum = true,
+                Kind::Name if in_enum => self.add(text, Type::Int)?,
+                Kind::Name if in_const => self.add(text, Type::Unsigned)?,
+                Kind::Sign(Sign::Semicolon) => {
+                    in_const = false;
+                    in_enum = false;
+                }
+                _ => {}
+            }
+        }
+        Ok(())
+    }
+
+    // How many tokens stand before a place.
+    fn index_of(&self, place: Place) -> usize {
+        self.tokens.partition_point(|token| is_before(token, place))
+    }
+
+    // The token that stands at a place.
+    fn token_at(&self, place: Place) -> Option<&Token> {
+        self.tokens.get(self.index_of(place))
+    }
+
+    /// The type of the number that stands at a place in the source that is written out.
+    pub fn type_at(&self, place: Place, n: u64) -> Type {
+        let Some(token) = self.token_at(place) else {
+            return decimal_type(n);
+        };
+        match token.kind {
+            Kind::Number(own) if own == n => type_of_text(text_of(self.bytes, token), n),
+            Kind::Name => {
+                let named = type_of_name(&self.constants, text_of(self.bytes, token));
+                named.unwrap_or(decimal_type(n))
+            }
+            Kind::Sign(Sign::OpenParen) | Kind::Number(_) => {
+                let rest = self.bytes.get(token.first..).unwrap_or(&[]);
+                type_of_group(rest, &self.constants, Tokens::new(rest))
+            }
+            _ => decimal_type(n),
+        }
+    }
+
+    /// Whether the number that stands at a place is written there as a decimal without a suffix, or is the 1 of `++`
+    /// or `--`.
+    pub fn is_decimal_at(&self, place: Place, n: u64) -> bool {
+        let Some(token) = self.token_at(place) else {
+            return false;
+        };
+        match token.kind {
+            Kind::Number(own) => own == n && are_digits(text_of(self.bytes, token)),
+            Kind::Sign(Sign::PlusPlus | Sign::MinusMinus) => true,
+            _ => false,
+        }
+    }
+
+    /// Whether the token at a place ends an expression.
+    pub fn is_last_at(&self, place: Place) -> bool {
+        match self.tokens.get(self.index_of(place).saturating_add(1)) {
+            None => false,
+            Some(next) => { matches!(next.kind, Kind::Sign(Sign::Semicolon | Sign::CloseParen)) }
+        }
+    }
+
+    /// Whether the operator at a place is one with `=` behind it.
+    pub fn is_changing_at(&self, place: Place) -> bool {
+        match self.token_at(place) {
+            None => false,
+            Some(token) => text_of(self.bytes, token).last() == Some(&b'='),
+        }
+    }
+
+    /// Whether a call of `printf` stands at a place.
+    pub fn is_printf_at(&self, place: Place) -> bool {
+        match self.token_at(place) {
+            None => false,
+            Some(token) => text_of(self.bytes, token) == b"printf".as_slice(),
+        }
+    }
+}

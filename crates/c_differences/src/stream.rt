@@ -1,0 +1,133 @@
+// The written tokens of a source, passed in the order of its tree.
+
+use base::tree::{BinaryOp, DivideOp, Place, ShiftOp, UnaryOp};
+use c_tokens::Sign;
+use c_written::{Written, WrittenTerminal};
+use directives::Word;
+
+// What is looked for.
+#[derive(Clone, Copy)]
+enum Wanted {
+    Number,
+    Name,
+    Main,
+    Print,
+    Sign(Sign),
+}
+
+impl Wanted {
+    fn is(self, terminal: &WrittenTerminal<'_>) -> bool {
+        match (self, terminal) {
+            (Wanted::Number, WrittenTerminal::Number(_)) => true,
+            (Wanted::Name, WrittenTerminal::Name(_)) => true,
+            (Wanted::Main, WrittenTerminal::Word(Word::Main)) => true,
+            (Wanted::Print, WrittenTerminal::Word(Word::Print)) => true,
+            (Wanted::Sign(sign), WrittenTerminal::Sign(own)) => *own == sign,
+            _ => false,
+        }
+    }
+}
+
+/// The tokens that are left.
+#[derive(Clone, Copy)]
+pub struct Stream<'a, 'w> {
+    tokens: &'w [Written<'a>],
+    // Where the last one stands that was passed.
+    place: Place,
+}
+
+impl<'a, 'w> Stream<'a, 'w> {
+    /// The tokens of the body of `main`.
+    pub fn new(tokens: &'w [Written<'a>]) -> Stream<'a, 'w> {
+        let mut stream = Stream {
+            tokens,
+            place: Place { line: 1, column: 1 },
+        };
+        stream.pass(Wanted::Main);
+        stream
+    }
+
+    // Goes past the next token that is wanted, to where it stands. Between two that a tree has there are brackets, words
+    // and directives alone.
+    fn pass(&mut self, wanted: Wanted) -> Place {
+        let tokens = self.tokens;
+        'tokens: for (number, token) in tokens.iter().enumerate() {
+            if wanted.is(&token.terminal) {
+                self.tokens = tokens.get(number.saturating_add(1)..).unwrap_or(&[]);
+                self.place = Place {
+                    line: token.line,
+                    column: token.column,
+                };
+                return self.place;
+            }
+        }
+        self.place
+    }
+
+    pub fn number(&mut self) -> Place {
+        self.pass(Wanted::Number)
+    }
+
+    pub fn name(&mut self) -> Place {
+        self.pass(Wanted::Name)
+    }
+
+    pub fn print(&mut self) -> Place {
+        self.pass(Wanted::Print)
+    }
+
+    /// Goes past the sign of an assignment.
+    pub fn assigns(&mut self) {
+        self.pass(Wanted::Sign(Sign::Equal));
+    }
+
+    pub fn unary(&mut self, op: UnaryOp) -> Place {
+        self.pass(Wanted::Sign(match op {
+            UnaryOp::Not => Sign::Bang,
+            UnaryOp::Complement => Sign::Tilde,
+        }))
+    }
+
+    pub fn binary(&mut self, op: BinaryOp) -> Place {
+        self.pass(Wanted::Sign(sign_of(op)))
+    }
+
+    pub fn and(&mut self) -> Place {
+        self.pass(Wanted::Sign(Sign::AndAnd))
+    }
+
+    pub fn or(&mut self) -> Place {
+        self.pass(Wanted::Sign(Sign::OrOr))
+    }
+
+    pub fn shift(&mut self, op: ShiftOp) -> Place {
+        self.pass(Wanted::Sign(match op {
+            ShiftOp::Left => Sign::ShiftLeft,
+            ShiftOp::Right => Sign::ShiftRight,
+        }))
+    }
+
+    pub fn divide(&mut self, op: DivideOp) -> Place {
+        self.pass(Wanted::Sign(match op {
+            DivideOp::Quotient => Sign::Slash,
+            DivideOp::Remainder => Sign::Percent,
+        }))
+    }
+}
+
+fn sign_of(op: BinaryOp) -> Sign {
+    match op {
+        BinaryOp::BitOr => Sign::Bar,
+        BinaryOp::BitXor => Sign::Caret,
+        BinaryOp::BitAnd => Sign::Ampersand,
+        BinaryOp::Equal => Sign::EqualEqual,
+        BinaryOp::NotEqual => Sign::NotEqual,
+        BinaryOp::Less => Sign::Less,
+        BinaryOp::LessOrEqual => Sign::LessEqual,
+        BinaryOp::Greater => Sign::Greater,
+        BinaryOp::GreaterOrEqual => Sign::GreaterEqual,
+        BinaryOp::Add => Sign::Plus,
+        BinaryOp::Subtract => Sign::Minus,
+        BinaryOp::Multiply => Sign::Star,
+    }
+}

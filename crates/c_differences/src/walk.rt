@@ -1,0 +1,301 @@
+// A walk over a program, beside the tokens of its source that is written out.
+
+use crate::constants::Numbers;
+use crate::difference::{Difference, InC, Reason};
+use crate::literal::{Type, is_plain};
+use crate::shape::{
+    Misfit, Outcome, Shape, binary, division, flag, number, shift, unary, unsigned,
+};
+use crate::stream::Stream;
+use base::tree::{
+    BinaryOp, Bounds, DivideOp, Divisor, Expr, Part, Place, ShiftCount, ShiftOp, Source, Stmt,
+    UnaryOp,
+};
+use std::alloc::AllocError;
+
+/// What has been told so far.
+#[derive(Drop)]
+pub struct Walk<'a, 'w> {
+    pub numbers: &'w Numbers<'a>,
+    pub stream: Stream<'a, 'w>,
+    pub found: Vec<Difference>,
+    /// Each number so far is written as a decimal without a suffix, and `printf` prints none of a type with 32 bits.
+    pub plain: bool,
+}
+
+// The number that an expression is, if it is one.
+fn literal(e: &Expr) -> Option<u64> {
+    match e {
+        Expr::Number(n) => Some(*n),
+        _ => None,
+    }
+}
+
+// What a logical operator gives.
+fn logical(left: Option<Shape>, right: Option<Shape>) -> Option<Shape> {
+    match (left, right) {
+        (Some(_), Some(_)) => Some(flag()),
+        _ => None,
+    }
+}
+
+fn is_behind(place: Place, other: Place) -> bool {
+    place.line > other.line || (place.line == other.line && place.column > other.column)
+}
+
+impl Walk<'_, '_> {
+    // Whether no place that has been told is as far in the source. What is written once and stands twice in the source that
+    // is written out, as `e` of `A[e] += 1`, is so told once.
+    fn is_new(&self, place: Place) -> bool {
+        match self.found.last() {
+            None => true,
+            Some(last) => is_behind(place, last.place),
+        }
+    }
+
+    fn tell(
+        &mut self,
+        place: Place,
+        misfit: Misfit,
+        operand: Option<u64>,
+    ) -> Result<(), AllocError> {
+        if !self.is_new(place) {
+            return Ok(());
+        }
+        self.found.push(Difference {
+            place,
+            reason: misfit.reason,
+            ctype: misfit.ctype,
+            in_c: misfit.in_c,
+            here: misfit.here,
+            operand,
+        })?;
+        Ok(())
+    }
+
+    // What an operator gives, whose place this is. One that may not be the same in C is told.
+    fn result(
+        &mut self,
+        place: Place,
+        outcome: Outcome,
+        operand: Option<u64>,
+    ) -> Result<Option<Shape>, AllocError> {
+        match outcome {
+            Ok(shape) => Ok(Some(shape)),
+            Err(misfit) => {
+                self.tell(place, misfit, operand)?;
+                Ok(None)
+            }
+        }
+    }
+
+    // The number that stands next, whether it is the whole of a constant expression or not.
+    fn number(&mut self, n: u64, is_whole: bool) -> Result<Option<Shape>, AllocError> {
+        let place = self.stream.number();
+        let ctype = self.numbers.type_at(place, n);
+        if !is_plain(n, ctype) || !self.numbers.is_decimal_at(place, n) {
+            self.plain = false;
+        }
+        if is_whole && !self.numbers.is_last_at(place) {
+            self.plain = false;
+        }
+        self.result(place, number(ctype, n), Some(n))
+    }
+
+    #[cycle(expressions)]
+    fn of_unary(&mut self, op: UnaryOp, a: &Expr) -> Result<Option<Shape>, AllocError> {
+        let place = self.stream.unary(op);
+        match self.expr(a)? {
+            None => Ok(None),
+            Some(s) => self.result(place, unary(op, s), literal(a)),
+        }
+    }
+
+    // What both operands of an operator give.
+    fn of_both(
+        &mut self,
+        place: Place,
+        op: BinaryOp,
+        operands: (Option<Shape>, Option<Shape>),
+        operand: Option<u64>,
+    ) -> Result<Option<Shape>, AllocError> {
+        match operands {
+            (Some(s), Some(t)) => self.result(place, binary(op, s, t), operand),
+            _ => Ok(None),
+        }
+    }
+
+    #[cycle(expressions)]
+    fn of_shift(
+        &mut self,
+        op: ShiftOp,
+        a: &Expr,
+        n: ShiftCount,
+    ) -> Result<Option<Shape>, AllocError> {
+        let left = self.expr(a)?;
+        let place = self.stream.shift(op);
+        let is_whole = self.numbers.is_changing_at(place);
+        self.number(n.count as u64, is_whole)?;
+        match left {
+            None => Ok(None),
+            Some(s) => self.result(place, shift(op, s, n), literal(a)),
+        }
+    }
+
+    #[cycle(expressions)]
+    fn of_division(
+        &mut self,
+        op: DivideOp,
+        a: &Expr,
+        n: Divisor,
+    ) -> Result<Option<Shape>, AllocError> {
+        let left = self.expr(a)?;
+        let place = self.stream.divide(op);
+        let is_whole = self.numbers.is_changing_at(place);
+        let right = self.number(n.value, is_whole)?;
+        match (left, right) {
+            (Some(s), Some(t)) => self.result(place, division(op, s, n, t), literal(a)),
+            _ => Ok(None),
+        }
+    }
+
+    #[cycle(expressions)]
+    fn of_cell(&mut self, subscript: &Expr) -> Result<Option<Shape>, AllocError> {
+        self.stream.name();
+        match self.expr(subscript)? {
+            None => Ok(None),
+            Some(_) => Ok(Some(unsigned())),
+        }
+    }
+
+    // The type and the bounds of an expression, or none where one of it was told.
+    #[cycle(expressions)]
+    fn expr(&mut self, e: &Expr) -> Result<Option<Shape>, AllocError> {
+        match e {
+            Expr::Number(n) => self.number(*n, false),
+            Expr::Scalar(_) | Expr::LoopName(_) => {
+                self.stream.name();
+                Ok(Some(unsigned()))
+            }
+            Expr::Cell(_, _, subscript) => self.of_cell(subscript),
+            Expr::Unary(op, a) => self.of_unary(*op, a),
+            Expr::Binary(op, a, b) => {
+                let left = self.expr(a)?;
+                let place = self.stream.binary(*op);
+                let right = self.expr(b)?;
+                self.of_both(place, *op, (left, right), literal(a).or(literal(b)))
+            }
+            Expr::And(a, b) => {
+                let left = self.expr(a)?;
+                self.stream.and();
+                Ok(logical(left, self.expr(b)?))
+            }
+            Expr::Or(a, b) => {
+                let left = self.expr(a)?;
+                self.stream.or();
+                Ok(logical(left, self.expr(b)?))
+            }
+            Expr::Shift(op, a, n) => self.of_shift(*op, a, *n),
+            Expr::Divide(op, a, n) => self.of_division(*op, a, *n),
+        }
+    }
+
+    fn source(&mut self, v: &Source) -> Result<(), AllocError> {
+        self.stream.assigns();
+        if let Source::Value(e) = v {
+            self.expr(e)?;
+        }
+        Ok(())
+    }
+
+    // A number of 32 bits is not what `printf` takes for `%lu`.
+    fn printed(&mut self, e: &Expr) -> Result<(), AllocError> {
+        let place = self.stream.print();
+        let is_printf = self.numbers.is_printf_at(place);
+        let Some(shape) = self.expr(e)? else {
+            return Ok(());
+        };
+        if !is_printf || shape.ctype.width() == 64 {
+            return Ok(());
+        }
+        self.plain = false;
+        let misfit = Misfit {
+            reason: Reason::Printed,
+            ctype: shape.ctype,
+            in_c: InC::Undefined,
+            here: shape.single(),
+        };
+        self.tell(place, misfit, literal(e))
+    }
+
+    // The head of a loop.
+    fn head(&mut self, bounds: &Bounds) -> Result<(), AllocError> {
+        self.stream.name();
+        self.number(bounds.first, true)?;
+        self.stream.name();
+        self.number(bounds.end, true)?;
+        self.stream.name();
+        self.number(bounds.step, true)?;
+        Ok(())
+    }
+
+    #[cycle(statements)]
+    fn stmt(&mut self, s: &Stmt) -> Result<(), AllocError> {
+        match s {
+            Stmt::Declare(_, v) | Stmt::Assign(_, v) => {
+                self.stream.name();
+                self.source(v)
+            }
+            Stmt::Store(_, _, e, v) => {
+                self.of_cell(e)?;
+                self.source(v)
+            }
+            Stmt::Combine(_, _, _, e, v) => {
+                self.of_cell(e)?;
+                self.expr(v)?;
+                Ok(())
+            }
+            Stmt::Print(e) => self.printed(e),
+            Stmt::Block(all) => self.stmts(all),
+            Stmt::Loop(bounds, body) => {
+                self.head(bounds)?;
+                self.stmts(body)
+            }
+            Stmt::If(c, first, second) => {
+                self.expr(c)?;
+                self.stmts(first)?;
+                self.stmts(second)
+            }
+        }
+    }
+
+    #[cycle(statements)]
+    fn stmts(&mut self, all: &[Stmt]) -> Result<(), AllocError> {
+        'all: for s in all {
+            self.stmt(s)?;
+        }
+        Ok(())
+    }
+
+    #[cycle(parts)]
+    fn part(&mut self, part: &Part) -> Result<(), AllocError> {
+        match part {
+            Part::Host(region) | Part::Target(_, region) => self.stmts(&region.body),
+            Part::Block(all) | Part::Data(_, all) => self.parts(all),
+            Part::Loop(bounds, body) => {
+                self.head(bounds)?;
+                self.parts(body)
+            }
+            Part::Alone(_, _) => Ok(()),
+        }
+    }
+
+    /// Tells what is different in some parts of a program.
+    #[cycle(parts)]
+    pub fn parts(&mut self, parts: &[Part]) -> Result<(), AllocError> {
+        'parts: for part in parts {
+            self.part(part)?;
+        }
+        Ok(())
+    }
+}
