@@ -51,6 +51,11 @@ apart() {
     printf '#pragma omp taskwait\nprint(A15[3]);\n}\n'
 }
 
+# twelve statements on a local
+mixed() {
+    for ((n = 0; n < 3; n += 1)); do printf 'x = x ^ (x << 13); x = x ^ (x >> 7); x = x ^ (x << 17); x = x * 3 + k;\n'; done
+}
+
 # so many of them with thirteen statements a turn in place of one
 long_kernels() {
     for ((a = 0; a < $1; a += 1)); do printf 'uint64_t A%d[65536];\n' "$a"; done
@@ -58,13 +63,22 @@ long_kernels() {
     for ((a = 0; a < $1; a += 1)); do
         printf '#pragma omp target map(tofrom: A%d) nowait\nfor (uint64_t k = 0; k < 15; k += 1) {\n' "$a"
         printf 'for (uint64_t i = 0; i < 65536; i += 1) {\nuint64_t x = A%d[i] + i;\n' "$a"
-        for ((n = 0; n < 3; n += 1)); do printf 'x = x ^ (x << 13); x = x ^ (x >> 7); x = x ^ (x << 17); x = x * 3 + k;\n'; done
+        mixed
         printf 'A%d[i] = x;\n}\n}\n' "$a"
     done
     printf '#pragma omp taskwait\nprint(A0[3]);\n}\n'
 }
 
 long() { long_kernels 16; }
+
+# one kernel of 1,024,000 such turns, whose 64 rows may be done in any order
+one() {
+    printf 'uint64_t A[65536];\nint main(void) {\n#pragma omp target teams distribute parallel for map(tofrom: A)\n'
+    printf 'for (uint64_t b = 0; b < 64; b += 1) {\nfor (uint64_t k = 0; k < 16; k += 1) {\n'
+    printf 'for (uint64_t i = 0; i < 1000; i += 1) {\nuint64_t x = A[1000 * b + i] + i;\n'
+    mixed
+    printf 'A[1000 * b + i] = x;\n}\n}\n}\nprint(A[3]);\n}\n'
+}
 
 lua() {
     printf 'local A = {}\nfor i = 0, 65535 do A[i] = 0 end\n'
@@ -80,7 +94,7 @@ say() {
 }
 
 printf '#include <stdint.h>\n#include <stdio.h>\n#define print(x) printf("%%llu\\n", (unsigned long long)(x))\n' > "$folder/print.h"
-for source in tasks copies host kernel kernels apart long; do
+for source in tasks copies host kernel kernels apart long one; do
     echo "$source"
     "$source" > "$folder/$source.c"
     say 'ompc check' "$ompc" check "$folder/$source.c"

@@ -6,9 +6,11 @@ use Rattle.base.specs.declared.item.Event.TheVariants as event
 use Rattle.base.specs.declared.item.Item.{Item}
 use Rattle.base.specs.declared.item.ItemKind.TheVariants as kind
 use Rattle.base.specs.declared.tree.Region.{Region}
+use Rattle.base.specs.Accepted.{is_target}
 use Rattle.base.specs.Arrays.{lengths_of}
 use Rattle.base.specs.Items.{Work, plan}
 use Rattle.base.specs.Machine.{enabled}
+use Rattle.base.specs.Turns.{Independent, turns_at}
 use Rattle.frames.specs.Views.{AreCells}
 use Rattle.kernel.specs.Kept.{IsKept, Kept}
 use Rattle.kernel.specs.Rows.{cells_of}
@@ -27,6 +29,7 @@ use Rattle.device.specs.Running.{Shows, run_of}
 use Rattle.device.specs.Same.{same_list}
 use Rattle.device.specs.Standing.{Issue, IsAt, done_on, frame_parts, issue_of}
 use Rattle.device.proofs.FrameParts.{done_alike}
+use Rattle.device.proofs.KernelTurns.{code_turns}
 use Rattle.device.proofs.MayClose.{inside_close, CloseFacts, cells, close_facts, frame_is, goes_out, left_by, runs}
 use Rattle.device.proofs.SameRuns.{list_itself, list_means, none_same}
 
@@ -86,6 +89,15 @@ module _ (s : Inside) (i : ℕ) (it : Item) (h : Shows s) (f : CloseFacts s i it
     pub runs_on : IsSome (done_on code frame)
     runs_on =
         subst IsSome (done_alike code kept_frame.frame frame kept_frame.parts) (runs s i it h f code kept_frame.frame of kept_frame.is)
+
+    pub turns_are_apart : is_target it.kind ≡ true →
+        Independent (turns_at code.depth code.body.items frame.loops.now.values.items)
+    turns_are_apart target =
+        let kernel : is_target f.item.work.kind ≡ true = ap is_target f.item.of.kind ∙ target in
+        code_turns (plan (run_of s).program) h.reached.accepted i f.item.work f.item.is kernel code
+        frame.loops.now.values.items (f.region.1 kernel) of
+        (sym (ap (λ (p : Issue). p.loops) kept_frame.parts)
+        ∙ (frame_is s i it h f kept_frame.frame kept_frame.is).loops)
 
     pub of_item : frame.item ≡ i
     of_item = sym (ap (λ (p : Issue). p.item) kept_frame.parts) ∙ (frame_is s i it h f kept_frame.frame kept_frame.is).item

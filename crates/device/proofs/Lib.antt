@@ -27,6 +27,7 @@ pub mod Places
 pub mod SameBodies
 pub mod SameRuns
 pub mod FrameParts
+pub mod KernelTurns
 pub mod IssuedFrames
 pub mod OpenedItems
 pub mod NextTasks

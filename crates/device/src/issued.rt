@@ -1,6 +1,7 @@
 // What was issued for an open item.
 
 ghost use Rattle.std.specs.Prelude.{◌≡◌, Some, false, true, slice_get};
+ghost use Rattle.base.specs.Accepted.{is_target};
 ghost use Rattle.base.specs.Items.{plan};
 ghost use Rattle.base.specs.Machine.{enabled};
 ghost use Rattle.base.specs.declared.item.Event.TheVariants as event;
@@ -14,9 +15,16 @@ use crate::same_frame::is_same_frame;
 use crate::shared_frame::SharedFrame;
 use crate::standing::Held;
 use crate::state::RunState;
-use base::item::Event;
+use base::item::{Event, Item, ItemKind};
 use base::tree::Region;
 use kernel::Frame;
+
+// Whether an item is a target.
+fn is_kernel(item: &Item) -> bool
+    ensures { result ≡ is_target item.now.kind }
+{
+    matches!(item.kind, ItemKind::Target)
+}
 
 impl<'a> RunState<'a> {
     // The job of an open item, with the frame that was issued for it.
@@ -25,10 +33,11 @@ impl<'a> RunState<'a> {
         requires held { slice_get self.now.issued item ≡ Some (Some (frame_parts frame)) }
         ensures { IsJob self.now item result }
     {
-        let _it = &self.image.items()[item as usize];
+        let it = &self.image.items()[item as usize];
         Job {
             code: self.image.code(item as usize),
             frame,
+            is_kernel: is_kernel(it),
         }
     }
 

@@ -1,6 +1,6 @@
 // What stands behind the lock.
 
-ghost use Rattle.std.specs.Prelude.{◌≡◌, ◌≤◌, ◌<◌, ◌||◌, ◌&&◌, ◌⊎◌, [], true, false, not, IsTrue, IfErr, IfNone, IfOk, IfSome, None, Some, OnOk, count_by, length, slice_get};
+ghost use Rattle.std.specs.Prelude.{◌≡◌, ◌≤◌, ◌<◌, ◌/◌, ◌||◌, ◌&&◌, ◌⊎◌, [], true, false, not, IsTrue, IfErr, IfNone, IfOk, IfSome, None, Some, OnOk, count_by, length, max, slice_get};
 ghost use Rattle.base.specs.declared.item.Event.TheVariants as event;
 ghost use Rattle.base.specs.Accepted.{is_target};
 ghost use Rattle.base.specs.Items.{plan};
@@ -193,6 +193,13 @@ impl<'a, B: Origin> Board<'a, B> {
             workers,
             of: PhantomData,
         }
+    }
+
+    /// How many workers there are for each open item of theirs.
+    pub fn share(&self) -> usize
+        ensures { result ≡ self.now.workers / max 1 (open_count self.now.state) }
+    {
+        self.workers / self.open_items.max(1)
     }
 
     // Stops the run for a cause that may lie in its state. The first cause is kept, and no more jobs are sent.

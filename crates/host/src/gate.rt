@@ -17,6 +17,10 @@ pub enum Phase {
 // The stack of a worker, as large as that of a thread of Rust.
 const STACK_SIZE: usize = 2 * 1024 * 1024;
 
+// How many operations a part of a kernel has at least that is done by a thread of its own: they take several times as
+// long as it takes to start the thread.
+const LEAST_WORK: u64 = 100_000;
+
 /// Where threads stop between the steps of an item, for tests. It is asked outside the lock.
 pub trait Gate {
     /// How large the stack of a worker is, in bytes, by the worker's number from 0 on. A worker for whose stack there
@@ -28,7 +32,12 @@ pub trait Gate {
     /// The thread that has the item passes.
     fn pass(&self, item: u32, phase: Phase);
 
-    /// What the job's region does on its frame. The error comes for want of memory.
+    /// About how many operations a part of a kernel has at least, where it is done in parts.
+    fn least_work(&self) -> u64 {
+        LEAST_WORK
+    }
+
+    /// What the job's region does on its frame, where it is not done in parts. The error comes for want of memory.
     fn compute<'f, 'a>(
         &self,
         alloc: Global,

@@ -1,15 +1,18 @@
 // What threads do until the run is over.
 
-ghost use Rattle.std.specs.Prelude.{IfSome};
+ghost use Rattle.std.specs.Prelude.{◌≡◌, IfOk, IfSome};
 ghost use Rattle.std.specs.List.{Contains};
 ghost use Rattle.host.specs.Stops.{IsPlain};
 
 use crate::board::{Board, Look, Stop};
 use crate::channel::{Inbox, Received};
 use crate::gate::{Gate, Phase};
+use crate::operations::operations;
 use crate::origin::Origin;
+use crate::split::run_in_parts;
 use device::Job;
-use std::alloc::Global;
+use kernel::Done;
+use std::alloc::{AllocError, Global};
 use std::sync::{Condvar, Mutex, Wait};
 use std::thread;
 use std::thread::{Builder, Threads};
@@ -121,10 +124,49 @@ fn hand_on<'a, B: Origin, R: Wait>(rt: &R, board: &mut Board<'a, B>, calls: &Cal
     }
 }
 
+// In how many parts a job is done: as many as there are workers for each open item, where it is long enough.
+fn parts_of<'a, B: Origin, R: Wait>(
+    rt: &R,
+    board: &Mutex<Board<'a, B>>,
+    least: u64,
+    job: &Job<'a>,
+) -> usize {
+    if !job.is_kernel {
+        return 1;
+    }
+    let most = operations(&job.code.region().body) / least.max(1);
+    if most < 2 {
+        return 1;
+    }
+    let share = board.lock(rt).share();
+    match usize::try_from(most) {
+        Ok(most) => share.min(most),
+        Err(_) => share,
+    }
+}
+
+// What a job's region does on its frame: in several parts, or else as the gate does it.
+fn computed<'f, 'a, R: Threads + Sync, G: Gate>(
+    rt: &R,
+    alloc: Global,
+    gate: &G,
+    job: &'f Job<'a>,
+    parts: usize,
+) -> Result<Done<'a, 'f, 'a>, AllocError>
+    ensures region { IfOk result (λ done. done.region.now ≡ job.now.code.now) }
+    ensures frame { IfOk result (λ done. done.frame.now ≡ job.now.frame) }
+{
+    if parts > 1 {
+        run_in_parts(rt, alloc, job, parts)
+    } else {
+        gate.compute(alloc, job.frame.item, job)
+    }
+}
+
 // Does a job that was received, outside the lock, then closes its item under the lock and hands out what is ready. What
-// the gate computed has the job's own region and frame, as its contract says, so that nothing is compared. The memory of
-// the job is given back before the next one is made, which then takes the same pages.
-fn do_received<'a, B: Origin, R: Wait, G: Gate>(
+// was computed has the job's own region and frame, as the contract says, so that nothing is compared. The memory of the
+// job is given back before the next one is made, which then takes the same pages.
+fn do_received<'a, B: Origin, R: Threads + Wait + Sync, G: Gate>(
     rt: &R,
     alloc: Global,
     board: &Mutex<Board<'a, B>>,
@@ -137,7 +179,8 @@ fn do_received<'a, B: Origin, R: Wait, G: Gate>(
 {
     let item = job.frame.item;
     gate.pass(item, Phase::Opened);
-    match gate.compute(alloc, item, &job) {
+    let parts = parts_of(rt, board, gate.least_work(), &job);
+    match computed(rt, alloc, gate, &job, parts) {
         Ok(done) => {
             gate.pass(item, Phase::Computed);
             let mut guard = board.lock(rt);
@@ -183,7 +226,7 @@ fn do_own<'a, B: Origin, R: Wait, G: Gate>(
 }
 
 // What a worker does, until the run is over.
-fn work<'a, B: Origin, R: Wait, G: Gate>(
+fn work<'a, B: Origin, R: Threads + Wait + Sync, G: Gate>(
     rt: &R,
     alloc: Global,
     board: &Mutex<Board<'a, B>>,

@@ -61,3 +61,6 @@ pub mod Walking
 pub mod WalkedLoops
 pub mod WalkedChoices
 pub mod SimpleStmts
+pub mod Laying
+pub mod Extents
+pub mod Spreads

@@ -31,7 +31,7 @@ row_number [] a i n h e = absurd cc
 row_number (r ∷ rs) zero i n h e = number_in r.first (numbers_in r.cells) i n h.0 e
 row_number (r ∷ rs) (suc a) i n h e = row_number rs a i n h.1 e
 
-bounded : (rows : List Row) → HaveNumbers rows → BoundedView (cells_of rows)
+pub bounded : (rows : List Row) → HaveNumbers rows → BoundedView (cells_of rows)
 bounded rows h c n e = row_number rows c.array.0 c.index n h e
 
 pub scalar : (xs : List ℕ) (k : ℕ) → AreNumbers xs → slice_index xs k < 2 ^ 64

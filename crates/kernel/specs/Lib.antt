@@ -8,6 +8,10 @@ pub mod States
 pub mod Lanes
 pub mod Masks
 pub mod Walks
+pub mod LoopCodes
+pub mod Listed
+pub mod Laid
+pub mod Spread
 pub mod Loops
 pub mod Offsets
 pub mod Forms

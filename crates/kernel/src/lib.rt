@@ -4,8 +4,10 @@
 pub use crate::emit::{Code, compile};
 pub use crate::execute::{Done, run};
 pub use crate::frames::{Frame, KeptRow, Row};
+pub use crate::part::{Part, join_parts, run_part, whole};
 pub use crate::runnable::frame_runs;
 pub use crate::scalars::Scalars;
+pub use crate::spread::{Spread, cut, spread_of};
 
 mod apart;
 mod block;
@@ -18,11 +20,13 @@ mod masks;
 mod moved;
 mod named;
 mod op;
+mod part;
 mod room;
 mod run_row;
 mod runnable;
 mod scalars;
 mod simple;
+mod spread;
 mod state;
 mod step;
 mod stores;

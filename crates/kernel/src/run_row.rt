@@ -1,6 +1,7 @@
 // A row while a region runs.
 
 ghost use Rattle.std.specs.Prelude.{ℕ, ◌≡◌, ◌+◌, ◌<◌, ◌≤◌, Bool, true, false, IfOk, IfSome, OnOk, Some, length, slice_get, slice_index, slice_index_or, slice_range, slice_set, take, []};
+ghost use Rattle.kernel.specs.Laid.{IsAlike, IsLaid};
 ghost use Rattle.kernel.specs.Lanes.{HasPut, Over, all_of};
 ghost use Rattle.kernel.specs.Rows.{HaveMarks, fresh_parts, is_each, kept_parts, run_parts, stored_at};
 ghost use Rattle.shared_row.specs.Rows.{marks_of};
@@ -305,6 +306,22 @@ impl<'f> RunRow<'f> {
                 Ok(())
             }
             Marks::Run(_, _) => unreachable!(),
+        }
+    }
+
+    /// What was stored in another row is laid over this one. The error comes for want of memory.
+    pub fn lay(&mut self, alloc: Global, over: &RunRow<'_>) -> Result<(), AllocError>
+        requires { IsAlike self.old over.now }
+        ensures { OnOk result (IsLaid self.old over.now self.new) }
+    {
+        match &over.stored {
+            Marks::Run(first, end) => {
+                if first < end {
+                    self.put_run(alloc, *first, &over.own[*first..*end])?;
+                }
+                Ok(())
+            }
+            Marks::Each(marks) => self.put_some(alloc, 0, &over.own, marks),
         }
     }
 

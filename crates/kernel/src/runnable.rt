@@ -2,6 +2,7 @@
 
 ghost use Rattle.std.specs.Prelude.{slice_index};
 ghost use Rattle.kernel.specs.Rows.{cells_of};
+ghost use Rattle.regions.specs.Footprints.{BoundedScalars, BoundedView};
 ghost use Rattle.kernel.specs.Runnable.{AreNumbers, HaveNumbers, RunsOn};
 
 use crate::frames::{Frame, Row};
@@ -22,6 +23,17 @@ fn have_numbers(rows: &[Row])
         are_numbers(first.cells.numbers());
         have_numbers(rest);
     }
+}
+
+/// What every frame has: numbers of 64 bits.
+pub(crate) fn frame_is_small(frame: &Frame<'_>)
+    ensures loops { AreNumbers frame.now.loops.now.values.items }
+    ensures view { BoundedView (cells_of frame.now.rows.items) }
+    ensures scalars { BoundedScalars (slice_index frame.now.scalars) }
+{
+    have_numbers(&frame.rows);
+    are_numbers(frame.loops.values.as_slice());
+    are_numbers(frame.scalars.numbers());
 }
 
 /// A region without a fault of range has a meaning on the frame, and so may be run on it, if the frame has each cell of

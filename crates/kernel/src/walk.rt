@@ -8,8 +8,8 @@ ghost use Rattle.kernel.specs.Walks.{CanDo, HasDone, list_meaning, loop_meaning,
 use crate::apart::{form_of, has_room, source_shallow};
 use crate::block::blocks;
 use crate::condition::value_of;
-use crate::emit::ops_of;
-use crate::follow::follow;
+use crate::emit::{loop_ops, ops_of};
+use crate::follow::{Listed, follow};
 use crate::named::named;
 use crate::simple::{assign, print, store_at};
 use crate::state::{Machine, pop};
@@ -111,7 +111,7 @@ fn by_code(alloc: Global, all: &[Stmt], m: &mut Machine<'_, '_>) -> Result<(), A
 {
     let listing = ops_of(alloc, all)?;
     named(all);
-    follow(alloc, &listing, all, m)?;
+    follow(alloc, &listing, Listed::All(all), m)?;
     Ok(())
 }
 
@@ -245,4 +245,44 @@ pub fn walk(alloc: Global, all: &[Stmt], m: &mut Machine<'_, '_>) -> Result<(), 
         walk_one(alloc, s, m)?;
     }
     Ok(())
+}
+
+// Turns of a loop, one operation after another.
+#[inline(never)]
+fn turns_by_code(
+    alloc: Global,
+    bounds: Bounds,
+    body: &[Stmt],
+    m: &mut Machine<'_, '_>,
+) -> Result<(), AllocError>
+    requires { CanDo (loop_meaning bounds body.now) m.old }
+    ensures { OnOk result (HasDone (loop_meaning bounds body.now) m.old m.new) }
+{
+    let listing = loop_ops(alloc, bounds, body)?;
+    named(body);
+    follow(alloc, &listing, Listed::Turns(bounds, body), m)?;
+    Ok(())
+}
+
+/// Does turns of a loop. The error comes for want of memory.
+pub fn some_turns(
+    alloc: Global,
+    bounds: Bounds,
+    body: &[Stmt],
+    m: &mut Machine<'_, '_>,
+) -> Result<(), AllocError>
+    requires { CanDo (loop_meaning bounds body.now) m.old }
+    ensures { OnOk result (HasDone (loop_meaning bounds body.now) m.old m.new) }
+{
+    if is_long(bounds) {
+        if let Some(form) = form_of(body, &m.loops, &m.scalars, bounds.end) {
+            in_blocks(alloc, bounds, form, body, m)?;
+            return Ok(());
+        }
+    }
+    if has_blocks_in_turns(body, m.loops.len().saturating_add(1)) {
+        in_turns(alloc, bounds, body, m)?;
+        return Ok(());
+    }
+    turns_by_code(alloc, bounds, body, m)
 }

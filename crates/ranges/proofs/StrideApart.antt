@@ -56,10 +56,10 @@ module _ (m : ℕ) (w : Stride) (b : Bounds) (width : ℕ) (is : w.hi ≡ w.lo +
       at : (k : ℕ) → k ≡ 0 → k * g.times ≡ k * h.times
       at k e = let p : k * g.times ≡ 0 * g.times = ap (λ n. n * g.times) e in let q : k * h.times ≡ 0 * h.times = ap (λ n. n * h.times) e in omega (arith, p, q)
 
-  reach_of : (n : ℕ) → n < b.end → w.by * (n - b.first) ≤ w.by * (b.end - b.first)
+  reach_of : (n : ℕ) → n < b.end → w.by * (n - b.first) ≤ w.by * (b.end - 1 - b.first)
   reach_of n lt = mul-le-mul_left w.by (omega (arith, lt))
 
-  pub agree_modulo : (reach : ℕ) → width + w.by * (b.end - b.first) ≤ reach → reach < m → u ≡ v
+  pub agree_modulo : (reach : ℕ) → width + w.by * (b.end - 1 - b.first) ≤ reach → reach < m → u ≡ v
   agree_modulo reach long small =
       let p = reach_of u a.inside in
       let q = reach_of v d.inside in

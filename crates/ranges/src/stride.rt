@@ -101,10 +101,10 @@ impl Stride {
 
     // How far its first cell and its last one are apart.
     fn reach(self, width: u64, bounds: Bounds) -> u64
-        ensures { result < 2 ^ 64 - 1 → width + self.by * (bounds.end - bounds.first) ≤ result }
+        ensures { result < 2 ^ 64 - 1 → width + self.by * (bounds.end - 1 - bounds.first) ≤ result }
     {
-        let turns = bounds.end.saturating_sub(bounds.first);
-        width.saturating_add(self.by.saturating_mul(turns))
+        let last = bounds.end.saturating_sub(1).saturating_sub(bounds.first);
+        width.saturating_add(self.by.saturating_mul(last))
     }
 }
 
