@@ -21,18 +21,19 @@ use Rattle.c_grammar.specs.Terminal.{Terminal, Fixed, Mark, Name, Num, Line, Unk
 use Rattle.c_grammar.specs.Texts.{Item}
 use Rattle.c_grammar.specs.Lines.{is_omp}
 use Rattle.c_grammar.specs.Expressions.{Items, Values, value_of, number_for, Worked, Number, Fault, placed_of}
-use Rattle.c_grammar.specs.LineForms.{line_in_full}
 use Rattle.c_tokens.specs.declared.kind.Sign.TheVariants as sign
 use Rattle.c_grammar.specs.Changes as changes
 use Rattle.c_grammar.specs.Changes.{With, ByNumber, ByOne}
 use Rattle.c_grammar.specs.Blocks as blocks
 use Rattle.c_grammar.specs.Blocks.{is_directive, bare, at, type_at, type_on, typed, longs, Open, Around, Reading, nothing_read, with_open, begins_body, is_else, is_name, Ends, ends, left, is_end, braces_at, parted, in_blocks}
 use Rattle.c_grammar.specs.Prints.{is_text, text_len, alone, print_at, print_on, printed}
-use Rattle.c_grammar.specs.Constants.{with_tokens, lengths, put_item, Definition, Defines, Misdefines, definition, at_wanted, wanted, Names, undefined, definition_len, drop_on, leave_on, work_on, Onward, plain, expressed, read_on, worked}
+use Rattle.c_grammar.specs.Constants.{with_tokens, line_tokens, put_item, Definition, Defines, Misdefines, definition, at_wanted, wanted, Names, undefined, definition_len, drop_on, leave_on, work_on, Onward, plain, expressed, read_on, worked}
 use Rattle.c_grammar.specs.Initial as globals
 use Rattle.c_grammar.specs.Initial.{Globals, Initial, initialized, no_globals}
+use Rattle.c_grammar.specs.Allocations.{allocated}
 use Rattle.c_grammar.specs.Source.{text_of, word_or_name, kind_terminal, on_line, item_of, end_of, written_out, items_of}
 use Rattle.c_grammar.specs.AsciiNames.{IsAsciiTerminal, AreAscii, terminals_of}
+use Rattle.c_grammar.proofs.AsciiAllocations.{allocated_text}
 
 low : (b : ℕ) → is_name_part b ≡ true → b < 128
 low b e = grind (arith, nat_tests)
@@ -213,7 +214,7 @@ put_text vs past i (Name x) e h = go (value_of vs x)
     go (Some n) = tt
 put_text vs past i (Line ts) e h = go (is_omp ts)
   where
-    go : (b : Bool) → IsAsciiTerminal (cond b (with_tokens i ts (line_in_full vs (lengths past) (placed_of ts i.columns))) i).terminal
+    go : (b : Bool) → IsAsciiTerminal (cond b (with_tokens i ts (line_tokens vs past (placed_of ts i.columns))) i).terminal
     go true = tt
     go false = subst (λ (t : Terminal). IsAsciiTerminal t) (sym e) h
 put_text vs past i (Fixed w) e h = tt
@@ -599,10 +600,11 @@ written_text is h =
     let calls : Items = printed 0 is in
     let whole : Items = in_blocks nothing_read (typed 0 calls) in
     let plain : Items = undefined [] 0 0 (worked [] [] 0 whole) in
-    full_text (initialized no_globals 0 plain) changes.begin 0 tt
-    (initialized_text plain no_globals 0 (tt, tt)
+    full_text (initialized no_globals 0 (allocated plain)) changes.begin 0 tt
+    (initialized_text (allocated plain) no_globals 0 (tt, tt)
+    (allocated_text plain
     (undefined_text (worked [] [] 0 whole) [] 0 0
-    (worked_text whole [] [] 0 (blocks_text (typed 0 calls) nothing_read (typed_text calls 0 (printed_text is 0 h))))))
+    (worked_text whole [] [] 0 (blocks_text (typed 0 calls) nothing_read (typed_text calls 0 (printed_text is 0 h)))))))
 
 all_but : (is : Items) (e : Item Terminal) → AreItemsText (is ++ e ∷ []) → AreItemsText is
 all_but [] e h = tt

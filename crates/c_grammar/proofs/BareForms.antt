@@ -16,15 +16,9 @@ use Rattle.c_grammar.specs.Changes as changes
 use Rattle.c_grammar.specs.Changes.{With, ByNumber, ByOne}
 use Rattle.c_grammar.specs.Initial as globals
 use Rattle.c_grammar.specs.Initial.{Globals, Initial, initialized, no_globals}
+use Rattle.c_grammar.specs.Allocations.{allocated}
 use Rattle.c_grammar.specs.Source.{written_out}
-
--- no directive line
-abbrev IsPlain : Item Terminal → Type 0
-IsPlain i = is_directive i.terminal ≡ false
-
-abbrev ArePlain : Items → Type 0
-ArePlain [] = Unit {0}
-ArePlain (i ∷ is) = IsPlain i × ArePlain is
+use Rattle.c_grammar.proofs.BareAllocations.{IsPlain, ArePlain, plain_bare, same_bare, allocated_bare}
 
 -- the first are the second without directive lines
 abbrev IsBare : Items → Items → Type 0
@@ -44,21 +38,6 @@ some (i ∷ is) x x' h e = one i (is ++ x) (is ++ x') h.0 (some is x x' h.1 e)
 either_plain : (b : Bool) (x y : Items) → ArePlain x → ArePlain y → ArePlain (cond b x y)
 either_plain true x y h k = h
 either_plain false x y h k = k
-
-plain_bare : (is : Items) → ArePlain (bare is)
-plain_bare [] = tt
-plain_bare (i ∷ is) = go (plain_bare is) (is_directive i.terminal) refl
-  where
-    go : ArePlain (bare is) → (b : Bool) → is_directive i.terminal ≡ b → ArePlain (cond b (bare is) (i ∷ bare is))
-    go h true e = h
-    go h false e = (e, h)
-
-same_bare : (is : Items) → bare (bare is) ≡ bare is
-same_bare is = go (bare is) (plain_bare is)
-  where
-    go : (js : Items) → ArePlain js → bare js ≡ js
-    go [] h = refl
-    go (j ∷ js) h = (let e : is_directive j.terminal ≡ false = h.0 in rw e (ap (λ (v : Items). j ∷ v) (go js h.1)))
 
 -- ---- types
 
@@ -514,21 +493,24 @@ initialized_bare (i ∷ is) g k l = step (initialized_bare is) (is_directive i.t
 
 -- ---- all of it
 
+-- what follows the constants
+later_bare : (is : Items)
+    → IsBare (changes.in_full changes.begin 0 (initialized no_globals 0 (allocated (bare is))))
+    (changes.in_full changes.begin 0 (initialized no_globals 0 (allocated is)))
+later_bare is =
+    ap (λ (js : Items). changes.in_full changes.begin 0 (initialized no_globals 0 js)) (allocated_bare is)
+    ∙ ap (λ (js : Items). changes.in_full changes.begin 0 js) (initialized_bare (allocated is) no_globals 0 tt)
+    ∙ full_bare (initialized no_globals 0 (allocated is)) changes.begin 0 tt
+
 pub written_bare : (is : Items) → written_out (bare is) ≡ bare (written_out is)
 written_bare is =
     let p : Items = printed 0 is in
     let a : Items = typed 0 p in
     let b : Items = in_blocks nothing_read a in
     let c : Items = worked [] [] 0 b in
-    let d : Items = undefined [] 0 0 c in
-    let e : Items = initialized no_globals 0 d in
-    ap (λ (js : Items). changes.in_full changes.begin 0
-    (initialized no_globals 0 (undefined [] 0 0 (worked [] [] 0 (in_blocks nothing_read (typed 0 js)))))) (printed_bare is 0)
-    ∙ ap (λ (js : Items). changes.in_full changes.begin 0
-    (initialized no_globals 0 (undefined [] 0 0 (worked [] [] 0 (in_blocks nothing_read js))))) (typed_bare p 0)
-    ∙ ap (λ (js : Items). changes.in_full changes.begin 0 (initialized no_globals 0 (undefined [] 0 0 (worked [] [] 0 js))))
-    (blocks_bare a nothing_read)
-    ∙ ap (λ (js : Items). changes.in_full changes.begin 0 (initialized no_globals 0 (undefined [] 0 0 js))) (worked_bare b [] [] 0)
-    ∙ ap (λ (js : Items). changes.in_full changes.begin 0 (initialized no_globals 0 js)) (undefined_bare c [] 0 0)
-    ∙ ap (λ (js : Items). changes.in_full changes.begin 0 js) (initialized_bare d no_globals 0 tt)
-    ∙ full_bare e changes.begin 0 tt
+    let later : Items → Items = λ js. changes.in_full changes.begin 0 (initialized no_globals 0 (allocated js)) in
+    ap (λ (js : Items). later (undefined [] 0 0 (worked [] [] 0 (in_blocks nothing_read (typed 0 js))))) (printed_bare is 0)
+    ∙ ap (λ (js : Items). later (undefined [] 0 0 (worked [] [] 0 (in_blocks nothing_read js)))) (typed_bare p 0)
+    ∙ ap (λ (js : Items). later (undefined [] 0 0 (worked [] [] 0 js))) (blocks_bare a nothing_read)
+    ∙ ap (λ (js : Items). later (undefined [] 0 0 js)) (worked_bare b [] [] 0)
+    ∙ ap later (undefined_bare c [] 0 0) ∙ later_bare (undefined [] 0 0 c)

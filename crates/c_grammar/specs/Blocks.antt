@@ -82,9 +82,10 @@ abbrev pub is_else : Items → Bool
 is_else [] = false
 is_else (i ∷ is) = same (Fixed Else) i.terminal
 
+-- a name, and not the word sizeof
 abbrev pub is_name : Items → Bool
 is_name [] = false
-is_name (i ∷ is) = begins_name i.terminal
+is_name (i ∷ is) = begins_name i.terminal && not (same (Name (codes "sizeof")) i.terminal)
   where
     begins_name : Terminal → Bool
     begins_name (Name x) = true

@@ -10,6 +10,7 @@ use Rattle.c_grammar.specs.Lines.{is_omp}
 use Rattle.c_grammar.specs.Texts.{Item}
 use Rattle.c_grammar.specs.Expressions.{Items, Values, value_of, put, Nothing, Worked, Number, Fault, expression, as_items, placed_of}
 use Rattle.c_grammar.specs.LineForms.{line_in_full}
+use Rattle.c_grammar.specs.Clauses.{clauses_in_full}
 use Rattle.c_grammar.specs.Blocks.{is_directive, bare}
 
 -- ---- where a constant expression may stand
@@ -46,6 +47,15 @@ const_word = Name (codes "const")
 
 abbrev pub enum_word : Terminal
 enum_word = Name (codes "enum")
+
+abbrev pub malloc_word : Terminal
+malloc_word = Name (codes "malloc")
+
+abbrev pub calloc_word : Terminal
+calloc_word = Name (codes "calloc")
+
+abbrev pub sizeof_word : Terminal
+sizeof_word = Name (codes "sizeof")
 
 -- const uint64_t NAME =
 abbrev pub constant_value : List Shape
@@ -105,16 +115,51 @@ abbrev pub behind_changing : List Terminal → Bool
 behind_changing (Mark s ∷ ts) = divides_to s
 behind_changing _ = false
 
+-- calloc (
+abbrev pub cell_count : List Shape
+cell_count = sign_is sign.OpenParen ∷ Is calloc_word ∷ []
+
+-- malloc (
+abbrev pub first_factor : List Shape
+first_factor = sign_is sign.OpenParen ∷ Is malloc_word ∷ []
+
+-- the same with sizeof ( uint64_t ) *, with sizeof ( * NAME ) *, and with sizeof * NAME * behind it
+abbrev pub behind_type_size : List Shape
+behind_type_size =
+    sign_is sign.Star ∷ sign_is sign.CloseParen ∷ Is (Fixed Uint64) ∷ sign_is sign.OpenParen ∷ Is sizeof_word ∷ first_factor
+
+abbrev pub behind_cell_size : List Shape
+behind_cell_size =
+    sign_is sign.Star ∷ sign_is sign.CloseParen ∷ AnyName ∷ sign_is sign.Star ∷ sign_is sign.OpenParen ∷ Is sizeof_word ∷
+    first_factor
+
+abbrev pub behind_open_size : List Shape
+behind_open_size = sign_is sign.Star ∷ AnyName ∷ sign_is sign.Star ∷ Is sizeof_word ∷ first_factor
+
+-- NUM *, behind those
+abbrev pub next_factor : List Shape → List Shape
+next_factor ss = sign_is sign.Star ∷ AnyNumber ∷ ss
+
+-- the factor behind these, or the next one
+abbrev pub in_factors : List Shape → List Terminal → Bool
+in_factors ss ts = ends_with ss ts || ends_with (next_factor ss) ts
+
+-- one of the first factors of what malloc is asked for
+abbrev pub wants_factor : List Terminal → Bool
+wants_factor ts =
+    in_factors first_factor ts || in_factors behind_type_size ts || in_factors behind_cell_size ts || in_factors behind_open_size ts
+
 -- behind these tokens a constant expression may stand
 abbrev pub wants_expression : List Terminal → Bool
 wants_expression ts =
     ends_with constant_value ts || ends_with array_length ts || ends_with loop_first ts || ends_with (loop_limit sign.Less) ts ||
     ends_with (loop_limit sign.LessEqual) ts || ends_with (loop_step sign.Less) ts || ends_with (loop_step sign.LessEqual) ts ||
-    enumerated_value ts || behind_changing ts
+    enumerated_value ts || behind_changing ts || ends_with cell_count ts
 
--- or, behind an operator of which the right side is a number, one in brackets
+-- or, behind an operator of which the right side is a number, and where malloc is asked for a product, one in brackets
 abbrev pub wanted : List Terminal → Option Bool
-wanted ts = if wants_expression ts then Some false else (if behind_divider ts then Some true else None)
+wanted ts =
+    if wants_expression ts then Some false else (if behind_divider ts || wants_factor ts then Some true else None)
 
 abbrev pub at_wanted : Values → Items → Option Bool → Option Worked
 at_wanted vs is None = None
@@ -207,6 +252,17 @@ abbrev pub lengths : List Terminal → Values
 lengths [] = []
 lengths (t ∷ ts) = with_length t ts (lengths ts)
 
+-- ---- the names that are declared
+
+abbrev pub with_name : Terminal → List Terminal → List (List ℕ) → List (List ℕ)
+with_name (Name x) (t ∷ ts) names = if same (Fixed Uint64) t then x ∷ names else names
+with_name t ts names = names
+
+-- by these tokens
+abbrev pub declared : List Terminal → List (List ℕ)
+declared [] = []
+declared (t ∷ ts) = with_name t ts (declared ts)
+
 -- ---- all tokens
 
 -- the token with another for it
@@ -236,10 +292,14 @@ with_tokens i ts ps = record {
   columns = map (λ p. p.column) ps;
 }
 
+-- the tokens of a directive line in full
+abbrev pub line_tokens : Values → List Terminal → List Placed → List Placed
+line_tokens vs past ps = line_in_full vs (lengths past) (clauses_in_full (declared past) (lengths past) ps)
+
 -- a token with what stands for it: a number for a constant's name, a directive line in full
 abbrev pub put_item : Values → List Terminal → Item Terminal → Terminal → Item Terminal
 put_item vs past i (Line ts) =
-    if is_omp ts then with_tokens i ts (line_in_full vs (lengths past) (placed_of ts i.columns)) else i
+    if is_omp ts then with_tokens i ts (line_tokens vs past (placed_of ts i.columns)) else i
 put_item vs past i t = with_terminal i (put vs t)
 
 -- a token by itself

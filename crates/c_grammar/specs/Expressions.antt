@@ -1,5 +1,5 @@
 -- Expressions of numbers, and of names that stand for numbers.
-use Rattle.std.specs.Prelude.{ℕ, ◌+◌, ◌-◌, ◌*◌, ◌/◌, ◌%◌, ◌^◌, Bool, false, ◌==◌, nat_lt, nat_le, if◌then◌else◌, List, [], ◌∷◌, Option, Some, None}
+use Rattle.std.specs.Prelude.{ℕ, ◌+◌, ◌-◌, ◌*◌, ◌/◌, ◌%◌, ◌^◌, Bool, false, ◌&&◌, ◌==◌, nat_lt, nat_le, if◌then◌else◌, List, [], ◌∷◌, length, Option, Some, None}
 use Rattle.std.specs.Str.{bytes_eq}
 use Rattle.c_tokens.specs.declared.kind.Sign.{Sign}
 use Rattle.c_tokens.specs.declared.kind.Sign.TheVariants as sign
@@ -122,9 +122,14 @@ behind_value k n ws i (Some w) go = with_operator k i w (reduce (tightness w) ws
 behind_value k n ws i None go =
     if same (Mark sign.CloseParen) i.terminal then with_close k (reduce 0 ws n) go else at_end k (reduce 0 ws n)
 
+-- so many numbers and brackets may wait behind a bracket
+abbrev pub most_waiting : ℕ
+most_waiting = 256
+
 abbrev pub at_operand : List Waiting → Terminal → (Read → List Waiting → Option Worked) → Option Worked
 at_operand ws (Num (Some n)) go = go (Value n) ws
-at_operand ws (Mark s) go = if same (Mark sign.OpenParen) (Mark s) then go Nothing (Bracket ∷ ws) else None
+at_operand ws (Mark s) go =
+    if same (Mark sign.OpenParen) (Mark s) && nat_lt (length ws) most_waiting then go Nothing (Bracket ∷ ws) else None
 at_operand ws t go = None
 
 abbrev pub is_over : Bool → List Waiting → Bool

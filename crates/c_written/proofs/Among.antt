@@ -1,9 +1,11 @@
 -- Whether a name is among others.
 use Rattle.std.proofs.Common.{◌≡◌, ◌∙◌, ℕ, ◌+◌, ◌<◌, ◌≤◌, true, false, List, [], ◌∷◌, length, get_or, take, map, reverse, refl, sym, ap, arith}
 use Rattle.std.specs.Borrow.{Bor}
+use Rattle.std.specs.Prelude.{◌||◌}
 use Rattle.std.specs.Str.{bytes_eq}
 use Rattle.std.proofs.lemmas.List.{take_more, take_all}
 use Rattle.c_grammar.specs.Constants.{Names, is_among}
+use Rattle.c_grammar.specs.LineRules.{is_among as is_listed}
 use Rattle.c_written.proofs.Stacks.{stack_more}
 
 abbrev pub names_in : List (Bor (List ℕ)) → Names
@@ -27,3 +29,7 @@ among_not xs ys k d x e h b = ap (λ (zs : List (Bor (List ℕ))). is_among (nam
 
 pub all_names : (xs ys : List (Bor (List ℕ))) (k : ℕ) → ys ≡ xs → length ys ≤ k → names_in (take k xs) ≡ names_in xs
 all_names xs ys k e h = ap names_in (take_all k xs (omega (arith, h, ap (λ (zs : List (Bor (List ℕ))). length zs) e)))
+
+pub among_same : (xs : Names) (x : List ℕ) → is_listed xs x ≡ is_among xs x
+among_same [] x = refl
+among_same (y ∷ ys) x = ap (λ b. bytes_eq y x || b) (among_same ys x)

@@ -31,3 +31,8 @@ pub mod Noting
 pub mod Working
 pub mod Declaring
 pub mod Setting
+pub mod Counting
+pub mod Allotting
+pub mod ClauseSteps
+pub mod WholeClauses
+pub mod ClauseLengths

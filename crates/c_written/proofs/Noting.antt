@@ -1,12 +1,15 @@
 -- The constant, or the length of an array, that a token ends.
 use Rattle.std.proofs.Common.{◌≡◌, ◌∙◌, ℕ, zero, suc, Bool, true, false, cond, List, [], ◌∷◌, drop, map, Option, Some, None, refl, sym, ap}
 use Rattle.std.specs.Option.{option_map}
-use Rattle.c_grammar.specs.Terminal.{Terminal, Name, Num}
+use Rattle.c_grammar.specs.Lexeme.{Uint64}
+use Rattle.c_grammar.specs.Terminal.{Terminal, Fixed, Mark, Name, Num, Line, Unknown, Unworked, End, same}
 use Rattle.c_grammar.specs.Expressions.{Values}
-use Rattle.c_grammar.specs.Constants.{array_length, bound, ended_constant, ends_with, lengths, with_length}
+use Rattle.c_grammar.specs.Constants as constants
+use Rattle.c_grammar.specs.Constants.{array_length, bound, declared, ended_constant, ends_with, lengths, with_length}
 use Rattle.c_written.specs.declared.token.Terminal.{Terminal as Given}
 use Rattle.c_written.specs.Seen.{seen_terminal}
 use Rattle.c_written.specs.Stack.{item_at}
+use Rattle.c_written.specs.Names.{declared_last, is_uint64, with_name}
 use Rattle.c_written.specs.Constants.{constant_ended, ends_by, ends_constant, length_ended, named_number, with_constant}
 
 pub seen_at : (k : ℕ) (xs : List Given) → option_map seen_terminal (item_at k xs) ≡ item_at k (map seen_terminal xs)
@@ -86,3 +89,33 @@ pub constants_more : (ts new : List Terminal) (vs ws : Values) → new ≡ ts �
     ws ≡ ended_constant vs ts
 constants_more ts new vs ws e f =
     f ∙ ap (λ (us : List Terminal). with_constant (constant_ended us) vs) e ∙ sym (constant_is vs ts)
+
+-- ---- the name that a token declares
+
+name_by : (b : Bool) (x : List ℕ) (ns : List (List ℕ)) → cond b (x ∷ ns) ns ≡ with_name (cond b (Some x) None) ns
+name_by true x ns = refl
+name_by false x ns = refl
+
+no_name : (b : Bool) (ns : List (List ℕ)) → ns ≡ with_name (cond b None None) ns
+no_name true ns = refl
+no_name false ns = refl
+
+name_is : (t : Terminal) (ts : List Terminal) (ns : List (List ℕ)) →
+    constants.with_name t ts ns ≡ with_name (declared_last (t ∷ ts)) ns
+name_is (Name x) [] ns = refl
+name_is (Name x) (t ∷ ts) ns = name_by (same (Fixed Uint64) t) x ns
+name_is (Fixed w) ts ns = no_name (is_uint64 (item_at 1 (Fixed w ∷ ts))) ns
+name_is (Mark s) ts ns = no_name (is_uint64 (item_at 1 (Mark s ∷ ts))) ns
+name_is (Num n) ts ns = no_name (is_uint64 (item_at 1 (Num n ∷ ts))) ns
+name_is (Line ls) ts ns = no_name (is_uint64 (item_at 1 (Line ls ∷ ts))) ns
+name_is Unknown ts ns = no_name (is_uint64 (item_at 1 (Unknown ∷ ts))) ns
+name_is Unworked ts ns = no_name (is_uint64 (item_at 1 (Unworked ∷ ts))) ns
+name_is End ts ns = no_name (is_uint64 (item_at 1 (End ∷ ts))) ns
+
+-- the names, with one that the token declares
+pub names_more : (t : Terminal) (old new : List Terminal) (ns ms : List (List ℕ)) → new ≡ t ∷ old → ns ≡ declared old →
+    ms ≡ with_name (declared_last new) ns → ms ≡ declared new
+names_more t old new ns ms e f g =
+    g ∙ ap (with_name (declared_last new)) f
+    ∙ ap (λ (ts : List Terminal). with_name (declared_last ts) (declared old)) e
+    ∙ sym (name_is t old (declared old)) ∙ ap declared (sym e)

@@ -1,11 +1,11 @@
 -- How many tokens of a whole line a constant expression has: its end is none of them.
 use Rattle.std.proofs.Common.{◌≡◌, ◌∙◌, ℕ, ◌+◌, ◌-◌, ◌<◌, ◌≤◌, Bool, true, false, cond, List, [], ◌∷◌, length, Option, Some, None, refl, sym, ap, arith}
-use Rattle.std.specs.Prelude.{◌&&◌}
+use Rattle.std.specs.Prelude.{◌&&◌, nat_lt}
 use Rattle.c_tokens.specs.declared.kind.Sign.TheVariants as sign
 use Rattle.c_grammar.specs.Lexeme.{Lexeme, Reserved, Signed, Worded, Numbered, Strange, Ended, Placed}
 use Rattle.c_grammar.specs.Terminal.{Terminal, Fixed, Mark, Name, Num, Line, Unknown, Unworked, End, same}
 use Rattle.c_grammar.specs.Texts.{Item}
-use Rattle.c_grammar.specs.Expressions.{Values, Work, Read, Nothing, Value, Waiting, Behind, Bracket, Worked, Number, Fault, Reduced, To, Stuck, reduce, is_over, work_of, put, as_items, as_terminal, at_end, at_operand, with_close, with_operator, behind_value, expression}
+use Rattle.c_grammar.specs.Expressions.{Values, Work, Read, Nothing, Value, Waiting, Behind, Bracket, Worked, Number, Fault, Reduced, To, Stuck, reduce, is_over, work_of, put, as_items, as_terminal, at_end, most_waiting, at_operand, with_close, with_operator, behind_value, expression}
 use Rattle.c_grammar.specs.LineForms.{begins_bound, begins_number, bound_at, needs_work, several, worth}
 use Rattle.directives.specs.Seen.{ends_well, is_whole}
 
@@ -34,7 +34,7 @@ operand_within : (k m : ℕ) (ws : List Waiting) (t : Terminal) (go : Read → L
 operand_within k m ws (Num (Some x)) go n v h e = h (Value x) ws n v e
 operand_within k m ws (Num None) go n v h e = absurd cc
 operand_within k m ws (Mark s) go n v h e =
-    chosen (same (Mark sign.OpenParen) (Mark s)) (go Nothing (Bracket ∷ ws)) None (Some (Number n v)) ((k < n) × (n < m))
+    chosen (same (Mark sign.OpenParen) (Mark s) && nat_lt (length ws) most_waiting) (go Nothing (Bracket ∷ ws)) None (Some (Number n v)) ((k < n) × (n < m))
     (h Nothing (Bracket ∷ ws) n v) (λ f. absurd cc) e
 operand_within k m ws (Fixed w) go n v h e = absurd cc
 operand_within k m ws (Name x) go n v h e = absurd cc

@@ -15,7 +15,7 @@ abbrev all_inner : List Lexeme → Bool
 all_inner [] = true
 all_inner (t ∷ ts) = ends_well t false && all_inner ts
 
-whole_cons : (p : Placed) (ps : List Placed) → ends_well p.lexeme false ≡ true → is_whole ps ≡ true → is_whole (p ∷ ps) ≡ true
+pub whole_cons : (p : Placed) (ps : List Placed) → ends_well p.lexeme false ≡ true → is_whole ps ≡ true → is_whole (p ∷ ps) ≡ true
 whole_cons p [] e w = absurd cc
 whole_cons p (q ∷ ps) e w = rw e w
 
@@ -109,7 +109,7 @@ token_whole vs ls p ps past false (Some (Number n v)) e f w h =
 token_whole vs ls p ps past false (Some (Fault k i)) e f w h = rw (e, f) (plain_whole vs ls p ps _ past w h)
 token_whole vs ls p ps past false None e f w h = rw (e, f) (plain_whole vs ls p ps _ past w h)
 
-whole_tail : (p : Placed) (ps : List Placed) → 0 < length ps → is_whole (p ∷ ps) ≡ true → is_whole ps ≡ true
+pub whole_tail : (p : Placed) (ps : List Placed) → 0 < length ps → is_whole (p ∷ ps) ≡ true → is_whole ps ≡ true
 whole_tail p [] h w = absurd (omega arith)
 whole_tail p (q ∷ ps) h w = whole_behind p q ps w
 

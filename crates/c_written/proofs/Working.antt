@@ -8,8 +8,9 @@ use Rattle.c_grammar.specs.Lines.{is_omp}
 use Rattle.c_grammar.specs.Texts.{Item}
 use Rattle.c_grammar.specs.Blocks.{Items, bare, is_directive}
 use Rattle.c_grammar.specs.Expressions.{Values, Nothing, Worked, Number, Fault, expression, placed_of, put}
+use Rattle.c_grammar.specs.Clauses.{clauses_in_full}
 use Rattle.c_grammar.specs.LineForms.{line_in_full}
-use Rattle.c_grammar.specs.Constants.{Definition, Defines, Misdefines, Onward, at_wanted, behind_two, definition, ended_constant, expressed, front_two, goes_on, lengths, plain, put_item, wanted, with_terminal, with_tokens, worked}
+use Rattle.c_grammar.specs.Constants.{Definition, Defines, Misdefines, Onward, at_wanted, behind_two, definition, ended_constant, declared, expressed, front_two, goes_on, lengths, line_tokens, plain, put_item, wanted, with_terminal, with_tokens, worked}
 use Rattle.directives.specs.declared.line_tokens.LineTokens.{LineTokens}
 use Rattle.directives.specs.Ahead.{seen_line}
 use Rattle.directives.specs.Spells.{kinds_of, columns_of}
@@ -108,36 +109,43 @@ put_plain vs past i End e f = refl
 
 -- ---- a line
 
-in_order : (vs ls : Values) (ps : List Placed) → is_omp (kinds_of ps) ≡ true →
-    (front_two (kinds_of ps) ++ kinds_of (behind_two (line_in_full vs ls ps))) ≡ kinds_of (line_in_full vs ls ps)
+in_order : (vs : Values) (past : List Terminal) (ps : List Placed) → is_omp (kinds_of ps) ≡ true →
+    (front_two (kinds_of ps) ++ kinds_of (behind_two (line_tokens vs past ps))) ≡ kinds_of (line_tokens vs past ps)
 unfolding is_omp
-in_order vs ls [] e = absurd cc
-in_order vs ls (p ∷ []) e = absurd cc
-in_order vs ls (p ∷ q ∷ ps) e = refl
+in_order vs past [] e = absurd cc
+in_order vs past (p ∷ []) e = absurd cc
+in_order vs past (p ∷ q ∷ ps) e = refl
 
 abbrev line_item : Token → List Placed → Item Terminal
 line_item t ps = record { terminal = Line (kinds_of ps); line = t.line; column = t.column; columns = columns_of ps }
 
-put_line : (vs ls : Values) (past : List Terminal) (t : Token) (ps : List Placed) → is_omp (kinds_of ps) ≡ true → ls ≡ lengths past →
-    put_item vs past (line_item t ps) (Line (kinds_of ps)) ≡ line_item t (line_in_full vs ls ps)
-put_line vs ls past t ps e f =
-    rw e (ap (λ (qs : List Placed). with_tokens (line_item t ps) (kinds_of ps) (line_in_full vs (lengths past) qs)) (placed_again ps)
-    ∙ ap (λ (ms : Values). with_tokens (line_item t ps) (kinds_of ps) (line_in_full vs ms ps)) (sym f)
+put_line : (vs : Values) (past : List Terminal) (t : Token) (ps : List Placed) → is_omp (kinds_of ps) ≡ true →
+    put_item vs past (line_item t ps) (Line (kinds_of ps)) ≡ line_item t (line_tokens vs past ps)
+put_line vs past t ps e =
+    rw e (ap (λ (qs : List Placed). with_tokens (line_item t ps) (kinds_of ps) (line_tokens vs past qs)) (placed_again ps)
     ∙ ap (λ (ts : List Lexeme). record {
       terminal = Line ts;
       line = t.line;
       column = t.column;
-      columns = columns_of (line_in_full vs ls ps);
-    }) (in_order vs ls ps e))
+      columns = columns_of (line_tokens vs past ps);
+    }) (in_order vs past ps e))
 
 -- a directive line is its tokens in full
-pub line_put : (vs ls : Values) (past : List Terminal) (t : Token) (l : Bor LineTokens) (qs : List Placed) → t.terminal ≡ given.Line l →
-    is_directive (seen_terminal t.terminal) ≡ true → ls ≡ lengths past → qs ≡ line_in_full vs ls (seen_line l.now) →
+pub line_put : (vs : Values) (past : List Terminal) (t : Token) (l : Bor LineTokens) (qs : List Placed) → t.terminal ≡ given.Line l →
+    is_directive (seen_terminal t.terminal) ≡ true → qs ≡ line_tokens vs past (seen_line l.now) →
     line_item t qs ≡ put_item vs past (seen t) (seen_terminal t.terminal)
-line_put vs ls past t l qs e d f g =
+line_put vs past t l qs e d g =
     let omp = sym (ap (λ (g : Given). is_directive (seen_terminal g)) e) ∙ d in
-    ap (line_item t) g ∙ sym (put_line vs ls past t (seen_line l.now) omp f)
+    ap (line_item t) g ∙ sym (put_line vs past t (seen_line l.now) omp)
     ∙ sym (ap (λ (g : Given). put_item vs past (item_at t g) (seen_terminal g)) e)
+
+-- by what is declared before it
+pub line_noted : (vs ls : Values) (ns : List (List ℕ)) (past : List Terminal) (ps qs rs : List Placed) → ls ≡ lengths past →
+    ns ≡ declared past → qs ≡ clauses_in_full ns ls ps → rs ≡ line_in_full vs ls qs → rs ≡ line_tokens vs past ps
+line_noted vs ls ns past ps qs rs e f g h =
+    h ∙ ap (line_in_full vs ls) g
+    ∙ ap (λ (ms : List (List ℕ)). line_in_full vs ls (clauses_in_full ms ls ps)) f
+    ∙ ap (λ (ms : Values). line_in_full vs ms (clauses_in_full (declared past) ms ps)) e
 
 -- ---- an expression
 

@@ -6,11 +6,12 @@ use Rattle.c_grammar.specs.Terminal.{Terminal, Mark, Name, Num, same}
 use Rattle.c_grammar.specs.Texts.{Item}
 use Rattle.c_grammar.specs.Blocks.{Items}
 use Rattle.c_grammar.specs.Expressions.{Values}
-use Rattle.c_grammar.specs.Constants.{array_length, constant_value, ends_with, enumerated_value, lengths, with_length, worked}
+use Rattle.c_grammar.specs.Constants.{array_length, constant_value, ends_with, declared, enumerated_value, lengths, with_length, worked}
 use Rattle.c_written.specs.declared.constants.Constants.{Constants}
 use Rattle.c_written.specs.Stack.{item_at}
 use Rattle.c_written.specs.Held.{written_all}
 use Rattle.c_written.specs.Values.{seen_values}
+use Rattle.c_written.specs.Names.{seen_names}
 use Rattle.c_written.specs.Past.{past_of}
 
 -- the number, or the name, that it is
@@ -57,8 +58,10 @@ constant_ended ts = if ends_constant ts then named_number (item_at 3 ts) (item_a
 abbrev pub length_ended : List Terminal → Option (List ℕ × ℕ)
 length_ended ts = if ends_with array_length (drop 1 ts) then named_number (item_at 2 ts) (item_at 0 ts) else None
 
-abbrev pub HasLengths : Constants → Type 0
-HasLengths c = seen_values c.lengths ≡ lengths (past_of c.past)
+-- the lengths and the names that the tokens so far declare
+pub record HasNotes (c : Constants) : Type 0 where
+  pub lengths : seen_values c.lengths ≡ lengths (past_of c.past)
+  pub names : seen_names c.names ≡ declared (past_of c.past)
 
 -- what is written in the end where these tokens follow
 abbrev pub with_constants : Constants → Items → Items

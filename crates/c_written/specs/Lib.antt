@@ -14,3 +14,6 @@ pub mod Changes
 pub mod Definitions
 pub mod Constants
 pub mod Globals
+pub mod Allocations
+pub mod Names
+pub mod Clauses

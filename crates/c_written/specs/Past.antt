@@ -1,7 +1,7 @@
 -- The tokens that stand before.
 use Rattle.std.specs.Prelude.{List, map}
 use Rattle.c_grammar.specs.Terminal.{Terminal, Mark, Fixed}
-use Rattle.c_grammar.specs.Constants.{Shape, Is, AnyName, AnyNumber, const_word, enum_word}
+use Rattle.c_grammar.specs.Constants.{Shape, Is, AnyName, AnyNumber, const_word, enum_word, malloc_word, calloc_word, sizeof_word}
 use Rattle.directives.specs.Seen.{seen_word}
 use Rattle.c_written.specs.declared.token.Terminal.{Terminal as Given}
 use Rattle.c_written.specs.declared.stack.Stack.{Stack}
@@ -19,5 +19,8 @@ seen_shape (given.Sign s) = Is (Mark s)
 seen_shape (given.Word w) = Is (Fixed (seen_word w))
 seen_shape given.Const = Is const_word
 seen_shape given.Enum = Is enum_word
+seen_shape given.Malloc = Is malloc_word
+seen_shape given.Calloc = Is calloc_word
+seen_shape given.Sizeof = Is sizeof_word
 seen_shape given.Name = AnyName
 seen_shape given.Number = AnyNumber

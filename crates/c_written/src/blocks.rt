@@ -119,7 +119,9 @@ fn is_name(rest: &[Token<'_, '_>]) -> bool
     ensures { result ≡ is_name (bare (seen_all rest.now)) }
 {
     match Ahead::new(rest).next() {
-        Some(token) => token.terminal.is_name(),
+        Some(token) => {
+            token.terminal.is_name() && !token.terminal.is_named(b"sizeof".as_slice())
+        }
         None => false,
     }
 }

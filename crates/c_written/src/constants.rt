@@ -8,17 +8,21 @@ ghost use Rattle.c_written.specs.Seen.{seen_all, seen_terminal};
 ghost use Rattle.c_written.specs.Past.{past_of};
 ghost use Rattle.c_written.specs.Held.{written_all};
 ghost use Rattle.c_written.specs.Values.{seen_constant, seen_values};
+ghost use Rattle.c_written.specs.Names.{declared_last, is_uint64, name_at, seen_names, text_in, with_name};
 
+use crate::clauses::clauses_in_full;
 use crate::definition::{Definition, what_defines};
 use crate::expressions::{Worked, expression};
 use crate::held::{Written, WrittenTerminal};
 use crate::line_forms::line_in_full;
+use crate::names::Names;
 use crate::shapes::{at_array_length, at_constant_value, at_enumerated_value, wanted};
 use crate::stack::Stack;
 use crate::token::{Terminal, Token};
 use crate::values::{Constant, Values};
 use crate::work::Operator;
 use c_tokens::Sign;
+use directives::Word;
 use std::alloc::{AllocError, Global};
 
 /// The tokens so far.
@@ -29,6 +33,8 @@ struct Constants<'a, 'l> {
     values: Values<'a>,
     /// The lengths of the arrays.
     lengths: Values<'a>,
+    /// The names that are declared.
+    names: Names<'a>,
     /// The tokens so far that are no directive lines.
     past: Stack<Terminal<'a, 'l>>,
     /// How many tokens are still to be left out.
@@ -117,6 +123,46 @@ fn define<'a>(values: &mut Values<'a>, constant: Option<Constant<'a>>) -> Result
     }
 }
 
+/// The name that the token is.
+fn name_at<'a>(terminal: Option<Terminal<'a, '_>>) -> Option<&'a [u8]>
+    ensures { text_in result ≡ name_at (option_map seen_terminal terminal.entry) }
+{
+    match terminal {
+        Some(Terminal::Name(text)) => Some(text),
+        _ => None,
+    }
+}
+
+fn is_uint64(terminal: Option<Terminal<'_, '_>>) -> bool
+    ensures { result ≡ is_uint64 (option_map seen_terminal terminal.entry) }
+{
+    match terminal {
+        Some(terminal) => terminal.is_word(Word::Uint64),
+        None => false,
+    }
+}
+
+/// The name that the last token declares.
+fn declared_last<'a>(past: &Stack<Terminal<'a, '_>>) -> Option<&'a [u8]>
+    ensures { text_in result ≡ declared_last (past_of past.now) }
+{
+    if is_uint64(past.peek(1)) {
+        name_at(past.peek(0))
+    } else {
+        None
+    }
+}
+
+/// Adds a name, if there is one.
+fn declare<'a>(names: &mut Names<'a>, name: Option<&'a [u8]>) -> Result<(), AllocError>
+    ensures { OnOk result (seen_names names.new ≡ with_name (text_in name.entry) (seen_names names.old)) }
+{
+    match name {
+        Some(name) => names.declare(name),
+        None => Ok(()),
+    }
+}
+
 impl<'a, 'l> Constants<'a, 'l> {
     ghost use Rattle.std.specs.Prelude.{◌≡◌, ◌++◌, ◌∷◌, [], IfOk, OnOk, drop, false, true};
     ghost use Rattle.std.specs.Option.{option_map};
@@ -124,7 +170,7 @@ impl<'a, 'l> Constants<'a, 'l> {
     ghost use Rattle.c_grammar.specs.Blocks.{Items, bare, is_directive};
     ghost use Rattle.c_grammar.specs.Expressions.{put};
     ghost use Rattle.c_grammar.specs.Constants.{at_wanted, ended_constant, expressed, goes_on, put_item, wanted, with_terminal};
-    ghost use Rattle.c_written.specs.Constants.{HasLengths, behind, with_constants};
+    ghost use Rattle.c_written.specs.Constants.{HasNotes, behind, with_constants};
     ghost use Rattle.c_written.specs.Seen.{columns_in, seen, seen_all, seen_terminal};
     ghost use Rattle.c_written.specs.Held.{written_all};
     ghost use Rattle.c_written.specs.Past.{past_of};
@@ -133,25 +179,26 @@ impl<'a, 'l> Constants<'a, 'l> {
 
     /// Takes note of a token that goes on.
     fn note(&mut self, terminal: Terminal<'a, 'l>) -> Result<(), AllocError>
-        requires { HasLengths self.old }
+        requires { HasNotes self.old }
         ensures past { OnOk result (past_of self.new.past ≡ seen_terminal terminal.entry ∷ past_of self.old.past) }
         ensures values { OnOk result (seen_values self.new.values ≡
             ended_constant (seen_values self.old.values) (seen_terminal terminal.entry ∷ past_of self.old.past)) }
-        ensures lengths { OnOk result (HasLengths self.new) }
+        ensures notes { OnOk result (HasNotes self.new) }
         ensures done { self.new.done.items ≡ self.old.done.items }
         ensures left { self.new.left ≡ self.old.left }
     {
         self.past.push(terminal)?;
         define(&mut self.values, ended_constant(&self.past))?;
-        define(&mut self.lengths, array_length(&self.past))
+        define(&mut self.lengths, array_length(&self.past))?;
+        declare(&mut self.names, declared_last(&self.past))
     }
 
     /// The token goes on, and so many more are read with it.
     fn go_on(&mut self, token: Token<'a, 'l>, more: usize) -> Result<(), AllocError>
-        requires { HasLengths self.old }
+        requires { HasNotes self.old }
         ensures gone { OnOk result ((is : Items) → written_all self.old.done.items ++
             goes_on (seen_values self.old.values) (past_of self.old.past) (seen token.entry) more (behind is) ≡ with_constants self.new is) }
-        ensures lengths { OnOk result (HasLengths self.new) }
+        ensures notes { OnOk result (HasNotes self.new) }
     {
         self.done.push(Written::of(self.alloc, token)?)?;
         self.left = more;
@@ -160,11 +207,11 @@ impl<'a, 'l> Constants<'a, 'l> {
 
     /// An expression without a value.
     fn fail(&mut self, operator: Operator, more: usize) -> Result<(), AllocError>
-        requires { HasLengths self.old }
+        requires { HasNotes self.old }
         ensures gone { OnOk result ((is : Items) → written_all self.old.done.items ++
             goes_on (seen_values self.old.values) (past_of self.old.past) (with_terminal (seen_operator operator) Unworked) more (behind is) ≡
             with_constants self.new is) }
-        ensures lengths { OnOk result (HasLengths self.new) }
+        ensures notes { OnOk result (HasNotes self.new) }
     {
         let token = Token {
             terminal: Terminal::Unworked,
@@ -199,14 +246,15 @@ impl<'a, 'l> Constants<'a, 'l> {
     /// A directive line in full.
     fn write_line(&mut self, token: Token<'a, 'l>) -> Result<(), AllocError>
         requires line { is_directive (seen_terminal token.terminal) ≡ true }
-        requires lengths { HasLengths self.old }
+        requires notes { HasNotes self.old }
         ensures gone { OnOk result ((is : Items) → written_all self.old.done.items ++
             (put_item (seen_values self.old.values) (past_of self.old.past) (seen token.entry) (seen_terminal token.entry.terminal) ∷
             behind is (seen_values self.old.values) (past_of self.old.past) self.old.left) ≡ with_constants self.new is) }
-        ensures lengths { OnOk result (HasLengths self.new) }
+        ensures notes { OnOk result (HasNotes self.new) }
     {
         if let Terminal::Line(line) = token.terminal {
-            let line = line_in_full(self.alloc, &self.values, &self.lengths, line)?;
+            let line = clauses_in_full(self.alloc, &self.names, &self.lengths, line)?;
+            let line = line_in_full(self.alloc, &self.values, &self.lengths, &line)?;
             self.done.push(Written {
                 terminal: WrittenTerminal::Line(line),
                 line: token.line,
@@ -231,12 +279,12 @@ impl<'a, 'l> Constants<'a, 'l> {
     fn work(&mut self, token: Token<'a, 'l>, tokens: &[Token<'a, 'l>]) -> Result<(), AllocError>
         requires other { is_directive (seen_terminal token.terminal) ≡ false }
         requires first { bare (seen_all tokens.now) ≡ seen token ∷ drop 1 (bare (seen_all tokens.now)) }
-        requires lengths { HasLengths self.old }
+        requires notes { HasNotes self.old }
         ensures gone { OnOk result ((is : Items) → written_all self.old.done.items ++
             expressed (seen_values self.old.values) (past_of self.old.past) (seen token.entry)
             (at_wanted (seen_values self.old.values) (bare (seen_all tokens.now)) (wanted (past_of self.old.past))) (behind is) ≡
             with_constants self.new is) }
-        ensures lengths { OnOk result (HasLengths self.new) }
+        ensures notes { OnOk result (HasNotes self.new) }
     {
         match self.worked(tokens)? {
             None => {
@@ -258,9 +306,9 @@ impl<'a, 'l> Constants<'a, 'l> {
         rest: &[Token<'a, 'l>],
     ) -> Result<(), AllocError>
         requires rest { seen_all rest.now ≡ seen token ∷ seen_all behind.now }
-        requires lengths { HasLengths self.old }
+        requires notes { HasNotes self.old }
         ensures taken { OnOk result (with_constants self.old (seen_all rest.now) ≡ with_constants self.new (seen_all behind.now)) }
-        ensures lengths { OnOk result (HasLengths self.new) }
+        ensures notes { OnOk result (HasNotes self.new) }
     {
         if token.terminal.is_directive() {
             return self.write_line(token);
@@ -291,6 +339,7 @@ pub fn worked<'a, 'l>(
         done: Vec::new(alloc),
         values: Values::new(alloc),
         lengths: Values::new(alloc),
+        names: Names::new(alloc),
         past: Stack::new(alloc),
         left: 0,
     };

@@ -32,6 +32,9 @@ enum Waiting {
     Bracket,
 }
 
+/// So many numbers and brackets may wait behind a bracket.
+const MOST_WAITING: usize = 256;
+
 /// An expression that is being read.
 #[derive(Drop)]
 struct Reader<'v, 'a> {
@@ -169,7 +172,9 @@ impl<'v, 'a> Reader<'v, 'a> {
                 Some(n) => self.value = Some(n),
                 None => return Ok(Going::Over(None)),
             },
-            Terminal::Sign(Sign::OpenParen) => self.waiting.push(Waiting::Bracket)?,
+            Terminal::Sign(Sign::OpenParen) if self.waiting.len() < MOST_WAITING => {
+                self.waiting.push(Waiting::Bracket)?;
+            }
             _ => return Ok(Going::Over(None)),
         }
         Ok(Going::On)

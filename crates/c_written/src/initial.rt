@@ -23,7 +23,7 @@ pub struct Initializer<'a, 'l> {
 }
 
 /// The number that a token is.
-fn value_of(token: Token<'_, '_>) -> Option<u64>
+pub fn value_of(token: Token<'_, '_>) -> Option<u64>
     ensures { result ≡ value_of (seen token.entry).terminal }
 {
     match token.terminal {
@@ -156,10 +156,10 @@ fn array_initial<'a, 'l>(
 }
 
 /// The length between two brackets.
-fn length_of(open: Token<'_, '_>, length: Token<'_, '_>, close: Token<'_, '_>) -> Option<u64>
-    ensures { result ≡ length_in (seen open.entry) (seen length.entry) (seen close.entry) }
+fn length_of(left: Token<'_, '_>, length: Token<'_, '_>, right: Token<'_, '_>) -> Option<u64>
+    ensures { result ≡ length_in (seen left.entry) (seen length.entry) (seen right.entry) }
 {
-    if open.terminal.is_sign(Sign::OpenBracket) && close.terminal.is_sign(Sign::CloseBracket) {
+    if left.terminal.is_sign(Sign::OpenBracket) && right.terminal.is_sign(Sign::CloseBracket) {
         return value_of(length);
     }
     None

@@ -2,8 +2,11 @@
 #![tactic(auto)]
 
 mod ahead;
+mod allocated;
+mod allocations;
 mod blocks;
 mod changes;
+mod clauses;
 mod constants;
 mod definition;
 mod definitions;
@@ -12,6 +15,7 @@ mod globals;
 mod held;
 mod initial;
 mod line_forms;
+mod names;
 mod operators;
 mod prints;
 mod shapes;
@@ -26,6 +30,3 @@ mod work;
 pub use held::{Written, WrittenTerminal};
 pub use source::written;
 pub use token::{Terminal, Token};
-
-#[cfg(test)]
-mod tests;

@@ -55,13 +55,13 @@ pub fn as_tokens<'a, 'l>(
     Ok(tokens)
 }
 
-fn is_sign(lexeme: Lexeme<'_>, sign: Sign) -> bool
+pub fn is_sign(lexeme: Lexeme<'_>, sign: Sign) -> bool
     ensures { result ≡ is_sign sign (seen_lexeme lexeme.entry) }
 {
     same_lexeme(Lexeme::Sign(sign), lexeme)
 }
 
-fn is_name(lexeme: Lexeme<'_>, name: &[u8]) -> bool
+pub fn is_name(lexeme: Lexeme<'_>, name: &[u8]) -> bool
     ensures { result ≡ same (Worded name.now) (seen_lexeme lexeme.entry) }
 {
     same_lexeme(Lexeme::Name(name), lexeme)

@@ -2,7 +2,7 @@
 
 ghost use Rattle.std.specs.Prelude.{◌≡◌, ◌+◌, ◌<◌, ◌^◌, ◌∷◌, List, length, map, drop, true};
 ghost use Rattle.c_grammar.specs.Terminal.{Terminal as SpecTerminal};
-ghost use Rattle.c_grammar.specs.Constants.{ends_with, constant_value, array_length, loop_first, loop_limit, loop_step, in_enumeration, enumerated_value, behind_divider, behind_changing, wants_expression, wanted};
+ghost use Rattle.c_grammar.specs.Constants.{ends_with, constant_value, array_length, loop_first, loop_limit, loop_step, in_enumeration, enumerated_value, behind_divider, behind_changing, behind_cell_size, behind_open_size, behind_type_size, cell_count, first_factor, in_factors, wants_expression, wants_factor, wanted};
 ghost use Rattle.c_written.specs.Past.{past_of, seen_shape};
 ghost use Rattle.c_written.specs.Seen.{seen_terminal};
 
@@ -20,6 +20,12 @@ enum Shape {
     Const,
     /// The word `enum`.
     Enum,
+    /// The word `malloc`.
+    Malloc,
+    /// The word `calloc`.
+    Calloc,
+    /// The word `sizeof`.
+    Sizeof,
     Name,
     Number,
 }
@@ -38,6 +44,9 @@ impl Shape {
             Shape::Word(word) => terminal.is_word(word),
             Shape::Const => terminal.is_named(b"const".as_slice()),
             Shape::Enum => terminal.is_named(b"enum".as_slice()),
+            Shape::Malloc => terminal.is_named(b"malloc".as_slice()),
+            Shape::Calloc => terminal.is_named(b"calloc".as_slice()),
+            Shape::Sizeof => terminal.is_named(b"sizeof".as_slice()),
             Shape::Name => terminal.is_name(),
             Shape::Number => terminal.is_number(),
         }
@@ -216,6 +225,119 @@ fn behind_changing(past: &Stack<Terminal<'_, '_>>) -> bool
     }
 }
 
+/// Whether `calloc (` stands before.
+fn at_cell_count(past: &Stack<Terminal<'_, '_>>) -> bool
+    ensures { result ≡ ends_with cell_count (past_of past.now) }
+{
+    let shapes = [Shape::Sign(Sign::OpenParen), Shape::Calloc];
+    ends_with(past, 0, &shapes)
+}
+
+/// Whether `malloc (` stands before, or `NUM *` behind that.
+fn at_first_factor(past: &Stack<Terminal<'_, '_>>) -> bool
+    ensures { result ≡ in_factors first_factor (past_of past.now) }
+{
+    let first = [Shape::Sign(Sign::OpenParen), Shape::Malloc];
+    let next = [
+        Shape::Sign(Sign::Star),
+        Shape::Number,
+        Shape::Sign(Sign::OpenParen),
+        Shape::Malloc,
+    ];
+    ends_with(past, 0, &first) || ends_with(past, 0, &next)
+}
+
+/// Whether `malloc ( sizeof ( uint64_t ) *` stands before, or `NUM *` behind that.
+fn behind_type_size(past: &Stack<Terminal<'_, '_>>) -> bool
+    ensures { result ≡ in_factors behind_type_size (past_of past.now) }
+{
+    let first = [
+        Shape::Sign(Sign::Star),
+        Shape::Sign(Sign::CloseParen),
+        Shape::Word(Word::Uint64),
+        Shape::Sign(Sign::OpenParen),
+        Shape::Sizeof,
+        Shape::Sign(Sign::OpenParen),
+        Shape::Malloc,
+    ];
+    let next = [
+        Shape::Sign(Sign::Star),
+        Shape::Number,
+        Shape::Sign(Sign::Star),
+        Shape::Sign(Sign::CloseParen),
+        Shape::Word(Word::Uint64),
+        Shape::Sign(Sign::OpenParen),
+        Shape::Sizeof,
+        Shape::Sign(Sign::OpenParen),
+        Shape::Malloc,
+    ];
+    ends_with(past, 0, &first) || ends_with(past, 0, &next)
+}
+
+/// Whether `malloc ( sizeof ( * NAME ) *` stands before, or `NUM *` behind that.
+fn behind_cell_size(past: &Stack<Terminal<'_, '_>>) -> bool
+    ensures { result ≡ in_factors behind_cell_size (past_of past.now) }
+{
+    let first = [
+        Shape::Sign(Sign::Star),
+        Shape::Sign(Sign::CloseParen),
+        Shape::Name,
+        Shape::Sign(Sign::Star),
+        Shape::Sign(Sign::OpenParen),
+        Shape::Sizeof,
+        Shape::Sign(Sign::OpenParen),
+        Shape::Malloc,
+    ];
+    let next = [
+        Shape::Sign(Sign::Star),
+        Shape::Number,
+        Shape::Sign(Sign::Star),
+        Shape::Sign(Sign::CloseParen),
+        Shape::Name,
+        Shape::Sign(Sign::Star),
+        Shape::Sign(Sign::OpenParen),
+        Shape::Sizeof,
+        Shape::Sign(Sign::OpenParen),
+        Shape::Malloc,
+    ];
+    ends_with(past, 0, &first) || ends_with(past, 0, &next)
+}
+
+/// Whether `malloc ( sizeof * NAME *` stands before, or `NUM *` behind that.
+fn behind_open_size(past: &Stack<Terminal<'_, '_>>) -> bool
+    ensures { result ≡ in_factors behind_open_size (past_of past.now) }
+{
+    let first = [
+        Shape::Sign(Sign::Star),
+        Shape::Name,
+        Shape::Sign(Sign::Star),
+        Shape::Sizeof,
+        Shape::Sign(Sign::OpenParen),
+        Shape::Malloc,
+    ];
+    let next = [
+        Shape::Sign(Sign::Star),
+        Shape::Number,
+        Shape::Sign(Sign::Star),
+        Shape::Name,
+        Shape::Sign(Sign::Star),
+        Shape::Sizeof,
+        Shape::Sign(Sign::OpenParen),
+        Shape::Malloc,
+    ];
+    ends_with(past, 0, &first) || ends_with(past, 0, &next)
+}
+
+/// Whether one of the first factors of what `malloc` is asked for may stand behind these tokens.
+fn wants_factor(past: &Stack<Terminal<'_, '_>>) -> bool
+    ensures { result ≡ wants_factor (past_of past.now) }
+{
+    at_first_factor(past)
+        || behind_type_size(past)
+        || behind_cell_size(past)
+        || behind_open_size(past)
+}
+
 /// Whether a constant expression may stand behind these tokens.
 fn wants_expression(past: &Stack<Terminal<'_, '_>>) -> bool
     ensures { result ≡ wants_expression (past_of past.now) }
@@ -229,6 +351,7 @@ fn wants_expression(past: &Stack<Terminal<'_, '_>>) -> bool
         || at_loop_step(past, Sign::LessEqual)
         || at_enumerated_value(past, 0)
         || behind_changing(past)
+        || at_cell_count(past)
 }
 
 /// Whether a constant expression may stand behind these tokens, and whether it is a single number or bracket.
@@ -238,7 +361,7 @@ pub fn wanted(past: &Stack<Terminal<'_, '_>>) -> Option<bool>
     if wants_expression(past) {
         return Some(false);
     }
-    if behind_divider(past) {
+    if behind_divider(past) || wants_factor(past) {
         Some(true)
     } else {
         None

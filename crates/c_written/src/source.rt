@@ -2,6 +2,7 @@
 
 ghost use Rattle.std.specs.Prelude.{◌≡◌, ◌≤◌, ◌^◌, IfOk, [], map};
 ghost use Rattle.c_tokens.specs.Text.{tokens_of};
+ghost use Rattle.c_grammar.specs.Allocations.{allocated};
 ghost use Rattle.c_grammar.specs.Blocks.{in_blocks, nothing_read, typed};
 ghost use Rattle.c_grammar.specs.Changes.{begin, in_full};
 ghost use Rattle.c_grammar.specs.Constants.{undefined, worked};
@@ -10,6 +11,7 @@ ghost use Rattle.c_grammar.specs.Prints.{printed};
 ghost use Rattle.c_grammar.specs.Source.{item_of, text_of, written_out};
 ghost use Rattle.c_written.specs.Held.{columns_held, seen_held, written_all};
 
+use crate::allocated::allocated;
 use crate::blocks::in_blocks;
 use crate::changes::in_full;
 use crate::constants::worked;
@@ -85,13 +87,14 @@ fn with_constants<'a>(alloc: Global, raw: &[Written<'a>]) -> Result<Vec<Written<
     worked(alloc, &tokens)
 }
 
-/// The tokens without definitions and initializers, and with their changes in full.
+/// The tokens without definitions, allocations and initializers, and with their changes in full.
 fn with_changes<'a>(alloc: Global, worked: &[Written<'a>]) -> Result<Vec<Written<'a>>, AllocError>
     ensures { IfOk result (λ v. written_all v.items ≡
-        in_full begin 0 (initialized no_globals 0 (undefined [] 0 0 (written_all worked.now)))) }
+        in_full begin 0 (initialized no_globals 0 (allocated (undefined [] 0 0 (written_all worked.now))))) }
 {
     let tokens = borrowed(alloc, worked)?;
     let tokens = undefined(alloc, &tokens)?;
+    let tokens = allocated(alloc, &tokens)?;
     let tokens = initialized(alloc, &tokens)?;
     let tokens = in_full(alloc, &tokens)?;
     owned(alloc, &tokens)

@@ -8,7 +8,7 @@ pub struct Stack<T> {
 }
 
 impl<T: Copy> Stack<T> {
-    ghost use Rattle.std.specs.Prelude.{◌≡◌, ◌∷◌, [], MatchOption, OnOk};
+    ghost use Rattle.std.specs.Prelude.{◌≡◌, ◌∷◌, [], length, MatchOption, OnOk};
     ghost use Rattle.c_written.specs.Stack.{held, item_at};
 
     pub fn new(alloc: Global) -> Stack<T>
@@ -30,6 +30,12 @@ impl<T: Copy> Stack<T> {
         ensures { MatchOption result ((held self.old ≡ []) × (held self.new ≡ [])) (λ x. held self.old ≡ x ∷ held self.new) }
     {
         self.items.pop()
+    }
+
+    pub fn len(&self) -> usize
+        ensures { result ≡ length (held self.now) }
+    {
+        self.items.len()
     }
 
     /// The item that so many items were put on.

@@ -11,7 +11,7 @@ use std::alloc::{AllocError, Global};
 const WORDS: [&str; 6] = ["parallel", "for", "simd", "teams", "distribute", "loop"];
 
 // The clauses that such a construct alone takes.
-const CLAUSES: [&str; 7] = [
+const CLAUSES: [&str; 9] = [
     "collapse",
     "num_teams",
     "thread_limit",
@@ -19,6 +19,8 @@ const CLAUSES: [&str; 7] = [
     "simdlen",
     "safelen",
     "schedule",
+    "default",
+    "shared",
 ];
 
 // More loops than a source may have open.

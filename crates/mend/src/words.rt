@@ -289,6 +289,11 @@ fn other_items(
     Ok(out)
 }
 
+// Whether a clause has a type, or what else stands before a colon.
+fn has_head(line: &[u8], word: &Word) -> bool {
+    items_first(line, word) > word.open
+}
+
 // The line with one item of a clause in a clause of its own, behind that one.
 fn split(
     alloc: Global,
@@ -300,7 +305,9 @@ fn split(
 ) -> Result<Vec<u8>, AllocError> {
     let mut out = Vec::new(alloc);
     out.extend_from_slice(cut(line, 0, items_first(line, word)))?;
-    out.push(b' ')?;
+    if has_head(line, word) {
+        out.push(b' ')?;
+    }
     out.extend_from_slice(&other_items(alloc, line, items, item)?)?;
     out.extend_from_slice(b") ".as_slice())?;
     out.extend_from_slice(cut(line, word.first, word.open))?;
@@ -309,6 +316,19 @@ fn split(
     out.extend_from_slice(cut(line, item.first, item.end))?;
     out.extend_from_slice(cut(line, word.close, line.len()))?;
     Ok(out)
+}
+
+// What stands in a clause before its colon, or nothing where it has none.
+fn head_of(line: &[u8], word: &Word) -> Span {
+    let end = if has_head(line, word) {
+        items_first(line, word).saturating_sub(1)
+    } else {
+        word.open
+    };
+    Span {
+        first: word.open,
+        end,
+    }
 }
 
 /// The line with another type, or other modifiers and another type, for the item at a place.
@@ -329,11 +349,12 @@ pub fn with_head(
     if items.len() > 1 {
         return Ok(Some(split(alloc, line, &word, &items, item, head)?));
     }
-    let before = Span {
-        first: word.open,
-        end: items_first(line, &word).saturating_sub(1),
-    };
-    Ok(Some(spliced(alloc, line, before, head.as_bytes())?))
+    let mut text = String::new(alloc);
+    text.push_str(head)?;
+    if !has_head(line, &word) {
+        text.push_str(": ")?;
+    }
+    Ok(Some(spliced(alloc, line, head_of(line, &word), text.as_str().as_bytes())?))
 }
 
 // Where a clause goes: behind the last one of its name, else behind the words of the directive, or at the end.

@@ -30,6 +30,9 @@ const ENUMERATION: &str =
 
 const POINTER: &str = "there are no pointers: an array is a global, `uint64_t A[4];`";
 
+const ALLOCATION: &str =
+    "an array is a global, `uint64_t A[4];`, or `main` allocates it, outside of its blocks, with a number of cells that is a product of constants: `uint64_t *A = malloc(4 * sizeof(uint64_t));`";
+
 const COMMA: &str =
     "of statements the declarations alone have commas, between their names: `uint64_t a = 1, b = 2;`";
 
@@ -187,7 +190,7 @@ fn inside(around: &Around<'_>) -> Option<&'static str> {
         ..
     } = *around;
     if word == "*" && is_type(before) {
-        return Some(POINTER);
+        return Some(ALLOCATION);
     }
     if let Some(form) = foreign_type(word) {
         return Some(form);

@@ -11,6 +11,9 @@ fn is_name_part(byte: u8) -> bool {
     byte.is_ascii_alphanumeric() || byte == b'_'
 }
 
+// The clauses that say what is shared and what is not.
+const SHARING: [&str; 4] = ["default", "shared", "firstprivate", "private"];
+
 // What stands behind the name that is defined, the blanks between too.
 fn behind_name(rest: &[u8]) -> &[u8] {
     let mut in_name = false;
@@ -72,17 +75,21 @@ pub fn unknown_clause(around: &Around<'_>) -> Option<&'static str> {
             "a construct is `target` with `parallel for`, `simd`, `parallel loop`, `teams loop` or `teams distribute` behind it",
         );
     }
+    if is_one_of(word, &SHARING) {
+        return Some(
+            "arrays are shared, scalars captured and locals private without a clause: `default(shared)`, `shared` of names that are declared before the line and `firstprivate` of such scalars are read, on the constructs that take them",
+        );
+    }
     None
 }
 
 /// Of a token that cannot stand where it does on such a line.
 pub fn unexpected_on_line(around: &Around<'_>) -> Option<&'static str> {
-    match around.before_on_line() {
-        b':' | b',' => Some(
-            "the name of an array stands here: constants and scalars are not mapped",
-        ),
-        _ => None,
+    let last = around.before_on_line();
+    if last == b':' || last == b',' || around.is_behind(b"map(".as_slice()) {
+        return Some("the name of an array stands here: constants and scalars are not mapped");
     }
+    None
 }
 
 /// Of a token that does not fit into a section.

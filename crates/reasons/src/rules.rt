@@ -62,7 +62,7 @@ pub fn read_rule(code: ReadCode) -> &'static str {
         ReadCode::ClauseCount =>
             "a directive has the clauses that it needs, and `nowait`, `device`, a modifier and each clause of a number at most once",
         ReadCode::BadMapType =>
-            "a `map` clause has modifiers, each of `always` and `present` at most once, and a map type that its directive takes",
+            "a `map` clause has modifiers, each of `always` and `present` at most once, and a map type that its directive takes, or neither",
         ReadCode::BadBound =>
             "a section is NAME[FIRST:LENGTH], of constant expressions, or of constants, names of loops around, sums, and a constant times a name",
         ReadCode::ArrayTwice => "an array stands once at most among the map items of a directive",

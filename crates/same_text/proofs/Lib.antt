@@ -6,6 +6,7 @@ mod UnlinedConstants
 mod UnlinedDropped
 mod UnlinedTargets
 mod UnlinedStatements
+mod UnlinedAllocations
 mod UnlinedGlobals
 mod UnlinedChanges
 mod UnlinedTexts

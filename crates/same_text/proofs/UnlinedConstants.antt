@@ -6,8 +6,7 @@ use Rattle.c_grammar.specs.Terminal.{Terminal, Fixed, Mark, Name, Num, Line, Unk
 use Rattle.c_grammar.specs.Texts.{Item}
 use Rattle.c_grammar.specs.Blocks.{is_directive, bare}
 use Rattle.c_grammar.specs.Expressions.{Items, Values, Worked, Number, Fault, placed_of}
-use Rattle.c_grammar.specs.LineForms.{line_in_full}
-use Rattle.c_grammar.specs.Constants.{lengths, with_terminal, with_tokens, put_item, goes_on, Definition, Defines, Misdefines, definition, at_wanted, wanted, Onward, expressed, read_on, work_on, worked}
+use Rattle.c_grammar.specs.Constants.{line_tokens, with_terminal, with_tokens, put_item, goes_on, Definition, Defines, Misdefines, definition, at_wanted, wanted, Onward, expressed, read_on, work_on, worked}
 use Rattle.same_text.specs.Laws.{unlined}
 use Rattle.same_text.proofs.Unlined.{all_unlined, AreUnlined, one, bare_unlined}
 use Rattle.same_text.proofs.UnlinedExpressions.{found_unlined, wanted_same}
@@ -18,7 +17,7 @@ put_same : (vs : Values) (past : List Terminal) (i : Item Terminal) (t : Termina
 put_same vs past i (Line ts) = step (is_omp ts)
   where
     ps : List Placed
-    ps = line_in_full vs (lengths past) (placed_of ts i.columns)
+    ps = line_tokens vs past (placed_of ts i.columns)
 
     step : (b : Bool) → cond b (with_tokens (unlined i) ts ps) (unlined i) ≡ unlined (cond b (with_tokens i ts ps) i)
     step true = refl

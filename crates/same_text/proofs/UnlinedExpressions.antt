@@ -1,10 +1,10 @@
 -- Expressions of constants are read without a look at the lines of the tokens.
-use Rattle.std.proofs.Common.{◌≡◌, ℕ, ◌+◌, Bool, true, false, cond, List, [], ◌∷◌, Option, Some, None, refl, ap, ◌∙◌}
-use Rattle.std.specs.Prelude.{nat_le}
+use Rattle.std.proofs.Common.{◌≡◌, ℕ, suc, ◌+◌, Bool, true, false, cond, List, [], ◌∷◌, length, Option, Some, None, refl, ap, ◌∙◌}
+use Rattle.std.specs.Prelude.{◌&&◌, nat_le, nat_lt}
 use Rattle.c_tokens.specs.declared.kind.Sign.TheVariants as sign
 use Rattle.c_grammar.specs.Terminal.{Terminal, Fixed, Mark, Name, Num, Line, Unknown, Unworked, End, same}
 use Rattle.c_grammar.specs.Texts.{Item}
-use Rattle.c_grammar.specs.Expressions.{Items, Values, put, Work, tightness, work_of, result, Waiting, Behind, Bracket, Read, Nothing, Value, Worked, Number, Fault, Reduced, To, Stuck, reduce_on, reduce, with_operator, with_close, at_end, behind_value, at_operand, is_over, expression}
+use Rattle.c_grammar.specs.Expressions.{Items, Values, put, Work, tightness, work_of, result, Waiting, Behind, Bracket, Read, Nothing, Value, Worked, Number, Fault, Reduced, To, Stuck, reduce_on, reduce, with_operator, with_close, at_end, behind_value, most_waiting, at_operand, is_over, expression}
 use Rattle.c_grammar.specs.Constants.{at_wanted}
 use Rattle.same_text.specs.Laws.{unlined}
 use Rattle.same_text.proofs.Unlined.{all_unlined}
@@ -76,11 +76,19 @@ value_same k n ws i None go go' r = step (same (Mark sign.CloseParen) i.terminal
     step true = ap (λ (q : Reduced). with_close k q go') (reduce_same 0 ws n) ∙ close_same k (reduce 0 ws n) go go' r
     step false = ap (at_end k) (reduce_same 0 ws n) ∙ end_same k (reduce 0 ws n)
 
+waiting_length : (ws : List Waiting) → length (all_waiting ws) ≡ length ws
+waiting_length [] = refl
+waiting_length (w ∷ ws) = ap suc (waiting_length ws)
+
 operand_same : (ws : List Waiting) (t : Terminal) (go go' : Go) → AreSame go' go →
     at_operand (all_waiting ws) t go' ≡ found_unlined (at_operand ws t go)
 operand_same ws (Num (Some n)) go go' r = r (Value n) ws
 operand_same ws (Num None) go go' r = refl
-operand_same ws (Mark s) go go' r = step (same (Mark sign.OpenParen) (Mark s))
+operand_same ws (Mark s) go go' r =
+    ap
+    (λ (n : ℕ). cond (same (Mark sign.OpenParen) (Mark s) && nat_lt n most_waiting) (go' Nothing (Bracket ∷ all_waiting ws)) None)
+    (waiting_length ws)
+    ∙ step (same (Mark sign.OpenParen) (Mark s) && nat_lt (length ws) most_waiting)
   where
     step : (b : Bool) → cond b (go' Nothing (Bracket ∷ all_waiting ws)) None
         ≡ found_unlined (cond b (go Nothing (Bracket ∷ ws)) None)

@@ -1,6 +1,7 @@
 -- Tokens are written out without a look at their lines.
 use Rattle.std.proofs.Common.{◌≡◌, List, [], ◌∷◌, refl, sym, ap, ◌∙◌}
 use Rattle.c_grammar.specs.Terminal.{Terminal}
+use Rattle.c_grammar.specs.Allocations.{allocated}
 use Rattle.c_grammar.specs.Blocks.{Items, nothing_read, in_blocks, typed}
 use Rattle.c_grammar.specs.Changes.{begin, in_full}
 use Rattle.c_grammar.specs.Constants.{undefined, worked}
@@ -12,8 +13,18 @@ use Rattle.same_text.proofs.Unlined.{all_unlined, AreUnlined, typed_unlined, blo
 use Rattle.same_text.proofs.UnlinedPrints.{printed_unlined}
 use Rattle.same_text.proofs.UnlinedConstants.{worked_unlined}
 use Rattle.same_text.proofs.UnlinedDropped.{undefined_unlined}
+use Rattle.same_text.proofs.UnlinedAllocations.{allocated_unlined}
 use Rattle.same_text.proofs.UnlinedGlobals.{initialized_unlined}
 use Rattle.same_text.proofs.UnlinedChanges.{full_unlined}
+
+-- what follows the constants
+later_unlined : (is : Items) →
+    AreUnlined (in_full begin 0 (initialized no_globals 0 (allocated (all_unlined is))))
+    (in_full begin 0 (initialized no_globals 0 (allocated is)))
+later_unlined is =
+    ap (λ (js : Items). in_full begin 0 (initialized no_globals 0 js)) (allocated_unlined is)
+    ∙ ap (λ (js : Items). in_full begin 0 js) (initialized_unlined (allocated is) no_globals 0)
+    ∙ full_unlined (initialized no_globals 0 (allocated is)) begin 0
 
 written_unlined : (is : Items) → AreUnlined (written_out (all_unlined is)) (written_out is)
 written_unlined is =
@@ -21,19 +32,12 @@ written_unlined is =
     let a : Items = typed 0 p in
     let b : Items = in_blocks nothing_read a in
     let c : Items = worked [] [] 0 b in
-    let d : Items = undefined [] 0 0 c in
-    let e : Items = initialized no_globals 0 d in
-    ap
-    (λ (js : Items). in_full begin 0
-    (initialized no_globals 0 (undefined [] 0 0 (worked [] [] 0 (in_blocks nothing_read (typed 0 js))))))
-    (printed_unlined is 0)
-    ∙ ap (λ (js : Items). in_full begin 0 (initialized no_globals 0 (undefined [] 0 0 (worked [] [] 0 (in_blocks nothing_read js)))))
-    (typed_unlined p 0)
-    ∙ ap (λ (js : Items). in_full begin 0 (initialized no_globals 0 (undefined [] 0 0 (worked [] [] 0 js))))
-    (blocks_unlined a nothing_read)
-    ∙ ap (λ (js : Items). in_full begin 0 (initialized no_globals 0 (undefined [] 0 0 js))) (worked_unlined b [] [] 0)
-    ∙ ap (λ (js : Items). in_full begin 0 (initialized no_globals 0 js)) (undefined_unlined c [] 0 0)
-    ∙ ap (λ (js : Items). in_full begin 0 js) (initialized_unlined d no_globals 0) ∙ full_unlined e begin 0
+    let later : Items → Items = λ js. in_full begin 0 (initialized no_globals 0 (allocated js)) in
+    ap (λ (js : Items). later (undefined [] 0 0 (worked [] [] 0 (in_blocks nothing_read (typed 0 js))))) (printed_unlined is 0)
+    ∙ ap (λ (js : Items). later (undefined [] 0 0 (worked [] [] 0 (in_blocks nothing_read js)))) (typed_unlined p 0)
+    ∙ ap (λ (js : Items). later (undefined [] 0 0 (worked [] [] 0 js))) (blocks_unlined a nothing_read)
+    ∙ ap (λ (js : Items). later (undefined [] 0 0 js)) (worked_unlined b [] [] 0)
+    ∙ ap later (undefined_unlined c [] 0 0) ∙ later_unlined (undefined [] 0 0 c)
 
 kinds_unlined : (is : Items) → kinds_in is ≡ kinds_in (all_unlined is)
 kinds_unlined [] = refl
