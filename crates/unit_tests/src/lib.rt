@@ -12,6 +12,8 @@ mod fine_tests;
 #[cfg(test)]
 mod footprint_tests;
 #[cfg(test)]
+mod in_c_tests;
+#[cfg(test)]
 mod jobs;
 #[cfg(test)]
 mod kernel_tests;
@@ -32,6 +34,10 @@ mod rows;
 #[cfg(test)]
 mod sources;
 #[cfg(test)]
+mod splits;
+#[cfg(test)]
 mod taskgraph_tests;
 #[cfg(test)]
 mod threads;
+#[cfg(test)]
+mod written_tests;

@@ -743,7 +743,8 @@ $ ompc explain halves.c --format json
   "file": "halves.c",
   "fixes": [],
   "more": 0,
-  "version": 1
+  "version": 1,
+  "warnings": []
 }
 $ ompc explain mapped_to_only.c --format json
 {
@@ -802,7 +803,8 @@ $ ompc explain mapped_to_only.c --format json
     }
   ],
   "more": 0,
-  "version": 1
+  "version": 1,
+  "warnings": []
 }
 ! E506 item 2 A[0]
 [1]
@@ -833,7 +835,8 @@ $ ompc explain undeclared.c --format json
   "file": "undeclared.c",
   "fixes": [],
   "more": 0,
-  "version": 1
+  "version": 1,
+  "warnings": []
 }
 ! E103 line 2 column 28
 [1]

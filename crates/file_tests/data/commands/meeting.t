@@ -124,7 +124,8 @@ $ ompc explain sum_in_one_cell.c --format json
     }
   ],
   "more": 0,
-  "version": 1
+  "version": 1,
+  "warnings": []
 }
 ! E510 item 1 S[0]
 [1]
