@@ -10,21 +10,7 @@ use Rattle.c_grammar.specs.Blocks.{Items, at, is_directive, bare}
 use Rattle.c_grammar.specs.Constants.{is_mark}
 use Rattle.c_grammar.specs.Allocations.{Cells, Allocation, Reading, nothing_read, declaration, with_cells, called, or_all, skipped, cast, allocates, allocation, passed, kept, entered, opened, closed, allotted, given_up, is_allowed, is_freed, by_allocation, begins_main, at_statement, taken, next, all_read, joined, allocated}
 use Rattle.c_grammar.specs.AsciiNames.{IsAsciiTerminal, AreAscii, terminals_of}
-
-abbrev AreText : Items → Type 0
-AreText is = AreAscii (terminals_of is)
-
-both_text : (is js : Items) → AreText is → AreText js → AreText (is ++ js)
-both_text [] js h k = k
-both_text (i ∷ is) js h k = (h.0, both_text is js h.1 k)
-
-bare_text : (is : Items) → AreText is → AreText (bare is)
-bare_text [] h = tt
-bare_text (i ∷ is) h = go (is_directive i.terminal) (bare_text is h.1)
-  where
-    go : (b : Bool) → AreText (bare is) → AreText (cond b (bare is) (i ∷ bare is))
-    go true k = k
-    go false k = (h.0, k)
+use Rattle.c_grammar.proofs.AsciiTokens.{AreItemsText, both_text, bare_text}
 
 abbrev IsNameText : Option Allocation → Type 0
 IsNameText None = Unit {0}
@@ -44,7 +30,7 @@ named_text i Unknown is h = tt
 named_text i Unworked is h = tt
 named_text i End is h = tt
 
-allocation_text : (t : Item Terminal) (is : Items) → AreText is → IsNameText (allocation t is)
+allocation_text : (t : Item Terminal) (is : Items) → AreItemsText is → IsNameText (allocation t is)
 allocation_text t [] h = tt
 allocation_text t (s ∷ []) h = tt
 allocation_text t (s ∷ x ∷ []) h = tt
@@ -58,13 +44,13 @@ allocation_text t (s ∷ x ∷ e ∷ is) h =
 -- ---- all tokens
 
 abbrev IsText : Reading → Type 0
-IsText r = AreText r.before × AreText r.arrays × AreText r.done
+IsText r = AreItemsText r.before × AreItemsText r.arrays × AreItemsText r.done
 
 either : (b : Bool) (q r : Reading) → IsText q → IsText r → IsText (cond b q r)
 either true q r h k = h
 either false q r h k = k
 
-more_text : (is : Items) (i : Item Terminal) → AreText is → IsAsciiTerminal i.terminal → AreText (is ++ i ∷ [])
+more_text : (is : Items) (i : Item Terminal) → AreItemsText is → IsAsciiTerminal i.terminal → AreItemsText (is ++ i ∷ [])
 more_text is i h k = both_text is (i ∷ []) h (k, tt)
 
 kept_text : (i : Item Terminal) (r : Reading) → IsAsciiTerminal i.terminal → IsText r → IsText (kept i r)
@@ -88,7 +74,7 @@ statement_text i is (Some a) r h n k =
 statement_text i is None r h n k =
     either (is_freed r.names i is) (opened i r) (kept i r) (opened_text i r k) (kept_text i r h k)
 
-taken_text : (i : Item Terminal) (is : Items) (r : Reading) → IsAsciiTerminal i.terminal → AreText is → IsText r
+taken_text : (i : Item Terminal) (is : Items) (r : Reading) → IsAsciiTerminal i.terminal → AreItemsText is → IsText r
     → IsText (taken i is r)
 taken_text i is r h j k =
     either r.out _ _
@@ -97,18 +83,18 @@ taken_text i is r h j k =
     (either (not r.inside && begins_main i is) (entered i r) (kept i r)
     (both_text r.before r.done k.0 k.2, k.1, (h, tt)) (kept_text i r h k)))
 
-next_text : (i : Item Terminal) (is : Items) (r : Reading) → IsAsciiTerminal i.terminal → AreText is → IsText r
+next_text : (i : Item Terminal) (is : Items) (r : Reading) → IsAsciiTerminal i.terminal → AreItemsText is → IsText r
     → IsText (next i is r)
 next_text i is r h j k =
     either (is_directive i.terminal) (passed i r) (taken i (bare is) r) (k.0, k.1, more_text r.done i k.2 h)
     (taken_text i (bare is) r h (bare_text is j) k)
 
-read_text : (is : Items) (r : Reading) → AreText is → IsText r → IsText (all_read r is)
+read_text : (is : Items) (r : Reading) → AreItemsText is → IsText r → IsText (all_read r is)
 unfolding all_read
 read_text [] r h k = k
 read_text (i ∷ is) r h k = read_text is (next i is r) h.1 (next_text i is r h.0 h.1 k)
 
-pub allocated_text : (is : Items) → AreText is → AreText (allocated is)
+pub allocated_text : (is : Items) → AreItemsText is → AreItemsText (allocated is)
 allocated_text is h =
     let r : Reading = all_read nothing_read is in
     let k : IsText r = read_text is nothing_read h (tt, tt, tt) in

@@ -1,6 +1,6 @@
 -- The names of a source are ASCII.
 use Rattle.std.proofs.Common.{◌≡◌, ℕ, zero, suc, ◌+◌, ◌-◌, ◌<◌, Bool, true, false, cond, eqb, List, [], ◌∷◌, ◌++◌, length, map, take, drop, Option, Some, None, refl, sym, ap, subst, ◌∙◌, arith}
-use Rattle.std.specs.Prelude.{◌&&◌, nat_lt, slice_index, codes}
+use Rattle.std.specs.Prelude.{◌&&◌, ◌==◌, nat_lt, slice_index, codes}
 use Rattle.std.specs.List.{prefix_len}
 use Rattle.std.specs.Str.{IsAscii}
 use Rattle.std.proofs.lemmas.List.{drop-drop}
@@ -33,6 +33,9 @@ use Rattle.c_grammar.specs.Initial.{Globals, Initial, initialized, no_globals}
 use Rattle.c_grammar.specs.Allocations.{allocated}
 use Rattle.c_grammar.specs.Source.{text_of, word_or_name, kind_terminal, on_line, item_of, end_of, written_out, items_of}
 use Rattle.c_grammar.specs.AsciiNames.{IsAsciiTerminal, AreAscii, terminals_of}
+use Rattle.c_grammar.specs.Functions.{expanded}
+use Rattle.c_grammar.proofs.AsciiTokens.{AreItemsText, chosen_text, both_text, bare_text}
+use Rattle.c_grammar.proofs.AsciiFunctions.{expanded_text}
 use Rattle.c_grammar.proofs.AsciiAllocations.{allocated_text}
 
 low : (b : ℕ) → is_name_part b ≡ true → b < 128
@@ -198,13 +201,6 @@ tokens_text bytes (b ∷ bs) zero mood p e = given_text bytes b bs p (piece_at m
 
 -- ---- constants
 
-abbrev AreItemsText : List (Item Terminal) → Type 0
-AreItemsText is = AreAscii (terminals_of is)
-
-chosen_text : (b : Bool) (is js : Items) → AreItemsText is → AreItemsText js → AreItemsText (cond b is js)
-chosen_text true is js h k = h
-chosen_text false is js h k = k
-
 put_text : (vs : Values) (past : List Terminal) (i : Item Terminal) (t : Terminal) → i.terminal ≡ t → IsAsciiTerminal t
     → IsAsciiTerminal (put_item vs past i t).terminal
 put_text vs past i (Name x) e h = go (value_of vs x)
@@ -259,10 +255,6 @@ worked_text (i ∷ is) vs past k h =
 
 -- ---- blocks
 
-both_text : (is js : Items) → AreItemsText is → AreItemsText js → AreItemsText (is ++ js)
-both_text [] js h k = k
-both_text (i ∷ is) js h k = (h.0, both_text is js h.1 k)
-
 braces_text : (n : ℕ) (i : Item Terminal) → AreItemsText (braces_at n i)
 braces_text zero i = tt
 braces_text (suc n) i = (tt, braces_text n i)
@@ -276,7 +268,7 @@ token_plain i other r go h k =
 token_parted : (i : Item Terminal) (is : Items) (r : Reading) (go : Reading → Items) → IsAsciiTerminal i.terminal
     → ((q : Reading) → AreItemsText (go q)) → AreItemsText (parted i is r go)
 token_parted i is r go h k =
-    chosen_text (r.declares && same (Mark sign.Comma) i.terminal && is_name is) _ _ (tt, (tt, k r)) (token_plain i (is_else is) r go h k)
+    chosen_text (r.declares && (r.brackets == 0) && same (Mark sign.Comma) i.terminal && is_name is) _ _ (tt, (tt, k r)) (token_plain i (is_else is) r go h k)
 
 blocks_text : (is : Items) (r : Reading) → AreItemsText is → AreItemsText (in_blocks r is)
 unfolding in_blocks
@@ -304,10 +296,6 @@ type_on_text : (k : ℕ) (i : Item Terminal) (n : ℕ) (go : ℕ → Items) → 
     → ((k : ℕ) → AreItemsText (go k)) → AreItemsText (type_on k i n go)
 type_on_text zero i n go h r = type_text i n go h r
 type_on_text (suc k) i n go h r = r k
-
-bare_text : (is : Items) → AreItemsText is → AreItemsText (bare is)
-bare_text [] h = tt
-bare_text (i ∷ is) h = chosen_text (is_directive i.terminal) _ _ (bare_text is h.1) (h.0, bare_text is h.1)
 
 typed_text : (is : Items) (k : ℕ) → AreItemsText is → AreItemsText (typed k is)
 unfolding typed
@@ -599,12 +587,14 @@ written_text : (is : Items) → AreItemsText is → AreItemsText (written_out is
 written_text is h =
     let calls : Items = printed 0 is in
     let whole : Items = in_blocks nothing_read (typed 0 calls) in
-    let plain : Items = undefined [] 0 0 (worked [] [] 0 whole) in
+    let numbered : Items = worked [] [] 0 whole in
+    let plain : Items = undefined [] 0 0 (expanded numbered) in
     full_text (initialized no_globals 0 (allocated plain)) changes.begin 0 tt
     (initialized_text (allocated plain) no_globals 0 (tt, tt)
     (allocated_text plain
-    (undefined_text (worked [] [] 0 whole) [] 0 0
-    (worked_text whole [] [] 0 (blocks_text (typed 0 calls) nothing_read (typed_text calls 0 (printed_text is 0 h)))))))
+    (undefined_text (expanded numbered) [] 0 0
+    (expanded_text (λ is h. worked_text is [] [] 0 h) numbered
+    (worked_text whole [] [] 0 (blocks_text (typed 0 calls) nothing_read (typed_text calls 0 (printed_text is 0 h))))))))
 
 all_but : (is : Items) (e : Item Terminal) → AreItemsText (is ++ e ∷ []) → AreItemsText is
 all_but [] e h = tt

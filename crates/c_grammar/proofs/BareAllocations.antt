@@ -8,44 +8,13 @@ use Rattle.c_grammar.specs.Texts.{Item}
 use Rattle.c_grammar.specs.Blocks.{Items, at, is_directive, bare}
 use Rattle.c_grammar.specs.Constants.{is_mark}
 use Rattle.c_grammar.specs.Allocations.{Allocation, Reading, nothing_read, declaration, passed, kept, entered, opened, closed, allotted, max_arrays, given_up, is_allowed, is_named, is_freed, by_allocation, allocation, begins_main, at_statement, taken, next, all_read, joined, allocated}
-
--- no directive line
-abbrev pub IsPlain : Item Terminal → Type 0
-IsPlain i = is_directive i.terminal ≡ false
-
-abbrev pub ArePlain : Items → Type 0
-ArePlain [] = Unit {0}
-ArePlain (i ∷ is) = IsPlain i × ArePlain is
-
-pub plain_bare : (is : Items) → ArePlain (bare is)
-plain_bare [] = tt
-plain_bare (i ∷ is) = go (plain_bare is) (is_directive i.terminal) refl
-  where
-    go : ArePlain (bare is) → (b : Bool) → is_directive i.terminal ≡ b → ArePlain (cond b (bare is) (i ∷ bare is))
-    go h true e = h
-    go h false e = (e, h)
-
-pub same_bare : (is : Items) → bare (bare is) ≡ bare is
-same_bare is = go (bare is) (plain_bare is)
-  where
-    go : (js : Items) → ArePlain js → bare js ≡ js
-    go [] h = refl
-    go (j ∷ js) h = (let e : is_directive j.terminal ≡ false = h.0 in rw e (ap (λ (v : Items). j ∷ v) (go js h.1)))
-
-both_bare : (is js : Items) → bare (is ++ js) ≡ bare is ++ bare js
-both_bare [] js = refl
-both_bare (i ∷ is) js = go (is_directive i.terminal) (both_bare is js)
-  where
-    go : (b : Bool) → bare (is ++ js) ≡ bare is ++ bare js
-        → cond b (bare (is ++ js)) (i ∷ bare (is ++ js)) ≡ cond b (bare is) (i ∷ bare is) ++ bare js
-    go true e = e
-    go false e = ap (λ (v : Items). i ∷ v) e
+use Rattle.c_grammar.proofs.BareTokens.{IsPlain, ArePlain, plain_bare, same_bare, bare_both}
 
 one_more : (is : Items) (i : Item Terminal) → IsPlain i → bare is ++ i ∷ [] ≡ bare (is ++ i ∷ [])
-one_more is i h = sym (both_bare is (i ∷ []) ∙ rw h refl)
+one_more is i h = sym (bare_both is (i ∷ []) ∙ rw h refl)
 
 one_less : (is : Items) (i : Item Terminal) → is_directive i.terminal ≡ true → bare (is ++ i ∷ []) ≡ bare is
-one_less is i h = both_bare is (i ∷ []) ∙ rw h (append-nil (bare is))
+one_less is i h = bare_both is (i ∷ []) ∙ rw h (append-nil (bare is))
 
 -- what has been read, without directive lines
 abbrev bare_reading : Reading → Reading
@@ -72,11 +41,11 @@ closed_bare i r =
 entered_bare : (i : Item Terminal) (r : Reading) → IsPlain i → IsBare (entered i (bare_reading r)) (entered i r)
 entered_bare i r h =
     ap (λ (d : Items). record (entered i (bare_reading r)) { done = d }) (one_more [] i h)
-    ∙ ap (λ (d : Items). record (bare_reading (entered i r)) { before = d }) (sym (both_bare r.before r.done))
+    ∙ ap (λ (d : Items). record (bare_reading (entered i r)) { before = d }) (sym (bare_both r.before r.done))
 
 allotted_bare : (i : Item Terminal) (a : Allocation) (r : Reading) → IsBare (allotted i a (bare_reading r)) (allotted i a r)
 allotted_bare i a r =
-    ap (λ (d : Items). record (allotted i a (bare_reading r)) { arrays = d }) (sym (both_bare r.arrays (declaration i a)))
+    ap (λ (d : Items). record (allotted i a (bare_reading r)) { arrays = d }) (sym (bare_both r.arrays (declaration i a)))
     ∙ opened_bare i (record r { arrays = r.arrays ++ declaration i a; names = a.name ∷ r.names })
 
 allowed_bare : (a : Allocation) (r : Reading) → is_allowed a (bare_reading r) ≡ is_allowed a r
@@ -117,5 +86,5 @@ pub allocated_bare : (is : Items) → allocated (bare is) ≡ bare (allocated is
 allocated_bare is =
     let r : Reading = all_read nothing_read is in
     ap joined (read_bare is nothing_read)
-    ∙ ap (λ (js : Items). bare r.before ++ js) (sym (both_bare r.arrays r.done))
-    ∙ sym (both_bare r.before (r.arrays ++ r.done))
+    ∙ ap (λ (js : Items). bare r.before ++ js) (sym (bare_both r.arrays r.done))
+    ∙ sym (bare_both r.before (r.arrays ++ r.done))

@@ -1,6 +1,6 @@
 -- Writing the tokens out and leaving the directive lines away can be done in any order.
 use Rattle.std.proofs.Common.{◌≡◌, ℕ, zero, suc, ◌+◌, Bool, true, false, cond, List, [], ◌∷◌, ◌++◌, Option, Some, None, refl, ap, ◌∙◌}
-use Rattle.std.specs.Prelude.{◌&&◌, nat_lt, codes}
+use Rattle.std.specs.Prelude.{◌&&◌, ◌==◌, nat_lt, codes}
 use Rattle.c_tokens.specs.declared.kind.Sign.{Sign}
 use Rattle.c_tokens.specs.declared.kind.Sign.TheVariants as sign
 use Rattle.c_grammar.specs.Lexeme.{Lexeme, Uint64, For, Print, Void}
@@ -16,28 +16,12 @@ use Rattle.c_grammar.specs.Changes as changes
 use Rattle.c_grammar.specs.Changes.{With, ByNumber, ByOne}
 use Rattle.c_grammar.specs.Initial as globals
 use Rattle.c_grammar.specs.Initial.{Globals, Initial, initialized, no_globals}
+use Rattle.c_grammar.specs.Functions.{expanded}
 use Rattle.c_grammar.specs.Allocations.{allocated}
 use Rattle.c_grammar.specs.Source.{written_out}
-use Rattle.c_grammar.proofs.BareAllocations.{IsPlain, ArePlain, plain_bare, same_bare, allocated_bare}
-
--- the first are the second without directive lines
-abbrev IsBare : Items → Items → Type 0
-IsBare bs is = bs ≡ bare is
-
-either : (b : Bool) (x y x' y' : Items) → IsBare x' x → IsBare y' y → IsBare (cond b x' y') (cond b x y)
-either true x y x' y' h k = h
-either false x y x' y' h k = k
-
-one : (i : Item Terminal) (x x' : Items) → IsPlain i → IsBare x' x → IsBare (i ∷ x') (i ∷ x)
-one i x x' h e = rw h (ap (λ (v : Items). i ∷ v) e)
-
-some : (is x x' : Items) → ArePlain is → IsBare x' x → IsBare (is ++ x') (is ++ x)
-some [] x x' h e = e
-some (i ∷ is) x x' h e = one i (is ++ x) (is ++ x') h.0 (some is x x' h.1 e)
-
-either_plain : (b : Bool) (x y : Items) → ArePlain x → ArePlain y → ArePlain (cond b x y)
-either_plain true x y h k = h
-either_plain false x y h k = k
+use Rattle.c_grammar.proofs.BareAllocations.{allocated_bare}
+use Rattle.c_grammar.proofs.BareFunctions.{expanded_bare}
+use Rattle.c_grammar.proofs.BareTokens.{IsPlain, ArePlain, IsBare, either, one, some, either_plain, plain_bare, same_bare, both_plain}
 
 -- ---- types
 
@@ -114,7 +98,7 @@ token_bare i other r go go' h k =
 parted_bare : (i : Item Terminal) (is : Items) (r : Reading) (go go' : Reading → Items) → IsPlain i
     → ((q : Reading) → IsBare (go' q) (go q)) → IsBare (parted i is r go') (parted i is r go)
 parted_bare i is r go go' h k =
-    either (r.declares && same (Mark sign.Comma) i.terminal && is_name is) _ _ _ _
+    either (r.declares && (r.brackets == 0) && same (Mark sign.Comma) i.terminal && is_name is) _ _ _ _
     (ap (λ (v : Items). at i (Mark sign.Semicolon) ∷ at i (Fixed Uint64) ∷ v) (k r)) (token_bare i (is_else is) r go go' h k)
 
 block_bare : (i : Item Terminal) (is : Items) (r : Reading) (go go' : Reading → Items) → IsPlain i
@@ -246,10 +230,6 @@ reversed_plain (i ∷ is) js h k = reversed_plain is (i ∷ js) h.1 (h.0, k)
 first_plain : (is : Items) (i : Item Terminal) → ArePlain is → IsPlain i → IsPlain (changes.first_of is i)
 first_plain [] i h k = k
 first_plain (j ∷ js) i h k = h.0
-
-both_plain : (is js : Items) → ArePlain is → ArePlain js → ArePlain (is ++ js)
-both_plain [] js h k = k
-both_plain (i ∷ is) js h k = (h.0, both_plain is js h.1 k)
 
 assigned_plain : (i : Item Terminal) (lv : Items) (op : Sign) → ArePlain lv → ArePlain (changes.assigned i lv op)
 assigned_plain i lv op h = (refl, both_plain lv (at i (Mark op) ∷ []) h (refl, tt))
@@ -508,9 +488,13 @@ written_bare is =
     let a : Items = typed 0 p in
     let b : Items = in_blocks nothing_read a in
     let c : Items = worked [] [] 0 b in
+    let x : Items = expanded c in
     let later : Items → Items = λ js. changes.in_full changes.begin 0 (initialized no_globals 0 (allocated js)) in
-    ap (λ (js : Items). later (undefined [] 0 0 (worked [] [] 0 (in_blocks nothing_read (typed 0 js))))) (printed_bare is 0)
-    ∙ ap (λ (js : Items). later (undefined [] 0 0 (worked [] [] 0 (in_blocks nothing_read js)))) (typed_bare p 0)
-    ∙ ap (λ (js : Items). later (undefined [] 0 0 (worked [] [] 0 js))) (blocks_bare a nothing_read)
-    ∙ ap (λ (js : Items). later (undefined [] 0 0 js)) (worked_bare b [] [] 0)
-    ∙ ap later (undefined_bare c [] 0 0) ∙ later_bare (undefined [] 0 0 c)
+    let since_defined : Items → Items = λ js. later (undefined [] 0 0 js) in
+    let since_blocks : Items → Items = λ js. since_defined (expanded (worked [] [] 0 js)) in
+    ap (λ (js : Items). since_blocks (in_blocks nothing_read (typed 0 js))) (printed_bare is 0)
+    ∙ ap (λ (js : Items). since_blocks (in_blocks nothing_read js)) (typed_bare p 0)
+    ∙ ap since_blocks (blocks_bare a nothing_read)
+    ∙ ap (λ (js : Items). since_defined (expanded js)) (worked_bare b [] [] 0)
+    ∙ ap since_defined (expanded_bare (λ js. worked_bare js [] [] 0) c)
+    ∙ ap later (undefined_bare x [] 0 0) ∙ later_bare (undefined [] 0 0 x)

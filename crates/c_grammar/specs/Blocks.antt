@@ -1,6 +1,6 @@
 -- Statements with what C lets be left out: the braces round a body of one statement, and the type of a further name in a
 -- declaration. They are put in before the grammar is asked, so that it sees a block and a type wherever they are missing.
-use Rattle.std.specs.Prelude.{ℕ, zero, suc, ◌+◌, ◌-◌, Bool, true, false, not, ◌&&◌, ◌||◌, nat_le, if◌then◌else◌, List, [], ◌∷◌, ◌++◌, codes}
+use Rattle.std.specs.Prelude.{ℕ, zero, suc, ◌+◌, ◌-◌, Bool, true, false, not, ◌&&◌, ◌||◌, ◌==◌, nat_le, if◌then◌else◌, List, [], ◌∷◌, ◌++◌, codes}
 use Rattle.c_tokens.specs.declared.kind.Sign.TheVariants as sign
 use Rattle.c_grammar.specs.Lexeme.{Uint64, For, If, Else, Print}
 use Rattle.c_grammar.specs.Terminal.{Terminal, Fixed, Mark, Name, Line, same}
@@ -57,19 +57,21 @@ pub data Open : Type 0 where
   Head : (choice : Bool) (brackets : ℕ) → Open
   Block First Around : Open
 
--- what has been read: what is open, the innermost first; whether a body comes now; whether a declaration is read, and the
--- last token is the word const
+-- what has been read: what is open, the innermost first; whether a body comes now; whether a declaration is read, with so
+-- many brackets open, and the last token is the word const
 pub record Reading : Type 0 where
   pub levels : List Open
   pub body : Bool
   pub declares : Bool
+  pub brackets : ℕ
   pub constant : Bool
 
 abbrev pub nothing_read : Reading
-nothing_read = record { levels = []; body = false; declares = false; constant = false }
+nothing_read = record { levels = []; body = false; declares = false; brackets = 0; constant = false }
 
 abbrev pub with_open : List Open → Bool → Reading → Reading
-with_open os body r = record { levels = os; body = body; declares = r.declares; constant = r.constant }
+with_open os body r =
+    record { levels = os; body = body; declares = r.declares; brackets = r.brackets; constant = r.constant }
 
 -- a token by which a statement begins that may be a body without braces: no declaration, directive or block
 abbrev pub begins_body : Terminal → Bool
@@ -157,11 +159,17 @@ is_headless os = true
 abbrev pub is_break : Terminal → Bool
 is_break t = same (Mark sign.Semicolon) t || same (Mark sign.OpenBrace) t || same (Mark sign.CloseBrace) t
 
+abbrev pub brackets_behind : Terminal → ℕ → ℕ
+brackets_behind t n =
+    if is_break t then 0
+    else (if same (Mark sign.OpenParen) t then n + 1 else (if same (Mark sign.CloseParen) t then n - 1 else n))
+
 abbrev pub noted : Terminal → Reading → Reading
 noted t r = record {
   levels = r.levels;
   body = r.body;
   declares = not (is_break t) && (r.declares || (is_type t && is_headless r.levels && not r.constant));
+  brackets = brackets_behind t r.brackets;
   constant = same (Name (codes "const")) t;
 }
 
@@ -181,7 +189,7 @@ plain i other r go =
 -- a comma between two names of a declaration ends one and begins the next
 abbrev pub parted : Item Terminal → Items → Reading → (Reading → Items) → Items
 parted i is r go =
-    if r.declares && same (Mark sign.Comma) i.terminal && is_name is
+    if r.declares && (r.brackets == 0) && same (Mark sign.Comma) i.terminal && is_name is
     then at i (Mark sign.Semicolon) ∷ at i (Fixed Uint64) ∷ go r else plain i (is_else is) r go
 
 abbrev pub in_block : Item Terminal → Items → Reading → (Reading → Items) → Items

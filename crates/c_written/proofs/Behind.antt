@@ -1,5 +1,5 @@
 -- What stands behind an item of a list.
-use Rattle.std.proofs.Common.{◌≡◌, ◌∙◌, ℕ, zero, suc, ◌+◌, ◌<◌, List, [], ◌∷◌, length, drop, map, Option, Some, None, refl, ap, arith}
+use Rattle.std.proofs.Common.{◌≡◌, ◌∙◌, ℕ, zero, suc, ◌+◌, ◌<◌, List, [], ◌∷◌, length, drop, map, Some, None, refl, ap, arith}
 use Rattle.c_written.specs.Stack.{item_at}
 
 -- the item, and what is behind it

@@ -1,12 +1,11 @@
 -- The braces and types that are put in, one token after another.
 use Rattle.std.proofs.Common.{◌≡◌, ◌∙◌, ℕ, suc, ◌+◌, Bool, true, false, cond, List, [], ◌∷◌, ◌++◌, map, Option, Some, None, refl, sym, ap, append_assoc, arith}
-use Rattle.std.specs.Prelude.{not, ◌&&◌, ◌||◌, MatchOption, OnOk, Result, Ok, Err}
-use Rattle.std.proofs.lemmas.List.{append-nil}
+use Rattle.std.specs.Prelude.{not, ◌==◌, ◌&&◌, ◌||◌, MatchOption, OnOk, Result, Ok, Err}
 use Rattle.c_tokens.specs.declared.kind.Sign.TheVariants as sign
 use Rattle.c_grammar.specs.Lexeme.{Uint64}
 use Rattle.c_grammar.specs.Terminal.{Terminal, Fixed, Mark, same}
 use Rattle.c_grammar.specs.Texts.{Item}
-use Rattle.c_grammar.specs.Blocks.{Items, Open, Head, Block as SpecBlock, First, Around as SpecAround, Ends, Reading, is_directive, bare, at, braces_at, ends, in_block, in_blocks, in_head, is_headless, is_end, is_else, is_name, begins_body, left, noted, parted, plain, closed, one_more, opened, otherwise, read_in, with_open}
+use Rattle.c_grammar.specs.Blocks.{Items, Open, Head, Block as SpecBlock, First, Around as SpecAround, Ends, Reading, is_directive, bare, at, braces_at, ends, in_block, in_blocks, in_head, is_headless, is_end, is_else, is_name, begins_body, left, noted, parted, plain, closed, opened, otherwise, read_in, with_open}
 use Rattle.c_written.specs.declared.blocks.Open.{Open as GivenOpen}
 use Rattle.c_written.specs.declared.blocks.Open.TheVariants as opens
 use Rattle.c_written.specs.Stack.{item_at}
@@ -245,10 +244,10 @@ pub begins_not : (i : Item Terminal) (is : Items) (r : Reading) (go : Reading �
 begins_not i is r go e = rw e refl
 
 pub parted_is : (i : Item Terminal) (is : Items) (r : Reading) (go : Reading → Items) →
-    (r.declares && same (Mark sign.Comma) i.terminal && is_name is) ≡ true →
+    (r.declares && (r.brackets == 0) && same (Mark sign.Comma) i.terminal && is_name is) ≡ true →
     parted i is r go ≡ at i (Mark sign.Semicolon) ∷ at i (Fixed Uint64) ∷ go r
 parted_is i is r go e = rw e refl
 
 pub parted_not : (i : Item Terminal) (is : Items) (r : Reading) (go : Reading → Items) →
-    (r.declares && same (Mark sign.Comma) i.terminal && is_name is) ≡ false → parted i is r go ≡ plain i (is_else is) r go
+    (r.declares && (r.brackets == 0) && same (Mark sign.Comma) i.terminal && is_name is) ≡ false → parted i is r go ≡ plain i (is_else is) r go
 parted_not i is r go e = rw e refl

@@ -1,15 +1,13 @@
 -- What a line defines.
-use Rattle.std.proofs.Common.{◌≡◌, ◌∙◌, Bor, ℕ, zero, suc, ◌+◌, ◌<◌, Bool, true, false, cond, List, [], ◌∷◌, length, drop, map, Option, Some, None, refl, sym, ap, codes, arith}
-use Rattle.c_grammar.specs.Lexeme.{Lexeme, Placed}
+use Rattle.std.proofs.Common.{◌≡◌, ◌∙◌, Bor, ℕ, zero, suc, ◌+◌, ◌<◌, Bool, true, false, cond, List, [], ◌∷◌, length, drop, Option, Some, None, refl, sym, ap, codes, arith}
+use Rattle.c_grammar.specs.Lexeme.{Placed}
 use Rattle.c_grammar.specs.Terminal.{Terminal, Fixed, Mark, Name, Num, Line, Unknown, Unworked, End, same}
-use Rattle.c_grammar.specs.Texts.{Item}
 use Rattle.c_grammar.specs.Blocks.{Items}
 use Rattle.c_grammar.specs.Expressions.{Values, Nothing, Worked, Number, Fault, as_items, as_terminal, expression, placed_of, value_of}
-use Rattle.c_grammar.specs.Constants.{Definition, Defines, defined, definition, definition_in, has_parameters, is_new, is_remark, new_only}
+use Rattle.c_grammar.specs.Constants.{Defines, defined, definition, definition_in, has_parameters, is_remark, new_only}
 use Rattle.directives.specs.declared.line_tokens.LineTokens.{LineTokens}
 use Rattle.directives.specs.Ahead.{seen_line}
 use Rattle.directives.specs.declared.lexeme.PlacedLexeme.{PlacedLexeme}
-use Rattle.directives.specs.Seen.{seen_placed}
 use Rattle.directives.specs.Spells.{kinds_of, columns_of}
 use Rattle.c_written.specs.declared.token.Terminal.{Terminal as Given}
 use Rattle.c_written.specs.declared.token.Terminal.TheVariants as given

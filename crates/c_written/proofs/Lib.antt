@@ -23,7 +23,7 @@ pub mod Defining
 pub mod Shaping
 pub mod Targeting
 pub mod Changing
-pub mod Heads
+pub mod LoopHeads
 pub mod Assigning
 pub mod Passing
 pub mod RawTokens
@@ -36,3 +36,14 @@ pub mod Allotting
 pub mod ClauseSteps
 pub mod WholeClauses
 pub mod ClauseLengths
+pub mod Heading
+pub mod Putting
+pub mod CallTexts
+pub mod CallSteps
+pub mod CallPasses
+pub mod CallParameters
+pub mod CallLists
+pub mod Sourcing
+pub mod SourceSteps
+pub mod CallLefts
+pub mod CallWalk

@@ -1,5 +1,5 @@
 -- How many cells are left behind the first bound of a section.
-use Rattle.std.proofs.Common.{◌≡◌, ◌∙◌, ℕ, zero, suc, ◌<◌, ◌≤◌, Bool, cond, List, [], ◌∷◌, length, map, Option, Some, None, refl, sym, ap, arith}
+use Rattle.std.proofs.Common.{◌≡◌, ◌∙◌, ℕ, zero, suc, ◌<◌, Bool, cond, List, [], ◌∷◌, length, map, Option, Some, None, refl, ap, arith}
 use Rattle.c_grammar.specs.Lexeme.{Lexeme, Worded, Numbered}
 use Rattle.c_grammar.specs.Expressions.{Values, value_of}
 use Rattle.c_grammar.specs.LineForms.{cells_from, rest_of}

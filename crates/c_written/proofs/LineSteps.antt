@@ -1,11 +1,11 @@
 -- A directive line in full, one token after another.
-use Rattle.std.proofs.Common.{◌≡◌, ◌∙◌, ℕ, zero, suc, ◌+◌, ◌-◌, ◌<◌, ◌≤◌, Bool, true, false, List, [], ◌∷◌, ◌++◌, length, map, Option, Some, None, refl, sym, ap, append_assoc, arith}
+use Rattle.std.proofs.Common.{◌≡◌, ◌∙◌, ℕ, zero, suc, ◌-◌, ◌<◌, ◌≤◌, true, false, List, [], ◌∷◌, ◌++◌, length, Option, Some, None, refl, sym, ap, append_assoc, arith}
 use Rattle.std.specs.Prelude.{OnOk, Result, Ok, Err}
 use Rattle.std.specs.Option.{option_map}
 use Rattle.std.proofs.lemmas.List.{append-nil, map-append}
 use Rattle.c_grammar.specs.Lexeme.{Lexeme, Numbered, Placed}
-use Rattle.c_grammar.specs.Expressions.{Values, Worked, Number, Fault, as_items}
-use Rattle.c_grammar.specs.LineForms.{is_separator, left_out, put_word, bound_at, onto, all_at, line_from}
+use Rattle.c_grammar.specs.Expressions.{Values, Number, as_items}
+use Rattle.c_grammar.specs.LineForms.{is_separator, bound_at, onto, all_at, line_from}
 use Rattle.directives.specs.declared.lexeme.PlacedLexeme.{PlacedLexeme}
 use Rattle.c_written.specs.declared.token.Token.{Token}
 use Rattle.c_written.specs.declared.line_forms.Forms.{Forms}

@@ -1,5 +1,5 @@
 -- Tokens that are written one after another.
-use Rattle.std.proofs.Common.{◌≡◌, ◌∙◌, ◌<◌, arith, length, ℕ, List, [], ◌∷◌, ◌++◌, map, refl, sym, ap, append_assoc}
+use Rattle.std.proofs.Common.{◌≡◌, ◌∙◌, ◌<◌, arith, length, List, [], ◌∷◌, ◌++◌, refl, sym, ap, append_assoc}
 use Rattle.std.proofs.lemmas.List.{append-nil}
 use Rattle.c_grammar.specs.Blocks.{Items}
 use Rattle.c_written.specs.declared.token.Token.{Token}

@@ -1,5 +1,5 @@
 -- The constant, or the length of an array, that a token ends.
-use Rattle.std.proofs.Common.{◌≡◌, ◌∙◌, ℕ, zero, suc, Bool, true, false, cond, List, [], ◌∷◌, drop, map, Option, Some, None, refl, sym, ap}
+use Rattle.std.proofs.Common.{◌≡◌, ◌∙◌, ℕ, zero, suc, Bool, true, false, cond, List, [], ◌∷◌, map, Some, None, refl, sym, ap}
 use Rattle.std.specs.Option.{option_map}
 use Rattle.c_grammar.specs.Lexeme.{Uint64}
 use Rattle.c_grammar.specs.Terminal.{Terminal, Fixed, Mark, Name, Num, Line, Unknown, Unworked, End, same}
@@ -10,7 +10,7 @@ use Rattle.c_written.specs.declared.token.Terminal.{Terminal as Given}
 use Rattle.c_written.specs.Seen.{seen_terminal}
 use Rattle.c_written.specs.Stack.{item_at}
 use Rattle.c_written.specs.Names.{declared_last, is_uint64, with_name}
-use Rattle.c_written.specs.Constants.{constant_ended, ends_by, ends_constant, length_ended, named_number, with_constant}
+use Rattle.c_written.specs.Constants.{constant_ended, ends_by, ends_constant, length_ended, with_constant}
 
 pub seen_at : (k : ℕ) (xs : List Given) → option_map seen_terminal (item_at k xs) ≡ item_at k (map seen_terminal xs)
 seen_at k [] = refl

@@ -1,5 +1,5 @@
 -- Tokens with their lines, and without.
-use Rattle.std.proofs.Common.{◌≡◌, ◌∙◌, ℕ, ◌+◌, ◌<◌, ◌≤◌, length, get_or, take, List, [], ◌∷◌, ◌++◌, map, refl, sym, ap}
+use Rattle.std.proofs.Common.{◌≡◌, ◌∙◌, ℕ, ◌+◌, ◌<◌, ◌≤◌, length, get_or, take, List, [], ◌∷◌, ◌++◌, refl, sym, ap}
 use Rattle.std.proofs.lemmas.List.{take_more, take_all}
 use Rattle.c_grammar.specs.Blocks.{Items}
 use Rattle.c_written.specs.declared.token.Token.{Token}

@@ -1,6 +1,6 @@
 -- A stack without its first item.
-use Rattle.std.proofs.Common.{◌≡◌, ◌∙◌, ℕ, zero, suc, ◌+◌, ◌-◌, ◌<◌, ◌≤◌, length, get_or, List, [], ◌∷◌, ◌++◌, reverse, Option, Some, None, refl, sym, ap, arith}
-use Rattle.std.specs.Prelude.{MatchOption, option_to_list}
+use Rattle.std.proofs.Common.{◌≡◌, ◌∙◌, ℕ, zero, suc, ◌-◌, ◌<◌, ◌≤◌, length, get_or, List, [], ◌∷◌, ◌++◌, reverse, Option, Some, None, refl, sym, ap, arith}
+use Rattle.std.specs.Prelude.{MatchOption}
 use Rattle.std.proofs.lemmas.List.{reverse-append, get_or-reverse, length-reverse}
 use Rattle.c_written.specs.Stack.{item_at}
 

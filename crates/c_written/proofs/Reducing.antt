@@ -1,11 +1,10 @@
 -- Operators that are worked out, and tokens of an expression.
-use Rattle.std.proofs.Common.{◌≡◌, ◌∙◌, ℕ, ◌+◌, ◌<◌, ◌≤◌, Bool, true, false, List, [], ◌∷◌, map, Option, Some, None, refl, sym, ap, rules, arith}
+use Rattle.std.proofs.Common.{◌≡◌, ◌∙◌, ℕ, ◌+◌, ◌<◌, ◌≤◌, true, false, List, [], ◌∷◌, map, Option, Some, None, refl, sym, ap, rules}
 use Rattle.std.specs.Prelude.{nat_le}
-use Rattle.std.specs.Option.{option_map}
 use Rattle.c_grammar.specs.Blocks.{Items}
 use Rattle.c_grammar.specs.Terminal.{Terminal}
 use Rattle.c_grammar.specs.Texts.{Item}
-use Rattle.c_grammar.specs.Expressions.{Read, Values, Waiting, Worked, Reduced, To, Stuck, reduce, tightness, result, at_end, expression}
+use Rattle.c_grammar.specs.Expressions.{Read, Waiting, Worked, To, Stuck, reduce, tightness, result, at_end, expression}
 use Rattle.c_written.specs.declared.work.Operator.{Operator}
 use Rattle.c_written.specs.declared.expressions.Reader.{Reader}
 use Rattle.c_written.specs.declared.expressions.Going.{Going}
@@ -14,7 +13,7 @@ use Rattle.c_written.specs.declared.expressions.Waiting.{Waiting as GivenWaiting
 use Rattle.c_written.specs.declared.expressions.Waiting.TheVariants as waiting
 use Rattle.c_written.specs.Values.{seen_values}
 use Rattle.c_written.specs.Stack.{item_at}
-use Rattle.c_written.specs.Work.{seen_work, seen_operator, seen_waiting, seen_worked, waiting_of, read_of}
+use Rattle.c_written.specs.Work.{seen_work, seen_operator, seen_waiting, waiting_of, read_of}
 use Rattle.c_written.specs.Reader.{IsKept, Goes, GoesOn, rest_of, by_value, stepped}
 
 pub reduce_stop : (t n a : ℕ) (o : Operator) (ws : List GivenWaiting) → item_at 0 ws ≡ Some (waiting.Behind a o) →

@@ -1,5 +1,5 @@
 -- Comments behind what a line defines.
-use Rattle.std.proofs.Common.{◌≡◌, ◌∙◌, ℕ, ◌+◌, ◌-◌, ◌<◌, ◌≤◌, Bool, true, false, cond, List, [], ◌∷◌, length, get_or, take, drop, refl, sym, ap, arith}
+use Rattle.std.proofs.Common.{◌≡◌, ℕ, ◌<◌, Bool, false, cond, List, [], ◌∷◌, length, refl, ap, arith}
 use Rattle.std.specs.Prelude.{◌&&◌, ◌||◌}
 use Rattle.c_tokens.specs.declared.kind.Sign.{Sign}
 use Rattle.c_tokens.specs.declared.kind.Sign.TheVariants as sign
@@ -8,7 +8,6 @@ use Rattle.c_grammar.specs.Terminal.{Mark, End, same}
 use Rattle.c_grammar.specs.Expressions.{as_items, as_terminal}
 use Rattle.c_grammar.specs.Constants.{ends_remark, is_pair, is_remark}
 use Rattle.directives.specs.declared.lexeme.PlacedLexeme.{PlacedLexeme}
-use Rattle.directives.specs.Seen.{seen_lexeme, seen_placed}
 use Rattle.c_written.specs.Forms.{all_placed}
 use Rattle.c_written.specs.Lines.{item_of}
 

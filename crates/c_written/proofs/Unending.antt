@@ -1,5 +1,5 @@
 -- The tokens of a line as those of a source.
-use Rattle.std.proofs.Common.{◌≡◌, ◌∙◌, ℕ, ◌+◌, ◌<◌, ◌≤◌, Bool, true, false, cond, length, get_or, take, List, [], ◌∷◌, ◌++◌, map, Option, Some, None, refl, sym, ap}
+use Rattle.std.proofs.Common.{◌≡◌, ◌∙◌, ℕ, ◌+◌, ◌<◌, ◌≤◌, Bool, true, false, cond, length, get_or, take, List, [], ◌∷◌, ◌++◌, Option, Some, refl, sym, ap}
 use mathlib.Core.Path.{fun_ext}
 use Rattle.std.proofs.lemmas.List.{take_more, take_all}
 use Rattle.c_grammar.specs.Lexeme.{Lexeme, Reserved, Signed, Worded, Numbered, Strange, Ended, Placed}
@@ -9,7 +9,7 @@ use Rattle.c_grammar.specs.Blocks.{Items, bare}
 use Rattle.c_grammar.specs.Expressions.{Values, Read, Nothing, Value, Waiting, Worked, Number, as_items, as_terminal, at_operand, behind_value, is_over, put, work_at, expression}
 use Rattle.c_grammar.specs.LineForms.{begins_bound, begins_number, bound_at, several, worth}
 use Rattle.directives.specs.declared.lexeme.PlacedLexeme.{PlacedLexeme}
-use Rattle.directives.specs.Seen.{seen_lexeme, seen_placed}
+use Rattle.directives.specs.Seen.{seen_placed}
 use Rattle.c_written.specs.declared.token.Token.{Token}
 use Rattle.c_written.specs.Seen.{seen, seen_all}
 use Rattle.c_written.specs.Lines.{no_end, unended}

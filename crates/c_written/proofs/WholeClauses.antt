@@ -1,11 +1,11 @@
 -- What is left out of the clauses of a line is none of its end.
-use Rattle.std.proofs.Common.{◌≡◌, ◌∙◌, ℕ, zero, suc, ◌+◌, ◌-◌, ◌<◌, ◌≤◌, Bool, true, false, cond, List, [], ◌∷◌, ◌++◌, length, drop, get_or, take, map, Option, Some, None, refl, sym, ap, arith}
+use Rattle.std.proofs.Common.{◌≡◌, ◌∙◌, ℕ, zero, suc, ◌+◌, ◌-◌, ◌<◌, ◌≤◌, Bool, true, false, cond, List, [], ◌∷◌, ◌++◌, length, drop, get_or, take, map, Option, Some, None, refl, ap, arith}
 use Rattle.std.specs.Prelude.{◌&&◌, ◌||◌, ◌==◌, codes}
 use Rattle.std.proofs.lemmas.List.{take_all}
 use Rattle.c_tokens.specs.declared.kind.Sign.TheVariants as sign
 use Rattle.c_grammar.specs.Lexeme.{Lexeme, Signed, Worded, Ended, Placed, same}
 use Rattle.c_grammar.specs.Expressions.{Values}
-use Rattle.c_grammar.specs.LineForms.{all_at, is_sign}
+use Rattle.c_grammar.specs.LineForms.{is_sign}
 use Rattle.c_grammar.specs.Clauses.{Scope, Place, Step, Keep, LeaveOut, PutType, BeforeName, are_items, at_begin, begins_clause, clause_len, clause_step, clauses_from, clauses_in_full, default_len, idle_len, is_idle, leave_or, list_len, may_stand, names_len, place_after, put_step, scope_of, step_at, type_step, up_to_next, with_comma}
 use Rattle.directives.specs.declared.lexeme.PlacedLexeme.{PlacedLexeme}
 use Rattle.directives.specs.Seen.{ends_well, is_whole, seen_placed}

@@ -1,11 +1,11 @@
 -- A line in full still ends with its end.
-use Rattle.std.proofs.Common.{◌≡◌, ◌∙◌, ℕ, zero, suc, ◌+◌, ◌-◌, ◌<◌, ◌≤◌, Bool, true, false, cond, List, [], ◌∷◌, ◌++◌, length, get_or, take, drop, map, Option, Some, None, refl, sym, ap, arith}
+use Rattle.std.proofs.Common.{◌≡◌, ◌∙◌, ℕ, zero, suc, ◌-◌, ◌<◌, ◌≤◌, Bool, true, false, cond, List, [], ◌∷◌, ◌++◌, length, get_or, take, drop, map, Option, Some, None, refl, ap, arith}
 use Rattle.std.proofs.lemmas.List.{take_all}
 use Rattle.std.specs.Prelude.{◌&&◌}
 use Rattle.c_tokens.specs.declared.kind.Sign.TheVariants as sign
 use Rattle.c_grammar.specs.Lexeme.{Lexeme, Reserved, Signed, Worded, Numbered, Strange, Ended, Placed}
 use Rattle.c_grammar.specs.Expressions.{Values, value_of, Worked, Number, Fault}
-use Rattle.c_grammar.specs.LineForms.{all_at, begins_with_word, bound_at, cells_from, ends_clause, is_element, is_separator, is_sign, last_is, left_out, line_from, line_in_full, onto, put_word, rest_of, word_for}
+use Rattle.c_grammar.specs.LineForms.{all_at, begins_with_word, bound_at, cells_from, ends_clause, is_element, is_separator, is_sign, last_is, left_out, line_from, line_in_full, put_word, rest_of, word_for}
 use Rattle.directives.specs.declared.lexeme.PlacedLexeme.{PlacedLexeme}
 use Rattle.directives.specs.Seen.{ends_well, is_whole, seen_placed}
 use Rattle.c_written.proofs.WholeBounds.{both, whole_front, whole_behind, bound_within}

@@ -1,16 +1,15 @@
 -- Constants that are worked out, one token after another.
-use Rattle.std.proofs.Common.{◌≡◌, ◌∙◌, Bor, ℕ, zero, suc, ◌+◌, ◌-◌, ◌<◌, ◌≤◌, Bool, true, false, List, [], ◌∷◌, ◌++◌, length, drop, map, Option, Some, None, Result, Ok, Err, OnOk, refl, sym, ap, append_assoc, arith}
+use Rattle.std.proofs.Common.{◌≡◌, ◌∙◌, Bor, ℕ, zero, suc, ◌-◌, ◌<◌, ◌≤◌, Bool, true, false, List, [], ◌∷◌, ◌++◌, length, Option, Some, None, Result, Ok, Err, OnOk, refl, sym, ap, append_assoc, arith}
 use Rattle.std.proofs.lemmas.List.{append-nil}
-use Rattle.std.specs.Option.{option_map}
 use Rattle.c_grammar.specs.Lexeme.{Lexeme, Placed}
 use Rattle.c_grammar.specs.Terminal.{Terminal, Fixed, Mark, Name, Num, Line, Unknown, Unworked, End}
 use Rattle.c_grammar.specs.Lines.{is_omp}
 use Rattle.c_grammar.specs.Texts.{Item}
 use Rattle.c_grammar.specs.Blocks.{Items, bare, is_directive}
-use Rattle.c_grammar.specs.Expressions.{Values, Nothing, Worked, Number, Fault, expression, placed_of, put}
+use Rattle.c_grammar.specs.Expressions.{Values, Nothing, Worked, Number, expression, put}
 use Rattle.c_grammar.specs.Clauses.{clauses_in_full}
 use Rattle.c_grammar.specs.LineForms.{line_in_full}
-use Rattle.c_grammar.specs.Constants.{Definition, Defines, Misdefines, Onward, at_wanted, behind_two, definition, ended_constant, declared, expressed, front_two, goes_on, lengths, line_tokens, plain, put_item, wanted, with_terminal, with_tokens, worked}
+use Rattle.c_grammar.specs.Constants.{Defines, Misdefines, Onward, at_wanted, behind_two, definition, ended_constant, declared, expressed, front_two, goes_on, lengths, line_tokens, put_item, wanted, with_terminal, with_tokens, worked}
 use Rattle.directives.specs.declared.line_tokens.LineTokens.{LineTokens}
 use Rattle.directives.specs.Ahead.{seen_line}
 use Rattle.directives.specs.Spells.{kinds_of, columns_of}

@@ -1,5 +1,5 @@
 -- Arrays that main allocates, from what has been read.
-use Rattle.std.specs.Prelude.{List, map, reverse}
+use Rattle.std.specs.Prelude.{map, reverse}
 use Rattle.c_grammar.specs.Blocks.{Items}
 use Rattle.c_grammar.specs.Constants.{Names}
 use Rattle.c_grammar.specs.Allocations.{Cells, Allocation, Reading, all_read}

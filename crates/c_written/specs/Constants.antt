@@ -1,12 +1,10 @@
 -- Constants that are being worked out.
 use Rattle.std.specs.Prelude.{◌≡◌, ℕ, ◌++◌, Bool, false, ◌&&◌, ◌||◌, if◌then◌else◌, List, [], ◌∷◌, drop, Option, Some, None}
-use Rattle.std.specs.Option.{option_map}
 use Rattle.c_tokens.specs.declared.kind.Sign.TheVariants as sign
 use Rattle.c_grammar.specs.Terminal.{Terminal, Mark, Name, Num, same}
-use Rattle.c_grammar.specs.Texts.{Item}
 use Rattle.c_grammar.specs.Blocks.{Items}
 use Rattle.c_grammar.specs.Expressions.{Values}
-use Rattle.c_grammar.specs.Constants.{array_length, constant_value, ends_with, declared, enumerated_value, lengths, with_length, worked}
+use Rattle.c_grammar.specs.Constants.{array_length, constant_value, ends_with, declared, enumerated_value, lengths, worked}
 use Rattle.c_written.specs.declared.constants.Constants.{Constants}
 use Rattle.c_written.specs.Stack.{item_at}
 use Rattle.c_written.specs.Held.{written_all}

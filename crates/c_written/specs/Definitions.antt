@@ -1,5 +1,5 @@
 -- The tokens without definitions, from what has been read.
-use Rattle.std.specs.Prelude.{ℕ, ◌++◌, List, map, reverse}
+use Rattle.std.specs.Prelude.{◌++◌, map, reverse}
 use Rattle.c_grammar.specs.Blocks.{Items}
 use Rattle.c_grammar.specs.Constants.{Names, undefined}
 use Rattle.c_written.specs.declared.definitions.Definitions.{Definitions}

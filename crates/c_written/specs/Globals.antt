@@ -1,5 +1,5 @@
 -- Globals with their initializers, from what has been read.
-use Rattle.std.specs.Prelude.{◌≡◌, ℕ, ◌++◌, List}
+use Rattle.std.specs.Prelude.{◌≡◌, ◌++◌}
 use Rattle.c_grammar.specs.Blocks.{Items}
 use Rattle.c_grammar.specs.Initial.{Initial, Globals as State, Onward, initialized}
 use Rattle.c_written.specs.declared.initial.Initializer.{Initializer as Given}

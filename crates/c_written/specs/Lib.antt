@@ -14,6 +14,8 @@ pub mod Changes
 pub mod Definitions
 pub mod Constants
 pub mod Globals
+pub mod Functions
 pub mod Allocations
 pub mod Names
 pub mod Clauses
+pub mod Spots

@@ -1,6 +1,7 @@
 -- Names, the last one first.
-use Rattle.std.specs.Prelude.{ℕ, Bool, false, List, ◌∷◌, map, reverse, Option, Some, None, if◌then◌else◌}
+use Rattle.std.specs.Prelude.{ℕ, Bool, false, List, [], ◌∷◌, map, reverse, Option, Some, None, if◌then◌else◌}
 use Rattle.std.specs.Borrow.{Bor}
+use Rattle.c_grammar.specs.Blocks.{Items}
 use Rattle.c_grammar.specs.Lexeme.{Uint64}
 use Rattle.c_grammar.specs.Terminal.{Terminal, Fixed, Name, same}
 use Rattle.c_written.specs.Stack.{item_at}
@@ -16,6 +17,11 @@ seen_names n = names_of n.names.items
 abbrev pub name_at : Option Terminal → Option (List ℕ)
 name_at (Some (Name x)) = Some x
 name_at _ = None
+
+-- the name that some tokens are, if they are one
+abbrev pub name_alone : Items → Option (List ℕ)
+name_alone (i ∷ []) = name_at (Some i.terminal)
+name_alone is = None
 
 abbrev pub is_uint64 : Option Terminal → Bool
 is_uint64 None = false

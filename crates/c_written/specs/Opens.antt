@@ -1,5 +1,5 @@
 -- What is open.
-use Rattle.std.specs.Prelude.{Bool, true, false, List, [], ◌∷◌}
+use Rattle.std.specs.Prelude.{Bool, true, false, List, ◌∷◌}
 use Rattle.c_grammar.specs.Blocks.{Open as SpecOpen, First}
 use Rattle.c_written.specs.declared.blocks.Open.{Open}
 use Rattle.c_written.specs.declared.blocks.Open.TheVariants as opens

@@ -30,12 +30,19 @@ abbrev pub levels_of : Stack GivenOpen → List Open
 levels_of os = map seen_open (held os)
 
 abbrev pub reading : Blocks → Reading
-reading b = record { levels = levels_of b.levels; body = b.body; declares = b.declares; constant = b.constant }
+reading b = record {
+  levels = levels_of b.levels;
+  body = b.body;
+  declares = b.declares;
+  brackets = b.brackets;
+  constant = b.constant;
+}
 
 -- only what is open, and what is written, is another
 pub record IsRead (old new : Blocks) : Type 0 where
   pub body : new.body ≡ old.body
   pub declares : new.declares ≡ old.declares
+  pub brackets : new.brackets ≡ old.brackets
   pub constant : new.constant ≡ old.constant
 
 abbrev pub with_blocks : Blocks → Items → Items

@@ -1,6 +1,5 @@
 -- What the tokens here stand for in the grammar.
-use Rattle.std.specs.Prelude.{ℕ, List, [], map, Option, Some, None}
-use Rattle.c_grammar.specs.Lexeme.{Lexeme}
+use Rattle.std.specs.Prelude.{ℕ, List, [], map, Some, None}
 use Rattle.c_grammar.specs.Terminal.{Terminal, Fixed, Mark, Name, Num, Line, Unknown, Unworked}
 use Rattle.c_grammar.specs.Texts.{Item}
 use Rattle.c_grammar.specs.Blocks.{Items}

@@ -1,7 +1,7 @@
 //! The braces round a body of one statement, and the type of a further name in a declaration.
 
 ghost use Rattle.std.specs.Prelude.{◌≡◌, IfOk};
-ghost use Rattle.c_grammar.specs.Blocks.{bare, begins_body, in_blocks, is_break, is_else, is_name, nothing_read};
+ghost use Rattle.c_grammar.specs.Blocks.{bare, begins_body, brackets_behind, in_blocks, is_break, is_else, is_name, nothing_read};
 ghost use Rattle.c_written.specs.Seen.{seen_all, seen_terminal};
 
 use crate::ahead::Ahead;
@@ -78,6 +78,8 @@ struct Blocks<'a, 'l> {
     body: bool,
     /// A declaration is read.
     declares: bool,
+    /// How many brackets are open in it.
+    brackets: usize,
     /// The last token is the word `const`.
     constant: bool,
 }
@@ -126,8 +128,24 @@ fn is_name(rest: &[Token<'_, '_>]) -> bool
     }
 }
 
+/// How many brackets are open behind the token.
+fn brackets_behind(terminal: Terminal<'_, '_>, brackets: usize) -> Result<usize, AllocError>
+    ensures { IfOk result (λ n. n ≡ brackets_behind (seen_terminal terminal.entry) brackets) }
+{
+    if is_break(terminal) {
+        return Ok(0);
+    }
+    if terminal.is_sign(Sign::OpenParen) {
+        return brackets.checked_add(1).ok_or(AllocError);
+    }
+    if terminal.is_sign(Sign::CloseParen) {
+        return Ok(brackets.saturating_sub(1));
+    }
+    Ok(brackets)
+}
+
 impl<'a, 'l> Blocks<'a, 'l> {
-    ghost use Rattle.std.specs.Prelude.{◌≡◌, ◌&&◌, ◌∷◌, ◌++◌, [], List, MatchOption, OnOk, Some, true, false, if◌then◌else◌};
+    ghost use Rattle.std.specs.Prelude.{◌≡◌, ◌==◌, ◌&&◌, ◌∷◌, ◌++◌, [], List, MatchOption, OnOk, Some, true, false, if◌then◌else◌};
     ghost use Rattle.c_tokens.specs.declared.kind.Sign.TheVariants as sign;
     ghost use Rattle.c_grammar.specs.Lexeme.{Uint64};
     ghost use Rattle.c_grammar.specs.Terminal.{Fixed, Mark, same};
@@ -169,14 +187,16 @@ impl<'a, 'l> Blocks<'a, 'l> {
     }
 
     /// Takes note of the token as one of a declaration.
-    fn note(&mut self, terminal: Terminal<'a, 'l>)
-        ensures reading { reading self.new ≡ noted (seen_terminal terminal.entry) (reading self.old) }
-        ensures done { self.new.done.items ≡ self.old.done.items }
-        ensures levels { self.new.levels ≡ self.old.levels }
+    fn note(&mut self, terminal: Terminal<'a, 'l>) -> Result<(), AllocError>
+        ensures reading { OnOk result (reading self.new ≡ noted (seen_terminal terminal.entry) (reading self.old)) }
+        ensures done { OnOk result (self.new.done.items ≡ self.old.done.items) }
+        ensures levels { OnOk result (self.new.levels ≡ self.old.levels) }
     {
         let begins = terminal.is_word(Word::Uint64) && self.is_headless() && !self.constant;
         self.declares = !is_break(terminal) && (self.declares || begins);
+        self.brackets = brackets_behind(terminal, self.brackets)?;
         self.constant = terminal.is_named(b"const".as_slice());
+        Ok(())
     }
 
     /// Closes what is open up to the block, with it.
@@ -344,7 +364,7 @@ impl<'a, 'l> Blocks<'a, 'l> {
     {
         let ends = self.is_end(token.terminal);
         self.done.push(token)?;
-        self.note(token.terminal);
+        self.note(token.terminal)?;
         if ends {
             return self.end(token, other);
         }
@@ -373,9 +393,9 @@ impl<'a, 'l> Blocks<'a, 'l> {
 
     /// Whether a comma ends one declaration and begins another.
     fn parts(&self, terminal: Terminal<'a, 'l>, rest: &[Token<'a, 'l>]) -> bool
-        ensures { result ≡ (self.now.declares && same (Mark sign.Comma) (seen_terminal terminal.entry) && is_name (bare (seen_all rest.now))) }
+        ensures { result ≡ (self.now.declares && (self.now.brackets == 0) && same (Mark sign.Comma) (seen_terminal terminal.entry) && is_name (bare (seen_all rest.now))) }
     {
-        self.declares && terminal.is_sign(Sign::Comma) && is_name(rest)
+        self.declares && self.brackets == 0 && terminal.is_sign(Sign::Comma) && is_name(rest)
     }
 
     /// A comma between two names of a declaration.
@@ -420,6 +440,7 @@ pub fn in_blocks<'a, 'l>(
         levels: Stack::new(alloc),
         body: false,
         declares: false,
+        brackets: 0,
         constant: false,
     };
     let mut rest = tokens;

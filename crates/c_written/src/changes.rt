@@ -39,7 +39,7 @@ struct Changes<'a, 'l> {
 }
 
 /// Whether a statement is over, or none has begun.
-fn is_boundary(terminal: Terminal<'_, '_>) -> bool
+pub fn is_boundary(terminal: Terminal<'_, '_>) -> bool
     ensures { result ≡ is_boundary (seen_terminal terminal.entry) }
 {
     match terminal {

@@ -6,6 +6,7 @@ ghost use Rattle.c_grammar.specs.Allocations.{allocated};
 ghost use Rattle.c_grammar.specs.Blocks.{in_blocks, nothing_read, typed};
 ghost use Rattle.c_grammar.specs.Changes.{begin, in_full};
 ghost use Rattle.c_grammar.specs.Constants.{undefined, worked};
+ghost use Rattle.c_grammar.specs.Functions.{expanded};
 ghost use Rattle.c_grammar.specs.Initial.{initialized, no_globals};
 ghost use Rattle.c_grammar.specs.Prints.{printed};
 ghost use Rattle.c_grammar.specs.Source.{item_of, text_of, written_out};
@@ -16,6 +17,7 @@ use crate::blocks::in_blocks;
 use crate::changes::in_full;
 use crate::constants::worked;
 use crate::definitions::undefined;
+use crate::functions::expanded;
 use crate::globals::initialized;
 use crate::held::{Written, WrittenTerminal, borrowed, owned};
 use crate::prints::printed;
@@ -100,6 +102,14 @@ fn with_changes<'a>(alloc: Global, worked: &[Written<'a>]) -> Result<Vec<Written
     owned(alloc, &tokens)
 }
 
+/// The tokens with functions expanded.
+fn with_calls<'a>(alloc: Global, worked: &[Written<'a>]) -> Result<Vec<Written<'a>>, AllocError>
+    ensures { IfOk result (λ v. written_all v.items ≡ expanded (written_all worked.now)) }
+{
+    let tokens = borrowed(alloc, worked)?;
+    expanded(alloc, &tokens)
+}
+
 /// The tokens of a source, with what C lets be left out. Each has the place of a token of the source. Fails where memory
 /// ran out.
 pub fn written<'a>(alloc: Global, bytes: &'a [u8]) -> Result<Vec<Written<'a>>, AllocError>
@@ -107,5 +117,6 @@ pub fn written<'a>(alloc: Global, bytes: &'a [u8]) -> Result<Vec<Written<'a>>, A
 {
     let raw = raw(alloc, bytes)?;
     let worked = with_constants(alloc, &raw)?;
-    with_changes(alloc, &worked)
+    let called = with_calls(alloc, &worked)?;
+    with_changes(alloc, &called)
 }

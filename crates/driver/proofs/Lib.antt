@@ -3,3 +3,4 @@ pub mod Refusals
 pub mod Misuses
 pub mod Steps
 pub mod Meanings
+pub mod Refusing

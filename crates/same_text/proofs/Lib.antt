@@ -9,6 +9,8 @@ mod UnlinedStatements
 mod UnlinedAllocations
 mod UnlinedGlobals
 mod UnlinedChanges
+mod UnlinedCalls
+mod UnlinedFunctions
 mod UnlinedTexts
 mod Told
 mod Whole

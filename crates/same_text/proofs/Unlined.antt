@@ -1,6 +1,6 @@
 -- Types and blocks are written out without a look at the lines of the tokens.
 use Rattle.std.proofs.Common.{◌≡◌, ℕ, zero, suc, Bool, true, false, cond, [], ◌∷◌, ◌++◌, map, refl, ap, ◌∙◌}
-use Rattle.std.specs.Prelude.{◌&&◌, codes}
+use Rattle.std.specs.Prelude.{◌&&◌, ◌==◌, codes}
 use Rattle.c_tokens.specs.declared.kind.Sign.TheVariants as sign
 use Rattle.c_grammar.specs.Lexeme.{Uint64}
 use Rattle.c_grammar.specs.Terminal.{Terminal, Fixed, Mark, Name, same}
@@ -96,10 +96,11 @@ module _ (go go' : Reading → Items) (r : (q : Reading) → AreUnlined (go' q) 
   parted_unlined : (i : Item Terminal) (is : Items) (q : Reading) →
       AreUnlined (parted (unlined i) (all_unlined is) q go') (parted i is q go)
   parted_unlined i [] q =
-      either (q.declares && same (Mark sign.Comma) i.terminal && false) _ _ _ _ _ refl
-      (one (at i (Mark sign.Semicolon)) (at i (Fixed Uint64) ∷ go q) _ (one (at i (Fixed Uint64)) (go q) (go' q) (r q))) (token_unlined i false q)
+      either (q.declares && (q.brackets == 0) && same (Mark sign.Comma) i.terminal && false) _ _ _ _ _ refl
+      (one (at i (Mark sign.Semicolon)) (at i (Fixed Uint64) ∷ go q) _ (one (at i (Fixed Uint64)) (go q) (go' q) (r q)))
+      (token_unlined i false q)
   parted_unlined i (j ∷ is) q =
-      either (q.declares && same (Mark sign.Comma) i.terminal && is_name (j ∷ is)) _ _ _ _ _ refl
+      either (q.declares && (q.brackets == 0) && same (Mark sign.Comma) i.terminal && is_name (j ∷ is)) _ _ _ _ _ refl
       (one (at i (Mark sign.Semicolon)) (at i (Fixed Uint64) ∷ go q) _ (one (at i (Fixed Uint64)) (go q) (go' q) (r q)))
       (token_unlined i (is_else (j ∷ is)) q)
 

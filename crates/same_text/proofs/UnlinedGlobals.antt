@@ -1,12 +1,12 @@
 -- Initializers of globals are left out, and set in main, without a look at the lines of the tokens.
-use Rattle.std.proofs.Common.{◌≡◌, ℕ, zero, suc, ◌+◌, Bool, true, false, cond, List, [], ◌∷◌, ◌++◌, Option, Some, None, refl, sym, ap, ◌∙◌}
-use Rattle.std.specs.Prelude.{◌&&◌, nat_lt}
+use Rattle.std.proofs.Common.{◌≡◌, ℕ, zero, suc, ◌+◌, Bool, true, false, cond, List, [], ◌∷◌, ◌++◌, Option, Some, None, refl, ap, ◌∙◌}
+use Rattle.std.specs.Prelude.{nat_lt}
 use Rattle.c_tokens.specs.declared.kind.Sign.TheVariants as sign
 use Rattle.c_grammar.specs.Terminal.{Terminal, Fixed, Mark, Name, Num, Line, Unknown, Unworked, End}
 use Rattle.c_grammar.specs.Texts.{Item}
 use Rattle.c_grammar.specs.Blocks.{Items, is_directive, bare}
 use Rattle.c_grammar.specs.Constants.{is_mark}
-use Rattle.c_grammar.specs.Initial.{value_of, cell_set, Initial, scalar_valued, ends_list, cell_valued, list_initial, array_initial, named_scalar, named_array, is_type, length_in, initial, Globals, in_main, Onward, outside_of, declared, set_late, outside, global_on, initialized}
+use Rattle.c_grammar.specs.Initial.{value_of, cell_set, Initial, scalar_valued, ends_list, cell_valued, list_initial, named_scalar, named_array, is_type, length_in, initial, Globals, in_main, Onward, outside_of, declared, set_late, outside, global_on, initialized}
 use Rattle.same_text.specs.Laws.{unlined}
 use Rattle.same_text.proofs.Unlined.{all_unlined, AreUnlined, either, one, some, bare_unlined}
 

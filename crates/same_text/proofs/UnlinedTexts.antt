@@ -5,6 +5,7 @@ use Rattle.c_grammar.specs.Allocations.{allocated}
 use Rattle.c_grammar.specs.Blocks.{Items, nothing_read, in_blocks, typed}
 use Rattle.c_grammar.specs.Changes.{begin, in_full}
 use Rattle.c_grammar.specs.Constants.{undefined, worked}
+use Rattle.c_grammar.specs.Functions.{expanded}
 use Rattle.c_grammar.specs.Initial.{initialized, no_globals}
 use Rattle.c_grammar.specs.Prints.{printed}
 use Rattle.c_grammar.specs.Source.{written_out}
@@ -12,6 +13,7 @@ use Rattle.erasure.proofs.Spelled.{kinds_in}
 use Rattle.same_text.proofs.Unlined.{all_unlined, AreUnlined, typed_unlined, blocks_unlined}
 use Rattle.same_text.proofs.UnlinedPrints.{printed_unlined}
 use Rattle.same_text.proofs.UnlinedConstants.{worked_unlined}
+use Rattle.same_text.proofs.UnlinedFunctions.{expanded_unlined}
 use Rattle.same_text.proofs.UnlinedDropped.{undefined_unlined}
 use Rattle.same_text.proofs.UnlinedAllocations.{allocated_unlined}
 use Rattle.same_text.proofs.UnlinedGlobals.{initialized_unlined}
@@ -32,12 +34,16 @@ written_unlined is =
     let a : Items = typed 0 p in
     let b : Items = in_blocks nothing_read a in
     let c : Items = worked [] [] 0 b in
+    let f : Items = expanded c in
     let later : Items → Items = λ js. in_full begin 0 (initialized no_globals 0 (allocated js)) in
-    ap (λ (js : Items). later (undefined [] 0 0 (worked [] [] 0 (in_blocks nothing_read (typed 0 js))))) (printed_unlined is 0)
-    ∙ ap (λ (js : Items). later (undefined [] 0 0 (worked [] [] 0 (in_blocks nothing_read js)))) (typed_unlined p 0)
-    ∙ ap (λ (js : Items). later (undefined [] 0 0 (worked [] [] 0 js))) (blocks_unlined a nothing_read)
-    ∙ ap (λ (js : Items). later (undefined [] 0 0 js)) (worked_unlined b [] [] 0)
-    ∙ ap later (undefined_unlined c [] 0 0) ∙ later_unlined (undefined [] 0 0 c)
+    let since_defined : Items → Items = λ js. later (undefined [] 0 0 js) in
+    let since_blocks : Items → Items = λ js. since_defined (expanded (worked [] [] 0 js)) in
+    ap (λ (js : Items). since_blocks (in_blocks nothing_read (typed 0 js))) (printed_unlined is 0)
+    ∙ ap (λ (js : Items). since_blocks (in_blocks nothing_read js)) (typed_unlined p 0)
+    ∙ ap since_blocks (blocks_unlined a nothing_read)
+    ∙ ap (λ (js : Items). since_defined (expanded js)) (worked_unlined b [] [] 0)
+    ∙ ap since_defined (expanded_unlined c)
+    ∙ ap later (undefined_unlined f [] 0 0) ∙ later_unlined (undefined [] 0 0 f)
 
 kinds_unlined : (is : Items) → kinds_in is ≡ kinds_in (all_unlined is)
 kinds_unlined [] = refl

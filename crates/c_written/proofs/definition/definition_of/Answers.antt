@@ -1,4 +1,4 @@
-use Rattle.std.proofs.Common.{◌≡◌, ◌∙◌, Some, None, true, false, sym, rules}
+use Rattle.std.proofs.Common.{◌≡◌, ◌∙◌, Some, true, false, sym, rules}
 use Rattle.std.specs.Option.{option_map}
 use Rattle.c_grammar.specs.Expressions.{Number, as_items}
 use Rattle.c_written.specs.Forms.{all_placed}

@@ -1,4 +1,4 @@
-use Rattle.std.proofs.Common.{◌∙◌, sym, ap}
+use Rattle.std.proofs.Common.{sym, ap}
 use Rattle.std.specs.Option.{option_map}
 use Rattle.c_grammar.specs.Expressions.{as_terminal}
 use Rattle.c_grammar.specs.Constants.{new_only}

@@ -1,4 +1,4 @@
-use Rattle.std.proofs.Common.{◌≡◌, ◌∙◌, ◌+◌, ap, sym, arith, rules}
+use Rattle.std.proofs.Common.{◌∙◌, ◌+◌, ap, sym, arith, rules}
 use Rattle.c_grammar.specs.Initial.{list_initial}
 use Rattle.c_written.specs.Ahead.{ahead}
 use Rattle.c_written.specs.Seen.{seen, seen_all}

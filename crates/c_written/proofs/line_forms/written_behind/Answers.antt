@@ -1,4 +1,4 @@
-use Rattle.c_written.proofs.LineSteps.{line_done, token_there}
+use Rattle.c_written.proofs.LineSteps.{line_done}
 use Rattle.c_written.proofs.line_forms.written_behind.Goals as goal
 
 pub returns : goal.returns

@@ -1,6 +1,6 @@
-use Rattle.std.proofs.Common.{◌≡◌, ◌∙◌, ◌++◌, sym, ap, Some, None, true, false, rules}
+use Rattle.std.proofs.Common.{◌≡◌, ◌∙◌, ◌++◌, sym, ap, None, false, rules}
 use Rattle.std.proofs.lemmas.List.{append-nil}
-use Rattle.c_grammar.specs.Blocks.{Ends, Items, braces_at}
+use Rattle.c_grammar.specs.Blocks.{Ends, braces_at}
 use Rattle.c_written.specs.Opens.{stays}
 use Rattle.c_written.specs.Seen.{seen, seen_all}
 use Rattle.c_written.specs.Stack.{held, item_at}

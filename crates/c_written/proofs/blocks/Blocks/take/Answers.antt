@@ -1,4 +1,4 @@
-use Rattle.std.proofs.Common.{◌≡◌, ◌∙◌, ◌++◌, Bool, false, ap, sym}
+use Rattle.std.proofs.Common.{◌∙◌, ◌++◌, Bool, false, ap, sym}
 use Rattle.c_grammar.specs.Blocks.{Items, bare, in_blocks, plain, with_open}
 use Rattle.c_written.specs.Seen.{seen, seen_all}
 use Rattle.c_written.specs.Passes.{levels_of, reading}

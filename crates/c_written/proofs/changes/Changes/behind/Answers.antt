@@ -3,7 +3,7 @@ use Rattle.c_grammar.specs.Changes.{Onward, Outside, assigned, behind_front, one
 use Rattle.c_written.specs.Seen.{seen, seen_all}
 use Rattle.c_written.specs.Changes.{passed, seen_where, state_of}
 use Rattle.c_written.proofs.Changing.{gone_behind, gone_ok}
-use Rattle.c_written.proofs.Heads.{front_ended}
+use Rattle.c_written.proofs.LoopHeads.{front_ended}
 use Rattle.c_written.proofs.changes.Changes.behind.Goals as goal
 
 pub returns : goal.returns

@@ -6,7 +6,7 @@ use Rattle.c_grammar.specs.Changes.{InHead, in_state}
 use Rattle.c_written.specs.Seen.{item_at, seen, seen_all}
 use Rattle.c_written.specs.Changes.{state_of}
 use Rattle.c_written.proofs.Changing.{gone_by, two_pushed}
-use Rattle.c_written.proofs.Heads.{limited_some}
+use Rattle.c_written.proofs.LoopHeads.{limited_some}
 use Rattle.c_written.proofs.changes.Changes.limit.Goals as goal
 
 pub returns-in_ok-push-in-Some-2 : goal.returns-in_ok-push-in-Some-2

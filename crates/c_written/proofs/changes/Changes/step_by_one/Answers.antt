@@ -6,7 +6,7 @@ use Rattle.c_grammar.specs.Changes.{Onward, one_at}
 use Rattle.c_written.specs.Seen.{seen, seen_all}
 use Rattle.c_written.specs.Changes.{state_of, stepped}
 use Rattle.c_written.proofs.Changing.{gone_behind, gone_ok, gone_same, same_state}
-use Rattle.c_written.proofs.Heads.{closes_is, stepped_closed, stepped_named}
+use Rattle.c_written.proofs.LoopHeads.{closes_is, stepped_closed, stepped_named}
 use Rattle.c_written.proofs.changes.Changes.step_by_one.Goals as goal
 
 pub returns-then-is_sign : goal.returns-then-is_sign

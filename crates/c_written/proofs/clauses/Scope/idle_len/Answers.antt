@@ -1,4 +1,3 @@
-use Rattle.std.proofs.Common.{◌∙◌, Some, ap, sym}
 use Rattle.c_written.specs.Clauses.{seen_scope}
 use Rattle.c_written.proofs.ClauseLengths.{idle_some}
 use Rattle.c_written.proofs.clauses.Scope.idle_len.Goals as goal

@@ -1,4 +1,4 @@
-use Rattle.std.proofs.Common.{◌≡◌, ◌∙◌, List, ◌∷◌, map, ap}
+use Rattle.std.proofs.Common.{◌∙◌, List, ◌∷◌, map, ap}
 use Rattle.c_written.specs.declared.token.Terminal.{Terminal as Given}
 use Rattle.c_written.specs.Seen.{seen_terminal}
 use Rattle.c_written.specs.Past.{past_of}

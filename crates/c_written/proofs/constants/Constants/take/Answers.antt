@@ -1,4 +1,4 @@
-use Rattle.std.proofs.Common.{◌≡◌, ◌∙◌, ◌++◌, ◌∷◌, Some, None, sym, ap, rules}
+use Rattle.std.proofs.Common.{◌≡◌, ◌∙◌, ◌++◌, Some, None, sym, ap, rules}
 use Rattle.c_grammar.specs.Blocks.{Items, bare}
 use Rattle.c_grammar.specs.Expressions.{Values}
 use Rattle.c_grammar.specs.Constants.{Defines, Misdefines, at_wanted, definition, expressed, wanted, worked}

@@ -1,5 +1,3 @@
-use Rattle.std.proofs.Common.{◌∙◌, ap, sym, rules}
-use Rattle.c_grammar.specs.Expressions.{Values}
 use Rattle.c_grammar.specs.LineForms.{left_out, put_word}
 use Rattle.directives.specs.Seen.{seen_lexeme}
 use Rattle.c_written.specs.Values.{seen_values}

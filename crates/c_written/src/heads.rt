@@ -1,0 +1,275 @@
+//! Heads of functions.
+
+ghost use Rattle.std.specs.Prelude.{◌≡◌, ◌≤◌, ◌<◌, ◌+◌, ◌^◌, [], length, drop, IfOk, IfSome};
+ghost use Rattle.std.specs.Option.{option_map};
+ghost use Rattle.c_grammar.specs.Functions.{Begins, behind_name, closing, head_at, headed, is_qualifier, named, no_parameters, parameters, parameters_in};
+ghost use Rattle.c_written.specs.Ahead.{ahead};
+ghost use Rattle.c_written.specs.Functions.{all_declared, seen_headed, seen_step};
+ghost use Rattle.c_written.specs.Seen.{seen, seen_terminal};
+
+use crate::ahead::Ahead;
+use crate::token::{Terminal, Token};
+use c_tokens::Sign;
+use directives::Word;
+use std::alloc::{AllocError, Global};
+
+/// A parameter as it is declared.
+#[derive(Clone, Copy)]
+pub struct Declared<'a> {
+    pub name: &'a [u8],
+    pub array: bool,
+}
+
+/// The head of a function that is defined.
+#[derive(Drop)]
+pub struct Headed<'a> {
+    pub name: &'a [u8],
+    pub valued: bool,
+    pub declared: Vec<Declared<'a>>,
+    /// How many more tokens the head has, up to the brace.
+    pub len: usize,
+}
+
+// What has been read of a parameter.
+#[derive(Clone, Copy)]
+enum Head<'a> {
+    Begins,
+    Typed,
+    Starred,
+    Named(Declared<'a>),
+    Opened(&'a [u8]),
+    Sized(&'a [u8]),
+}
+
+#[derive(Clone, Copy)]
+enum Step<'a> {
+    Goes(Head<'a>),
+    Adds(Declared<'a>),
+    Closes(Declared<'a>),
+    Stops,
+}
+
+fn is_qualifier(terminal: Terminal<'_, '_>) -> bool
+    ensures { result ≡ is_qualifier (seen_terminal terminal.entry) }
+{
+    terminal.is_named(b"const")
+        || terminal.is_named(b"restrict")
+        || terminal.is_named(b"__restrict__")
+        || terminal.is_named(b"__restrict")
+}
+
+fn named<'a>(terminal: Terminal<'a, '_>, array: bool) -> Step<'a>
+    ensures { seen_step result ≡ named (seen_terminal terminal.entry) array }
+{
+    match terminal {
+        Terminal::Name(name) => Step::Goes(Head::Named(Declared { name, array })),
+        _ => Step::Stops,
+    }
+}
+
+fn behind_name<'a>(declared: Declared<'a>, terminal: Terminal<'a, '_>) -> Step<'a>
+    ensures { seen_step result ≡ behind_name declared.entry.name.now declared.entry.array (seen_terminal terminal.entry) }
+{
+    if terminal.is_sign(Sign::Comma) {
+        return Step::Adds(declared);
+    }
+    if terminal.is_sign(Sign::CloseParen) {
+        return Step::Closes(declared);
+    }
+    if terminal.is_sign(Sign::OpenBracket) && !declared.array {
+        return Step::Goes(Head::Opened(declared.name));
+    }
+    Step::Stops
+}
+
+fn closing<'a>(name: &'a [u8], terminal: Terminal<'a, '_>) -> Step<'a>
+    ensures { seen_step result ≡ closing name.now (seen_terminal terminal.entry) }
+{
+    if terminal.is_sign(Sign::CloseBracket) {
+        return Step::Goes(Head::Named(Declared { name, array: true }));
+    }
+    Step::Stops
+}
+
+impl<'a> Head<'a> {
+    ghost use Rattle.std.specs.Prelude.{◌≡◌};
+    ghost use Rattle.c_grammar.specs.Functions.{behind};
+    ghost use Rattle.c_written.specs.Functions.{seen_head, seen_step};
+    ghost use Rattle.c_written.specs.Seen.{seen_terminal};
+
+    fn behind(self, terminal: Terminal<'a, '_>) -> Step<'a>
+        ensures { seen_step result ≡ behind (seen_head self.entry) (seen_terminal terminal.entry) }
+    {
+        match self {
+            Head::Begins => {
+                if is_qualifier(terminal) {
+                    Step::Goes(Head::Begins)
+                } else if terminal.is_word(Word::Uint64) {
+                    Step::Goes(Head::Typed)
+                } else {
+                    Step::Stops
+                }
+            }
+            Head::Typed => {
+                if is_qualifier(terminal) {
+                    Step::Goes(Head::Typed)
+                } else if terminal.is_sign(Sign::Star) {
+                    Step::Goes(Head::Starred)
+                } else {
+                    named(terminal, false)
+                }
+            }
+            Head::Starred => {
+                if is_qualifier(terminal) {
+                    Step::Goes(Head::Starred)
+                } else {
+                    named(terminal, true)
+                }
+            }
+            Head::Named(declared) => behind_name(declared, terminal),
+            Head::Opened(name) => {
+                if terminal.is_number() {
+                    Step::Goes(Head::Sized(name))
+                } else {
+                    closing(name, terminal)
+                }
+            }
+            Head::Sized(name) => closing(name, terminal),
+        }
+    }
+}
+
+// The parameters up to the closing bracket, with how many tokens these are.
+fn parameters<'a>(
+    alloc: Global,
+    start: Ahead<'a, '_, '_>,
+) -> Result<Option<(Vec<Declared<'a>>, usize)>, AllocError>
+    requires { length (ahead start) < 2 ^ 63 }
+    ensures parameters { IfOk result (λ o. option_map (λ p. (all_declared p.0.items, p.1)) o ≡ parameters Begins [] 0 (ahead start.entry)) }
+    ensures few { IfOk result (λ o. IfSome o (λ p. p.1 ≤ 2 + length (ahead start.entry))) }
+{
+    let mut ahead = start;
+    let mut head = Head::Begins;
+    let mut declared = Vec::new(alloc);
+    let mut len = 0;
+    'tokens: while let Some(token) = ahead.next() {
+        len += 1;
+        match head.behind(token.terminal) {
+            Step::Goes(next) => head = next,
+            Step::Adds(one) => {
+                declared.push(one)?;
+                head = Head::Begins;
+            }
+            Step::Closes(one) => {
+                declared.push(one)?;
+                return Ok(Some((declared, len)));
+            }
+            Step::Stops => return Ok(None),
+        }
+    }
+    Ok(None)
+}
+
+// How many tokens stand for no parameters: one bracket, or `void` and one.
+fn no_parameters(start: Ahead<'_, '_, '_>) -> Option<usize>
+    ensures none { result ≡ no_parameters (ahead start.entry) }
+    ensures few { IfSome result (λ k. k ≤ 2 + length (ahead start.entry)) }
+{
+    let mut ahead = start;
+    let first = ahead.next()?;
+    if first.terminal.is_sign(Sign::CloseParen) {
+        return Some(1);
+    }
+    if !first.terminal.is_word(Word::Void) {
+        return None;
+    }
+    let second = ahead.next()?;
+    if second.terminal.is_sign(Sign::CloseParen) {
+        return Some(2);
+    }
+    None
+}
+
+fn parameters_in<'a>(
+    alloc: Global,
+    start: Ahead<'a, '_, '_>,
+) -> Result<Option<(Vec<Declared<'a>>, usize)>, AllocError>
+    requires { length (ahead start) < 2 ^ 63 }
+    ensures parameters { IfOk result (λ o. option_map (λ p. (all_declared p.0.items, p.1)) o ≡ parameters_in (no_parameters (ahead start.entry)) (ahead start.entry)) }
+    ensures few { IfOk result (λ o. IfSome o (λ p. p.1 ≤ 2 + length (ahead start.entry))) }
+{
+    match no_parameters(start) {
+        Some(len) => Ok(Some((Vec::new(alloc), len))),
+        None => parameters(alloc, start),
+    }
+}
+
+/// So many tokens on.
+pub fn passed<'a, 'l, 's>(start: Ahead<'a, 'l, 's>, len: usize) -> Ahead<'a, 'l, 's>
+    ensures { ahead result ≡ drop len (ahead start.entry) }
+{
+    let mut ahead = start;
+    let mut left = len;
+    'tokens: while left > 0 {
+        let mut behind = ahead;
+        if behind.next().is_none() {
+            return ahead;
+        }
+        ahead = behind;
+        left -= 1;
+    }
+    ahead
+}
+
+fn function_head<'a>(
+    alloc: Global,
+    valued: bool,
+    start: Ahead<'a, '_, '_>,
+) -> Result<Option<Headed<'a>>, AllocError>
+    requires { length (ahead start) < 2 ^ 63 }
+    ensures { IfOk result (λ o. option_map seen_headed o ≡ headed valued (ahead start.entry)) }
+{
+    let mut ahead = start;
+    let Some(first) = ahead.next() else {
+        return Ok(None);
+    };
+    let Some(second) = ahead.next() else {
+        return Ok(None);
+    };
+    let Terminal::Name(name) = first.terminal else {
+        return Ok(None);
+    };
+    if !second.terminal.is_sign(Sign::OpenParen) {
+        return Ok(None);
+    }
+    let Some((declared, len)) = parameters_in(alloc, ahead)? else {
+        return Ok(None);
+    };
+    match passed(ahead, len).next() {
+        Some(brace) if brace.terminal.is_sign(Sign::OpenBrace) => Ok(Some(Headed {
+            name,
+            valued,
+            declared,
+            len: len + 3,
+        })),
+        _ => Ok(None),
+    }
+}
+
+/// The head of a function that begins at a token, before these.
+pub fn head_at<'a>(
+    alloc: Global,
+    token: Token<'a, '_>,
+    rest: Ahead<'a, '_, '_>,
+) -> Result<Option<Headed<'a>>, AllocError>
+    requires { length (ahead rest) < 2 ^ 63 }
+    ensures { IfOk result (λ o. option_map seen_headed o ≡ head_at (seen token.entry).terminal (ahead rest.entry)) }
+{
+    if token.terminal.is_word(Word::Void) {
+        return function_head(alloc, false, rest);
+    }
+    if token.terminal.is_word(Word::Uint64) {
+        return function_head(alloc, true, rest);
+    }
+    Ok(None)
+}
