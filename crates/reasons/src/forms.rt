@@ -42,7 +42,7 @@ const LENGTH: &str =
     "an array is `uint64_t A[NUM];`, NUM a constant expression, of one dimension: the cell in row i and column j is `A[NUM * i + j]`";
 
 const FUNCTION: &str =
-    "there are no functions but `main`: write the statements where they are called";
+    "a function stands before `main`, `void f(uint64_t *a, uint64_t n) { .. }` or `uint64_t f(uint64_t n) { .. return e; }`, and is called as a statement, `f(A, 8);`, or as all of a right side, `x = f(8);`";
 
 const READ: &str = "`read()` is all of a right side: `x = read();`";
 
@@ -272,7 +272,9 @@ fn foreign(around: &Around<'_>) -> Option<&'static str> {
         );
     }
     if around.next == b'(' && around.line.is_empty() {
-        return Some("there are no functions but `main`: write the statements in its place");
+        return Some(
+            "a function is called behind its definition, as a statement, `f(A, 8);`, or, where it gives a value, as all of a right side, `x = f(8);`",
+        );
     }
     None
 }

@@ -163,13 +163,18 @@ impl<'a> Scene<'a> {
         }
     }
 
-    /// The names and values of the loops around a place.
+    /// The names and values of the loops around a place. Those around the calls of its function have no name there.
     pub fn turns(&self, place: Place, values: &[u64]) -> Result<Vec<Turn>, AllocError> {
         let names = loops_around(self.alloc, self.bytes, place)?;
+        let outside = values.len().saturating_sub(names.len());
         let mut turns = Vec::new(self.alloc);
         'loops: for (level, value) in values.iter().enumerate() {
+            let name = match level.checked_sub(outside) {
+                Some(inside) => names.get(inside).copied().unwrap_or("a loop"),
+                None => "a loop around the call",
+            };
             turns.push(Turn {
-                name: String::from_str(self.alloc, names.get(level).copied().unwrap_or("a loop"))?,
+                name: String::from_str(self.alloc, name)?,
                 value: *value,
             })?;
         }
