@@ -337,14 +337,14 @@ $ ompc explain forms/function.c
 forms/function.c:1:11: error: `(` cannot stand here [E102]
     uint64_t f(uint64_t x) {
               ^
-forms/function.c:1:11: help: there are no functions but `main`: write the statements where they are called
+forms/function.c:1:11: help: a function stands before `main`, `void f(uint64_t *a, uint64_t n) { .. }` or `uint64_t f(uint64_t n) { .. return e; }`, and is called as a statement, `f(A, 8);`, or as all of a right side, `x = f(8);`
 ! E102 line 1 column 11
 [1]
 $ ompc explain forms/call.c
 forms/call.c:2:1: error: `f` is not declared here [E103]
     f(1);
     ^
-forms/call.c:2:1: help: there are no functions but `main`: write the statements in its place
+forms/call.c:2:1: help: a function is called behind its definition, as a statement, `f(A, 8);`, or, where it gives a value, as all of a right side, `x = f(8);`
 ! E103 line 2 column 1
 [1]
 $ ompc explain forms/nothing.c
