@@ -8,7 +8,7 @@
 set -eu
 
 # The files to compare with, of the sources that are accepted: a refusal begins with its code.
-accepted() { grep -L '^E[0-9]' -- *.out known/*.out; }
+accepted() { grep -L '^E[0-9]' -- *.out known/*.out gallery/*.out; }
 
 input_of() { if [ -e "$1.in" ]; then echo "$1.in"; else echo /dev/null; fi; }
 
@@ -35,11 +35,14 @@ run_all() {
     for source in *.c; do
         same "${source%.c}.out" "$(input_of "${source%.c}")" run "$source" --finals
     done
-    for source in known/*.c; do
+    for source in known/*.c gallery/*.c; do
         same "${source%.c}.out" /dev/null run "$source"
     done
     for source in refused/*.c; do
         same "${source%.c}.out" /dev/null check "$source"
+    done
+    for source in gallery/wrong/*.c; do
+        diff "${source%.c}.out" <("$ompc" explain "$source" 2> /dev/null) || failed=1
     done
     [ "$failed" = 0 ] && echo "each source prints what is written beside it"
 }
