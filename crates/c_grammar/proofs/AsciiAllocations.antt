@@ -1,6 +1,6 @@
 -- The names of the arrays that main allocates are ASCII.
-use Rattle.std.proofs.Common.{◌≡◌, ℕ, Bool, true, false, cond, List, [], ◌∷◌, ◌++◌, Option, Some, None}
-use Rattle.std.specs.Prelude.{◌&&◌, not}
+use Rattle.std.proofs.Common.{ℕ, Bool, true, false, cond, List, [], ◌∷◌, ◌++◌, Option, Some, None}
+use Rattle.std.specs.Prelude.{◌&&◌, not, reverse}
 use Rattle.std.specs.Str.{IsAscii}
 use Rattle.c_tokens.specs.declared.kind.Sign.TheVariants as sign
 use Rattle.c_grammar.specs.Lexeme.{Uint64}
@@ -9,7 +9,8 @@ use Rattle.c_grammar.specs.Texts.{Item}
 use Rattle.c_grammar.specs.Blocks.{Items, at, is_directive, bare}
 use Rattle.c_grammar.specs.Constants.{is_mark}
 use Rattle.c_grammar.specs.Allocations.{Cells, Allocation, Reading, nothing_read, declaration, with_cells, called, or_all, skipped, cast, allocates, allocation, passed, kept, entered, opened, closed, allotted, given_up, is_allowed, is_freed, by_allocation, begins_main, at_statement, taken, next, all_read, joined, allocated}
-use Rattle.c_grammar.specs.AsciiNames.{IsAsciiTerminal, AreAscii, terminals_of}
+use Rattle.c_grammar.specs.AsciiNames.{IsAsciiTerminal}
+use Rattle.c_grammar.proofs.AsciiPresence.{guarded_text}
 use Rattle.c_grammar.proofs.AsciiTokens.{AreItemsText, both_text, bare_text}
 
 abbrev IsNameText : Option Allocation → Type 0
@@ -98,4 +99,4 @@ pub allocated_text : (is : Items) → AreItemsText is → AreItemsText (allocate
 allocated_text is h =
     let r : Reading = all_read nothing_read is in
     let k : IsText r = read_text is nothing_read h (tt, tt, tt) in
-    both_text r.before (r.arrays ++ r.done) k.0 (both_text r.arrays r.done k.1 k.2)
+    guarded_text (reverse r.names) (joined r) (both_text r.before (r.arrays ++ r.done) k.0 (both_text r.arrays r.done k.1 k.2))

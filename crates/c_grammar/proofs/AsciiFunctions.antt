@@ -1,18 +1,20 @@
 -- Expanding functions keeps all names ASCII.
-use Rattle.std.proofs.Common.{◌≡◌, ℕ, zero, suc, ◌+◌, ◌-◌, ◌<◌, Bool, true, false, cond, eqb, List, [], ◌∷◌, ◌++◌, length, map, take, drop, Option, Some, None, refl, sym, ap, subst, arith}
-use Rattle.std.specs.Prelude.{◌&&◌, ◌||◌, ◌==◌, not, nat_lt, slice_index, codes}
+use Rattle.std.proofs.Common.{◌≡◌, ℕ, zero, suc, ◌+◌, ◌<◌, Bool, true, false, cond, List, [], ◌∷◌, ◌++◌, length, take, drop, Option, Some, None, refl, subst, arith}
+use Rattle.std.specs.Prelude.{◌&&◌, ◌||◌, ◌==◌, not, nat_lt, codes}
 use Rattle.std.specs.List.{list_all}
 use Rattle.std.specs.Str.{IsAscii, bytes_eq}
 use Rattle.std.proofs.lemmas.Bool.Decides.{nat_tests}
 use Rattle.c_tokens.specs.declared.kind.Sign.TheVariants as sign
-use Rattle.c_grammar.specs.Lexeme.{Int, Main, Uint64}
+use Rattle.c_grammar.specs.Lexeme.{Uint64}
 use Rattle.c_grammar.specs.Terminal.{Terminal, Fixed, Mark, Name, Num, Line, Unknown, Unworked, End, same}
 use Rattle.c_grammar.specs.Texts.{Item}
-use Rattle.c_grammar.specs.Blocks.{Items, is_directive, bare, at}
+use Rattle.c_grammar.specs.Blocks.{Items, is_directive, bare}
 use Rattle.c_grammar.specs.Changes.{is_mark, is_boundary}
-use Rattle.c_grammar.specs.Constants.{Names, is_among, is_name, with_terminal, worked}
-use Rattle.c_grammar.specs.AsciiNames.{IsAsciiTerminal, AreAscii, terminals_of}
-use Rattle.c_grammar.specs.Functions.{Arguments, Declared, Expanded, Function, Functions, Headed, Known, Others, Passed, Parameter, Put, Called, Counts, Puts, Returned, Where, Outside, InHead, InBody, added, argument_closed, argument_on, arguments, assigned_call, block_of, both, call, called, closed, closes, constant_in, declaration, declared_call, declared_in, defined, digits, ends_here, expanded, expanded_at, expanded_by, expanded_of, expanded_with, expansion, first_some, function_of, function_with, given, has_function, has_value, head_at, headed_or, in_body, in_head, in_room, is_main, is_none, is_specifier, is_static, known_names, later, left_len, line_in, local, may_be_added, most_lines, names_in, other_name, nothing_known, nothing_passed, opens, out_of_body, outside, parameters_from, passed, passed_to, passes, passes_array, passes_name, passes_one, passes_one_array, passes_value, plain, put_all, put_for, put_line, put_terminal, puts_from, raw_in, returned, returned_by, specifies, statement_on, stays, terminal_for, token_in, unknown, unspelled, value_at, value_ended, with_function, with_name}
+use Rattle.c_grammar.specs.Constants.{Names, is_among, is_name, worked}
+use Rattle.c_grammar.specs.AsciiNames.{IsAsciiTerminal}
+use Rattle.c_grammar.specs.Functions.{array_names, Arguments, Declared, Expanded, Function, Functions, Headed, Known, Others, Passed, Parameter, Put, Called, Counts, Puts, Returned, Where, Outside, InHead, InBody, added, argument_closed, argument_on, arguments, assigned_call, block_of, both, call, called, closed, closes, constant_in, declaration, declared_call, defined, digits, ends_here, expanded, expanded_at, expanded_by, expanded_of, expanded_with, expansion, first_some, function_of, function_with, given, has_function, has_value, head_at, headed_or, in_body, in_head, in_room, is_main, is_none, is_specifier, is_static, known_names, later, left_len, line_in, local, may_be_added, most_lines, names_in, other_name, nothing_known, opens, out_of_body, outside, parameters_from, passed, passed_to, passes, passes_array, passes_name, passes_one, passes_one_array, passes_value, put_all, put_for, put_terminal, puts_from, raw_in, returned, returned_by, specifies, statement_on, stays, terminal_for, token_in, unknown, unspelled, value_at, with_function, with_name}
+use Rattle.c_grammar.specs.Presence.{guarded}
+use Rattle.c_grammar.proofs.AsciiPresence.{guarded_text}
 use Rattle.c_grammar.proofs.AsciiTokens.{AreItemsText, chosen_text, both_text, bare_text}
 
 -- ---- names that no source can spell
@@ -401,14 +403,15 @@ IsKnownText k = AreFunctionsText k.functions
 made_text : (k : Known) (h : Headed) (r : Returned) → IsKnownText k → AreItemsText r.front → AreItemsText r.value
     → IsFunctionText (function_with k h r)
 made_text k h r a p q =
+    let arrays : Names = array_names k.next h.declared in
     let puts : Puts = puts_from k.next (names_in h r.front) in
     let other : Others = other_name (known_names k) in
     let puts_text : ArePutsText puts = from_text k.next (names_in h r.front) in
     let other_is : AreOthersText other = other_text (known_names k) in (
       parameters_text k.next (bare r.front) h,
       (
-        called_text (put_all puts other r.front) k.globals k.functions true k.room 0 a
-            (put_all_text puts other r.front puts_text other_is p),
+        called_text (guarded arrays (put_all puts other r.front)) k.globals k.functions true k.room 0 a
+            (guarded_text arrays (put_all puts other r.front) (put_all_text puts other r.front puts_text other_is p)),
         put_all_text puts other r.value puts_text other_is q,
       ),
     )

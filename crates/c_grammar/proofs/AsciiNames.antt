@@ -1,6 +1,6 @@
 -- The names of a source are ASCII.
 use Rattle.std.proofs.Common.{◌≡◌, ℕ, zero, suc, ◌+◌, ◌-◌, ◌<◌, Bool, true, false, cond, eqb, List, [], ◌∷◌, ◌++◌, length, map, take, drop, Option, Some, None, refl, sym, ap, subst, ◌∙◌, arith}
-use Rattle.std.specs.Prelude.{◌&&◌, ◌==◌, nat_lt, slice_index, codes}
+use Rattle.std.specs.Prelude.{◌&&◌, ◌==◌, not, nat_lt, slice_index, codes}
 use Rattle.std.specs.List.{prefix_len}
 use Rattle.std.specs.Str.{IsAscii}
 use Rattle.std.proofs.lemmas.List.{drop-drop}
@@ -16,7 +16,7 @@ use Rattle.c_tokens.specs.declared.kind.Piece.TheVariants as piece
 use Rattle.c_tokens.specs.declared.kind.Token.{Token}
 use Rattle.c_tokens.specs.Piece.{is_blank, is_not_feed, is_include, after_blank, comment_end, mark_at, starts_with_byte, is_name_start, is_name_part, is_digit, piece_at, number_of, hex_number_of, hex_part, is_hexadecimal, is_hex_digit, decimal_len, decimal_piece, number_in, number_piece, name_piece, line_piece, comment_piece, sign_piece}
 use Rattle.c_tokens.specs.Text.{Place, start, after, after_kind, token_at, unknown_at, given, tokens_from, tokens_of}
-use Rattle.c_grammar.specs.Lexeme.{Word, word_of, Placed, For, Print}
+use Rattle.c_grammar.specs.Lexeme.{Word, word_of, Placed, For}
 use Rattle.c_grammar.specs.Terminal.{Terminal, Fixed, Mark, Name, Num, Line, Unknown, Unworked, End, same}
 use Rattle.c_grammar.specs.Texts.{Item}
 use Rattle.c_grammar.specs.Lines.{is_omp}
@@ -26,6 +26,8 @@ use Rattle.c_grammar.specs.Changes as changes
 use Rattle.c_grammar.specs.Changes.{With, ByNumber, ByOne}
 use Rattle.c_grammar.specs.Blocks as blocks
 use Rattle.c_grammar.specs.Blocks.{is_directive, bare, at, type_at, type_on, typed, longs, Open, Around, Reading, nothing_read, with_open, begins_body, is_else, is_name, Ends, ends, left, is_end, braces_at, parted, in_blocks}
+use Rattle.c_grammar.specs.Nesting.{nested}
+use Rattle.c_grammar.specs.DeclaredFunctions.{begins_part, ends_part, has_functions, undeclared}
 use Rattle.c_grammar.specs.Prints.{is_text, text_len, alone, print_at, print_on, printed}
 use Rattle.c_grammar.specs.Constants.{with_tokens, line_tokens, put_item, Definition, Defines, Misdefines, definition, at_wanted, wanted, Names, undefined, definition_len, drop_on, leave_on, work_on, Onward, plain, expressed, read_on, worked}
 use Rattle.c_grammar.specs.Initial as globals
@@ -35,6 +37,7 @@ use Rattle.c_grammar.specs.Source.{text_of, word_or_name, kind_terminal, on_line
 use Rattle.c_grammar.specs.AsciiNames.{IsAsciiTerminal, AreAscii, terminals_of}
 use Rattle.c_grammar.specs.Functions.{expanded}
 use Rattle.c_grammar.proofs.AsciiTokens.{AreItemsText, chosen_text, both_text, bare_text}
+use Rattle.c_grammar.proofs.AsciiNesting.{nested_text}
 use Rattle.c_grammar.proofs.AsciiFunctions.{expanded_text}
 use Rattle.c_grammar.proofs.AsciiAllocations.{allocated_text}
 
@@ -581,12 +584,20 @@ initialized_text (i ∷ is) g k q h =
     chosen_text (is_directive i.terminal) _ _ (h.0, initialized_text is g k q h.1)
     (global_text k g i (bare is) (λ g k. initialized g k is) h.0 q (λ g k n. initialized_text is g k n h.1))
 
+undeclared_text : (is : Items) (inside : Bool) → AreItemsText is → AreItemsText (undeclared inside is)
+undeclared_text [] inside h = tt
+undeclared_text (i ∷ is) inside h =
+    chosen_text (inside && ends_part i.terminal) _ _ (undeclared_text is false h.1)
+    (chosen_text (not inside && begins_part i.terminal && has_functions 0 is) _ _ (undeclared_text is true h.1)
+    (h.0, undeclared_text is inside h.1))
+
 -- ---- all of it
 
 written_text : (is : Items) → AreItemsText is → AreItemsText (written_out is)
 written_text is h =
-    let calls : Items = printed 0 is in
-    let whole : Items = in_blocks nothing_read (typed 0 calls) in
+    let calls : Items = printed 0 (nested is) in
+    let types : Items = typed 0 calls in
+    let whole : Items = in_blocks nothing_read (undeclared false types) in
     let numbered : Items = worked [] [] 0 whole in
     let plain : Items = undefined [] 0 0 (expanded numbered) in
     full_text (initialized no_globals 0 (allocated plain)) changes.begin 0 tt
@@ -594,7 +605,9 @@ written_text is h =
     (allocated_text plain
     (undefined_text (expanded numbered) [] 0 0
     (expanded_text (λ is h. worked_text is [] [] 0 h) numbered
-    (worked_text whole [] [] 0 (blocks_text (typed 0 calls) nothing_read (typed_text calls 0 (printed_text is 0 h))))))))
+    (worked_text whole [] [] 0
+    (blocks_text (undeclared false types) nothing_read (undeclared_text types false
+    (typed_text calls 0 (printed_text (nested is) 0 (nested_text is h))))))))))
 
 all_but : (is : Items) (e : Item Terminal) → AreItemsText (is ++ e ∷ []) → AreItemsText is
 all_but [] e h = tt

@@ -1,14 +1,16 @@
 -- Arrays are allocated alike where the directive lines are left away.
-use Rattle.std.proofs.Common.{◌≡◌, ℕ, Bool, true, false, cond, List, [], ◌∷◌, ◌++◌, length, Option, Some, None, refl, sym, ap, ◌∙◌}
+use Rattle.std.proofs.Common.{◌≡◌, Bool, true, false, cond, [], ◌∷◌, ◌++◌, length, Option, Some, None, refl, sym, ap, ◌∙◌}
 use Rattle.std.proofs.lemmas.List.{append-nil}
-use Rattle.std.specs.Prelude.{◌&&◌, not, nat_lt}
+use Rattle.std.specs.Prelude.{◌&&◌, not, nat_lt, reverse}
 use Rattle.c_tokens.specs.declared.kind.Sign.TheVariants as sign
 use Rattle.c_grammar.specs.Terminal.{Terminal, Mark}
 use Rattle.c_grammar.specs.Texts.{Item}
 use Rattle.c_grammar.specs.Blocks.{Items, at, is_directive, bare}
 use Rattle.c_grammar.specs.Constants.{is_mark}
-use Rattle.c_grammar.specs.Allocations.{Allocation, Reading, nothing_read, declaration, passed, kept, entered, opened, closed, allotted, max_arrays, given_up, is_allowed, is_named, is_freed, by_allocation, allocation, begins_main, at_statement, taken, next, all_read, joined, allocated}
-use Rattle.c_grammar.proofs.BareTokens.{IsPlain, ArePlain, plain_bare, same_bare, bare_both}
+use Rattle.c_grammar.specs.Allocations.{Allocation, Reading, nothing_read, declaration, passed, kept, entered, opened, closed, allotted, max_arrays, given_up, is_allowed, is_named, is_freed, by_allocation, allocation, begins_main, at_statement, taken, all_read, joined, guarded_reading, allocated}
+use Rattle.c_grammar.specs.Presence.{guarded}
+use Rattle.c_grammar.proofs.BarePresence.{guarded_bare}
+use Rattle.c_grammar.proofs.BareTokens.{IsPlain, same_bare, bare_both}
 
 one_more : (is : Items) (i : Item Terminal) → IsPlain i → bare is ++ i ∷ [] ≡ bare (is ++ i ∷ [])
 one_more is i h = sym (bare_both is (i ∷ []) ∙ rw h refl)
@@ -82,9 +84,14 @@ read_bare (i ∷ is) r = step (read_bare is) (is_directive i.terminal) refl
         ∙ ap (λ (js : Items). all_read (taken i js (bare_reading r)) (bare is)) (same_bare is)
         ∙ ap (λ (q : Reading). all_read q (bare is)) (taken_bare i (bare is) r e) ∙ ih (taken i (bare is) r)
 
+joined_bare : (r : Reading) → joined (bare_reading r) ≡ bare (joined r)
+joined_bare r =
+    ap (λ (js : Items). bare r.before ++ js) (sym (bare_both r.arrays r.done))
+    ∙ sym (bare_both r.before (r.arrays ++ r.done))
+
 pub allocated_bare : (is : Items) → allocated (bare is) ≡ bare (allocated is)
 allocated_bare is =
     let r : Reading = all_read nothing_read is in
-    ap joined (read_bare is nothing_read)
-    ∙ ap (λ (js : Items). bare r.before ++ js) (sym (bare_both r.arrays r.done))
-    ∙ sym (bare_both r.before (r.arrays ++ r.done))
+    ap guarded_reading (read_bare is nothing_read)
+    ∙ ap (guarded (reverse r.names)) (joined_bare r)
+    ∙ guarded_bare (reverse r.names) (joined r)

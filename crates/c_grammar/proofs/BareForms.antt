@@ -9,6 +9,8 @@ use Rattle.c_grammar.specs.Texts.{Item}
 use Rattle.c_grammar.specs.Lines.{is_omp}
 use Rattle.c_grammar.specs.Blocks as blocks
 use Rattle.c_grammar.specs.Blocks.{Items, is_directive, bare, at, type_at, type_on, longs, typed, Around, Reading, nothing_read, with_open, begins_body, is_else, is_name, Ends, ends, left, is_end, noted, read_in, braces_at, closed, parted, in_block, in_blocks}
+use Rattle.c_grammar.specs.Nesting.{nested}
+use Rattle.c_grammar.specs.DeclaredFunctions.{undeclared}
 use Rattle.c_grammar.specs.Prints.{is_text, text_len, alone, print_at, print_on, printed}
 use Rattle.c_grammar.specs.Expressions.{Values, value_of, number_for, Worked, Number, Fault}
 use Rattle.c_grammar.specs.Constants.{with_terminal, front_two, put_item, Definition, Defines, Misdefines, definition, at_wanted, wanted, Names, definition_len, drop_on, leave_on, undefined, Onward, expressed, read_on, work_on, worked}
@@ -20,6 +22,8 @@ use Rattle.c_grammar.specs.Functions.{expanded}
 use Rattle.c_grammar.specs.Allocations.{allocated}
 use Rattle.c_grammar.specs.Source.{written_out}
 use Rattle.c_grammar.proofs.BareAllocations.{allocated_bare}
+use Rattle.c_grammar.proofs.BareNesting.{nested_bare}
+use Rattle.c_grammar.proofs.BareDeclaredFunctions.{undeclared_bare}
 use Rattle.c_grammar.proofs.BareFunctions.{expanded_bare}
 use Rattle.c_grammar.proofs.BareTokens.{IsPlain, ArePlain, IsBare, either, one, some, either_plain, plain_bare, same_bare, both_plain}
 
@@ -484,17 +488,22 @@ later_bare is =
 
 pub written_bare : (is : Items) → written_out (bare is) ≡ bare (written_out is)
 written_bare is =
-    let p : Items = printed 0 is in
+    let n : Items = nested is in
+    let p : Items = printed 0 n in
     let a : Items = typed 0 p in
-    let b : Items = in_blocks nothing_read a in
+    let u : Items = undeclared false a in
+    let b : Items = in_blocks nothing_read u in
     let c : Items = worked [] [] 0 b in
     let x : Items = expanded c in
     let later : Items → Items = λ js. changes.in_full changes.begin 0 (initialized no_globals 0 (allocated js)) in
     let since_defined : Items → Items = λ js. later (undefined [] 0 0 js) in
     let since_blocks : Items → Items = λ js. since_defined (expanded (worked [] [] 0 js)) in
-    ap (λ (js : Items). since_blocks (in_blocks nothing_read (typed 0 js))) (printed_bare is 0)
-    ∙ ap (λ (js : Items). since_blocks (in_blocks nothing_read js)) (typed_bare p 0)
-    ∙ ap since_blocks (blocks_bare a nothing_read)
+    let since_typed : Items → Items = λ js. since_blocks (in_blocks nothing_read (undeclared false js)) in
+    ap (λ (js : Items). since_typed (typed 0 (printed 0 js))) (nested_bare is)
+    ∙ ap (λ (js : Items). since_typed (typed 0 js)) (printed_bare n 0)
+    ∙ ap since_typed (typed_bare p 0)
+    ∙ ap (λ (js : Items). since_blocks (in_blocks nothing_read js)) (undeclared_bare a false)
+    ∙ ap since_blocks (blocks_bare u nothing_read)
     ∙ ap (λ (js : Items). since_defined (expanded js)) (worked_bare b [] [] 0)
     ∙ ap since_defined (expanded_bare (λ js. worked_bare js [] [] 0) c)
     ∙ ap later (undefined_bare x [] 0 0) ∙ later_bare (undefined [] 0 0 x)

@@ -1,20 +1,22 @@
 -- Expanding functions and leaving the directive lines away can be done in any order.
-use Rattle.std.proofs.Common.{◌≡◌, ℕ, zero, suc, ◌+◌, ◌-◌, Bool, true, false, cond, List, [], ◌∷◌, ◌++◌, length, map, take, drop, Option, Some, None, refl, sym, ap, ap₂, subst, ◌∙◌}
+use Rattle.std.proofs.Common.{◌≡◌, ℕ, zero, suc, ◌+◌, ◌-◌, Bool, true, false, cond, List, [], ◌∷◌, ◌++◌, length, map, take, drop, Option, Some, None, refl, sym, ap, ap₂, ◌∙◌}
 use Rattle.std.specs.Prelude.{◌&&◌, ◌||◌, ◌==◌, not, nat_lt, codes}
 use Rattle.std.specs.Option.{option_map}
 use Rattle.std.specs.Str.{bytes_eq}
 use Rattle.std.proofs.lemmas.List.{append-nil}
 use Rattle.c_tokens.specs.declared.kind.Sign.{Sign}
 use Rattle.c_tokens.specs.declared.kind.Sign.TheVariants as sign
-use Rattle.c_grammar.specs.Lexeme.{Lexeme, Worded, Int, Main, Uint64}
+use Rattle.c_grammar.specs.Lexeme.{Lexeme, Uint64}
 use Rattle.c_grammar.specs.Lines.{is_omp}
 use Rattle.c_grammar.specs.Terminal.{Terminal, Fixed, Mark, Name, Num, Line, Unknown, Unworked, End, same}
 use Rattle.c_grammar.specs.Texts.{Item}
 use Rattle.c_grammar.specs.Blocks.{Items, is_directive, bare, at}
 use Rattle.c_grammar.specs.Changes.{is_mark, is_boundary}
 use Rattle.c_grammar.specs.Constants.{Names, is_among, is_name, with_terminal, worked}
-use Rattle.c_grammar.specs.Functions.{Arguments, Expanded, Function, Functions, Headed, Known, Others, Passed, Parameter, Put, Called, Counts, Puts, Returned, Where, Outside, InHead, InBody, added, argument_closed, argument_on, arguments, assigned_call, block_of, both, call, called, closed, closes, constant_in, declaration, declared_call, declared_in, defined, ends_here, expanded, expanded_at, expanded_by, expanded_of, expanded_with, expansion, first_some, function_of, function_with, given, has_function, has_value, head_at, headed_or, in_body, in_head, in_room, is_main, is_none, is_specifier, is_static, known_names, later, left_len, line_in, local, may_be_added, most_known, most_lines, most_names, names_in, other_name, nothing_known, nothing_passed, opens, out_of_body, outside, parameters_from, passed, passed_to, passes, passes_array, passes_name, passes_one, passes_one_array, passes_value, plain, put_all, put_for, put_line, put_terminal, puts_from, raw_in, returned, returned_by, specifies, statement_on, stays, terminal_for, token_in, value_at, value_ended, with_function, with_name}
-use Rattle.c_grammar.proofs.BareTokens.{IsPlain, ArePlain, IsBare, either, one, some, either_plain, plain_bare, same_bare, both_plain, bare_both, plain_kept}
+use Rattle.c_grammar.specs.Functions.{Arguments, Expanded, Function, Functions, Headed, Known, Others, Passed, Parameter, Put, Called, Counts, Puts, Returned, Where, Outside, InHead, InBody, added, argument_closed, argument_on, arguments, array_names, assigned_call, block_of, both, call, called, closed, closes, constant_in, declaration, declared_call, declared_in, defined, ends_here, expanded, expanded_at, expanded_by, expanded_of, expanded_with, expansion, first_some, function_of, function_with, given, has_function, has_value, head_at, headed_or, in_body, in_head, in_room, is_main, is_none, is_specifier, is_static, known_names, later, left_len, line_in, local, may_be_added, most_known, most_lines, most_names, names_in, other_name, nothing_known, opens, out_of_body, outside, parameters_from, passed, passed_to, passes, passes_array, passes_name, passes_one, passes_one_array, passes_value, plain, put_all, put_for, put_line, put_terminal, puts_from, raw_in, returned, returned_by, specifies, statement_on, stays, terminal_for, token_in, value_at, value_ended, with_function, with_name}
+use Rattle.c_grammar.specs.Presence.{guarded}
+use Rattle.c_grammar.proofs.BarePresence.{guarded_bare}
+use Rattle.c_grammar.proofs.BareTokens.{IsPlain, ArePlain, IsBare, either, one, some, plain_bare, same_bare, both_plain, bare_both, plain_kept}
 
 -- a function without the directives in it
 abbrev bare_of : Function → Function
@@ -374,18 +376,21 @@ abbrev made : Known → Headed → Returned → Names → Names → Functions �
 made k h r names known fs ps = record {
   name = h.name;
   parameters = ps;
-  body = called k.globals fs true k.room 0 (put_all (puts_from k.next names) (other_name known) r.front);
+  body = called k.globals fs true k.room 0
+      (guarded (array_names k.next h.declared) (put_all (puts_from k.next names) (other_name known) r.front));
   value = put_all (puts_from k.next names) (other_name known) r.value;
 }
 
 made_bare : (k : Known) (h : Headed) (r : Returned) (names known : Names) (ps : List Parameter) →
     made k h (bare_returned r) names known (map bare_of k.functions) ps ≡ bare_of (made k h r names known k.functions ps)
 made_bare k h r names known ps =
+    let arrays : Names = array_names k.next h.declared in
     let puts : Puts = puts_from k.next names in
     let other : Others = other_name known in
     ap₂ (λ (b v : Items). record { name = h.name; parameters = ps; body = b; value = v })
-    (ap (λ (v : Items). called k.globals (map bare_of k.functions) true k.room 0 v) (put_bare puts other r.front)
-    ∙ called_bare (put_all puts other r.front) k.globals k.functions true k.room 0)
+    (ap (λ (v : Items). called k.globals (map bare_of k.functions) true k.room 0 (guarded arrays v)) (put_bare puts other r.front)
+    ∙ ap (λ (v : Items). called k.globals (map bare_of k.functions) true k.room 0 v) (guarded_bare arrays (put_all puts other r.front))
+    ∙ called_bare (guarded arrays (put_all puts other r.front)) k.globals k.functions true k.room 0)
     (put_bare puts other r.value)
 
 function_bare : (k : Known) (h : Headed) (r : Returned) →

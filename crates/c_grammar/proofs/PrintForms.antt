@@ -6,12 +6,12 @@ use Rattle.base.specs.declared.fault.ReadCode.{ReadCode as Code}
 use Rattle.base.specs.declared.fault.ReadCode.TheVariants.{UnknownByte, Unexpected, Undeclared, HostOnly}
 use Rattle.c_tokens.specs.Piece.{number_of, hex_number_of, number_piece, sign_one, sign_two, sign_three, changing_sign, sign_at, format_at, piece_at, comment_end_from, is_include}
 use Rattle.c_tokens.specs.Text.{after, tokens_from}
-use Rattle.c_grammar.specs.Lexeme.{Lexeme, word_of, piece_on_line, lexemes_from, lexemes_of}
+use Rattle.c_grammar.specs.Lexeme.{word_of, piece_on_line, lexemes_from}
 use Rattle.c_grammar.specs.Lines.{is_omp, kind_of, holds, is_target, depth_of, collapse_from, uses_of, uses_from, line_fault}
 use Rattle.c_grammar.specs.LineRules.{line_breaks, line_wrong, line_enter}
 use Rattle.c_grammar.specs.LineMachine.{line_advance, line_place, line_first_broken, line_first_wrong}
 use Rattle.c_grammar.specs.Expressions.{expression}
-use Rattle.c_grammar.specs.LineForms.{line_from, line_in_full}
+use Rattle.c_grammar.specs.LineForms.{line_from}
 use Rattle.c_grammar.specs.Constants.{worked, undefined}
 use Rattle.c_grammar.specs.Changes.{in_full}
 use Rattle.c_grammar.specs.Allocations.{all_read}

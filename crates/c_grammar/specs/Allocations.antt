@@ -1,7 +1,7 @@
 -- Arrays that main allocates: uint64_t *a = malloc(N * sizeof(uint64_t)); there is the global array a with N cells. An empty
 -- block stands in its place, and in that of free(a); where the name stands nowhere behind. They are put so before the
 -- grammar is asked, so that it sees arrays.
-use Rattle.std.specs.Prelude.{ℕ, ◌+◌, ◌-◌, ◌*◌, Bool, true, false, not, ◌&&◌, ◌||◌, ◌==◌, nat_lt, if◌then◌else◌, List, [], ◌∷◌, ◌++◌, length, Option, Some, None, codes}
+use Rattle.std.specs.Prelude.{ℕ, ◌+◌, ◌-◌, ◌*◌, Bool, true, false, not, ◌&&◌, ◌||◌, ◌==◌, nat_lt, if◌then◌else◌, List, [], ◌∷◌, ◌++◌, length, reverse, Option, Some, None, codes}
 use Rattle.c_tokens.specs.declared.kind.Sign.{Sign}
 use Rattle.c_tokens.specs.declared.kind.Sign.TheVariants as sign
 use Rattle.c_grammar.specs.Lexeme.{Uint64, Int, Main}
@@ -11,6 +11,7 @@ use Rattle.c_grammar.specs.Blocks.{Items, at, is_directive, bare}
 use Rattle.c_grammar.specs.Expressions.{fitting}
 use Rattle.c_grammar.specs.Constants.{Names, is_among, is_mark, malloc_word, calloc_word, sizeof_word}
 use Rattle.c_grammar.specs.Initial.{value_of}
+use Rattle.c_grammar.specs.Presence.{guarded}
 
 -- ---- sizes
 
@@ -256,6 +257,9 @@ all_read r (i ∷ is) = all_read (next i is r) is
 abbrev pub joined : Reading → Items
 joined r = r.before ++ (r.arrays ++ r.done)
 
--- the tokens with the arrays that main allocates
+abbrev pub guarded_reading : Reading → Items
+guarded_reading r = guarded (reverse r.names) (joined r)
+
+-- the tokens with the arrays that main allocates, and where these are used with the clauses that they are present
 abbrev pub allocated : Items → Items
-allocated is = joined (all_read nothing_read is)
+allocated is = guarded_reading (all_read nothing_read is)

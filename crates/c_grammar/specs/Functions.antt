@@ -9,8 +9,9 @@ use Rattle.c_grammar.specs.Texts.{Item}
 use Rattle.c_grammar.specs.Blocks.{Items, at, bare, is_directive}
 use Rattle.c_grammar.specs.Changes.{is_mark, is_boundary, kind_of}
 use Rattle.c_grammar.specs.Constants.{Names, is_among, is_name, is_number, with_terminal, worked}
-use Rattle.c_grammar.specs.Expressions.{Nothing, Worked, Number, Fault, expression}
+use Rattle.c_grammar.specs.Expressions.{Nothing, Worked, Number, expression}
 use Rattle.c_grammar.specs.LineForms.{is_sign}
+use Rattle.c_grammar.specs.Presence.{closes_list, guarded, opens_list}
 
 -- ---- names that no source can spell
 
@@ -207,12 +208,6 @@ spot_of left depth names = record { left = left; depth = depth; names = names }
 -- the words pragma omp stay
 abbrev pub line_begins : Spot
 line_begins = spot_of 2 0 false
-
-abbrev pub opens_list : Lexeme → Bool
-opens_list t = is_sign sign.OpenParen t || is_sign sign.OpenBracket t
-
-abbrev pub closes_list : Lexeme → Bool
-closes_list t = is_sign sign.CloseParen t || is_sign sign.CloseBracket t
 
 -- whether a clause has a colon that stands in no brackets of its own: what is before that one is a word, as in map(to: A)
 abbrev pub has_colon : ℕ → List Lexeme → Bool
@@ -593,6 +588,11 @@ parameters_from k body [] = []
 parameters_from k body (d ∷ ds) =
     record { name = unspelled k; array = d.array; assigned = is_assigned d.name body } ∷ parameters_from (k + 1) body ds
 
+-- the names of parameters that are arrays
+abbrev pub array_names : ℕ → List Declared → Names
+array_names k [] = []
+array_names k (d ∷ ds) = (if d.array then unspelled k ∷ [] else []) ++ array_names (k + 1) ds
+
 abbrev pub names_in : Headed → Items → Names
 names_in h body = map (λ d. d.name) h.declared ++ declared_in (bare body)
 
@@ -606,7 +606,8 @@ function_with k h r =
     record {
       name = h.name;
       parameters = parameters_from k.next (bare r.front) h.declared;
-      body = called k.globals k.functions true k.room 0 (put_all puts (other_name (known_names k)) r.front);
+      body = called k.globals k.functions true k.room 0
+          (guarded (array_names k.next h.declared) (put_all puts (other_name (known_names k)) r.front));
       value = put_all puts (other_name (known_names k)) r.value;
     }
 

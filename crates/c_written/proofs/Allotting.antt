@@ -1,10 +1,11 @@
 -- One token after another, with the arrays that main allocates.
-use Rattle.std.proofs.Common.{◌≡◌, ◌∙◌, ◌<◌, List, [], ◌∷◌, ◌++◌, length, Result, refl, sym, ap, append_assoc, arith}
+use Rattle.std.proofs.Common.{◌≡◌, ◌∙◌, ◌<◌, List, [], ◌∷◌, ◌++◌, length, map, reverse, Result, refl, sym, ap, append_assoc, arith}
+use Rattle.std.proofs.lemmas.List.{reverse-reverse}
 use Rattle.std.specs.Prelude.{OnOk}
 use Rattle.c_grammar.specs.Terminal.{Terminal}
 use Rattle.c_grammar.specs.Texts.{Item}
 use Rattle.c_grammar.specs.Blocks.{Items}
-use Rattle.c_grammar.specs.Allocations.{Reading, all_read, allocated, joined, next, nothing_read}
+use Rattle.c_grammar.specs.Allocations.{Reading, all_read, joined, next, nothing_read}
 use Rattle.c_written.specs.declared.token.Token.{Token}
 use Rattle.c_written.specs.declared.allocated.Allocations.{Allocations}
 use Rattle.c_written.specs.Allocations.{reading_of, with_allocations}
@@ -49,10 +50,17 @@ allocations_taken res old new i is h =
 
 pub all_joined : (a : Allocations) (rest vs ws : List Token) (is : Items) → length rest < 1 →
     with_allocations a (seen_all rest) ≡ all_read nothing_read is → vs ≡ a.before.items ++ a.arrays.items →
-    ws ≡ vs ++ a.done.items → seen_all ws ≡ allocated is
+    ws ≡ vs ++ a.done.items → seen_all ws ≡ joined (all_read nothing_read is)
 all_joined a [] vs ws is h e f g =
     ap seen_all (g ∙ ap (λ (ts : List Token). ts ++ a.done.items) f ∙ append_assoc a.before.items a.arrays.items a.done.items)
     ∙ seen_both a.before.items (a.arrays.items ++ a.done.items)
     ∙ ap (λ (js : Items). seen_all a.before.items ++ js) (seen_both a.arrays.items a.done.items)
     ∙ ap joined (sym (read_end (reading_of a)) ∙ e)
 all_joined a (t ∷ ts) vs ws is h e f g = absurd (omega arith)
+
+pub all_named : (a : Allocations) (rest : List Token) (is : Items) → length rest < 1 → with_allocations a (seen_all rest) ≡ all_read nothing_read is →
+    map (λ x. x.now) a.names.items ≡ reverse (all_read nothing_read is).names
+all_named a [] is h e =
+    sym (reverse-reverse (map (λ x. x.now) a.names.items))
+    ∙ ap (λ (r : Reading). reverse r.names) (sym (read_end (reading_of a)) ∙ e)
+all_named a (t ∷ ts) is h e = absurd (omega arith)

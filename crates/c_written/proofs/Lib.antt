@@ -47,3 +47,6 @@ pub mod Sourcing
 pub mod SourceSteps
 pub mod CallLefts
 pub mod CallWalk
+pub mod Guarding
+pub mod Joining
+pub mod DeclaringFunctions

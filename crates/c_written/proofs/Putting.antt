@@ -30,11 +30,11 @@ abbrev pub all_columns : List PlacedLexeme → List ℕ
 all_columns qs = columns_of (all_placed qs)
 
 -- a line is whole by what its tokens are
-abbrev all_well : List Lexeme → Bool
+abbrev pub all_well : List Lexeme → Bool
 all_well [] = true
 all_well (t ∷ ts) = ends_well t (is_empty ts) && all_well ts
 
-abbrev whole_kinds : List Lexeme → Bool
+abbrev pub whole_kinds : List Lexeme → Bool
 whole_kinds ts = not (is_empty ts) && all_well ts
 
 well_kinds : (ps : List Placed) → all_end_well ps ≡ all_well (kinds_of ps)
@@ -42,7 +42,7 @@ well_kinds [] = refl
 well_kinds (p ∷ []) = refl
 well_kinds (p ∷ q ∷ ps) = ap (λ (b : Bool). ends_well p.lexeme false && b) (well_kinds (q ∷ ps))
 
-whole_is : (ps : List Placed) → is_whole ps ≡ whole_kinds (kinds_of ps)
+pub whole_is : (ps : List Placed) → is_whole ps ≡ whole_kinds (kinds_of ps)
 whole_is [] = refl
 whole_is (p ∷ ps) = well_kinds (p ∷ ps)
 

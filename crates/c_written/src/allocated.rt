@@ -1,13 +1,16 @@
 //! The arrays that `main` allocates, before it, and empty blocks where that was.
 
-ghost use Rattle.std.specs.Prelude.{◌≡◌, ◌++◌, IfOk, OnOk};
+ghost use Rattle.std.specs.Prelude.{◌≡◌, ◌++◌, map, reverse, IfOk, OnOk};
 ghost use Rattle.c_grammar.specs.Blocks.{bare};
-ghost use Rattle.c_grammar.specs.Allocations.{allocated, begins_main, declaration, depth_behind, is_boundary};
+ghost use Rattle.c_grammar.specs.Allocations.{all_read, allocated, begins_main, declaration, depth_behind, is_boundary, joined, nothing_read};
 ghost use Rattle.c_written.specs.Allocations.{seen_allocation};
+ghost use Rattle.c_written.specs.Held.{written_all};
 ghost use Rattle.c_written.specs.Seen.{seen, seen_all, seen_terminal};
 
 use crate::ahead::Ahead;
 use crate::allocations::{Array, allocation, is_named};
+use crate::held::Written;
+use crate::presence::guarded;
 use crate::targets::is_sign;
 use crate::token::{Terminal, Token};
 use c_tokens::Sign;
@@ -255,12 +258,25 @@ impl<'a, 'l> Allocations<'a, 'l> {
     }
 }
 
-/// The tokens with the arrays that `main` allocates before it, and with empty blocks where that was.
-pub fn allocated<'a, 'l>(
+/// The tokens with the arrays that `main` allocates before it, and with empty blocks where that was. Where a target uses one
+/// and does not map it, its line says that it is present.
+pub fn allocated<'a>(
+    alloc: Global,
+    tokens: &[Token<'a, '_>],
+) -> Result<Vec<Written<'a>>, AllocError>
+    ensures { IfOk result (λ v. written_all v.items ≡ allocated (seen_all tokens.now)) }
+{
+    let (names, all) = with_arrays(alloc, tokens)?;
+    guarded(alloc, &names, &all)
+}
+
+// The names of the arrays, and the tokens with these.
+fn with_arrays<'a, 'l>(
     alloc: Global,
     tokens: &[Token<'a, 'l>],
-) -> Result<Vec<Token<'a, 'l>>, AllocError>
-    ensures { IfOk result (λ v. seen_all v.items ≡ allocated (seen_all tokens.now)) }
+) -> Result<(Vec<&'a [u8]>, Vec<Token<'a, 'l>>), AllocError>
+    ensures names { IfOk result (λ p. map (λ x. x.now) p.0.items ≡ reverse (all_read nothing_read (seen_all tokens.now)).names) }
+    ensures joined { IfOk result (λ p. seen_all p.1.items ≡ joined (all_read nothing_read (seen_all tokens.now))) }
 {
     let mut read = Allocations {
         before: Vec::new(alloc),
@@ -277,8 +293,15 @@ pub fn allocated<'a, 'l>(
         read.take(*token, behind)?;
         rest = behind;
     }
-    let mut all = read.before;
-    all.extend_from_slice(&read.arrays)?;
-    all.extend_from_slice(&read.done)?;
-    Ok(all)
+    let Allocations {
+        before,
+        arrays,
+        done,
+        names,
+        ..
+    } = read;
+    let mut all = before;
+    all.extend_from_slice(&arrays)?;
+    all.extend_from_slice(&done)?;
+    Ok((names, all))
 }

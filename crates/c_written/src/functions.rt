@@ -18,6 +18,7 @@ use crate::constants::worked;
 use crate::heads::{Declared, Headed, head_at};
 use crate::held::{Written, borrowed, owned};
 use crate::operators::Change;
+use crate::presence::guarded;
 use crate::puts::{Other, Put, Puts, is_among, unspelled};
 use crate::token::{Terminal, Token};
 use c_tokens::Sign;
@@ -190,7 +191,7 @@ impl<'a, 'l> Source<'a, 'l> {
     ghost use Rattle.std.specs.Prelude.{◌≡◌, ◌++◌, ◌∷◌, ◌+◌, ◌<◌, ◌&&◌, [], false, true, not, length, map, nat_lt, Some, IfOk, OnOk, if◌then◌else◌};
     ghost use Rattle.c_grammar.specs.Blocks.{bare, is_directive};
     ghost use Rattle.c_grammar.specs.Constants.{is_among};
-    ghost use Rattle.c_grammar.specs.Functions.{InBody, Onward, Outside, added, called, closed, function_with, in_body, is_main, known_names, line_in, most_known, most_names, names_in, outside, parameters_from, puts_from, raw_in, returned_by};
+    ghost use Rattle.c_grammar.specs.Functions.{InBody, Onward, Outside, added, array_names, called, closed, function_with, in_body, is_main, known_names, line_in, most_known, most_names, names_in, outside, parameters_from, puts_from, raw_in, returned_by};
     ghost use Rattle.c_written.specs.Ahead.{ahead};
     ghost use Rattle.c_written.specs.Functions.{all_declared, all_parameters, functions_of, globals_of, known_in, place_in, puts_of, seen_function, seen_headed, seen_returned, with_source};
     ghost use Rattle.c_written.specs.Held.{written_all};
@@ -227,6 +228,22 @@ impl<'a, 'l> Source<'a, 'l> {
             })?;
         }
         Ok(parameters)
+    }
+
+    // The names of the parameters that are arrays.
+    fn arrays(&self, alloc: Global, declared: &[Declared<'a>]) -> Result<Vec<&'a [u8]>, AllocError>
+        requires { self.now.next < most_names }
+        ensures { IfOk result (λ v. map (λ x. x.now) v.items ≡ array_names self.now.next (all_declared declared.now)) }
+    {
+        let mut arrays = Vec::new(alloc);
+        let mut number = self.next;
+        'declared: for one in declared {
+            if one.array {
+                arrays.push(unspelled(number))?;
+            }
+            number = number.saturating_add(1);
+        }
+        Ok(arrays)
     }
 
     fn puts(&self, alloc: Global, names: &[&'a [u8]]) -> Result<Puts<'a>, AllocError>
@@ -290,6 +307,8 @@ impl<'a, 'l> Source<'a, 'l> {
         let other = Other::Known(known);
         let mut front = Vec::new(alloc);
         puts.put_all(alloc, other, &returned.front, &mut front)?;
+        let arrays = self.arrays(alloc, &head.declared)?;
+        let front = guarded(alloc, &arrays, &borrowed(alloc, &front)?)?;
         let mut value = Vec::new(alloc);
         puts.put_all(alloc, other, &returned.value, &mut value)?;
         Ok(Function {

@@ -1,13 +1,15 @@
 //! The written tokens of a source.
 
-ghost use Rattle.std.specs.Prelude.{◌≡◌, ◌≤◌, ◌^◌, IfOk, [], map};
+ghost use Rattle.std.specs.Prelude.{◌≡◌, ◌≤◌, ◌^◌, IfOk, [], false, map};
 ghost use Rattle.c_tokens.specs.Text.{tokens_of};
 ghost use Rattle.c_grammar.specs.Allocations.{allocated};
 ghost use Rattle.c_grammar.specs.Blocks.{in_blocks, nothing_read, typed};
 ghost use Rattle.c_grammar.specs.Changes.{begin, in_full};
 ghost use Rattle.c_grammar.specs.Constants.{undefined, worked};
+ghost use Rattle.c_grammar.specs.DeclaredFunctions.{undeclared};
 ghost use Rattle.c_grammar.specs.Functions.{expanded};
 ghost use Rattle.c_grammar.specs.Initial.{initialized, no_globals};
+ghost use Rattle.c_grammar.specs.Nesting.{nested};
 ghost use Rattle.c_grammar.specs.Prints.{printed};
 ghost use Rattle.c_grammar.specs.Source.{item_of, text_of, written_out};
 ghost use Rattle.c_written.specs.Held.{columns_held, seen_held, written_all};
@@ -16,10 +18,12 @@ use crate::allocated::allocated;
 use crate::blocks::in_blocks;
 use crate::changes::in_full;
 use crate::constants::worked;
+use crate::declared_functions::undeclared;
 use crate::definitions::undefined;
 use crate::functions::expanded;
 use crate::globals::initialized;
 use crate::held::{Written, WrittenTerminal, borrowed, owned};
+use crate::nesting::nested;
 use crate::prints::printed;
 use crate::types::typed;
 use c_tokens::{Kind, Token, tokens};
@@ -77,14 +81,18 @@ fn raw<'a>(alloc: Global, bytes: &'a [u8]) -> Result<Vec<Written<'a>>, AllocErro
     Ok(written)
 }
 
-/// The tokens with their calls of `printf`, types, blocks and constants.
+/// The tokens with their combined constructs, calls of `printf`, types, blocks and constants, and without the lines that
+/// declare functions.
 fn with_constants<'a>(alloc: Global, raw: &[Written<'a>]) -> Result<Vec<Written<'a>>, AllocError>
     ensures { IfOk result (λ v. written_all v.items ≡
-        worked [] [] 0 (in_blocks nothing_read (typed 0 (printed 0 (written_all raw.now))))) }
+        worked [] [] 0 (in_blocks nothing_read (undeclared false (typed 0 (printed 0 (nested (written_all raw.now))))))) }
 {
     let tokens = borrowed(alloc, raw)?;
+    let tokens = nested(alloc, &tokens)?;
+    let tokens = borrowed(alloc, &tokens)?;
     let tokens = printed(alloc, &tokens)?;
     let tokens = typed(alloc, &tokens)?;
+    let tokens = undeclared(alloc, &tokens)?;
     let tokens = in_blocks(alloc, &tokens)?;
     worked(alloc, &tokens)
 }
@@ -97,6 +105,7 @@ fn with_changes<'a>(alloc: Global, worked: &[Written<'a>]) -> Result<Vec<Written
     let tokens = borrowed(alloc, worked)?;
     let tokens = undefined(alloc, &tokens)?;
     let tokens = allocated(alloc, &tokens)?;
+    let tokens = borrowed(alloc, &tokens)?;
     let tokens = initialized(alloc, &tokens)?;
     let tokens = in_full(alloc, &tokens)?;
     owned(alloc, &tokens)

@@ -1,7 +1,8 @@
 //! Where names stand on a directive line.
 
 ghost use Rattle.std.specs.Prelude.{◌≡◌, map};
-ghost use Rattle.c_grammar.specs.Functions.{closes_list, has_colon, opens_list};
+ghost use Rattle.c_grammar.specs.Functions.{has_colon};
+ghost use Rattle.c_grammar.specs.Presence.{closes_list, opens_list};
 ghost use Rattle.directives.specs.Seen.{seen_lexeme};
 ghost use Rattle.c_written.specs.Spots.{all_kinds};
 
@@ -19,13 +20,13 @@ pub struct Spot {
     pub names: bool,
 }
 
-fn opens_list(lexeme: Lexeme<'_>) -> bool
+pub fn opens_list(lexeme: Lexeme<'_>) -> bool
     ensures { result ≡ opens_list (seen_lexeme lexeme.entry) }
 {
     is_sign(lexeme, Sign::OpenParen) || is_sign(lexeme, Sign::OpenBracket)
 }
 
-fn closes_list(lexeme: Lexeme<'_>) -> bool
+pub fn closes_list(lexeme: Lexeme<'_>) -> bool
     ensures { result ≡ closes_list (seen_lexeme lexeme.entry) }
 {
     is_sign(lexeme, Sign::CloseParen) || is_sign(lexeme, Sign::CloseBracket)

@@ -6,6 +6,9 @@ mod UnlinedConstants
 mod UnlinedDropped
 mod UnlinedTargets
 mod UnlinedStatements
+mod UnlinedPresence
+mod UnlinedNesting
+mod UnlinedDeclaredFunctions
 mod UnlinedAllocations
 mod UnlinedGlobals
 mod UnlinedChanges

@@ -1,6 +1,6 @@
 -- Arrays are allocated without a look at the lines of the tokens.
 use Rattle.std.proofs.Common.{◌≡◌, ℕ, Bool, true, false, cond, List, [], ◌∷◌, ◌++◌, length, Option, Some, None, refl, sym, ap, ◌∙◌}
-use Rattle.std.specs.Prelude.{◌&&◌, ◌||◌, not, nat_lt, codes}
+use Rattle.std.specs.Prelude.{◌&&◌, ◌||◌, not, nat_lt, reverse, codes}
 use Rattle.c_tokens.specs.declared.kind.Sign.{Sign}
 use Rattle.c_tokens.specs.declared.kind.Sign.TheVariants as sign
 use Rattle.c_grammar.specs.Lexeme.{Uint64}
@@ -9,8 +9,10 @@ use Rattle.c_grammar.specs.Texts.{Item}
 use Rattle.c_grammar.specs.Blocks.{Items, at, is_directive, bare}
 use Rattle.c_grammar.specs.Constants.{Names, is_among, is_mark, malloc_word, calloc_word}
 use Rattle.c_grammar.specs.Initial.{value_of}
-use Rattle.c_grammar.specs.Allocations.{skipped, either, type_size, cell_size, open_size, behind_size, ends_call, is_ended, times, counted_on, counted, numbered_on, numbered, numbered_behind, first_number, product, Cells, told, asked, called, cast, or_all, Allocation, with_cells, allocates, allocation, declaration, is_named, frees, is_freed, Reading, nothing_read, passed, kept, entered, opened, closed, allotted, max_arrays, given_up, is_allowed, by_allocation, begins_main, at_statement, taken, next, all_read, joined, allocated}
+use Rattle.c_grammar.specs.Allocations.{guarded_reading, skipped, either, type_size, cell_size, open_size, behind_size, ends_call, is_ended, times, counted_on, counted, numbered_on, numbered, numbered_behind, first_number, product, Cells, told, asked, called, cast, or_all, Allocation, with_cells, allocates, allocation, declaration, is_named, frees, is_freed, Reading, nothing_read, passed, kept, entered, opened, closed, allotted, max_arrays, given_up, is_allowed, by_allocation, begins_main, at_statement, taken, next, all_read, joined, allocated}
 use Rattle.same_text.specs.Laws.{unlined}
+use Rattle.c_grammar.specs.Presence.{guarded}
+use Rattle.same_text.proofs.UnlinedPresence.{guarded_unlined}
 use Rattle.same_text.proofs.Unlined.{all_unlined, bare_unlined}
 
 -- ---- sizes
@@ -284,9 +286,14 @@ read_same [] r = refl
 read_same (i ∷ is) r =
     ap (λ (q : Reading). all_read q (all_unlined is)) (next_same i is r) ∙ read_same is (next i is r)
 
+joined_unlined : (r : Reading) → joined (reading_unlined r) ≡ all_unlined (joined r)
+joined_unlined r =
+    ap (λ (js : Items). all_unlined r.before ++ js) (both_unlined r.arrays r.done)
+    ∙ both_unlined r.before (r.arrays ++ r.done)
+
 pub allocated_unlined : (is : Items) → allocated (all_unlined is) ≡ all_unlined (allocated is)
 allocated_unlined is =
     let r : Reading = all_read nothing_read is in
-    ap joined (read_same is nothing_read)
-    ∙ ap (λ (js : Items). all_unlined r.before ++ js) (both_unlined r.arrays r.done)
-    ∙ both_unlined r.before (r.arrays ++ r.done)
+    ap guarded_reading (read_same is nothing_read)
+    ∙ ap (guarded (reverse r.names)) (joined_unlined r)
+    ∙ guarded_unlined (reverse r.names) (joined r)

@@ -9,8 +9,10 @@ use Rattle.c_grammar.specs.Texts.{Item}
 use Rattle.c_grammar.specs.Blocks.{Items, is_directive, bare}
 use Rattle.c_grammar.specs.Changes.{is_mark, is_boundary}
 use Rattle.c_grammar.specs.Constants.{Names, is_among, is_name, worked}
-use Rattle.c_grammar.specs.Functions.{Declared, Function, Functions, Head, Begins, Headed, Known, Onward, Others, Parameter, Parameters, Puts, Returned, Step, Goes, Adds, Closes, Stops, Where, Outside, InHead, InBody, added, called, closed, declared_in, declares, defined, expanded, function_with, has_function, has_value, head_at, headed, headed_by, headed_on, headed_or, in_body, in_head, is_assigned, is_assigning, is_main, is_specifier, is_static, is_step, is_type, known_names, line_in, may_be_added, most_known, most_lines, most_names, name_in, names_in, no_parameters, nothing_known, opens_body, other_name, out_of_body, outside, parameter_on, parameters, parameters_from, parameters_in, plain, put_all, puts_from, raw_in, returned, returned_by, specifies, token_in, unspelled, value_at, value_ended, behind, with_function, with_name}
+use Rattle.c_grammar.specs.Functions.{array_names, Declared, Function, Functions, Head, Begins, Headed, Known, Onward, Others, Parameter, Parameters, Puts, Returned, Step, Goes, Adds, Closes, Stops, Where, Outside, InHead, InBody, added, called, closed, declared_in, declares, defined, expanded, function_with, has_function, has_value, head_at, headed, headed_by, headed_on, headed_or, in_body, in_head, is_assigned, is_assigning, is_main, is_specifier, is_static, is_step, is_type, known_names, line_in, may_be_added, most_known, most_lines, most_names, name_in, names_in, no_parameters, nothing_known, opens_body, other_name, out_of_body, outside, parameter_on, parameters, parameters_from, parameters_in, plain, put_all, puts_from, raw_in, returned, returned_by, specifies, token_in, unspelled, value_at, value_ended, behind, with_function, with_name}
 use Rattle.same_text.specs.Laws.{unlined}
+use Rattle.c_grammar.specs.Presence.{guarded}
+use Rattle.same_text.proofs.UnlinedPresence.{guarded_unlined}
 use Rattle.same_text.proofs.Unlined.{all_unlined, AreUnlined, either, one, some, bare_unlined}
 use Rattle.same_text.proofs.UnlinedCalls.{function_unlined, picked, put_unlined, more_unlined, length_unlined, drop_unlined, bare_value, called_unlined}
 use Rattle.same_text.proofs.UnlinedConstants.{worked_unlined}
@@ -138,7 +140,8 @@ abbrev made : Known → Headed → Returned → Names → Names → Functions �
 made k h r names known fs ps = record {
   name = h.name;
   parameters = ps;
-  body = called k.globals fs true k.room 0 (put_all (puts_from k.next names) (other_name known) r.front);
+  body = called k.globals fs true k.room 0
+      (guarded (array_names k.next h.declared) (put_all (puts_from k.next names) (other_name known) r.front));
   value = put_all (puts_from k.next names) (other_name known) r.value;
 }
 
@@ -146,11 +149,14 @@ made_same : (k : Known) (h : Headed) (r : Returned) (names known : Names) (ps : 
     made k h (returned_unlined r) names known (map function_unlined k.functions) ps
     ≡ function_unlined (made k h r names known k.functions ps)
 made_same k h r names known ps =
+    let arrays : Names = array_names k.next h.declared in
     let puts : Puts = puts_from k.next names in
     let other : Others = other_name known in
     ap₂ (λ (b v : Items). record { name = h.name; parameters = ps; body = b; value = v })
-    (ap (called k.globals (map function_unlined k.functions) true k.room 0) (put_unlined puts other r.front)
-    ∙ called_unlined (put_all puts other r.front) k.globals k.functions true k.room 0)
+    (ap (λ (is : Items). called k.globals (map function_unlined k.functions) true k.room 0 (guarded arrays is))
+    (put_unlined puts other r.front)
+    ∙ ap (called k.globals (map function_unlined k.functions) true k.room 0) (guarded_unlined arrays (put_all puts other r.front))
+    ∙ called_unlined (guarded arrays (put_all puts other r.front)) k.globals k.functions true k.room 0)
     (put_unlined puts other r.value)
 
 function_same : (k : Known) (h : Headed) (r : Returned) →

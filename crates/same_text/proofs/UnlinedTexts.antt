@@ -1,5 +1,5 @@
 -- Tokens are written out without a look at their lines.
-use Rattle.std.proofs.Common.{◌≡◌, List, [], ◌∷◌, refl, sym, ap, ◌∙◌}
+use Rattle.std.proofs.Common.{◌≡◌, false, List, [], ◌∷◌, refl, sym, ap, ◌∙◌}
 use Rattle.c_grammar.specs.Terminal.{Terminal}
 use Rattle.c_grammar.specs.Allocations.{allocated}
 use Rattle.c_grammar.specs.Blocks.{Items, nothing_read, in_blocks, typed}
@@ -7,10 +7,14 @@ use Rattle.c_grammar.specs.Changes.{begin, in_full}
 use Rattle.c_grammar.specs.Constants.{undefined, worked}
 use Rattle.c_grammar.specs.Functions.{expanded}
 use Rattle.c_grammar.specs.Initial.{initialized, no_globals}
+use Rattle.c_grammar.specs.Nesting.{nested}
+use Rattle.c_grammar.specs.DeclaredFunctions.{undeclared}
 use Rattle.c_grammar.specs.Prints.{printed}
 use Rattle.c_grammar.specs.Source.{written_out}
 use Rattle.erasure.proofs.Spelled.{kinds_in}
 use Rattle.same_text.proofs.Unlined.{all_unlined, AreUnlined, typed_unlined, blocks_unlined}
+use Rattle.same_text.proofs.UnlinedNesting.{nested_unlined}
+use Rattle.same_text.proofs.UnlinedDeclaredFunctions.{undeclared_unlined}
 use Rattle.same_text.proofs.UnlinedPrints.{printed_unlined}
 use Rattle.same_text.proofs.UnlinedConstants.{worked_unlined}
 use Rattle.same_text.proofs.UnlinedFunctions.{expanded_unlined}
@@ -30,17 +34,22 @@ later_unlined is =
 
 written_unlined : (is : Items) → AreUnlined (written_out (all_unlined is)) (written_out is)
 written_unlined is =
-    let p : Items = printed 0 is in
+    let n : Items = nested is in
+    let p : Items = printed 0 n in
     let a : Items = typed 0 p in
-    let b : Items = in_blocks nothing_read a in
+    let u : Items = undeclared false a in
+    let b : Items = in_blocks nothing_read u in
     let c : Items = worked [] [] 0 b in
     let f : Items = expanded c in
     let later : Items → Items = λ js. in_full begin 0 (initialized no_globals 0 (allocated js)) in
     let since_defined : Items → Items = λ js. later (undefined [] 0 0 js) in
     let since_blocks : Items → Items = λ js. since_defined (expanded (worked [] [] 0 js)) in
-    ap (λ (js : Items). since_blocks (in_blocks nothing_read (typed 0 js))) (printed_unlined is 0)
-    ∙ ap (λ (js : Items). since_blocks (in_blocks nothing_read js)) (typed_unlined p 0)
-    ∙ ap since_blocks (blocks_unlined a nothing_read)
+    let since_typed : Items → Items = λ js. since_blocks (in_blocks nothing_read (undeclared false js)) in
+    ap (λ (js : Items). since_typed (typed 0 (printed 0 js))) (nested_unlined is)
+    ∙ ap (λ (js : Items). since_typed (typed 0 js)) (printed_unlined n 0)
+    ∙ ap since_typed (typed_unlined p 0)
+    ∙ ap (λ (js : Items). since_blocks (in_blocks nothing_read js)) (undeclared_unlined a false)
+    ∙ ap since_blocks (blocks_unlined u nothing_read)
     ∙ ap (λ (js : Items). since_defined (expanded js)) (worked_unlined b [] [] 0)
     ∙ ap since_defined (expanded_unlined c)
     ∙ ap later (undefined_unlined f [] 0 0) ∙ later_unlined (undefined [] 0 0 f)

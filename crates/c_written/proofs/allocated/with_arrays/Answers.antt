@@ -1,10 +1,15 @@
 use Rattle.std.proofs.Common.{◌∙◌, ◌++◌, List, ap}
 use Rattle.c_written.specs.declared.token.Token.{Token}
-use Rattle.c_written.proofs.Allotting.{all_joined}
-use Rattle.c_written.proofs.allocated.allocated.Goals as goal
+use Rattle.c_written.specs.Seen.{seen_all}
+use Rattle.c_written.proofs.Allotting.{all_joined, all_named}
+use Rattle.c_written.proofs.allocated.with_arrays.Goals as goal
 
-pub returns : goal.returns
-returns c =
+pub returns-clause-names : goal.returns-clause-names
+returns-clause-names c =
+    all_named c.tokens.read c.tokens.rest.now (seen_all c.args.tokens.now) c.in_default.len_below c.tokens.invariant
+
+pub returns-clause-joined : goal.returns-clause-joined
+returns-clause-joined c =
     let read = c.tokens.read in
     all_joined read c.tokens.rest.now _ _ _ c.in_default.len_below c.tokens.invariant
     (c.in_ok-extend_from_slice.ensures.items ∙ ap (λ (ts : List Token). read.before.items ++ ts) c.deref.ensures.value)

@@ -1,0 +1,148 @@
+-- Constructs inside a target: the line of one right behind that of the target, or alone in its block with its loop, belongs to
+-- it, so that both are one combined construct.
+use Rattle.std.specs.Prelude.{ℕ, ◌+◌, ◌-◌, ◌==◌, Bool, true, false, not, ◌&&◌, ◌||◌, if◌then◌else◌, List, [], ◌∷◌, ◌++◌, take, drop, codes}
+use Rattle.c_tokens.specs.declared.kind.Sign.TheVariants as sign
+use Rattle.c_grammar.specs.Lexeme as lexeme
+use Rattle.c_grammar.specs.Lexeme.{Lexeme, Reserved, Ended, For, Placed}
+use Rattle.c_grammar.specs.Terminal.{Terminal, Fixed, Line, same}
+use Rattle.c_grammar.specs.Texts.{Item}
+use Rattle.c_grammar.specs.Blocks.{Items, is_directive}
+use Rattle.c_grammar.specs.Changes.{is_mark}
+use Rattle.c_grammar.specs.Constants.{with_tokens}
+use Rattle.c_grammar.specs.Expressions.{placed_of}
+use Rattle.c_grammar.specs.LineForms.{is_sign}
+use Rattle.c_grammar.specs.Lines.{is_omp}
+use Rattle.c_grammar.specs.Presence.{before_end, closes_list, goes_on, is_else, is_target, is_word, opens_list, opens_part, target_column}
+
+-- ---- the names of constructs
+
+abbrev pub is_for : Lexeme → Bool
+is_for t = lexeme.same (Reserved For) t
+
+-- a word of the name of a combined construct, behind target
+abbrev pub is_part : Lexeme → Bool
+is_part t =
+    is_word (codes "teams") t || is_word (codes "distribute") t || is_word (codes "parallel") t || is_for t ||
+    is_word (codes "simd") t || is_word (codes "loop") t
+
+-- how many of them stand at the front
+abbrev pub name_len : List Lexeme → ℕ
+name_len [] = 0
+name_len (t ∷ ts) = if is_part t then name_len ts + 1 else 0
+
+-- the last of them, behind a word
+abbrev pub last_word : Lexeme → List Lexeme → Lexeme
+last_word t [] = t
+last_word t (u ∷ us) = if is_part u then last_word u us else t
+
+-- the name goes on with the second word behind the first
+abbrev pub may_follow : Lexeme → Lexeme → Bool
+may_follow t u =
+    if is_word (codes "target") t then is_word (codes "teams") u || is_word (codes "parallel") u || is_word (codes "simd") u
+    else (if is_word (codes "teams") t then is_word (codes "distribute") u || is_word (codes "loop") u
+    else (if is_word (codes "distribute") t then is_word (codes "parallel") u || is_word (codes "simd") u
+    else (if is_word (codes "parallel") t then is_for u || is_word (codes "loop") u else is_for t && is_word (codes "simd") u)))
+
+-- ---- two lines
+
+-- a clause with this word may stand on the line inside
+abbrev pub is_inner : Lexeme → Bool
+is_inner t =
+    is_word (codes "collapse") t || is_word (codes "num_teams") t || is_word (codes "thread_limit") t ||
+    is_word (codes "num_threads") t || is_word (codes "schedule") t || is_word (codes "simdlen") t ||
+    is_word (codes "safelen") t || is_word (codes "default") t || is_word (codes "shared") t || is_word (codes "firstprivate") t
+
+-- what stands between clauses
+abbrev pub is_between : Lexeme → Bool
+is_between t = is_sign sign.Comma t || lexeme.same Ended t
+
+-- such clauses alone, behind a place in so many brackets
+abbrev pub are_inner : ℕ → List Lexeme → Bool
+are_inner d [] = true
+are_inner d (t ∷ ts) =
+    if opens_list t then are_inner (d + 1) ts
+    else (if closes_list t then are_inner (d - 1) ts
+    else (if (d == 0) && not (is_inner t || is_between t) then false else are_inner d ts))
+
+-- behind the words pragma omp of the line inside
+abbrev pub follows : Lexeme → List Lexeme → Bool
+follows last [] = false
+follows last (u ∷ us) = may_follow last u && are_inner 0 (drop (name_len (u ∷ us)) (u ∷ us))
+
+-- the last word of the name of a target's construct
+abbrev pub construct_end : List Lexeme → Lexeme
+construct_end (p ∷ o ∷ t ∷ ts) = last_word t ts
+construct_end ts = Ended
+
+abbrev pub join_lines : List Lexeme → List Lexeme → Bool
+join_lines ts us = is_omp ts && is_target ts && is_omp us && follows (construct_end ts) (drop 2 us)
+
+-- all but the end of a line, at this column
+abbrev pub inner_at : ℕ → List Placed → List Placed
+inner_at column [] = []
+inner_at column (p ∷ []) = []
+inner_at column (p ∷ q ∷ ps) = record { lexeme = p.lexeme; column = column } ∷ inner_at column (q ∷ ps)
+
+-- the k words of the second name behind the first n tokens, and the clauses before the end
+abbrev pub joined_at : ℕ → ℕ → List Placed → List Placed → List Placed
+joined_at n k inner ps = take n ps ++ (take k inner ++ before_end (drop k inner) (drop n ps))
+
+abbrev pub joined_tokens : List Lexeme → List Lexeme → List Placed → List Placed → List Placed
+joined_tokens ts us ps qs =
+    joined_at (3 + name_len (drop 3 ts)) (name_len (drop 2 us)) (drop 2 (inner_at (target_column ps) qs)) ps
+
+-- ---- all tokens
+
+abbrev pub joins : Terminal → Terminal → Bool
+joins (Line ts) (Line us) = join_lines ts us
+joins t u = false
+
+abbrev pub joined_of : Item Terminal → Item Terminal → Terminal → Terminal → Item Terminal
+joined_of i j (Line ts) (Line us) = with_tokens i ts (joined_tokens ts us (placed_of ts i.columns) (placed_of us j.columns))
+joined_of i j t u = i
+
+-- the line of the target with what stands on that of the construct inside
+abbrev pub joined : Item Terminal → Item Terminal → Item Terminal
+joined i j = joined_of i j i.terminal j.terminal
+
+-- behind the statement its block ends
+abbrev pub closes_block : Items → Bool
+closes_block [] = false
+closes_block (i ∷ is) = is_mark sign.CloseBrace i
+
+abbrev pub last_on : ℕ → Item Terminal → Items → (ℕ → Bool) → Bool
+last_on d i is go =
+    if opens_part i then go (d + 1)
+    else (if is_mark sign.CloseBrace i then (if goes_on d is then go (d - 1) else closes_block is)
+    else (if is_mark sign.CloseParen i then go (d - 1)
+    else (if is_mark sign.Semicolon i && (d == 0) then (if is_else is then go 0 else closes_block is) else go d)))
+
+-- the statement that begins there is the last one of its block; so many of its parts are open
+abbrev pub is_last : ℕ → Items → Bool
+is_last d [] = false
+is_last d (i ∷ is) = if is_directive i.terminal then is_last d is else last_on d i is (λ d. is_last d is)
+
+-- a loop, which the block has alone
+abbrev pub is_only : Items → Bool
+is_only [] = false
+is_only (i ∷ is) = if is_directive i.terminal then is_only is else same (Fixed For) i.terminal && is_last 0 is
+
+abbrev pub has_construct : Terminal → Items → Bool
+has_construct t [] = false
+has_construct t (j ∷ js) = joins t j.terminal && is_only js
+
+-- the block of a target begins, which has a construct and its loop alone
+abbrev pub moves : Terminal → Item Terminal → Items → Bool
+moves t o is = is_mark sign.OpenBrace o && has_construct t is
+
+-- a token, and those behind it
+abbrev pub nested_on : Item Terminal → Items → Items
+nested_on i [] = i ∷ []
+nested_on i (j ∷ js) =
+    if joins i.terminal j.terminal then nested_on (joined i j) js
+    else (if moves i.terminal j js then j ∷ nested_on i js else i ∷ nested_on j js)
+
+-- all tokens, with each target and the construct inside it on one line
+abbrev pub nested : Items → Items
+nested [] = []
+nested (i ∷ is) = nested_on i is

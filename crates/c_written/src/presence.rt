@@ -1,0 +1,243 @@
+//! Arrays that are pointers in C, where a target uses them: on its line they are said to be present.
+
+ghost use Rattle.std.specs.Prelude.{◌≡◌, ◌++◌, ◌∷◌, false, map, [], IfOk, OnOk};
+ghost use Rattle.c_grammar.specs.Presence.{clauses_for, goes_on, guarded, guarded_item, guarded_tokens, is_else, is_mapped, is_other, is_target, opens_part, present_clause, target_column, uses};
+ghost use Rattle.directives.specs.Ahead.{seen_line};
+ghost use Rattle.directives.specs.Seen.{seen_lexeme, seen_placed};
+ghost use Rattle.directives.specs.Spells.{kinds_of};
+ghost use Rattle.c_written.specs.Forms.{all_placed};
+ghost use Rattle.c_written.specs.Held.{seen_written, written_all};
+ghost use Rattle.c_written.specs.Seen.{seen, seen_all};
+ghost use Rattle.c_written.specs.Spots.{all_kinds};
+
+use crate::held::{Written, WrittenTerminal};
+use crate::line_forms::is_name;
+use crate::spots::{closes_list, opens_list};
+use crate::token::{Terminal, Token};
+use c_tokens::Sign;
+use directives::{Lexeme, LineTokens, PlacedLexeme, Word};
+use std::alloc::{AllocError, Global};
+
+// Behind the word `target`.
+fn is_other(lexeme: Lexeme<'_>) -> bool
+    ensures { result ≡ is_other (seen_lexeme lexeme.entry) }
+{
+    is_name(lexeme, b"data")
+        || is_name(lexeme, b"enter")
+        || is_name(lexeme, b"exit")
+        || is_name(lexeme, b"update")
+}
+
+/// The line of a region that runs on a device.
+pub fn is_target(tokens: &[PlacedLexeme<'_>]) -> bool
+    ensures { result ≡ is_target (all_kinds tokens.now) }
+{
+    match tokens {
+        [_, _, word, next, ..] => is_name(word.lexeme, b"target") && !is_other(next.lexeme),
+        _ => false,
+    }
+}
+
+// Whether the name stands in a map clause.
+fn is_mapped(name: &[u8], tokens: &[PlacedLexeme<'_>]) -> bool
+    ensures { result ≡ is_mapped name.now 0 false (all_kinds tokens.now) }
+{
+    let mut depth = 0usize;
+    let mut map = false;
+    let mut rest = tokens;
+    'tokens: while let [token, behind @ ..] = rest {
+        rest = behind;
+        if opens_list(token.lexeme) {
+            depth += 1;
+        } else if closes_list(token.lexeme) {
+            depth = depth.saturating_sub(1);
+        } else if depth == 0 {
+            map = is_name(token.lexeme, b"map");
+        } else if map && is_name(token.lexeme, name) {
+            return true;
+        }
+    }
+    false
+}
+
+pub fn opens_part(token: Token<'_, '_>) -> bool
+    ensures { result ≡ opens_part (seen token.entry) }
+{
+    token.terminal.is_sign(Sign::OpenBrace) || token.terminal.is_sign(Sign::OpenParen)
+}
+
+/// Whether the word `else` stands next.
+pub fn is_else(tokens: &[Token<'_, '_>]) -> bool
+    ensures { result ≡ is_else (seen_all tokens.now) }
+{
+    match tokens {
+        [next, ..] => next.terminal.is_word(Word::Else),
+        [] => false,
+    }
+}
+
+/// The region goes on behind a brace that closes one of so many parts.
+pub fn goes_on(depth: usize, behind: &[Token<'_, '_>]) -> bool
+    ensures { result ≡ goes_on depth (seen_all behind.now) }
+{
+    depth > 1 || is_else(behind)
+}
+
+// Whether the name stands in the statement that begins there, up to a directive line.
+fn uses(name: &[u8], tokens: &[Token<'_, '_>]) -> bool
+    ensures { result ≡ uses name.now 0 (seen_all tokens.now) }
+{
+    let mut depth = 0usize;
+    let mut rest = tokens;
+    'tokens: while let [token, behind @ ..] = rest {
+        rest = behind;
+        if token.terminal.is_directive() {
+            return false;
+        }
+        if token.terminal.is_named(name) {
+            return true;
+        }
+        if opens_part(*token) {
+            depth += 1;
+        } else if token.terminal.is_sign(Sign::CloseBrace) {
+            if !goes_on(depth, behind) {
+                return false;
+            }
+            depth = depth.saturating_sub(1);
+        } else if token.terminal.is_sign(Sign::CloseParen) {
+            depth = depth.saturating_sub(1);
+        } else if token.terminal.is_sign(Sign::Semicolon) && depth == 0 {
+            return false;
+        }
+    }
+    false
+}
+
+// Adds the clause that an array is present.
+fn put_clause<'a>(
+    clauses: &mut Vec<PlacedLexeme<'a>>,
+    column: usize,
+    name: &'a [u8],
+) -> Result<(), AllocError>
+    ensures { OnOk result (all_placed clauses.new.items ≡ all_placed clauses.old.items ++ present_clause column name.now) }
+{
+    clauses.extend_from_slice(&[
+        PlacedLexeme {
+            lexeme: Lexeme::Name(b"map"),
+            column,
+        },
+        PlacedLexeme {
+            lexeme: Lexeme::Sign(Sign::OpenParen),
+            column,
+        },
+        PlacedLexeme {
+            lexeme: Lexeme::Name(b"present"),
+            column,
+        },
+        PlacedLexeme {
+            lexeme: Lexeme::Sign(Sign::Comma),
+            column,
+        },
+        PlacedLexeme {
+            lexeme: Lexeme::Name(b"alloc"),
+            column,
+        },
+        PlacedLexeme {
+            lexeme: Lexeme::Sign(Sign::Colon),
+            column,
+        },
+        PlacedLexeme {
+            lexeme: Lexeme::Name(name),
+            column,
+        },
+        PlacedLexeme {
+            lexeme: Lexeme::Sign(Sign::CloseParen),
+            column,
+        },
+    ])?;
+    Ok(())
+}
+
+fn clauses_for<'a>(
+    alloc: Global,
+    names: &[&'a [u8]],
+    column: usize,
+    tokens: &[PlacedLexeme<'a>],
+    behind: &[Token<'a, '_>],
+) -> Result<Vec<PlacedLexeme<'a>>, AllocError>
+    ensures { IfOk result (λ v. all_placed v.items ≡ clauses_for (map (λ x. x.now) names.now) column (all_kinds tokens.now) (seen_all behind.now)) }
+{
+    let mut clauses = Vec::new(alloc);
+    'names: for name in names {
+        if uses(name, behind) && !is_mapped(name, tokens) {
+            put_clause(&mut clauses, column, name)?;
+        }
+    }
+    Ok(clauses)
+}
+
+pub fn target_column(tokens: &[PlacedLexeme<'_>]) -> usize
+    ensures { result ≡ target_column (all_placed tokens.now) }
+{
+    match tokens {
+        [_, _, word, ..] => word.column,
+        _ => 0,
+    }
+}
+
+// The line of a target with the clauses for these arrays.
+fn with_clauses<'a>(
+    alloc: Global,
+    names: &[&'a [u8]],
+    line: &LineTokens<'a>,
+    behind: &[Token<'a, '_>],
+) -> Result<LineTokens<'a>, AllocError>
+    ensures { IfOk result (λ l. seen_line l ≡ guarded_tokens (map (λ x. x.now) names.now) (kinds_of (seen_line line.now)) (seen_all behind.now) (seen_line line.now)) }
+{
+    let tokens = line.tokens();
+    let column = target_column(tokens);
+    let mut clauses = clauses_for(alloc, names, column, tokens, behind)?;
+    let mut put = Vec::new(alloc);
+    let last = tokens.len().saturating_sub(1);
+    put.extend_from_slice(&tokens[..last])?;
+    put.append(&mut clauses)?;
+    put.extend_from_slice(&tokens[last..])?;
+    Ok(LineTokens::of(put))
+}
+
+fn guarded_token<'a>(
+    alloc: Global,
+    names: &[&'a [u8]],
+    token: Token<'a, '_>,
+    behind: &[Token<'a, '_>],
+) -> Result<Written<'a>, AllocError>
+    ensures { IfOk result (λ w. seen_written w ≡ guarded_item (map (λ x. x.now) names.now) (seen token.entry) (seen token.entry).terminal (seen_all behind.now)) }
+{
+    if let Terminal::Line(line) = token.terminal {
+        if token.terminal.is_directive() && is_target(line.tokens()) {
+            return Ok(Written {
+                terminal: WrittenTerminal::Line(with_clauses(alloc, names, line, behind)?),
+                line: token.line,
+                column: token.column,
+            });
+        }
+    }
+    Written::of(alloc, token)
+}
+
+/// The tokens with the clauses for these arrays on the lines of targets that use them.
+pub fn guarded<'a>(
+    alloc: Global,
+    names: &[&'a [u8]],
+    tokens: &[Token<'a, '_>],
+) -> Result<Vec<Written<'a>>, AllocError>
+    ensures { IfOk result (λ v. written_all v.items ≡ guarded (map (λ x. x.now) names.now) (seen_all tokens.now)) }
+{
+    let mut done = Vec::new(alloc);
+    let mut rest = tokens;
+    'tokens: while let [token, behind @ ..] = rest {
+        rest = behind;
+        done.push(guarded_token(alloc, names, *token, behind)?)?;
+    }
+    Ok(done)
+}
