@@ -1,13 +1,15 @@
 // Sections that are not where a directive needs them (E501 to E504, E509).
 
 use crate::diagnosis::{Diagnosis, Note, Weight};
-use crate::past::{Entered, block_with};
+use crate::past::{Entered, block_with, removed_in};
 use crate::rules::refusal_rule;
-use crate::scene::{Scene, map_with, overlap, place_of};
+use crate::runs::hull;
+use crate::scene::{Scene, is_same, map_with, overlap, place_of};
 use crate::search::{Access, Wanted};
+use crate::source::word_at;
 use crate::words::{add, construct, device_clause};
 use base::fault::{Refusal, RefusalCode};
-use base::item::{Cell, Item, MapItem, Section};
+use base::item::{Cell, Item, ItemKind, MapItem, Section};
 use base::tree::Place;
 use std::alloc::AllocError;
 
@@ -33,6 +35,15 @@ fn map_of<'a>(item: &'a Item, cell: Cell) -> Option<&'a MapItem> {
         }
     }
     None
+}
+
+// What goes away with a map item.
+fn line_text(item: &Item) -> &'static str {
+    if item.maps.len() == 1 {
+        "this line"
+    } else {
+        "this map item"
+    }
 }
 
 impl Scene<'_> {
@@ -94,12 +105,52 @@ impl Scene<'_> {
         )
     }
 
+    // What is touched of an array outside a block by a target that is refused.
+    fn touched_outside(
+        &self,
+        refusal: &Refusal,
+        block: &Section,
+    ) -> Result<Option<Section>, AllocError> {
+        'touched: for run in self.touched(refusal.item, refusal.cell)?.as_slice() {
+            if !is_same(&hull(block, run), block) {
+                return Ok(Some(*run));
+            }
+        }
+        Ok(None)
+    }
+
+    // Where a target needs more than the block has.
+    fn help_wider(
+        &self,
+        map: &MapItem,
+        entered: &Entered,
+        needed: &Section,
+        notes: &mut Vec<Note>,
+    ) -> Result<(), AllocError> {
+        let Some(entry) = self.map_item(entered.item, entered.map) else {
+            return Ok(());
+        };
+        let (all, needed, block) = (
+            self.section_text(&hull(&entered.section, &map.section))?,
+            self.section_text(needed)?,
+            self.section_text(&entered.section)?,
+        );
+        let message = format!(in self.alloc;
+            "enter all of {all} here: the target touches {needed}, and {block} is not enough"
+        )?;
+        add(notes, Weight::Help, place_of(entry), message)
+    }
+
     fn help_in_part(
         &self,
+        refusal: &Refusal,
         map: &MapItem,
         entered: &Entered,
         notes: &mut Vec<Note>,
     ) -> Result<(), AllocError> {
+        if let Some(needed) = self.touched_outside(refusal, &entered.section)? {
+            return self.help_wider(map, entered, &needed, notes);
+        }
         let (section, block) = (
             self.section_text(&map.section)?,
             self.section_text(&entered.section)?,
@@ -121,7 +172,7 @@ impl Scene<'_> {
         let message = self.in_part_text(item, map, &entered)?;
         let mut notes = Vec::new(self.alloc);
         self.note_entry(entered, item.device.number, &mut notes)?;
-        self.help_in_part(map, &entered, &mut notes)?;
+        self.help_in_part(refusal, map, &entered, &mut notes)?;
         self.at(refusal, place_of(map), &item.loops.values, message, notes)
     }
 
@@ -149,9 +200,12 @@ impl Scene<'_> {
         let name = self.cell_text(cell)?;
         match remover {
             None => format!(in self.alloc; "nothing before has entered {name} on device {device}"),
-            Some(number) => format!(in self.alloc;
-                "item {number} removed {name} from device {device} here"
-            ),
+            Some(number) => {
+                let here = self
+                    .item(number)
+                    .map_or("here", |item| self.here_text(item));
+                format!(in self.alloc; "item {number} removed {name} from device {device} {here}")
+            }
         }
     }
 
@@ -217,7 +271,104 @@ impl Scene<'_> {
         format!(in self.alloc; "{what} {verb} {section}, which is not on device {device}{turn}")
     }
 
-    fn help_absent(
+    // An exit behind another item that left the section.
+    fn help_exit(
+        &self,
+        item: &Item,
+        map: &MapItem,
+        number: u32,
+        earlier: &Item,
+        notes: &mut Vec<Note>,
+    ) -> Result<(), AllocError> {
+        let section = self.section_text(&map.section)?;
+        let message = if item.place.line == earlier.place.line {
+            format!(in self.alloc;
+                "this line left {section} in an earlier turn: write it behind the loop, or enter {section} in each turn"
+            )?
+        } else {
+            let (what, line) = (line_text(item), self.done_at(earlier).line);
+            format!(in self.alloc;
+                "item {number} left {section} at line {line} already: take {what} away"
+            )?
+        };
+        add(notes, Weight::Help, place_of(map), message)
+    }
+
+    // An exit in a block that leaves the section at its end.
+    fn help_exit_inside(
+        &self,
+        block: &Item,
+        earlier: &Item,
+        exit: &MapItem,
+        notes: &mut Vec<Note>,
+    ) -> Result<(), AllocError> {
+        let (section, what) = (self.section_text(&exit.section)?, line_text(earlier));
+        let line = self.done_at(block).line;
+        let message = format!(in self.alloc;
+            "take {what} away: the block that ends at line {line} leaves {section} there"
+        )?;
+        add(notes, Weight::Help, place_of(exit), message)
+    }
+
+    // The last item before another one, but for targets, that removed a cell from a device, and its map item that did.
+    fn last_exit(&self, device: u8, cell: Cell, until: u32) -> Option<(u32, usize)> {
+        let mut last = None;
+        'items: for number in 0..until {
+            if let Some(item) = self.item(number)
+                && item.device.number == device
+                && !matches!(item.kind, ItemKind::Target)
+                && let Some(map) = removed_in(self.row(number as usize)?, cell)
+            {
+                last = Some((number, map));
+            }
+        }
+        last
+    }
+
+    // What can be done where an earlier item left a section that is left once more.
+    fn help_left(
+        &self,
+        item: &Item,
+        map: &MapItem,
+        remover: (u32, usize),
+        notes: &mut Vec<Note>,
+    ) -> Result<(), AllocError> {
+        let (number, place) = remover;
+        let (Some(earlier), Some(exit)) = (self.item(number), self.map_item(number, place)) else {
+            return Ok(());
+        };
+        match (item.kind, earlier.kind) {
+            (ItemKind::Exit, _) => self.help_exit(item, map, number, earlier, notes),
+            (ItemKind::End, ItemKind::Exit) => self.help_exit_inside(item, earlier, exit, notes),
+            _ => self.help_enter(item, map, notes),
+        }
+    }
+
+    // Another device that has the section.
+    fn help_elsewhere(
+        &self,
+        refusal: &Refusal,
+        device: u8,
+        map: &MapItem,
+        notes: &mut Vec<Note>,
+    ) -> Result<(), AllocError> {
+        'devices: for other in 0..DEVICES {
+            let blocks = self.blocks(other, refusal.item)?;
+            if other != device
+                && let Some(entered) = block_with(&blocks, refusal.cell)
+                && is_same(&hull(&entered.section, &map.section), &entered.section)
+            {
+                let section = self.section_text(&map.section)?;
+                let help = format!(in self.alloc;
+                    "write `device({other})` on this line: {section} is present there"
+                )?;
+                return add(notes, Weight::Help, place_of(map), help);
+            }
+        }
+        Ok(())
+    }
+
+    fn help_enter(
         &self,
         item: &Item,
         map: &MapItem,
@@ -231,6 +382,64 @@ impl Scene<'_> {
         add(notes, Weight::Help, item.place, help)
     }
 
+    fn help_absent(
+        &self,
+        refusal: &Refusal,
+        item: &Item,
+        map: &MapItem,
+        notes: &mut Vec<Note>,
+    ) -> Result<(), AllocError> {
+        let device = item.device.number;
+        match self.last_exit(device, refusal.cell, refusal.item) {
+            Some(remover) => self.help_left(item, map, remover, notes),
+            None => {
+                self.help_elsewhere(refusal, device, map, notes)?;
+                self.help_enter(item, map, notes)
+            }
+        }
+    }
+
+    // Where a target uses an array that is a pointer in C, and that none of its clauses names.
+    fn pointer_access(&self, item: &Item, map: &MapItem) -> Result<Option<Access>, AllocError> {
+        let is_implied = matches!(item.kind, ItemKind::Target)
+            && word_at(self.bytes, place_of(map)) == "target";
+        if !is_implied {
+            return Ok(None);
+        }
+        self.access(item, Wanted::Any(map.section.array))
+    }
+
+    // A pointer that a target uses, whose array is not on the device.
+    fn absent_pointer(
+        &self,
+        refusal: &Refusal,
+        item: &Item,
+        map: &MapItem,
+        access: &Access,
+    ) -> Result<Diagnosis, AllocError> {
+        let (device, place) = (item.device.number, place_of(map));
+        let (name, section) = (
+            word_at(self.bytes, access.place),
+            self.section_text(&map.section)?,
+        );
+        let turn = self.turn_at(place, &item.loops.values)?;
+        let message = format!(in self.alloc;
+            "the target uses `{name}`, a pointer in C, which it names in no `map` clause, and {section} is not on device {device}{turn}"
+        )?;
+        let mut notes = Vec::new(self.alloc);
+        let used = format!(in self.alloc;
+            "`{name}` is used here: a target maps no pointer by itself"
+        )?;
+        add(&mut notes, Weight::Note, access.place, used)?;
+        self.note_elsewhere(refusal, device, &mut notes)?;
+        let length = map.section.length;
+        let help = format!(in self.alloc;
+            "name it on this line, as by `map(tofrom: {name}[0:{length}])`, or enter it before"
+        )?;
+        add(&mut notes, Weight::Help, place, help)?;
+        self.at(refusal, place, &item.loops.values, message, notes)
+    }
+
     /// Of a section that is not on the device, where it is left, updated, or said to be present.
     pub fn absent(&self, refusal: &Refusal) -> Result<Option<Diagnosis>, AllocError> {
         let Some(item) = self.item(refusal.item) else {
@@ -239,12 +448,15 @@ impl Scene<'_> {
         let Some(map) = map_with(item, refusal.cell) else {
             return Ok(None);
         };
+        if let Some(access) = self.pointer_access(item, map)? {
+            return Ok(Some(self.absent_pointer(refusal, item, map, &access)?));
+        }
         let (device, place) = (item.device.number, place_of(map));
         let message = self.absent_text(refusal.code, item, map)?;
         let mut notes = Vec::new(self.alloc);
         self.note_absence(refusal, device, place, &mut notes)?;
         self.note_elsewhere(refusal, device, &mut notes)?;
-        self.help_absent(item, map, &mut notes)?;
+        self.help_absent(refusal, item, map, &mut notes)?;
         Ok(Some(self.at(refusal, place, &item.loops.values, message, notes)?))
     }
 
@@ -273,15 +485,53 @@ impl Scene<'_> {
         add(notes, Weight::Note, place_of(map), told)
     }
 
-    fn help_narrow(
+    // The section that has what is mapped and what the target touches.
+    fn needed(&self, refusal: &Refusal, map: &MapItem) -> Result<Section, AllocError> {
+        let mut needed = map.section;
+        'touched: for run in self.touched(refusal.item, refusal.cell)?.as_slice() {
+            needed = hull(&needed, run);
+        }
+        Ok(needed)
+    }
+
+    // The block that is in the way of a wider section.
+    fn help_entry(
         &self,
-        cell: Cell,
-        place: Place,
+        refusal: &Refusal,
+        item: &Item,
+        needed: &Section,
         notes: &mut Vec<Note>,
     ) -> Result<(), AllocError> {
-        let name = self.cell_text(cell)?;
-        let help = format!(in self.alloc; "widen the section here so that it has {name}")?;
-        add(notes, Weight::Help, place, help)
+        let device = item.device.number;
+        let blocks = self.blocks(device, refusal.item)?;
+        let Some(entered) = overlapped(&blocks, needed) else {
+            return Ok(());
+        };
+        let all = hull(&entered.section, needed);
+        let Some(entry) = self.map_item(entered.item, entered.map) else {
+            return Ok(());
+        };
+        if is_same(&all, &entered.section) {
+            return Ok(());
+        }
+        self.note_entry(entered, device, notes)?;
+        let all = self.section_text(&all)?;
+        let help = format!(in self.alloc; "widen the section here to {all} too")?;
+        add(notes, Weight::Help, place_of(entry), help)
+    }
+
+    fn help_narrow(
+        &self,
+        refusal: &Refusal,
+        item: &Item,
+        map: &MapItem,
+        notes: &mut Vec<Note>,
+    ) -> Result<(), AllocError> {
+        let needed = self.needed(refusal, map)?;
+        let all = self.section_text(&needed)?;
+        let help = format!(in self.alloc; "widen the section here to {all}")?;
+        add(notes, Weight::Help, place_of(map), help)?;
+        self.help_entry(refusal, item, &needed, notes)
     }
 
     /// Of a cell that a kernel names and its target does not map.
@@ -296,7 +546,7 @@ impl Scene<'_> {
         let mut notes = Vec::new(self.alloc);
         if let Some(map) = map_of(item, refusal.cell) {
             self.note_narrow(item, map, &mut notes)?;
-            self.help_narrow(refusal.cell, place_of(map), &mut notes)?;
+            self.help_narrow(refusal, item, map, &mut notes)?;
         }
         Ok(Some(self.at(refusal, access.place, &access.loops, message, notes)?))
     }

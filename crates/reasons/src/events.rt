@@ -2,16 +2,24 @@
 
 use crate::diagnosis::{Note, Weight};
 use crate::scene::{Scene, place_of};
-use crate::search::Wanted;
+use crate::search::{Access, Wanted};
 use crate::words::{add, side_text};
-use base::item::{Cell, Item, MapItem};
+use base::item::{Cell, Item, ItemKind, MapItem};
 use history::{Event, History, How, Side};
 use std::alloc::AllocError;
 
 // How many events of a history are told.
-const MOST_EVENTS: usize = 8;
+pub const MOST_EVENTS: usize = 8;
 
 impl Scene<'_> {
+    // Whether the region of an item may write a cell, and need not.
+    fn is_uncertain(&self, number: u32, cell: Cell) -> bool {
+        match self.footprint(number as usize) {
+            None => false,
+            Some(found) => found.write.contains(cell) && !found.sure.contains(cell),
+        }
+    }
+
     // That an item writes a cell on a side, in a region where no place is known for it.
     fn write_text(
         &self,
@@ -25,6 +33,17 @@ impl Scene<'_> {
         format!(in self.alloc; "{name} is written on {there} by {what}")
     }
 
+    // Under what a write comes about that need not.
+    fn doubt_text(&self, number: u32, cell: Cell, access: &Access) -> &'static str {
+        if !self.is_uncertain(number, cell) {
+            ""
+        } else if access.cells.lo == access.cells.hi {
+            ", only under a condition"
+        } else {
+            ", only where the subscript is that of this cell"
+        }
+    }
+
     // The same where its place is known.
     fn write_here_text(
         &self,
@@ -32,11 +51,13 @@ impl Scene<'_> {
         item: &Item,
         cell: Cell,
         side: Side,
-        turn: &str,
+        access: &Access,
     ) -> Result<String, AllocError> {
         let (name, there) = (self.cell_text(cell)?, side_text(self.alloc, side)?);
         let what = self.doer_text(number, item)?;
-        format!(in self.alloc; "{name} is written here, on {there}, by {what}{turn}")
+        let doubt = self.doubt_text(number, cell, access);
+        let turn = self.turn_at(access.place, &access.loops)?;
+        format!(in self.alloc; "{name} is written here, on {there}, by {what}{doubt}{turn}")
     }
 
     // Where the region of an item writes a cell.
@@ -56,26 +77,52 @@ impl Scene<'_> {
                 add(notes, Weight::Note, item.place, message)
             }
             Some(access) => {
-                let turn = self.turn_at(access.place, &access.loops)?;
-                let message = self.write_here_text(number, item, cell, side, &turn)?;
+                let message = self.write_here_text(number, item, cell, side, &access)?;
                 add(notes, Weight::Note, access.place, message)
             }
         }
     }
 
+    /// The last region before an item that may have written a cell where an event made it stale, and need not.
+    pub fn note_uncertain(
+        &self,
+        cell: Cell,
+        first: Event,
+        until: u32,
+        notes: &mut Vec<Note>,
+    ) -> Result<(), AllocError> {
+        let Side::Device(device) = first.side else {
+            return Ok(());
+        };
+        let mut writer = None;
+        'items: for number in first.item..until {
+            if let Some(item) = self.item(number)
+                && matches!(item.kind, ItemKind::Target)
+                && item.device.number == device
+                && self.is_uncertain(number, cell)
+            {
+                writer = Some(number);
+            }
+        }
+        match writer {
+            None => Ok(()),
+            Some(number) => self.note_write(number, cell, first.side, notes),
+        }
+    }
+
     // The end of a sentence on a map item that did something to a cell of a side, as an event has it.
-    fn deed_text(&self, event: &Event, name: &str) -> Result<String, AllocError> {
+    fn deed_text(&self, event: &Event, name: &str, when: &str) -> Result<String, AllocError> {
         let here = side_text(self.alloc, event.side)?;
         match event.how {
-            How::Removed(_) => format!(in self.alloc; "removes {name} from {here} here"),
+            How::Removed(_) => format!(in self.alloc; "removes {name} from {here} {when}"),
             How::Copied(_, from, _) => {
                 let there = side_text(self.alloc, from)?;
                 format!(in self.alloc;
-                    "copies {name} from {there} to {here} here, whatever it is there"
+                    "copies {name} from {there} to {here} {when}, whatever it is there"
                 )
             }
             How::Created(_) | How::Never | How::Written(_) => format!(in self.alloc;
-                "creates {name} on {here} here, and copies nothing to it"
+                "creates {name} on {here} {when}, and copies nothing to it"
             ),
         }
     }
@@ -89,7 +136,7 @@ impl Scene<'_> {
         cell: Cell,
     ) -> Result<String, AllocError> {
         let (text, name) = (self.map_text(item, map)?, self.cell_text(cell)?);
-        let deed = self.deed_text(event, &name)?;
+        let deed = self.deed_text(event, &name, self.here_text(item))?;
         format!(in self.alloc; "{text} of item {} {deed}", event.item)
     }
 
@@ -108,7 +155,8 @@ impl Scene<'_> {
         add(notes, Weight::Note, place_of(map), message)
     }
 
-    fn note_event(
+    /// What an event is.
+    pub fn note_event(
         &self,
         event: &Event,
         cell: Cell,

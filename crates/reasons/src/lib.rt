@@ -2,22 +2,28 @@
 #![tactic(auto)]
 
 mod absent;
+mod alike;
 mod amounts;
 mod around;
 mod conflicts;
 mod constants;
 mod diagnosis;
+mod ends;
 mod events;
 mod faults;
 mod forms;
 mod further;
+mod kept;
 mod limit;
 mod limits;
 mod lines;
+mod lost;
 mod meeting;
 mod nest;
+mod ordering;
 mod past;
 mod rules;
+mod runs;
 mod scene;
 mod search;
 mod source;
@@ -30,5 +36,6 @@ mod words;
 pub use diagnosis::{Conflict, Diagnosis, NamedCell, Note, Since, Touch, Turn, Weight};
 pub use faults::{Faults, faults_of};
 pub use limits::{too_many, turns_in_all};
+pub use nest::loops_around;
 pub use source::line_of;
 pub use texts::text_diagnosis;

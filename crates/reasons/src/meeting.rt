@@ -4,6 +4,7 @@ use crate::diagnosis::{Diagnosis, Note, Weight};
 use crate::rules::refusal_rule;
 use crate::scene::Scene;
 use crate::search::{Access, Wanted, first_but};
+use crate::source::{has_word, line_of};
 use crate::words::add;
 use base::fault::Refusal;
 use base::item::{Cell, Item};
@@ -13,6 +14,12 @@ use std::alloc::AllocError;
 const FEWER: &str = "with a smaller `collapse`, or with none, fewer loops are in any order";
 
 const IN_ORDER: &str = "as a `target` alone it has its turns in order";
+
+const IN_ORDER_INSIDE: &str =
+    "without the lines of constructs inside it this `target` has its turns in order";
+
+// The words of which each combined construct has one behind `target`.
+const CONSTRUCTS: [&str; 3] = ["teams", "parallel", "simd"];
 
 impl Scene<'_> {
     // Where a turn reads or writes the cell.
@@ -99,8 +106,27 @@ impl Scene<'_> {
             let fewer = String::from_str(self.alloc, FEWER)?;
             add(notes, Weight::Help, item.place, fewer)?;
         }
-        let in_order = String::from_str(self.alloc, IN_ORDER)?;
-        add(notes, Weight::Help, item.place, in_order)
+        let text = if self.names_construct(item) {
+            IN_ORDER
+        } else {
+            IN_ORDER_INSIDE
+        };
+        add(
+            notes,
+            Weight::Help,
+            item.place,
+            String::from_str(self.alloc, text)?,
+        )
+    }
+
+    // Whether the construct stands on the line of the target.
+    fn names_construct(&self, item: &Item) -> bool {
+        'words: for word in CONSTRUCTS {
+            if has_word(line_of(self.bytes, item.place.line), word.as_bytes()) {
+                return true;
+            }
+        }
+        false
     }
 
     // Of the kernel of an item.

@@ -58,6 +58,11 @@ pub fn copies_to(kind: MapKind) -> bool {
     matches!(kind, MapKind::To | MapKind::ToFrom)
 }
 
+/// Whether a map type copies to the host.
+pub fn copies_from(kind: MapKind) -> bool {
+    matches!(kind, MapKind::From | MapKind::ToFrom)
+}
+
 // Adds the blocks that an item creates, and takes those away that it removes.
 fn update_blocks(blocks: &mut Vec<Entered>, number: u32, row: &[Acts]) -> Result<(), AllocError> {
     'row: for (map, acts) in row.iter().enumerate() {
@@ -249,8 +254,8 @@ fn enter_all(
     Ok(())
 }
 
-// The map item by which a cell is removed.
-fn removed_in(row: &[Acts], cell: Cell) -> Option<usize> {
+/// The map item by which a cell is removed.
+pub fn removed_in(row: &[Acts], cell: Cell) -> Option<usize> {
     'row: for (map, acts) in row.iter().enumerate() {
         if acts.removes && has_cell(&acts.block, cell) {
             return Some(map);

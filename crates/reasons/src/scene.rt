@@ -124,6 +124,19 @@ impl<'a> Scene<'a> {
         }
     }
 
+    /// What a map item of an item does.
+    pub fn acts(&self, number: u32, map: usize) -> Option<&'a Acts> {
+        self.row(number as usize)?.get(map)
+    }
+
+    /// Whether a map item of an item copies a cell to the host.
+    pub fn copies_out(&self, number: u32, map: usize, cell: Cell) -> bool {
+        match (self.acts(number, map), self.map_item(number, map)) {
+            (Some(acts), Some(map)) => acts.copies_out && has_cell(&map.section, cell),
+            _ => false,
+        }
+    }
+
     /// The blocks of a device before an item.
     pub fn blocks(&self, device: u8, until: u32) -> Result<Vec<Entered>, AllocError> {
         match &self.past {

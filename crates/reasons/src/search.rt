@@ -14,6 +14,8 @@ pub enum Wanted {
     Read(Cell),
     Write(Cell),
     Touch(Cell),
+    /// Any access of the array.
+    Any(ArrayId),
     /// A subscript at that place that can leave its array.
     Outside(Place),
 }
@@ -60,6 +62,7 @@ impl Search<'_> {
             Wanted::Read(cell) => !writes && is_among(cell, array, cells),
             Wanted::Write(cell) => writes && is_among(cell, array, cells),
             Wanted::Touch(cell) => is_among(cell, array, cells),
+            Wanted::Any(wanted) => array == wanted,
             Wanted::Outside(at) => {
                 is_same(at, place) && cells.hi >= length_of(self.lengths, array)
             }

@@ -65,6 +65,35 @@ pub fn word_at(bytes: &[u8], place: Place) -> &str {
     }
 }
 
+// How many bytes stand up to the first `]` and with it; none where there is none.
+fn bracket_len(text: &[u8]) -> usize {
+    for i in 0..text.len() {
+        if text[i] == b']' {
+            return i.saturating_add(1);
+        }
+    }
+    0
+}
+
+/// The array or the section that is written at a place of a directive.
+pub fn section_at(bytes: &[u8], place: Place) -> &str {
+    let line = line_of(bytes, place.line);
+    let Some(rest) = line.get(place.column.saturating_sub(1)..) else {
+        return "";
+    };
+    let name = word_len(rest);
+    let behind = rest.get(name..).unwrap_or(&[]).trim_ascii();
+    let len = if behind.first() == Some(&b'[') {
+        bracket_len(rest).max(name)
+    } else {
+        name
+    };
+    match rest.get(..len) {
+        None => "",
+        Some(text) => str::from_utf8(text).unwrap_or(""),
+    }
+}
+
 /// Where the name stands first, which is where a global of that name is declared.
 pub fn declaration_of(bytes: &[u8], name: &str) -> Option<Place> {
     'tokens: for token in Tokens::new(bytes) {
@@ -89,6 +118,21 @@ pub enum Naming {
 /// Whether a type ends by this word.
 pub fn is_type(word: &str) -> bool {
     word == "uint64_t" || word == "size_t" || word == "long"
+}
+
+/// Whether a name is declared as a pointer somewhere in a text: a type and a star stand before it.
+pub fn is_pointer(bytes: &[u8], name: &str) -> bool {
+    let mut behind_type = false;
+    let mut behind_star = false;
+    'tokens: for token in Tokens::new(bytes) {
+        let text = text_of(bytes, &token);
+        if behind_star && text == name {
+            return true;
+        }
+        behind_star = behind_type && text == "*";
+        behind_type = is_type(text);
+    }
+    false
 }
 
 // Whether a declaration has ended at this token.
@@ -116,6 +160,16 @@ pub fn naming_of(bytes: &[u8], name: &str) -> Naming {
         in_declaration = is_type(text) || (in_declaration && !ends_declaration(text));
     }
     Naming::Nothing
+}
+
+/// Whether a word stands in a line.
+pub fn has_word(line: &[u8], word: &[u8]) -> bool {
+    'words: for part in line.split(|byte| !(byte.is_ascii_alphanumeric() || *byte == b'_')) {
+        if part == word {
+            return true;
+        }
+    }
+    false
 }
 
 /// A line of a source, which counts from 1, without its end.

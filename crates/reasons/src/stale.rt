@@ -6,8 +6,9 @@ ghost use Rattle.history.specs.Places.{IsSide};
 ghost use Rattle.reasons.specs.Stale.{TellsSince, side_on};
 
 use crate::diagnosis::{Diagnosis, Note, Since, Turn, Weight};
-use crate::past::{Past, block_with, copies_to};
+use crate::past::{Past, block_with, copies_from, copies_to};
 use crate::rules::refusal_rule;
+use crate::runs::Copying;
 use crate::scene::{Scene, map_with, place_of};
 use crate::search::{Access, Wanted};
 use crate::words::{add, construct, map_word, side_text};
@@ -44,17 +45,37 @@ fn better_entry(kind: MapKind) -> &'static str {
 }
 
 impl Scene<'_> {
+    // Of a cell whose last value another side has, or had.
+    fn written_elsewhere_text(
+        &self,
+        history: &History,
+        since: &Since,
+        other: Side,
+    ) -> Result<String, AllocError> {
+        if let Some(over) = self.copied_over(history, since.event.item, other) {
+            return self.over_text(&over);
+        }
+        if let Some(event) = self.written_over(history, since.event.item, other) {
+            return self.doubted_text(&event, other);
+        }
+        let (here, there) = (
+            side_text(self.alloc, since.side)?,
+            side_text(self.alloc, other)?,
+        );
+        format!(in self.alloc;
+            "whose last value is on {there}: nothing has copied it to {here} since"
+        )
+    }
+
     // What is wrong with the value that is read.
-    fn stale_text(&self, side: Side, how: How) -> Result<String, AllocError> {
-        let here = side_text(self.alloc, side)?;
-        match how {
+    fn stale_text(&self, history: &History, since: &Since) -> Result<String, AllocError> {
+        let here = side_text(self.alloc, since.side)?;
+        if let Some(over) = self.lost_by(history, since.event)? {
+            return self.over_text(&over);
+        }
+        match since.event.how {
             How::Never => format!(in self.alloc; "which was never copied to {here}"),
-            How::Written(other) => {
-                let there = side_text(self.alloc, other)?;
-                format!(in self.alloc;
-                    "whose last value is on {there}: nothing has copied it to {here} since"
-                )
-            }
+            How::Written(other) => self.written_elsewhere_text(history, since, other),
             How::Created(_) => {
                 format!(in self.alloc;
                     "which is undefined on {here}: it was created there, and nothing was copied to it"
@@ -78,17 +99,27 @@ impl Scene<'_> {
         cell: Cell,
     ) -> Result<String, AllocError> {
         let (text, name) = (self.map_text(item, map)?, self.cell_text(cell)?);
-        let device = item.device.number;
+        let (device, here) = (item.device.number, self.here_text(item));
         format!(in self.alloc;
-            "{text} of item {number} removes {name} from device {device} here without copying it to the host"
+            "{text} of item {number} removes {name} from device {device} {here} without copying it to the host"
         )
     }
 
-    fn help_loss(&self, map: &MapItem, notes: &mut Vec<Note>) -> Result<(), AllocError> {
-        let (better, word) = (better_kind(map.kind), map_word(map.kind));
-        let message = format!(in self.alloc;
-            "write `{better}` in place of `{word}` here, which copies it to the host"
-        )?;
+    fn help_loss(
+        &self,
+        map: &MapItem,
+        block: &Section,
+        notes: &mut Vec<Note>,
+    ) -> Result<(), AllocError> {
+        let message = if copies_from(map.kind) {
+            let block = self.section_text(block)?;
+            format!(in self.alloc; "name {block} here, which copies all of it to the host")?
+        } else {
+            let (better, word) = (better_kind(map.kind), map_word(map.kind));
+            format!(in self.alloc;
+                "write `{better}` in place of `{word}` here, which copies it to the host"
+            )?
+        };
         add(notes, Weight::Help, place_of(map), message)
     }
 
@@ -100,12 +131,16 @@ impl Scene<'_> {
         cell: Cell,
         notes: &mut Vec<Note>,
     ) -> Result<(), AllocError> {
-        let (Some(item), Some(map)) = (self.item(number), self.map_item(number, map)) else {
+        let (Some(item), Some(acts), Some(map)) = (
+            self.item(number),
+            self.acts(number, map),
+            self.map_item(number, map),
+        ) else {
             return Ok(());
         };
         let message = self.loss_text(number, item, map, cell)?;
         add(notes, Weight::Note, place_of(map), message)?;
-        self.help_loss(map, notes)
+        self.help_loss(map, &acts.block, notes)
     }
 
     // How a cell that a device has could come to the host before an item.
@@ -119,12 +154,18 @@ impl Scene<'_> {
         notes: &mut Vec<Note>,
     ) -> Result<(), AllocError> {
         match self.last_removal(device, cell, until) {
-            Some((number, map)) if number >= since => { self.note_loss(number, map, cell, notes) }
+            Some((number, map)) if number >= since && !self.copies_out(number, map, cell) => {
+                self.note_loss(number, map, cell, notes)
+            }
             _ => {
-                let update = self.update_text("from", cell, device)?;
-                let message = format!(in self.alloc;
-                    "write {update} before this, or an update of all that is read"
-                )?;
+                let copying = Copying {
+                    from: Side::Device(device),
+                    to: Side::Host,
+                    until,
+                };
+                let run = self.run_around(cell, device, copying)?;
+                let update = self.update_text("from", &run, device)?;
+                let message = format!(in self.alloc; "write {update} before this")?;
                 add(notes, Weight::Help, place, message)
             }
         }
@@ -149,19 +190,58 @@ impl Scene<'_> {
         add(notes, Weight::Help, place_of(map), message)
     }
 
+    // How the value that a device has, or had, could be on the host.
+    fn help_from(
+        &self,
+        refusal: &Refusal,
+        place: Place,
+        history: &History,
+        first: Event,
+        device: u8,
+        notes: &mut Vec<Note>,
+    ) -> Result<(), AllocError> {
+        let (cell, until) = (refusal.cell, refusal.item);
+        if self.tells_over(history, first.item, Side::Device(device), notes)? {
+            return Ok(());
+        }
+        if let State::Current = history.state(Side::Device(device)) {
+            self.note_kept(cell, device, first.item, until, notes)?;
+            self.note_beside(cell, device, first.item, until, notes)?;
+        }
+        let place = self.place_before(until, cell, place);
+        self.help_out(first.item, cell, device, until, place, notes)
+    }
+
+    // Where something is written before the statements of an item read a cell, and before they may write it.
+    fn place_before(&self, number: u32, cell: Cell, read: Place) -> Place {
+        match self.footprint(number as usize) {
+            Some(found) if found.write.contains(cell) => self.place_of_item(number),
+            _ => read,
+        }
+    }
+
     // How a read on the host could be right.
     fn help_host(
         &self,
         refusal: &Refusal,
         place: Place,
+        history: &History,
+        last: Event,
         first: Event,
         notes: &mut Vec<Note>,
     ) -> Result<(), AllocError> {
+        if let Some(over) = self.lost_in(history, last)? {
+            return self.help_lost(refusal.cell, &over, first, notes);
+        }
         match first.how {
             How::Written(Side::Device(device)) => {
-                self.help_out(first.item, refusal.cell, device, refusal.item, place, notes)
+                self.help_from(refusal, place, history, first, device, notes)
             }
-            How::Created(map) => self.help_created(first.item, map, refusal.cell, notes),
+            How::Created(map) => {
+                let until = last.item.saturating_add(1);
+                self.note_uncertain(refusal.cell, first, until, notes)?;
+                self.help_created(first.item, map, refusal.cell, notes)
+            }
             How::Never | How::Written(Side::Host) | How::Removed(_) | How::Copied(_, _, _) => Ok(
                 (),
             ),
@@ -222,11 +302,21 @@ impl Scene<'_> {
         since: u32,
         notes: &mut Vec<Note>,
     ) -> Result<(), AllocError> {
+        if self.tells_over(history, since, writer, notes)? {
+            return Ok(());
+        }
         let is_stale = matches!(history.state(Side::Host), State::Stale(_));
         if let (Side::Device(device), true) = (writer, is_stale) {
             self.help_out(since, refusal.cell, device, refusal.item, item.place, notes)?;
         }
-        let update = self.update_text("to", refusal.cell, item.device.number)?;
+        let device = item.device.number;
+        let copying = Copying {
+            from: if is_stale { writer } else { Side::Host },
+            to: Side::Device(device),
+            until: refusal.item,
+        };
+        let run = self.run_around(refusal.cell, device, copying)?;
+        let update = self.update_text("to", &run, device)?;
         let message = match map_with(item, refusal.cell) {
             Some(map) if copies_to(map.kind) && matches!(writer, Side::Host) => {
                 self.always_text(map, &update)?
@@ -249,6 +339,9 @@ impl Scene<'_> {
         first: Event,
         notes: &mut Vec<Note>,
     ) -> Result<(), AllocError> {
+        if let Some(over) = self.lost_in(history, last)? {
+            return self.help_lost(refusal.cell, &over, first, notes);
+        }
         match (last.how, first.how) {
             (How::Written(writer), _) => {
                 if let Some(map) = map_with(item, refusal.cell) {
@@ -256,7 +349,14 @@ impl Scene<'_> {
                 }
                 self.help_in(item, refusal, history, writer, last.item, notes)
             }
-            (_, How::Created(map)) => self.help_created(first.item, map, refusal.cell, notes),
+            (_, How::Created(map)) => {
+                let until = match last.how {
+                    How::Copied(_, _, _) => last.item,
+                    _ => refusal.item,
+                };
+                self.note_uncertain(refusal.cell, first, until, notes)?;
+                self.help_created(first.item, map, refusal.cell, notes)
+            }
             (How::Copied(_, _, _), How::Written(Side::Device(device))) => {
                 let place = self.item(last.item).map_or(item.place, |item| item.place);
                 self.help_out(first.item, refusal.cell, device, last.item, place, notes)
@@ -287,7 +387,7 @@ impl Scene<'_> {
         let access = self.access(item, Wanted::Exposed(refusal.cell))?;
         let place = access.as_ref().map_or(item.place, |access| access.place);
         let loops = self.turns_of(item, &access)?;
-        let message = self.stale_message(item, refusal.cell, &since, &loops)?;
+        let message = self.stale_message(item, history, &since, &loops)?;
         let notes = self.stale_notes(refusal, item, history, &since, place)?;
         Ok(Diagnosis {
             code: refusal.code.as_str(),
@@ -306,13 +406,13 @@ impl Scene<'_> {
     fn stale_message(
         &self,
         item: &Item,
-        cell: Cell,
+        history: &History,
         since: &Since,
         loops: &[Turn],
     ) -> Result<String, AllocError> {
         let (name, stale) = (
-            self.cell_text(cell)?,
-            self.stale_text(since.side, since.event.how)?,
+            self.cell_text(history.cell)?,
+            self.stale_text(history, since)?,
         );
         let turn = self.turn_text(loops)?;
         format!(in self.alloc; "{} reads {name}, {stale}{turn}", construct(item.kind))
@@ -331,7 +431,7 @@ impl Scene<'_> {
         let last = since.event;
         let first = self.note_events(history, last, &mut notes)?;
         match since.side {
-            Side::Host => self.help_host(refusal, place, first, &mut notes)?,
+            Side::Host => self.help_host(refusal, place, history, last, first, &mut notes)?,
             Side::Device(_) => self.help_device(item, refusal, history, last, first, &mut notes)?,
         }
         Ok(notes)

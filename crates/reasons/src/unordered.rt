@@ -7,6 +7,7 @@ ghost use Rattle.reasons.specs.Conflicting.{Meet, TellsConflict};
 use crate::diagnosis::{Conflict, Diagnosis, Note, Touch, Weight};
 use crate::past::Past;
 use crate::rules::{ORDER_CODE, ORDER_RULE, refusal_rule};
+use crate::runs::hull;
 use crate::scene::{Scene, has_cell, is_same, overlap, place_of};
 use crate::search::Wanted;
 use crate::touching::is_same_loc;
@@ -136,17 +137,6 @@ fn first_pair(left: &[Part], right: &[Part]) -> Option<(Part, Part)> {
         }
     }
     None
-}
-
-fn have_common(earlier: &Item, later: &Item) -> bool {
-    'earlier: for one in earlier.depends.as_slice() {
-        'later: for other in later.depends.as_slice() {
-            if is_same(&one.section, &other.section) {
-                return true;
-            }
-        }
-    }
-    false
 }
 
 // Depend items of two items that overlap in a cell without being identical.
@@ -287,73 +277,6 @@ impl Scene<'_> {
         Ok(Told { place, verb, turn })
     }
 
-    // Why their `depend` clauses do not order two items.
-    fn no_depend_text(
-        &self,
-        refusal: &Refusal,
-        other: u32,
-        earlier: &Item,
-        later: &Item,
-    ) -> Result<String, AllocError> {
-        let (one, two) = (earlier.depends.is_empty(), later.depends.is_empty());
-        let why = if one && two {
-            "neither has a `depend` clause"
-        } else if one || two {
-            let without = if one { other } else { refusal.item };
-            return format!(in self.alloc;
-                "no `taskwait` between the two waits for it, and item {without} has no `depend` clause"
-            );
-        } else if have_common(earlier, later) {
-            "where their `depend` clauses name one section both are `in`"
-        } else {
-            "their `depend` clauses name no section in common"
-        };
-        format!(in self.alloc; "no `taskwait` between the two waits for it, and {why}")
-    }
-
-    // Why an earlier item is not before a later one.
-    fn note_order(
-        &self,
-        refusal: &Refusal,
-        other: u32,
-        earlier: &Item,
-        later: &Item,
-        notes: &mut Vec<Note>,
-    ) -> Result<(), AllocError> {
-        let deferred = format!(in self.alloc;
-            "item {other} is deferred by `nowait`: what stands after it does not wait for it"
-        )?;
-        add(notes, Weight::Note, earlier.place, deferred)?;
-        let message = self.no_depend_text(refusal, other, earlier, later)?;
-        add(notes, Weight::Note, later.place, message)
-    }
-
-    fn help_order(
-        &self,
-        refusal: &Refusal,
-        earlier: &Item,
-        later: &Item,
-        notes: &mut Vec<Note>,
-    ) -> Result<(), AllocError> {
-        let name = self.name_of(refusal.cell.array);
-        let help = match later.kind {
-            ItemKind::Target | ItemKind::Enter | ItemKind::Exit | ItemKind::Update => {
-                format!(in self.alloc;
-                    "write `#pragma omp taskwait` before this, or `depend(inout: {name})` on both"
-                )?
-            }
-            ItemKind::Host | ItemKind::Begin | ItemKind::End | ItemKind::Wait => {
-                format!(in self.alloc; "write `#pragma omp taskwait` before this")?
-            }
-        };
-        let place = if earlier.deferred {
-            later.place
-        } else {
-            earlier.place
-        };
-        add(notes, Weight::Help, place, help)
-    }
-
     // What two items do to a cell, of which neither is before the other, in their first parts that conflict.
     fn clashing_parts(
         &self,
@@ -429,7 +352,7 @@ impl Scene<'_> {
         let mut notes = Vec::new(self.alloc);
         self.note_first(&which, &first, &mut notes)?;
         self.note_order(refusal, other, earlier, later, &mut notes)?;
-        self.help_order(refusal, earlier, later, &mut notes)?;
+        self.help_order(refusal, &clash.conflict, earlier, later, &mut notes)?;
         Ok(Diagnosis {
             code: refusal.code.as_str(),
             rule: refusal_rule(refusal.code),
@@ -488,12 +411,17 @@ impl Scene<'_> {
         add(notes, Weight::Note, place, told)
     }
 
-    fn help_clash(&self, place: Place, notes: &mut Vec<Note>) -> Result<(), AllocError> {
-        let help = String::from_str(
-            self.alloc,
-            "name the same section in both: tasks are ordered by equal sections alone",
+    fn help_clash(
+        &self,
+        one: &Depend,
+        two: &Depend,
+        notes: &mut Vec<Note>,
+    ) -> Result<(), AllocError> {
+        let section = self.short_text(&hull(&one.section, &two.section))?;
+        let help = format!(in self.alloc;
+            "name the same section in both, as {section}: tasks are ordered by equal sections alone"
         )?;
-        add(notes, Weight::Help, place, help)
+        add(notes, Weight::Help, depend_place(two), help)
     }
 
     // Of these depend items.
@@ -508,7 +436,7 @@ impl Scene<'_> {
         let message = self.clash_text(fault, &first, two)?;
         let mut notes = Vec::new(self.alloc);
         self.note_clash(fault, &first, depend_place(one), &mut notes)?;
-        self.help_clash(place, &mut notes)?;
+        self.help_clash(one, two, &mut notes)?;
         Ok(Diagnosis {
             code: ORDER_CODE,
             rule: ORDER_RULE,

@@ -1,7 +1,9 @@
 // Words for what a diagnosis speaks of.
 
 use crate::diagnosis::{Note, Turn, Weight};
+use crate::ends::block_end;
 use crate::scene::Scene;
+use crate::source::is_pointer;
 use base::item::{Cell, Depend, Item, ItemKind, MapItem, MapKind, Section};
 use base::tree::{DependKind, Place};
 use history::Side;
@@ -79,6 +81,14 @@ pub fn device_clause(alloc: Global, device: u8) -> Result<String, AllocError> {
     format!(in alloc; " device({device})")
 }
 
+/// How often something was done.
+pub fn times_text(alloc: Global, count: u64) -> Result<String, AllocError> {
+    if count == 1 {
+        return String::from_str(alloc, "once");
+    }
+    format!(in alloc; "{count} times")
+}
+
 // The value of one loop, behind those of the loops around it.
 fn turn_value_text(alloc: Global, level: usize, turn: &Turn) -> Result<String, AllocError> {
     let before = if level == 0 { " (in the turn" } else { "," };
@@ -120,14 +130,53 @@ impl Scene<'_> {
         format!(in self.alloc; "`depend({}: {section})`", depend_word(depend.kind))
     }
 
-    /// An update of one cell as it would be written.
-    pub fn update_text(&self, word: &str, cell: Cell, device: u8) -> Result<String, AllocError> {
-        let clause = device_clause(self.alloc, device)?;
-        let name = self.name_of(cell.array);
-        format!(in self.alloc;
-            "`#pragma omp target update {word}({name}[{}:1]){clause}`",
-            cell.index
-        )
+    /// A section as it would be written, which is the name alone where it is the whole array, and no pointer in C.
+    pub fn short_text(&self, section: &Section) -> Result<String, AllocError> {
+        if section.first == 0
+            && section.length == u64::from(self.length_of(section.array))
+            && !is_pointer(self.bytes, self.name_of(section.array))
+        {
+            return String::from_str(self.alloc, self.name_of(section.array));
+        }
+        self.section_text(section)
+    }
+
+    /// An update as it would be written.
+    pub fn update_text(
+        &self,
+        word: &str,
+        section: &Section,
+        device: u8,
+    ) -> Result<String, AllocError> {
+        let (text, clause) = (
+            self.short_text(section)?,
+            device_clause(self.alloc, device)?,
+        );
+        format!(in self.alloc; "`#pragma omp target update {word}({text}){clause}`")
+    }
+
+    /// Where an item is done, beside the place at which it stands.
+    pub fn here_text(&self, item: &Item) -> &'static str {
+        match item.kind {
+            ItemKind::End => "at the end of its block",
+            _ => "here",
+        }
+    }
+
+    /// Where something can be written so that it is done before an item.
+    pub fn before_text(&self, item: &Item) -> &'static str {
+        match item.kind {
+            ItemKind::End => "before the end of this block",
+            _ => "before this",
+        }
+    }
+
+    /// The place before which something can be written so that it is done before an item.
+    pub fn done_at(&self, item: &Item) -> Place {
+        match item.kind {
+            ItemKind::End => block_end(self.bytes, item.place).unwrap_or(item.place),
+            _ => item.place,
+        }
     }
 
     /// The turn of the loops around, in parentheses behind a space, or nothing where there are none.

@@ -81,17 +81,32 @@ impl Page<'_> {
         Ok(())
     }
 
-    // A line of a change, behind the sign that says whether it goes or comes.
-    fn add_side(&mut self, sign: u8, line: &[u8]) -> Result<(), AllocError> {
+    // Lines of a change, each behind the sign that says whether it goes or comes.
+    fn add_side(&mut self, sign: u8, lines: &[u8]) -> Result<(), AllocError> {
         self.text.push(sign)?;
-        self.text.extend_from_slice(line)?;
+        'bytes: for byte in lines {
+            self.text.push(*byte)?;
+            if *byte == b'\n' {
+                self.text.push(sign)?;
+            }
+        }
         self.text.push(b'\n')?;
         Ok(())
     }
 
-    // A line that is changed or inserted, where so many were inserted before it.
-    fn add_edit(&mut self, edit: &Edit, inserted: usize) -> Result<(), AllocError> {
+    // The numbers of new lines in a unified diff.
+    fn new_lines(&self, edit: &Edit, inserted: usize) -> Result<String, AllocError> {
         let new = edit.line.saturating_add(inserted);
+        if edit.count == 1 {
+            format!(in self.alloc; "{new}")
+        } else {
+            format!(in self.alloc; "{new},{}", edit.count)
+        }
+    }
+
+    // Lines that are changed or inserted, where so many were inserted before them.
+    fn add_edit(&mut self, edit: &Edit, inserted: usize) -> Result<(), AllocError> {
+        let new = self.new_lines(edit, inserted)?;
         match &edit.old {
             Some(old) => {
                 let head = format!(in self.alloc; "@@ -{} +{new} @@\n", edit.line)?;
@@ -122,8 +137,9 @@ impl Page<'_> {
         let mut inserted = 0usize;
         'edits: for edit in &mended.edits {
             self.add_edit(edit, inserted)?;
-            if edit.old.is_none() {
-                inserted = inserted.saturating_add(1);
+            inserted = inserted.saturating_add(edit.count);
+            if edit.old.is_some() {
+                inserted = inserted.saturating_sub(1);
             }
         }
         Ok(())

@@ -1,5 +1,5 @@
 -- The lines of faults that name no cell, and of commands that cannot be done.
-use Rattle.std.specs.Prelude.{ℕ, List, ◌++◌, codes}
+use Rattle.std.specs.Prelude.{ℕ, List, ◌++◌, codes, decimal}
 use Rattle.base.specs.Codes.{range_code, read_code, refusal_code}
 use Rattle.base.specs.declared.fault.ReadFault.{ReadFault}
 use Rattle.base.specs.declared.fault.ReadFault.TheVariants as read
@@ -51,3 +51,8 @@ misuse_line misuse.Turns = codes "bad turns\n"
 misuse_line misuse.Format = codes "bad format\n"
 misuse_line (misuse.Source name) = codes "cannot read " ++ (name.now ++ codes "\n")
 misuse_line misuse.Input = codes "bad input\n"
+
+-- that no change of a source was found, and how much was tried
+abbrev pub no_change_line : ℕ → ℕ → List ℕ
+no_change_line steps checks =
+    codes "no change found: steps " ++ (decimal steps ++ (codes ", checks " ++ (decimal checks ++ codes "\n")))

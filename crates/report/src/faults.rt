@@ -2,7 +2,7 @@
 
 ghost use Rattle.std.specs.Prelude.{◌≡◌, OnOk};
 ghost use Rattle.std.specs.Io.KnownBytes.{Appends};
-ghost use Rattle.report.specs.Faults.{code_line, fault_line, misuse_line, outline_line, read_line, run_line};
+ghost use Rattle.report.specs.Faults.{code_line, fault_line, misuse_line, no_change_line, outline_line, read_line, run_line};
 
 use base::fault::{CheckFault, OutlineFault, ReadFault, RunFault, SourceFault};
 use std::io;
@@ -98,4 +98,11 @@ pub fn misuse_text<W: Write>(misuse: Misuse<'_>, out: &mut W) -> io::Result<()>
         Misuse::Source(name) => writeln!(out, "cannot read {name}"),
         Misuse::Input => writeln!(out, "bad input"),
     }
+}
+
+/// Writes, in one line, that no change of a source was found, and how much was tried. An error of the writer is answered.
+pub fn no_change_text<W: Write>(steps: usize, checks: usize, out: &mut W) -> io::Result<()>
+    ensures { OnOk result (Appends (W.contents out.old) (W.contents out.new) (no_change_line steps checks)) }
+{
+    writeln!(out, "no change found: steps {steps}, checks {checks}")
 }

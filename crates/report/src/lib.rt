@@ -8,7 +8,7 @@ mod refusal;
 mod run;
 
 pub use checked::accepted_text;
-pub use faults::{Misuse, fault_text, misuse_text};
+pub use faults::{Misuse, fault_text, misuse_text, no_change_text};
 pub use listing::list_text;
 pub use refusal::refusal_text;
 pub use run::{finals_text, log_text};
