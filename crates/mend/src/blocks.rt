@@ -19,6 +19,8 @@ struct Blocks {
     open: Vec<Opened>,
     /// Where the loop begins whose body comes next; with its directive, where it has one.
     pending: Option<usize>,
+    /// How many round brackets are open.
+    brackets: usize,
     /// The line of the directive that stands directly before.
     directive: Option<usize>,
 }
@@ -44,6 +46,13 @@ impl Blocks {
             }
             Kind::Sign(Sign::CloseBrace) => {
                 let _ = self.open.pop();
+            }
+            Kind::Sign(Sign::OpenParen) => self.brackets = self.brackets.saturating_add(1),
+            Kind::Sign(Sign::CloseParen) => self.brackets = self.brackets.saturating_sub(1),
+            Kind::Sign(Sign::Semicolon) => {
+                if self.brackets == 0 {
+                    self.pending = None;
+                }
             }
             _ => {}
         }
@@ -72,6 +81,7 @@ pub fn loops_around(alloc: Global, text: &[u8], line: usize) -> Result<Vec<usize
     let mut blocks = Blocks {
         open: Vec::new(alloc),
         pending: None,
+        brackets: 0,
         directive: None,
     };
     for token in tokens(text) {

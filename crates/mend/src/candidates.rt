@@ -4,6 +4,7 @@ use crate::combined::turns_meet;
 use crate::currency::{device_stale, host_stale};
 use crate::lines::Change;
 use crate::ordering::{conflict, overlap};
+use crate::pointers::known_alone;
 use crate::presence::{absent, in_part, past_the_array, unmapped};
 use crate::view::View;
 use base::fault::{CheckFault, RangeCode, RangeFault, Refusal, RefusalCode};
@@ -44,6 +45,14 @@ impl Candidates {
         changes.push(first)?;
         changes.push(second)?;
         self.all.push(Candidate { changes })?;
+        Ok(())
+    }
+
+    /// Several changes, where there are any.
+    pub fn many(&mut self, changes: Vec<Change>) -> Result<(), AllocError> {
+        if !changes.is_empty() {
+            self.all.push(Candidate { changes })?;
+        }
         Ok(())
     }
 
@@ -104,5 +113,5 @@ pub fn candidates_for(view: &View<'_>, fault: &CheckFault) -> Result<Candidates,
         CheckFault::Refused(refusal) => of_refusal(view, refusal, &mut out)?,
         CheckFault::OutOfMemory => return Err(AllocError),
     }
-    Ok(out)
+    known_alone(view, out)
 }

@@ -1,6 +1,7 @@
 // What is tried where two turns of a loop meet that may run in any order.
 
 use crate::candidates::Candidates;
+use crate::clauses::without_clause;
 use crate::inner::before_inner;
 use crate::lines::cut;
 use crate::view::View;
@@ -85,18 +86,11 @@ fn with_collapse(
     Ok(out)
 }
 
-// The line without the clause, and the blanks before it.
-fn without_clause(alloc: Global, line: &[u8], clause: Word) -> Result<Vec<u8>, AllocError> {
-    let mut out = Vec::from_slice(alloc, cut(line, 0, clause.first).trim_ascii_end())?;
-    out.extend_from_slice(cut(line, clause.whole_end(), line.len()))?;
-    Ok(out)
-}
-
 /// The line without its `collapse`, and the blanks before it, where it has one.
 pub fn without_collapse(alloc: Global, line: &[u8]) -> Result<Option<Vec<u8>>, AllocError> {
     match collapse_of(alloc, line)? {
         None => Ok(None),
-        Some((clause, _)) => Ok(Some(without_clause(alloc, line, clause)?)),
+        Some((clause, _)) => Ok(Some(without_clause(alloc, line, &clause)?)),
     }
 }
 
@@ -114,7 +108,7 @@ fn collapse_fewer(
             out.replace(place, Some(text))?;
         }
         if count > 1 {
-            let text = without_clause(view.alloc, line, clause)?;
+            let text = without_clause(view.alloc, line, &clause)?;
             out.replace(place, Some(text))?;
         }
     }

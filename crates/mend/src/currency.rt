@@ -1,15 +1,17 @@
 // What is tried where a read is not current on its side.
 
 use crate::candidates::Candidates;
+use crate::clauses::with_map;
+use crate::devices::other_devices;
+use crate::kinds::{back, other_kinds, retype, turned};
+use crate::lines::Change;
 use crate::sections::{common, run_in};
-use crate::view::{LOOK_BACK, View, head, is_written, map_of, map_with, on_device};
-use crate::words::{with_head, with_map};
-use base::item::{Cell, Item, ItemKind, MapItem, MapKind, Section};
+use crate::sent::{sent_before, sent_behind};
+use crate::stores::stored_by_kernels;
+use crate::view::{LOOK_BACK, View, map_of, map_with, on_device};
+use base::item::{Cell, Item, ItemKind, MapKind, Section};
 use base::tree::{ArrayId, DeviceId};
 use std::alloc::AllocError;
-
-// How many directives get another type.
-const MOST_KINDS: usize = 6;
 
 // How many sections are tried for an update.
 const MOST_SECTIONS: usize = 5;
@@ -39,88 +41,6 @@ impl Texts {
             None => Ok(()),
         }
     }
-}
-
-// The types by which the host may get what a device has, the better one first.
-fn back(item: ItemKind, kind: MapKind) -> (Option<MapKind>, Option<MapKind>) {
-    match (item, kind) {
-        (ItemKind::Target | ItemKind::Begin, MapKind::To | MapKind::From) => {
-            (Some(MapKind::ToFrom), None)
-        }
-        (ItemKind::Target | ItemKind::Begin, MapKind::Alloc) => {
-            (Some(MapKind::From), Some(MapKind::ToFrom))
-        }
-        (ItemKind::Enter, MapKind::Alloc) => (Some(MapKind::To), None),
-        (ItemKind::Exit, MapKind::Release | MapKind::Delete) => (Some(MapKind::From), None),
-        _ => (None, None),
-    }
-}
-
-// The types by which a device may get what the host has.
-fn forth(item: ItemKind, kind: MapKind) -> (Option<MapKind>, Option<MapKind>) {
-    match (item, kind) {
-        (ItemKind::Target | ItemKind::Begin, MapKind::From) => (Some(MapKind::ToFrom), None),
-        (ItemKind::Target | ItemKind::Begin, MapKind::Alloc) => {
-            (Some(MapKind::To), Some(MapKind::ToFrom))
-        }
-        (ItemKind::Enter, MapKind::Alloc) => (Some(MapKind::To), None),
-        _ => (None, None),
-    }
-}
-
-// Another type for a map item.
-fn retype(
-    view: &View<'_>,
-    item: &Item,
-    map: &MapItem,
-    always: bool,
-    kind: Option<MapKind>,
-    out: &mut Candidates,
-) -> Result<(), AllocError> {
-    let Some(kind) = kind else {
-        return Ok(());
-    };
-    let head = head(view.alloc, always, map.present, kind)?;
-    let place = map.column.saturating_sub(1);
-    let line = with_head(view.alloc, view.line_of(item), place, head.as_str())?;
-    out.replace(item.place.line, line)
-}
-
-fn is_on(item: &Item, device: Option<DeviceId>) -> bool {
-    match device {
-        Some(device) => item.device.number == device.number,
-        None => true,
-    }
-}
-
-// Other types for the map items that have the cell, those of the last directives first. For the host where no device is
-// given.
-fn other_kinds(
-    view: &View<'_>,
-    end: usize,
-    cell: Cell,
-    device: Option<DeviceId>,
-    out: &mut Candidates,
-) -> Result<(), AllocError> {
-    let mut seen: Vec<usize> = Vec::new(view.alloc);
-    for number in (end.saturating_sub(LOOK_BACK)..end).rev() {
-        if let Some(item) = view.item(number)
-            && is_on(item, device)
-            && let Some(map) = map_with(item, cell)
-            && is_written(item, &map)
-            && !seen.contains(&item.place.line)
-            && seen.len() < MOST_KINDS
-        {
-            seen.push(item.place.line)?;
-            let (one, two) = match device {
-                None => back(item.kind, map.kind),
-                Some(_) => forth(item.kind, map.kind),
-            };
-            retype(view, item, &map, map.always, one, out)?;
-            retype(view, item, &map, map.always, two, out)?;
-        }
-    }
-    Ok(())
 }
 
 // The sections by which the last items before enter an array on a device.
@@ -224,9 +144,14 @@ fn brought_back(
     }
     let device = on_device(view.alloc, writer.device)?;
     let texts = sections_back(view, at, reader, writer, cell)?;
+    let others = others_back(view, at, reader, writer, cell.array)?;
     for text in texts.all.as_slice() {
         let words = format!(in view.alloc; "target update from({text}){device}")?;
         out.one(view.directive(reader.place.line, words.as_str())?)?;
+        if !others.is_empty() {
+            let words = format!(in view.alloc; "target update from({text}{others}){device}")?;
+            out.one(view.directive(reader.place.line, words.as_str())?)?;
+        }
     }
     Ok(())
 }
@@ -241,14 +166,43 @@ fn always_back(
     let Some(map) = map_with(writer, cell) else {
         return Ok(());
     };
-    if !is_written(writer, &map) || map.always {
+    if !view.is_written(writer, &map) || map.always {
         return Ok(());
     }
     let kind = match map.kind {
         MapKind::Alloc | MapKind::From => MapKind::From,
         _ => MapKind::ToFrom,
     };
-    retype(view, writer, &map, true, Some(kind), out)
+    retype(view, &map, true, Some(kind), out)
+}
+
+// The arrays, but for one, that an item reads without a write of its own before and some kernel writes, as they are
+// entered on its device, or by name.
+fn others_back(
+    view: &View<'_>,
+    at: usize,
+    reader: &Item,
+    writer: &Item,
+    array: ArrayId,
+) -> Result<String, AllocError> {
+    let mut text = String::new(view.alloc);
+    let Some(found) = view.footprint(reader)? else {
+        return Ok(text);
+    };
+    for other in stored_by_kernels(view.alloc, view.outlined)? {
+        if other != array && found.exposed.row(other).first_from(0).is_some() {
+            let mut texts = Texts {
+                all: Vec::new(view.alloc),
+            };
+            entered(view, at, other, writer.device, &mut texts)?;
+            texts.add(view.whole(other)?)?;
+            if let Some(section) = texts.all.first() {
+                text.push_str(", ")?;
+                text.push_str(section.as_str())?;
+            }
+        }
+    }
+    Ok(text)
 }
 
 /// A host item reads a cell that is not current on the host.
@@ -258,25 +212,30 @@ pub fn host_stale(
     cell: Cell,
     out: &mut Candidates,
 ) -> Result<(), AllocError> {
-    other_kinds(view, at, cell, None, out)?;
     let Some(reader) = view.item(at) else {
         return Ok(());
     };
-    let writer = match view.last_writer(at, cell)? {
+    turned(view, at, cell, out)?;
+    other_kinds(view, at, cell, None, out)?;
+    let number = view.last_writer(at, cell)?;
+    let writer = match number {
         Some(number) => view.item(number),
         None => None,
     };
-    let writer = match writer {
+    if let (Some(number), Some(item)) = (number, writer)
+        && matches!(item.kind, ItemKind::Host)
+    {
+        sent_behind(view, number, at, item, cell, out)?;
+    }
+    let kernel = match writer {
         Some(item) if matches!(item.kind, ItemKind::Target) => Some(item),
         _ => last_target(view, at, cell),
     };
-    match writer {
-        Some(writer) => {
-            brought_back(view, at, reader, writer, cell, out)?;
-            always_back(view, writer, cell, out)
-        }
-        None => Ok(()),
+    if let Some(kernel) = kernel {
+        brought_back(view, at, reader, kernel, cell, out)?;
+        always_back(view, kernel, cell, out)?;
     }
+    other_devices(view, at, cell.array, out)
 }
 
 // What the kernel may need of what was written last.
@@ -303,23 +262,20 @@ fn sections_forth(
     Ok(texts)
 }
 
-// The device that has what was written last, where it is another one.
-fn other_device(reader: &Item, writer: Option<&Item>) -> Option<DeviceId> {
-    match writer {
-        Some(writer) => {
-            if matches!(writer.kind, ItemKind::Target)
-                && writer.device.number != reader.device.number
-            {
-                Some(writer.device)
-            } else {
-                None
-            }
-        }
-        None => None,
-    }
+// The update that brings what a kernel wrote to the host, before a line.
+fn from_kernel(
+    view: &View<'_>,
+    line: usize,
+    writer: &Item,
+    text: &str,
+) -> Result<Change, AllocError> {
+    let device = on_device(view.alloc, writer.device)?;
+    let words = format!(in view.alloc; "target update from({text}){device}")?;
+    view.directive(line, words.as_str())
 }
 
-// An update that brings the cell to the kernel's device before it, from another device through the host.
+// Updates that bring the cell to the kernel's device before it: to the host, from where an entry of the kernel copies
+// it, or to the device, from another device through the host.
 fn brought_over(
     view: &View<'_>,
     reader: &Item,
@@ -333,13 +289,16 @@ fn brought_over(
     for text in texts.all.as_slice() {
         let words = format!(in view.alloc; "target update to({text}){to}")?;
         let forth = view.directive(line, words.as_str())?;
-        match other_device(reader, writer) {
-            Some(device) => {
-                let from = on_device(view.alloc, device)?;
-                let words = format!(in view.alloc; "target update from({text}){from}")?;
-                out.two(view.directive(line, words.as_str())?, forth)?;
+        match writer {
+            Some(writer) if matches!(writer.kind, ItemKind::Target) => {
+                out.one(from_kernel(view, line, writer, text.as_str())?)?;
+                if writer.device.number == reader.device.number {
+                    out.one(forth)?;
+                } else {
+                    out.two(from_kernel(view, line, writer, text.as_str())?, forth)?;
+                }
             }
-            None => out.one(forth)?,
+            _ => out.one(forth)?,
         }
     }
     Ok(())
@@ -355,16 +314,20 @@ fn always_forth(
     let Some(map) = map_with(reader, cell) else {
         return Ok(());
     };
-    if is_written(reader, &map) {
+    if view.is_written(reader, &map) {
         let kind = match map.kind {
             MapKind::To | MapKind::Alloc => MapKind::To,
             _ => MapKind::ToFrom,
         };
-        return retype(view, reader, &map, true, Some(kind), out);
+        return retype(view, &map, true, Some(kind), out);
     }
-    let name = view.name(cell.array);
-    let clause = format!(in view.alloc; " map(always, tofrom: {name})")?;
-    let line = with_map(view.alloc, view.line_of(reader), clause.as_str())?;
+    let name = view.whole(cell.array)?;
+    let line = with_map(
+        view.alloc,
+        view.line_of(reader),
+        "always, tofrom",
+        name.as_str(),
+    )?;
     out.replace(reader.place.line, Some(line))
 }
 
@@ -377,11 +340,11 @@ fn kept_back(
 ) -> Result<(), AllocError> {
     if let Some(writer) = writer
         && let Some(map) = map_with(writer, cell)
-        && is_written(writer, &map)
+        && view.is_written(writer, &map)
     {
         let (one, two) = back(writer.kind, map.kind);
-        retype(view, writer, &map, map.always, one, out)?;
-        retype(view, writer, &map, map.always, two, out)?;
+        retype(view, &map, map.always, one, out)?;
+        retype(view, &map, map.always, two, out)?;
     }
     Ok(())
 }
@@ -396,12 +359,21 @@ pub fn device_stale(
     let Some(reader) = view.item(at) else {
         return Ok(());
     };
+    turned(view, at, cell, out)?;
     other_kinds(view, at.saturating_add(1), cell, Some(reader.device), out)?;
-    let writer = match view.last_writer(at, cell)? {
+    let number = view.last_writer(at, cell)?;
+    let writer = match number {
         Some(number) => view.item(number),
         None => None,
     };
     kept_back(view, writer, cell, out)?;
     brought_over(view, reader, writer, cell, out)?;
-    always_forth(view, reader, cell, out)
+    if let (Some(number), Some(item)) = (number, writer)
+        && matches!(item.kind, ItemKind::Host)
+    {
+        sent_before(view, at, reader, item, cell, out)?;
+        sent_behind(view, number, at.saturating_add(1), item, cell, out)?;
+    }
+    always_forth(view, reader, cell, out)?;
+    other_devices(view, at.saturating_add(1), cell.array, out)
 }

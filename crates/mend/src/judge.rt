@@ -4,6 +4,7 @@ ghost use Rattle.std.specs.Prelude.{IfOk};
 ghost use Rattle.mend.specs.Mends.{IsPlanVerdict, IsVerdict, IsVerdictOn};
 
 use crate::bare::without_directives;
+use crate::lines::is_space;
 use base::fault::{CheckFault, RefusalCode};
 use base::item::{Cell, Item, ItemKind};
 use c_read::read_program;
@@ -11,16 +12,17 @@ use mapcheck::check;
 use outline::{Outlined, outline};
 use std::alloc::{AllocError, Global};
 
-/// Where the first fault is. Places are counted from the end, so that lines inserted before them leave them as they
-/// are.
+/// Where the first fault is. Places are counted from the end, so that inserted lines leave them as they are.
 #[derive(Clone, Copy)]
 pub struct Rank {
     pass: u8,
     /// How many items follow that no inserted line makes.
     items_left: usize,
-    /// How many lines follow.
+    /// How many lines follow that begin with no `#`; of a directive, behind the one that it stands before.
     lines_left: usize,
     code: u8,
+    /// How many lines follow that begin with one, up to the first of those.
+    hashes_left: usize,
     array: u32,
     index: u64,
     other_left: usize,
@@ -39,6 +41,14 @@ pub enum Verdict {
 impl Rank {
     /// Whether it is later than another.
     pub fn is_later(&self, other: &Rank) -> bool {
+        if self.is_beyond(other) || other.is_beyond(self) {
+            return self.is_beyond(other);
+        }
+        self.other_left < other.other_left
+    }
+
+    /// Whether it is later than another, whatever the earlier items are.
+    pub fn is_beyond(&self, other: &Rank) -> bool {
         let (a, b) = (self, other);
         if a.pass != b.pass {
             return a.pass > b.pass;
@@ -52,13 +62,13 @@ impl Rank {
         if a.code != b.code {
             return a.code > b.code;
         }
+        if a.hashes_left != b.hashes_left {
+            return a.hashes_left < b.hashes_left;
+        }
         if a.array != b.array {
             return a.array > b.array;
         }
-        if a.index != b.index {
-            return a.index > b.index;
-        }
-        a.other_left < b.other_left
+        a.index > b.index
     }
 }
 
@@ -103,14 +113,41 @@ fn line_of(items: &[Item], number: usize) -> usize {
     }
 }
 
-fn lines_in(text: &[u8]) -> usize {
-    let mut count = 1usize;
+// What is counted of the lines behind one.
+#[derive(Clone, Copy)]
+struct Following {
+    lines: usize,
+    hashes: usize,
+}
+
+// The lines behind one, which is counted from 1.
+fn lines_behind(text: &[u8], line: usize) -> Following {
+    let mut found = Following {
+        lines: 0,
+        hashes: 0,
+    };
+    let mut number = 1usize;
+    let mut begins = true;
+    let mut is_hash = false;
     for byte in text {
         if *byte == b'\n' {
-            count = count.saturating_add(1);
+            number = number.saturating_add(1);
+            begins = true;
+        } else if begins && !is_space(*byte) {
+            begins = false;
+            if number == line {
+                is_hash = *byte == b'#';
+            } else if number > line && *byte != b'#' {
+                found.lines = found.lines.saturating_add(1);
+            } else if number > line && found.lines == 0 {
+                found.hashes = found.hashes.saturating_add(1);
+            }
         }
     }
-    count
+    if is_hash {
+        found.lines = found.lines.saturating_sub(1);
+    }
+    found
 }
 
 fn rank_at(
@@ -122,11 +159,13 @@ fn rank_at(
     cell: Cell,
     other: Option<u32>,
 ) -> Rank {
+    let following = lines_behind(text, line_of(items, item as usize));
     Rank {
         pass,
         items_left: items_from(items, item as usize),
-        lines_left: lines_in(text).saturating_sub(line_of(items, item as usize)),
+        lines_left: following.lines,
         code,
+        hashes_left: following.hashes,
         array: cell.array.0,
         index: cell.index,
         other_left: match other {

@@ -4,19 +4,27 @@
 mod bare;
 mod blocks;
 mod candidates;
+mod clauses;
 mod combined;
 mod currency;
+mod devices;
 mod edits;
 mod inner;
 mod judge;
+mod kinds;
 mod lines;
 mod ordering;
+mod places;
+mod pointers;
 mod presence;
 mod search;
 mod sections;
+mod sent;
+mod stores;
+mod tidy;
 mod view;
 mod words;
 
 pub use bare::without_directives;
 pub use edits::Edit;
-pub use search::{MOST_CHECKS, MOST_STEPS, Mended, mend, mend_within};
+pub use search::{MOST_CHECKS, MOST_STEPS, Mended, Sought, mend, mend_within, seek_within};

@@ -2,17 +2,24 @@
 
 use crate::blocks::{block_end, loops_around};
 use crate::candidates::Candidates;
+use crate::clauses::{with_depend, with_head};
 use crate::lines::Change;
-use crate::sections::hull;
-use crate::view::{View, takes_depend};
-use crate::words::{with_depend, with_head, with_item};
-use base::item::{Cell, Depend, Item, ItemKind};
+use crate::sections::{covers, hull};
+use crate::view::{View, map_of, takes_depend};
+use crate::words::with_item;
+use base::item::{Cell, Depend, Item, ItemKind, MapKind};
 use base::tree::{ArrayId, DependKind};
 use std::alloc::AllocError;
 
-fn depend_of(item: &Item, array: ArrayId) -> Option<Depend> {
+// The depend item with a cell, else the first one of its array.
+fn depend_of(item: &Item, cell: Cell) -> Option<Depend> {
     for depend in item.depends.as_slice() {
-        if depend.section.array == array {
+        if covers(depend.section, cell.array, cell.index) {
+            return Some(*depend);
+        }
+    }
+    for depend in item.depends.as_slice() {
+        if depend.section.array == cell.array {
             return Some(*depend);
         }
     }
@@ -31,11 +38,36 @@ fn replaced(item: &Item, text: Vec<u8>) -> Change {
     }
 }
 
+// Whether an item may change what a device has of an array.
+fn changes_array(view: &View<'_>, item: &Item, array: ArrayId) -> bool {
+    match item.kind {
+        ItemKind::Target => view.stores(item, array),
+        ItemKind::Update => match map_of(item, array) {
+            Some(map) => !matches!(map.kind, MapKind::From),
+            None => true,
+        },
+        _ => true,
+    }
+}
+
 // The directive with a depend item more.
-fn depending(view: &View<'_>, item: &Item, text: &str) -> Result<Change, AllocError> {
-    let clause = format!(in view.alloc; " depend(inout: {text})")?;
-    let line = with_depend(view.alloc, view.line_of(item), clause.as_str())?;
+fn depending(view: &View<'_>, item: &Item, kind: &str, text: &str) -> Result<Change, AllocError> {
+    let line = with_depend(view.alloc, view.line_of(item), kind, text)?;
     Ok(replaced(item, line))
+}
+
+// The directive with a depend item more: `in` where it only reads the array, as long as that is enough.
+fn depend_one(
+    view: &View<'_>,
+    item: &Item,
+    array: ArrayId,
+    text: &str,
+    out: &mut Candidates,
+) -> Result<(), AllocError> {
+    if !changes_array(view, item, array) {
+        out.one(depending(view, item, "in", text)?)?;
+    }
+    out.one(depending(view, item, "inout", text)?)
 }
 
 // The same section in a depend item of both.
@@ -46,73 +78,127 @@ fn depend_both(
     array: ArrayId,
     out: &mut Candidates,
 ) -> Result<(), AllocError> {
-    let name = view.name(array);
-    let second = depending(view, two, name)?;
+    let name = view.whole(array)?;
+    let name = name.as_str();
     if one.place.line == two.place.line {
-        return out.one(second);
+        return out.one(depending(view, two, "inout", name)?);
     }
-    out.two(depending(view, one, name)?, second)
+    if !changes_array(view, one, array) {
+        out.two(
+            depending(view, one, "in", name)?,
+            depending(view, two, "inout", name)?,
+        )?;
+    }
+    if !changes_array(view, two, array) {
+        out.two(
+            depending(view, one, "inout", name)?,
+            depending(view, two, "in", name)?,
+        )?;
+    }
+    out.two(
+        depending(view, one, "inout", name)?,
+        depending(view, two, "inout", name)?,
+    )
 }
 
 // Both read by their depend items: one of them writes.
 fn depend_as_writer(
     view: &View<'_>,
-    item: &Item,
     depend: &Depend,
     out: &mut Candidates,
 ) -> Result<(), AllocError> {
     let place = depend.column.saturating_sub(1);
-    let line = with_head(view.alloc, view.line_of(item), place, "inout")?;
-    out.replace(item.place.line, line)
+    let line = with_head(view.alloc, view.line(depend.line), place, "inout")?;
+    out.replace(depend.line, line)
+}
+
+// Another text for a depend item.
+fn reword_one(
+    view: &View<'_>,
+    depend: &Depend,
+    text: &str,
+    out: &mut Candidates,
+) -> Result<(), AllocError> {
+    let place = depend.column.saturating_sub(1);
+    let line = with_item(view.alloc, view.line(depend.line), place, text)?;
+    out.replace(depend.line, line)
+}
+
+// The section of the one in the depend item of the other.
+fn reword_either(
+    view: &View<'_>,
+    one: (&Item, &Depend),
+    two: (&Item, &Depend),
+    out: &mut Candidates,
+) -> Result<(), AllocError> {
+    let (first, earlier) = one;
+    let (second, later) = two;
+    let text = depend_text(view, first, earlier)?;
+    reword_one(view, later, text.as_str(), out)?;
+    let text = depend_text(view, second, later)?;
+    reword_one(view, earlier, text.as_str(), out)
+}
+
+// A depend item with another text, as a change of its line.
+fn reworded(view: &View<'_>, depend: &Depend, text: &str) -> Result<Option<Change>, AllocError> {
+    let place = depend.column.saturating_sub(1);
+    match with_item(view.alloc, view.line(depend.line), place, text)? {
+        Some(text) => Ok(Some(Change {
+            line: depend.line,
+            inserts: false,
+            text,
+        })),
+        None => Ok(None),
+    }
 }
 
 // Another text for the depend items of both.
 fn reword_both(
     view: &View<'_>,
-    one: (&Item, &Depend),
-    two: (&Item, &Depend),
+    earlier: &Depend,
+    later: &Depend,
     text: &str,
     out: &mut Candidates,
 ) -> Result<(), AllocError> {
-    let (first, earlier) = one;
-    let (second, later) = two;
-    let place = later.column.saturating_sub(1);
-    let Some(line) = with_item(view.alloc, view.line_of(second), place, text)? else {
+    let Some(after) = reworded(view, later, text)? else {
         return Ok(());
     };
-    let after = replaced(second, line);
-    if first.place.line == second.place.line {
+    if earlier.line == later.line {
         return out.one(after);
     }
-    let place = earlier.column.saturating_sub(1);
-    let Some(line) = with_item(view.alloc, view.line_of(first), place, text)? else {
-        return Ok(());
-    };
-    out.two(replaced(first, line), after)
+    match reworded(view, earlier, text)? {
+        Some(before) => out.two(before, after),
+        None => Ok(()),
+    }
 }
 
 fn order_by_depend(
     view: &View<'_>,
     one: &Item,
     two: &Item,
-    array: ArrayId,
+    cell: Cell,
     out: &mut Candidates,
 ) -> Result<(), AllocError> {
-    match (depend_of(one, array), depend_of(two, array)) {
-        (None, None) => depend_both(view, one, two, array, out),
+    match (depend_of(one, cell), depend_of(two, cell)) {
+        (None, None) => depend_both(view, one, two, cell.array, out),
         (Some(depend), None) => {
             let text = depend_text(view, one, &depend)?;
-            out.one(depending(view, two, text.as_str())?)
+            depend_one(view, two, cell.array, text.as_str(), out)
         }
         (None, Some(depend)) => {
             let text = depend_text(view, two, &depend)?;
-            out.one(depending(view, one, text.as_str())?)
+            depend_one(view, one, cell.array, text.as_str(), out)
         }
         (Some(earlier), Some(later)) => {
-            if matches!(later.kind, DependKind::In) {
-                depend_as_writer(view, two, &later, out)?;
+            if changes_array(view, one, cell.array) && matches!(earlier.kind, DependKind::In) {
+                depend_as_writer(view, &earlier, out)?;
             }
-            reword_both(view, (one, &earlier), (two, &later), view.name(array), out)
+            if matches!(later.kind, DependKind::In) {
+                depend_as_writer(view, &later, out)?;
+            }
+            reword_either(view, (one, &earlier), (two, &later), out)?;
+            let all = view.whole(cell.array)?;
+            reword_both(view, &earlier, &later, all.as_str(), out)
         }
     }
 }
@@ -147,7 +233,7 @@ pub fn conflict(
         return Ok(());
     };
     if takes_depend(one.kind) && takes_depend(two.kind) {
-        order_by_depend(view, one, two, cell.array, out)?;
+        order_by_depend(view, one, two, cell, out)?;
     }
     wait_before(view, two, out)
 }
@@ -163,17 +249,12 @@ pub fn overlap(
     let (Some(one), Some(two)) = (view.item(other), view.item(at)) else {
         return Ok(());
     };
-    let (Some(earlier), Some(later)) = (depend_of(one, cell.array), depend_of(two, cell.array))
-    else {
+    let (Some(earlier), Some(later)) = (depend_of(one, cell), depend_of(two, cell)) else {
         return Ok(());
     };
     let text = view.section_text(hull(earlier.section, later.section))?;
-    reword_both(view, (one, &earlier), (two, &later), text.as_str(), out)?;
-    reword_both(
-        view,
-        (one, &earlier),
-        (two, &later),
-        view.name(cell.array),
-        out,
-    )
+    reword_both(view, &earlier, &later, text.as_str(), out)?;
+    reword_either(view, (one, &earlier), (two, &later), out)?;
+    let all = view.whole(cell.array)?;
+    reword_both(view, &earlier, &later, all.as_str(), out)
 }

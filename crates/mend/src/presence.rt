@@ -2,10 +2,14 @@
 
 use crate::blocks::loops_around;
 use crate::candidates::Candidates;
-use crate::sections::{common, hull, touched};
-use crate::view::{LOOK_BACK, View, enters, is_written, map_of, map_with, on_device};
-use crate::words::{with_item, with_map};
-use base::item::{Cell, Item, MapItem, Section};
+use crate::clauses::{with_length, with_map};
+use crate::devices::other_devices;
+use crate::places::end_of_block;
+use crate::pointers::{is_implied, map_pointer};
+use crate::sections::{common, end_of, hull, touched};
+use crate::view::{View, enters, map_of, map_with, on_device};
+use crate::words::with_item;
+use base::item::{Cell, Item, ItemKind, MapItem, Section};
 use base::tree::ArrayId;
 use std::alloc::AllocError;
 
@@ -17,12 +21,31 @@ fn reword(
     text: &str,
     out: &mut Candidates,
 ) -> Result<(), AllocError> {
-    if !is_written(item, map) {
+    if !view.is_written(item, map) {
         return Ok(());
     }
     let place = map.column.saturating_sub(1);
-    let line = with_item(view.alloc, view.line_of(item), place, text)?;
-    out.replace(item.place.line, line)
+    let line = with_item(view.alloc, view.line(map.line), place, text)?;
+    out.replace(map.line, line)
+}
+
+// A map item that is written up to an end, with what else stands there.
+fn lengthen(
+    view: &View<'_>,
+    item: &Item,
+    map: &MapItem,
+    end: u64,
+    out: &mut Candidates,
+) -> Result<(), AllocError> {
+    let length = end.saturating_sub(map.section.first);
+    if length == map.section.length || length == 0 {
+        return Ok(());
+    }
+    let text = view.map_text(item, map)?;
+    match with_length(view.alloc, text.as_str(), length)? {
+        Some(text) => reword(view, item, map, text.as_str(), out),
+        None => Ok(()),
+    }
 }
 
 // A map item more.
@@ -32,8 +55,7 @@ fn add_map(
     text: &str,
     out: &mut Candidates,
 ) -> Result<(), AllocError> {
-    let clause = format!(in view.alloc; " map(tofrom: {text})")?;
-    let line = with_map(view.alloc, view.line_of(item), clause.as_str())?;
+    let line = with_map(view.alloc, view.line_of(item), "tofrom", text)?;
     out.replace(item.place.line, Some(line))
 }
 
@@ -51,16 +73,19 @@ pub fn unmapped(
         Some(found) => touched(&found, cell.array),
         None => None,
     };
-    let name = view.name(cell.array);
+    let name = view.whole(cell.array)?;
     match map_of(item, cell.array) {
         Some(map) => {
             if let Some(needed) = needed {
+                if needed.first >= map.section.first {
+                    lengthen(view, item, &map, end_of(needed), out)?;
+                }
                 let text = view.section_text(hull(map.section, needed))?;
                 reword(view, item, &map, text.as_str(), out)?;
             }
-            reword(view, item, &map, name, out)
+            reword(view, item, &map, name.as_str(), out)
         }
-        None => add_map(view, item, name, out),
+        None => add_map(view, item, name.as_str(), out),
     }
 }
 
@@ -71,7 +96,7 @@ fn entered_before<'v>(
     item: &Item,
     section: Section,
 ) -> Option<(&'v Item, MapItem)> {
-    for number in (at.saturating_sub(LOOK_BACK)..at).rev() {
+    for number in (0..at).rev() {
         if let Some(earlier) = view.item(number)
             && earlier.device.number == item.device.number
             && enters(earlier.kind)
@@ -101,14 +126,43 @@ pub fn in_part(
         return Ok(());
     };
     let text = view.map_text(earlier, &block)?;
-    if is_written(item, &map) {
+    if view.is_written(item, &map) {
+        lengthen(view, item, &map, end_of(block.section), out)?;
         reword(view, item, &map, text.as_str(), out)?;
     } else {
         add_map(view, item, text.as_str(), out)?;
     }
+    if map.section.first >= block.section.first {
+        lengthen(view, earlier, &block, end_of(map.section), out)?;
+    }
     let text = view.section_text(hull(block.section, map.section))?;
     reword(view, earlier, &block, text.as_str(), out)?;
-    reword(view, earlier, &block, view.name(cell.array), out)
+    let all = view.whole(cell.array)?;
+    reword(view, earlier, &block, all.as_str(), out)?;
+    leave_in_turn(view, earlier, &block, out)?;
+    other_devices(view, at.saturating_add(1), cell.array, out)
+}
+
+// What is entered in each turn of a loop is left at the end of the turn.
+fn leave_in_turn(
+    view: &View<'_>,
+    item: &Item,
+    map: &MapItem,
+    out: &mut Candidates,
+) -> Result<(), AllocError> {
+    if item.loops.values.is_empty() || !matches!(item.kind, ItemKind::Enter) {
+        return Ok(());
+    }
+    let Some(end) = end_of_block(view.text, item.place.line) else {
+        return Ok(());
+    };
+    if !view.begins_line(end) {
+        return Ok(());
+    }
+    let text = view.map_text(item, map)?;
+    let device = on_device(view.alloc, item.device)?;
+    let words = format!(in view.alloc; "target exit data map(release: {text}){device}")?;
+    out.one(view.directive(end.line, words.as_str())?)
 }
 
 // The first item on the device that maps an array, up to an item.
@@ -152,6 +206,23 @@ fn present_items(view: &View<'_>, item: &Item) -> Result<String, AllocError> {
     Ok(text)
 }
 
+// An entry before the first item that maps the array on the device, and before the item.
+fn enter_first(
+    view: &View<'_>,
+    at: usize,
+    item: &Item,
+    array: ArrayId,
+    text: &str,
+    out: &mut Candidates,
+) -> Result<(), AllocError> {
+    let device = on_device(view.alloc, item.device)?;
+    let words = format!(in view.alloc; "target enter data map(to: {text}){device}")?;
+    if let Some(first) = first_use(view, at, item, array) {
+        enter_before(view, first, words.as_str(), out)?;
+    }
+    enter_before(view, item, words.as_str(), out)
+}
+
 /// An exit, an update or an entry with `present` of a section that is not present.
 pub fn absent(
     view: &View<'_>,
@@ -165,17 +236,21 @@ pub fn absent(
     let Some(map) = map_with(item, cell) else {
         return Ok(());
     };
-    let device = on_device(view.alloc, item.device)?;
-    let text = view.map_text(item, &map)?;
-    let words = format!(in view.alloc; "target enter data map(to: {text}){device}")?;
-    if let Some(first) = first_use(view, at, item, cell.array) {
-        enter_before(view, first, words.as_str(), out)?;
+    if is_implied(view, item, &map) {
+        map_pointer(view, item, &map, out)?;
     }
-    enter_before(view, item, words.as_str(), out)?;
+    let text = view.map_text(item, &map)?;
+    let name = view.whole(cell.array)?;
+    other_devices(view, at.saturating_add(1), cell.array, out)?;
+    enter_first(view, at, item, cell.array, text.as_str(), out)?;
     let all = present_items(view, item)?;
     if !all.is_empty() && all.as_str() != text.as_str() {
+        let device = on_device(view.alloc, item.device)?;
         let words = format!(in view.alloc; "target enter data map(to: {all}){device}")?;
         enter_before(view, item, words.as_str(), out)?;
+    }
+    if text.as_str() != name.as_str() {
+        enter_first(view, at, item, cell.array, name.as_str(), out)?;
     }
     Ok(())
 }
@@ -195,7 +270,31 @@ fn section_at(item: &Item, line: usize, column: usize) -> Option<Section> {
     None
 }
 
-/// A section leaves its array: it is cut at the array's end.
+// What a region touches of an array, where a section begins with it and has, as its length, the place of its end.
+fn up_to_last(
+    view: &View<'_>,
+    item: &Item,
+    section: Section,
+) -> Result<Option<Section>, AllocError> {
+    let Some(found) = view.footprint(item)? else {
+        return Ok(None);
+    };
+    match touched(&found, section.array) {
+        Some(cells) => {
+            let end = end_of(cells);
+            let is_end = section.length == end || section.length == end.saturating_sub(1);
+            Ok(if cells.first == section.first && is_end {
+                Some(cells)
+            } else {
+                None
+            })
+        }
+        None => Ok(None),
+    }
+}
+
+/// A section leaves its array: its length may be the place of its last cell, or the one behind it; else it is cut at
+/// the array's end.
 pub fn past_the_array(
     view: &View<'_>,
     at: usize,
@@ -217,8 +316,13 @@ pub fn past_the_array(
         length: length.saturating_sub(section.first),
         ..section
     };
-    let text = view.section_text(left)?;
     let place = column.saturating_sub(1);
+    if let Some(cells) = up_to_last(view, item, section)? {
+        let text = view.section_text(cells)?;
+        let changed = with_item(view.alloc, view.line(line), place, text.as_str())?;
+        out.replace(line, changed)?;
+    }
+    let text = view.section_text(left)?;
     let changed = with_item(view.alloc, view.line(line), place, text.as_str())?;
     out.replace(line, changed)
 }

@@ -4,7 +4,8 @@ use base::item::Section;
 use base::tree::ArrayId;
 use ranges::{CellSet, Footprint};
 
-fn end_of(section: Section) -> u64 {
+/// One past the last cell.
+pub fn end_of(section: Section) -> u64 {
     section.first.saturating_add(section.length)
 }
 

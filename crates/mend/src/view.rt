@@ -1,7 +1,9 @@
 // A program that is refused, with its text.
 
 use crate::lines::{Change, cut, indent};
+use crate::pointers::is_pointer;
 use crate::sections::covers;
+use crate::stores::stores_to;
 use crate::words::item_around;
 use base::item::{Cell, Item, ItemKind, MapItem, MapKind, Section};
 use base::tree::{ArrayId, DeviceId, Place, Program};
@@ -51,14 +53,46 @@ impl<'v> View<'v> {
         }
     }
 
+    /// An array as it is written: its name alone, but of a pointer in C its cells.
+    pub fn whole(&self, array: ArrayId) -> Result<String, AllocError> {
+        let (name, length) = (self.name(array), self.length(array));
+        if is_pointer(self.text, name) {
+            format!(in self.alloc; "{name}[0:{length}]")
+        } else {
+            format!(in self.alloc; "{name}")
+        }
+    }
+
     /// A section as it is written, which is the name alone where it is the whole array.
     pub fn section_text(&self, section: Section) -> Result<String, AllocError> {
         let name = self.name(section.array);
         if section.first == 0 && section.length == self.length(section.array) {
-            format!(in self.alloc; "{name}")
+            self.whole(section.array)
         } else {
             format!(in self.alloc; "{name}[{}:{}]", section.first, section.length)
         }
+    }
+
+    /// Whether a line belongs to the directive that begins at another one.
+    fn is_in_directive(&self, first: usize, line: usize) -> bool {
+        if line < first {
+            return false;
+        }
+        for before in first..line {
+            if !self
+                .line(before)
+                .trim_ascii_end()
+                .ends_with(b"\\".as_slice())
+            {
+                return false;
+            }
+        }
+        true
+    }
+
+    /// Whether a map item stands on the item's directive.
+    pub fn is_written(&self, item: &Item, map: &MapItem) -> bool {
+        self.is_in_directive(item.place.line, map.line)
     }
 
     /// What is written at a place of an item's directive, or the array's name where nothing is.
@@ -69,7 +103,7 @@ impl<'v> View<'v> {
         column: usize,
         array: ArrayId,
     ) -> Result<String, AllocError> {
-        if line == item.place.line {
+        if self.is_in_directive(item.place.line, line) {
             let text = self.line(line);
             if let Some(span) = item_around(self.alloc, text, column.saturating_sub(1))?
                 && let Ok(written) = std::str::from_utf8(cut(text, span.first, span.end))
@@ -82,6 +116,17 @@ impl<'v> View<'v> {
 
     pub fn map_text(&self, item: &Item, map: &MapItem) -> Result<String, AllocError> {
         self.written_at(item, map.line, map.column, map.section.array)
+    }
+
+    /// Whether the region of an item has a store to an array.
+    pub fn stores(&self, item: &Item, array: ArrayId) -> bool {
+        let Some(number) = item.region else {
+            return false;
+        };
+        match self.outlined.regions().get(number as usize) {
+            Some(entry) => stores_to(&entry.region.body, array),
+            None => false,
+        }
     }
 
     /// The cells that the region of an item may touch; none where it has no region, or a fault of range.
@@ -103,6 +148,7 @@ impl<'v> View<'v> {
     pub fn last_writer(&self, before: usize, cell: Cell) -> Result<Option<usize>, AllocError> {
         for number in (before.saturating_sub(LOOK_BACK)..before).rev() {
             if let Some(item) = self.item(number)
+                && self.stores(item, cell.array)
                 && let Some(found) = self.footprint(item)?
                 && found.write.contains(cell)
             {
@@ -152,11 +198,6 @@ pub fn map_of(item: &Item, array: ArrayId) -> Option<MapItem> {
         }
     }
     None
-}
-
-/// Whether a map item stands on the item's directive.
-pub fn is_written(item: &Item, map: &MapItem) -> bool {
-    map.line == item.place.line
 }
 
 /// What names a device, behind a blank; nothing for device 0.

@@ -1,4 +1,4 @@
-// The words of a directive line, and lines with a clause that is changed or added.
+// The words of a directive line, and their items.
 
 use crate::lines::{cut, is_space};
 use std::alloc::{AllocError, Global};
@@ -14,7 +14,7 @@ pub struct Word {
 }
 
 impl Word {
-    fn has_brackets(&self) -> bool {
+    pub fn has_brackets(&self) -> bool {
         self.open > self.end
     }
 
@@ -139,16 +139,18 @@ pub fn words(alloc: Global, line: &[u8]) -> Result<Vec<Word>, AllocError> {
     Ok(scan.words)
 }
 
-fn is_text(line: &[u8], word: &Word, text: &[u8]) -> bool {
+/// Whether a word is this text.
+pub fn is_text(line: &[u8], word: &Word, text: &[u8]) -> bool {
     cut(line, word.first, word.end) == text
 }
 
-fn is_clause(line: &[u8], word: &Word) -> bool {
+/// Whether a word is a clause.
+pub fn is_clause(line: &[u8], word: &Word) -> bool {
     word.has_brackets() || is_text(line, word, b"nowait".as_slice())
 }
 
-// The word in whose brackets a place is.
-fn word_around(words: &[Word], place: usize) -> Option<Word> {
+/// The word in whose brackets a place is.
+pub fn word_around(words: &[Word], place: usize) -> Option<Word> {
     for word in words {
         if word.has_brackets() && word.open <= place && place < word.close {
             return Some(*word);
@@ -157,8 +159,8 @@ fn word_around(words: &[Word], place: usize) -> Option<Word> {
     None
 }
 
-// Where the items of a clause begin: behind the colon that stands in no square brackets.
-fn items_first(line: &[u8], word: &Word) -> usize {
+/// Where the items of a clause begin: behind the colon that stands in no square brackets.
+pub fn items_first(line: &[u8], word: &Word) -> usize {
     let mut depth = 0usize;
     let mut place = word.open;
     for byte in cut(line, word.open, word.close) {
@@ -198,8 +200,8 @@ fn trimmed(line: &[u8], span: Span) -> Span {
     Span { first, end }
 }
 
-// The items of a clause.
-fn items(alloc: Global, line: &[u8], word: &Word) -> Result<Vec<Span>, AllocError> {
+/// The items of a clause.
+pub fn items(alloc: Global, line: &[u8], word: &Word) -> Result<Vec<Span>, AllocError> {
     let mut all = Vec::new(alloc);
     let mut depth = 0usize;
     let mut first = items_first(line, word);
@@ -228,8 +230,8 @@ fn items(alloc: Global, line: &[u8], word: &Word) -> Result<Vec<Span>, AllocErro
     Ok(all)
 }
 
-// The item at a place.
-fn item_at(items: &[Span], place: usize) -> Option<Span> {
+/// The item at a place.
+pub fn item_at(items: &[Span], place: usize) -> Option<Span> {
     for item in items {
         if item.first <= place && place < item.end {
             return Some(*item);
@@ -248,8 +250,8 @@ pub fn item_around(alloc: Global, line: &[u8], place: usize) -> Result<Option<Sp
     Ok(item_at(&items, place))
 }
 
-// The line with a text in the place of some bytes.
-fn spliced(alloc: Global, line: &[u8], span: Span, text: &[u8]) -> Result<Vec<u8>, AllocError> {
+/// The line with a text in the place of some bytes.
+pub fn spliced(alloc: Global, line: &[u8], span: Span, text: &[u8]) -> Result<Vec<u8>, AllocError> {
     let mut out = Vec::new(alloc);
     out.extend_from_slice(cut(line, 0, span.first))?;
     out.extend_from_slice(text)?;
@@ -268,141 +270,4 @@ pub fn with_item(
         return Ok(None);
     };
     Ok(Some(spliced(alloc, line, item, text.as_bytes())?))
-}
-
-// The items of a clause but for one, with commas between them.
-fn other_items(
-    alloc: Global,
-    line: &[u8],
-    items: &[Span],
-    but: Span,
-) -> Result<Vec<u8>, AllocError> {
-    let mut out = Vec::new(alloc);
-    for item in items {
-        if item.first != but.first {
-            if !out.is_empty() {
-                out.extend_from_slice(b", ".as_slice())?;
-            }
-            out.extend_from_slice(cut(line, item.first, item.end))?;
-        }
-    }
-    Ok(out)
-}
-
-// Whether a clause has a type, or what else stands before a colon.
-fn has_head(line: &[u8], word: &Word) -> bool {
-    items_first(line, word) > word.open
-}
-
-// The line with one item of a clause in a clause of its own, behind that one.
-fn split(
-    alloc: Global,
-    line: &[u8],
-    word: &Word,
-    items: &[Span],
-    item: Span,
-    head: &str,
-) -> Result<Vec<u8>, AllocError> {
-    let mut out = Vec::new(alloc);
-    out.extend_from_slice(cut(line, 0, items_first(line, word)))?;
-    if has_head(line, word) {
-        out.push(b' ')?;
-    }
-    out.extend_from_slice(&other_items(alloc, line, items, item)?)?;
-    out.extend_from_slice(b") ".as_slice())?;
-    out.extend_from_slice(cut(line, word.first, word.open))?;
-    out.extend_from_slice(head.as_bytes())?;
-    out.extend_from_slice(b": ".as_slice())?;
-    out.extend_from_slice(cut(line, item.first, item.end))?;
-    out.extend_from_slice(cut(line, word.close, line.len()))?;
-    Ok(out)
-}
-
-// What stands in a clause before its colon, or nothing where it has none.
-fn head_of(line: &[u8], word: &Word) -> Span {
-    let end = if has_head(line, word) {
-        items_first(line, word).saturating_sub(1)
-    } else {
-        word.open
-    };
-    Span {
-        first: word.open,
-        end,
-    }
-}
-
-/// The line with another type, or other modifiers and another type, for the item at a place.
-pub fn with_head(
-    alloc: Global,
-    line: &[u8],
-    place: usize,
-    head: &str,
-) -> Result<Option<Vec<u8>>, AllocError> {
-    let words = words(alloc, line)?;
-    let Some(word) = word_around(&words, place) else {
-        return Ok(None);
-    };
-    let items = items(alloc, line, &word)?;
-    let Some(item) = item_at(&items, place) else {
-        return Ok(None);
-    };
-    if items.len() > 1 {
-        return Ok(Some(split(alloc, line, &word, &items, item, head)?));
-    }
-    let mut text = String::new(alloc);
-    text.push_str(head)?;
-    if !has_head(line, &word) {
-        text.push_str(": ")?;
-    }
-    Ok(Some(spliced(alloc, line, head_of(line, &word), text.as_str().as_bytes())?))
-}
-
-// Where a clause goes: behind the last one of its name, else behind the words of the directive, or at the end.
-fn clause_place(line: &[u8], words: &[Word], name: &[u8], at_end: bool) -> usize {
-    let mut directive = 0usize;
-    let mut same = 0usize;
-    let mut last = 0usize;
-    for word in words {
-        last = word.whole_end();
-        if is_text(line, word, name) {
-            same = last;
-        }
-        if !is_clause(line, word) {
-            directive = last;
-        }
-    }
-    if same > 0 {
-        same
-    } else if at_end {
-        last
-    } else {
-        directive
-    }
-}
-
-// The line with a clause more.
-fn with_clause(
-    alloc: Global,
-    line: &[u8],
-    name: &[u8],
-    at_end: bool,
-    clause: &str,
-) -> Result<Vec<u8>, AllocError> {
-    let words = words(alloc, line)?;
-    let place = clause_place(line, &words, name, at_end);
-    let span = Span {
-        first: place,
-        end: place,
-    };
-    spliced(alloc, line, span, clause.as_bytes())
-}
-
-/// The line with a map clause more, which begins with a blank.
-pub fn with_map(alloc: Global, line: &[u8], clause: &str) -> Result<Vec<u8>, AllocError> {
-    with_clause(alloc, line, b"map".as_slice(), false, clause)
-}
-
-/// The line with a depend clause more, which begins with a blank.
-pub fn with_depend(alloc: Global, line: &[u8], clause: &str) -> Result<Vec<u8>, AllocError> {
-    with_clause(alloc, line, b"depend".as_slice(), true, clause)
 }
