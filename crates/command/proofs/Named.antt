@@ -1,4 +1,4 @@
--- The command that the words name, where they have no fault, is one of the seven.
+-- The command that the words name, where they have no fault, is one of the eight.
 use Rattle.std.proofs.Common.{◌≡◌, ◌∙◌, ◌∷◌, ◌⊎◌, ◌&&◌, ◌||◌, ap, Bool, true, false, not, List, [], Option, Some, None, cond, refl, sym, subst, inl, inr, codes, true≢false, option_map, fold}
 use Rattle.std.specs.Prelude.{⊤, find, is_some, IfSome}
 use Rattle.std.specs.Str.{bytes_eq}
@@ -140,8 +140,8 @@ is_help word e = go (bytes_eq (codes "help") word) refl e
     go true is e = subst (λ (t : Text). bytes_eq t (codes "help") ≡ true) ((bytes_eq-Decides (codes "help") word).0 is) refl
     go false is e = cc
 
-seven : (q : Text × List Text) (p : Text × List Row) → bytes_eq q.0 (codes "help") ≡ false → OneOf (IsMet q p) (built ompc).subs → IsNamed (Some p)
-seven q p differs met = elim met [
+eight : (q : Text × List Text) (p : Text × List Row) → bytes_eq q.0 (codes "help") ≡ false → OneOf (IsMet q p) (built ompc).subs → IsNamed (Some p)
+eight q p differs met = elim met [
   | inl h ↦ inl (sym h.1)
   | inr r ↦ elim r [
     | inl h ↦ inr (inl (sym h.1))
@@ -154,10 +154,13 @@ seven q p differs met = elim met [
           | inr r ↦ elim r [
             | inl h ↦ inr (inr (inr (inr (inr (inl (sym h.1))))))
             | inr r ↦ elim r [
-              | inl h ↦ inr (inr (inr (inr (inr (inr (sym h.1))))))
+              | inl h ↦ inr (inr (inr (inr (inr (inr (inl (sym h.1)))))))
               | inr r ↦ elim r [
-                | inl h ↦ absurd (true≢false (sym (is_help q.0 h.0) ∙ differs))
-                | inr none ↦ absurd none
+                | inl h ↦ inr (inr (inr (inr (inr (inr (inr (sym h.1)))))))
+                | inr r ↦ elim r [
+                  | inl h ↦ absurd (true≢false (sym (is_help q.0 h.0) ∙ differs))
+                  | inr none ↦ absurd none
+                ]
               ]
             ]
           ]
@@ -167,7 +170,7 @@ seven q p differs met = elim met [
   ]
 ]
 
--- words without a fault that name a command name one of the four
+-- words without a fault that name a command name one of the eight
 is_named : (words : List Text) (o : Option (Text × List Row)) → subcommand_of ompc words ≡ o → fault_of ompc words ≡ [] → is_some o ≡ true → IsNamed o
 is_named words o is fault some = go (stop_after (built ompc).top.rules (names_of (built ompc)) words) refl o is some
   where
@@ -184,7 +187,7 @@ is_named words o is fault some = go (stop_after (built ompc).top.rules (names_of
     go (Some q) at (Some p) is some =
         let met : entered (built ompc) (Some q) ≡ Some p = rw at at is in
         let differs : IsNoHelp (Some q) = rw at at not_help in
-        seven q p differs (is_met q p (built ompc).subs met)
+        eight q p differs (is_met q p (built ompc).subs met)
 
 -- what a parse of the command line has met
 pub record Meets (words : List Text) (m : ArgMatches) : Type 0 where

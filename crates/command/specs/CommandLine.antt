@@ -57,6 +57,9 @@ fix = command (codes "fix") (file ∷ [])
 abbrev pub witness : Shape
 witness = command (codes "witness") (file ∷ [])
 
+abbrev pub view : Shape
+view = command (codes "view") (file ∷ [])
+
 abbrev pub list : Shape
 list = command (codes "list") (file ∷ [])
 
@@ -76,7 +79,7 @@ ompc = record {
     arg_required_else_help = true;
     subcommand_required = true;
   };
-  subs = check ∷ explain ∷ fix ∷ witness ∷ list ∷ run ∷ step ∷ [];
+  subs = check ∷ explain ∷ fix ∷ witness ∷ view ∷ list ∷ run ∷ step ∷ [];
 }
 
 -- an argument that the library reads so
@@ -134,7 +137,8 @@ abbrev pub format_named : Text → Option Format
 format_named name =
     if bytes_eq name (codes "text") then Some format.Text
     else (if bytes_eq name (codes "json") then Some format.Json
-    else (if bytes_eq name (codes "sarif") then Some format.Sarif else None))
+    else (if bytes_eq name (codes "sarif") then Some format.Sarif
+    else (if bytes_eq name (codes "dot") then Some format.Dot else None)))
 
 -- the form that is asked for, which is text where none is
 abbrev pub format_in : List Row → Option Format
@@ -150,16 +154,17 @@ Asks name rows (request.Check source) = (name ≡ codes "check") × (source.now 
 Asks name rows (request.Explain e) = (name ≡ codes "explain") × IsExplain rows e
 Asks name rows (request.Fix source) = (name ≡ codes "fix") × (source.now ≡ text_in (codes "FILE") rows)
 Asks name rows (request.Witness source) = (name ≡ codes "witness") × (source.now ≡ text_in (codes "FILE") rows)
+Asks name rows (request.View source) = (name ≡ codes "view") × (source.now ≡ text_in (codes "FILE") rows)
 Asks name rows (request.List source) = (name ≡ codes "list") × (source.now ≡ text_in (codes "FILE") rows)
 Asks name rows (request.Run r) = (name ≡ codes "run") × IsRun rows r
 Asks name rows (request.Step s) = (name ≡ codes "step") × IsStep rows s
 
--- the name of a command and its entries, of one of the seven
+-- the name of a command and its entries, of one of the eight
 abbrev pub IsNamed : Option (Text × List Row) → Type 0
 IsNamed None = ⊥
 IsNamed (Some p) =
     (p.0 ≡ codes "check") ⊎ ((p.0 ≡ codes "explain") ⊎ ((p.0 ≡ codes "fix") ⊎ ((p.0 ≡ codes "witness")
-    ⊎ ((p.0 ≡ codes "list") ⊎ ((p.0 ≡ codes "run") ⊎ (p.0 ≡ codes "step"))))))
+    ⊎ ((p.0 ≡ codes "view") ⊎ ((p.0 ≡ codes "list") ⊎ ((p.0 ≡ codes "run") ⊎ (p.0 ≡ codes "step")))))))
 
 -- what the words ask for
 abbrev pub AskedBy : List Text → Request → Type 0

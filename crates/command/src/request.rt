@@ -15,6 +15,8 @@ pub enum Request<'a> {
     Fix(&'a str),
     /// A run of the program in the file that prints something else than without directives.
     Witness(&'a str),
+    /// A page of the program in the file.
+    View(&'a str),
 }
 
 /// In which form a report is printed.
@@ -23,6 +25,8 @@ pub enum Format {
     Text,
     Json,
     Sarif,
+    /// A graph in the language DOT.
+    Dot,
 }
 
 /// Why a program is refused.

@@ -4,7 +4,7 @@ ghost use Rattle.std.specs.Prelude.{◌≡◌, ◌≤◌, ℕ, [], ◌∷◌, �
 ghost use Rattle.clap.specs.Simple.{App, Shape, with_subcommand};
 ghost use Rattle.clap.specs.Walk.{Rule};
 ghost use Rattle.clap.specs.Words.{FailsBy, fault_of, found_of, one_of, rows_of, subcommand_of, subcommand_rows_of};
-ghost use Rattle.command.specs.CommandLine.{AreWorkers, AskedBy, Asks, IsArg, IsCommand, IsExplain, IsNamed, IsNumber, IsProgram, IsReadAs, IsRun, IsStep, capacity, check, command, explain, file, fix, flag, format_in, format_named, list, ompc, run, step, text_in, text_option, witness, workers};
+ghost use Rattle.command.specs.CommandLine.{AreWorkers, AskedBy, Asks, IsArg, IsCommand, IsExplain, IsNamed, IsNumber, IsProgram, IsReadAs, IsRun, IsStep, capacity, check, command, explain, file, fix, flag, format_in, format_named, list, ompc, run, step, text_in, text_option, view, witness, workers};
 
 use crate::request::{Explain, Format, Request, Run, Step, Workers};
 use clap::{Arg, ArgAction, ArgMatches, Command, Error, value_parser};
@@ -110,7 +110,7 @@ fn format_arg<'a>(alloc: Global) -> Arg<'a>
     Arg::new(alloc, "format")
         .long("format")
         .value_name("F")
-        .help("text, json or sarif; text where it is not given")
+        .help("text, json, sarif or dot; text where it is not given")
 }
 
 /// A command that takes the source.
@@ -186,7 +186,7 @@ fn fix_command<'a>(alloc: Global) -> Result<Command<'a>, AllocError>
     ensures { IfOk result (IsCommand fix) }
 {
     let about =
-        "prints the source with its directives changed so that it is accepted, in at most 4 steps and 64 checks";
+        "prints the source with its directives changed so that it is accepted, in at most 12 steps and 128 checks";
     file_command(alloc, "fix", about)
 }
 
@@ -196,6 +196,14 @@ fn witness_command<'a>(alloc: Global) -> Result<Command<'a>, AllocError>
     let about =
         "looks for choices by which a refused program prints something else than without directives, in at most 512 runs";
     file_command(alloc, "witness", about)
+}
+
+fn view_command<'a>(alloc: Global) -> Result<Command<'a>, AllocError>
+    ensures { IfOk result (IsCommand view) }
+{
+    let about =
+        "prints a page of HTML: the source, and where the arrays are current behind each item";
+    file_command(alloc, "view", about)
 }
 
 /// What the words are read by, with one more command.
@@ -223,6 +231,7 @@ fn program<'a>(alloc: Global) -> Result<Command<'a>, AllocError>
     let program = with_command(program, explain_command(alloc));
     let program = with_command(program, fix_command(alloc));
     let program = with_command(program, witness_command(alloc));
+    let program = with_command(program, view_command(alloc));
     let program = with_command(program, list_command(alloc));
     let program = with_command(program, run_command(alloc));
     with_command(program, step_command(alloc))
@@ -298,6 +307,7 @@ fn format_named(name: &str) -> Option<Format>
         "text" => Some(Format::Text),
         "json" => Some(Format::Json),
         "sarif" => Some(Format::Sarif),
+        "dot" => Some(Format::Dot),
         _ => None,
     }
 }
@@ -329,6 +339,7 @@ fn request_of<'a>(given: &ArgMatches<'a>) -> Request<'a>
         Some(("explain", given)) => Request::Explain(explain_of(given)),
         Some(("fix", given)) => Request::Fix(text_of(given, "FILE")),
         Some(("witness", given)) => Request::Witness(text_of(given, "FILE")),
+        Some(("view", given)) => Request::View(text_of(given, "FILE")),
         Some(("list", given)) => Request::List(text_of(given, "FILE")),
         Some(("run", given)) => Request::Run(run_of(given)),
         Some(("step", given)) => Request::Step(step_of(given)),

@@ -3,7 +3,7 @@ use Rattle.std.specs.Prelude.{⊤, ℕ, ◌≡◌, ◌≢◌, ◌⊎◌, List, [
 use Rattle.clap.specs.Faults.{fault_of}
 use Rattle.command.specs.CommandLine.{AskedBy, ompc}
 use Rattle.command.specs.declared.request.Request.{Request}
-use Rattle.command.specs.declared.request.Request.TheVariants.{Run, Step, Check, Explain, Fix, Witness, List as Items}
+use Rattle.command.specs.declared.request.Request.TheVariants.{Run, Step, Check, Explain, Fix, Witness, View, List as Items}
 use Rattle.driver.specs.Printed.{KnownSources, file_of}
 
 -- the bytes of the source are not known, so it may be unreadable; or an input is read, which may be malformed; or a report is asked for in a
@@ -16,6 +16,7 @@ IsMisusedRequest (Items name) source = source ≡ None
 IsMisusedRequest (Explain explain) source = (source ≡ None) ⊎ (explain.format ≡ None)
 IsMisusedRequest (Fix name) source = source ≡ None
 IsMisusedRequest (Witness name) source = ⊤
+IsMisusedRequest (View name) source = source ≡ None
 
 -- that is so of the request that the words ask for
 pub record IsMisusedSource (words : List (List ℕ)) (sources : KnownSources) : Type 0 where

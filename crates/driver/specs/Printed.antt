@@ -15,7 +15,7 @@ use Rattle.report.specs.Runs.{log_bytes, finals_bytes}
 use Rattle.numbers.specs.Numbers.{input_of, choices_of}
 use Rattle.command.specs.CommandLine.{AskedBy}
 use Rattle.command.specs.declared.request.Request.{Request}
-use Rattle.command.specs.declared.request.Request.TheVariants.{Run, Step, Check, Explain, Fix, Witness, List as Items}
+use Rattle.command.specs.declared.request.Request.TheVariants.{Run, Step, Check, Explain, Fix, Witness, View, List as Items}
 use Rattle.driver.specs.declared.perform.Next.{Next}
 use Rattle.driver.specs.declared.perform.Next.TheVariants.{Choices, Workers}
 use Rattle.driver.specs.declared.perform.Way.{Way}
@@ -116,6 +116,7 @@ IsDone (Items name) bytes known old new = IsListed bytes old new
 IsDone (Explain explain) bytes known old new = SpellsAccepted bytes
 IsDone (Fix name) bytes known old new = IsFixed bytes old new
 IsDone (Witness name) bytes known old new = IsWitnessed name.now bytes known old new
+IsDone (View name) bytes known old new = SpellsAccepted bytes
 
 -- a request that writes to standard output why a program is refused
 abbrev pub is_report : Request → Bool
@@ -126,6 +127,7 @@ is_report (Items name) = false
 is_report (Explain explain) = true
 is_report (Fix name) = false
 is_report (Witness name) = false
+is_report (View name) = true
 
 -- the bytes of each source, by its name, where they are known
 abbrev pub KnownSources : Type 0
@@ -140,6 +142,7 @@ file_of (Items name) = name.now
 file_of (Explain explain) = explain.file.now
 file_of (Fix name) = name.now
 file_of (Witness name) = name.now
+file_of (View name) = name.now
 
 -- that is so of the bytes of a source, which are these where they are known
 pub record OfSource (source : Option (List ℕ)) (P : List ℕ → Type 0) : Type 0 where

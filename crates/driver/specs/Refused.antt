@@ -32,6 +32,7 @@ checks (request.List name) = true
 checks (request.Explain explain) = true
 checks (request.Fix name) = true
 checks (request.Witness name) = true
+checks (request.View name) = true
 
 -- a fault that is looked for: what the check finds only where programs have to be accepted
 abbrev pub IsSought : Bool → SourceFault → Type 0

@@ -17,6 +17,7 @@ fn form_of(format: Format) -> Form {
         Format::Text => Form::Text,
         Format::Json => Form::Json,
         Format::Sarif => Form::Sarif,
+        Format::Dot => Form::Dot,
     }
 }
 

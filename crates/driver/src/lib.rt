@@ -3,5 +3,6 @@
 
 mod explained;
 mod perform;
+mod viewed;
 
 pub use perform::{SourceError, Sources, drive};

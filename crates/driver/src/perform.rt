@@ -14,6 +14,7 @@ ghost use Rattle.driver.specs.Refused.{IsCommandRefused, IsNoRefusal, IsPlanFaul
 ghost use Rattle.driver.specs.Stepping.{IsStepWay};
 
 use crate::explained::do_explain;
+use crate::viewed::do_view;
 use base::fault::{CheckFault, OutlineFault, ReadFault, RunFault, SourceFault};
 use base::item::Answer;
 use base::tree::Program;
@@ -21,13 +22,13 @@ use clap::error::ErrorKind;
 use command::{Request, Run, Step, Workers, parse};
 use erased_meaning::erased_text_runs;
 use mapcheck::{Accepted, check};
-use mend::mend;
+use mend::{MOST_CHECKS, seek_within};
 use numbers::{NumbersFault, choice_list, input_numbers};
 use outline::Outlined;
 use pipeline::{
     check_source, items, list_source, read, run_accepted, run_accepted_on_threads, tell,
 };
-use report::{Misuse, fault_text, finals_text, log_text, misuse_text};
+use report::{Misuse, fault_text, finals_text, log_text, misuse_text, no_change_text};
 use std::alloc::Global;
 use std::io;
 use std::io::{Read, Write};
@@ -492,7 +493,7 @@ fn write_text<W: Write>(text: &[u8], out: &mut W) -> io::Result<()>
 }
 
 /// Prints a source with its directives changed so that it is accepted. Where none is found it is refused as the check
-/// refuses it.
+/// refuses it, and it is said how much was tried.
 fn do_fix<'a, S: Sources, W: Write, E: Write>(
     alloc: Global,
     name: &'a str,
@@ -507,12 +508,22 @@ fn do_fix<'a, S: Sources, W: Write, E: Write>(
     ensures done { IfOk result (λ s. s ≡ 0 → OfSource (S.known sources.old name.now) (λ bytes. IsFixed bytes (W.contents out.old) (W.contents out.new))) }
 {
     let bytes = bytes_of(sources, name)?;
-    match mend(alloc, &bytes) {
-        Ok(Some(mended)) => match write_text(&mended.text, out) {
+    let Ok(sought) = seek_within(alloc, &bytes, MOST_CHECKS) else {
+        return refuse(alloc, &bytes, err);
+    };
+    match sought.mended {
+        Some(mended) => match write_text(&mended.text, out) {
             Ok(()) => Ok(DONE),
             Err(_) => Ok(FAILED),
         },
-        Ok(None) | Err(_) => refuse(alloc, &bytes, err),
+        None => {
+            let refused = refuse(alloc, &bytes, err);
+            if let Err(Ending::Refused) = refused {
+                // The status is answered even where its text cannot be written.
+                let _ = no_change_text(sought.steps, sought.checks, err);
+            }
+            refused
+        }
     }
 }
 
@@ -574,6 +585,7 @@ fn do_request<'a, T: Threads + Wait + Sync, S: Sources, R: Read, W: Write, E: Wr
         Request::Explain(explain) => do_explain(on.alloc, explain, sources, out, err),
         Request::Fix(name) => do_fix(on.alloc, name, sources, out, err),
         Request::Witness(name) => do_witness(on.alloc, name, sources, input, out, err),
+        Request::View(name) => do_view(on.alloc, name, sources, out, err),
     }
 }
 
@@ -624,8 +636,8 @@ fn misused<E: Write>(error: &clap::Error, err: &mut E) -> u8
 /// where the program is refused, 2 where the command cannot be done as it was given, 3 where the run stopped before its
 /// end, where memory ran out, or where standard output cannot be written.
 ///
-/// What a command prints goes to `out` at its end, and only where it succeeds, but for `explain`, which prints why a program
-/// is refused; the text of a fault goes to `err`. `rt`
+/// What a command prints goes to `out` at its end, and only where it succeeds, but for `explain` and `view`, which print
+/// why a program is refused; the text of a fault goes to `err`. `rt`
 /// starts the worker threads of `run`; every other command waits for nobody.
 pub fn drive<T: Threads + Wait + Sync, S: Sources, R: Read, W: Write, E: Write>(
     rt: &T,

@@ -11,6 +11,7 @@ use crate::warnings::warnings_of;
 use base::fault::{CheckFault, OutlineFault, ReadFault, SourceFault};
 use base::tree::Program;
 use c_read::read_program;
+use graph::{graph_text, message_graph};
 use mapcheck::check;
 use outline::{Outlined, outline};
 use pipeline::tell;
@@ -26,6 +27,8 @@ pub enum Form {
     Text,
     Json,
     Sarif,
+    /// A graph in the language DOT.
+    Dot,
 }
 
 /// The name of a file, its bytes, and the form of the report.
@@ -49,6 +52,15 @@ impl Report<'_> {
             Form::Text => as_text(self.alloc, self.file, self.bytes, told),
             Form::Json => with_end(as_json(self.alloc, self.file, told)?),
             Form::Sarif => with_end(as_sarif(self.alloc, self.file, told)?),
+            Form::Dot => self.message(told),
+        }
+    }
+
+    // The graph of a text without items.
+    fn message(&self, told: &Told) -> Result<Vec<u8>, AllocError> {
+        match told.diagnoses.first() {
+            None => message_graph(self.alloc, self.file, None),
+            Some(first) => message_graph(self.alloc, self.file, Some((first.code, &first.message))),
         }
     }
 
@@ -69,9 +81,37 @@ impl Report<'_> {
         self.write(&told, out)
     }
 
+    // A program as a graph.
+    fn write_graph<W: Write>(
+        &self,
+        outlined: &Outlined<'_>,
+        fault: Option<&CheckFault>,
+        out: &mut W,
+    ) -> io::Result<()> {
+        let text = graph_text(self.alloc, self.file, self.bytes, outlined, fault)?;
+        out.write_all(&text)
+    }
+
     // That the program is accepted.
-    fn write_accepted<W: Write>(&self, program: &Program, out: &mut W) -> io::Result<()> {
-        self.write_told(program, Ok(Told::new(self.alloc)), out)
+    fn write_accepted<W: Write>(&self, outlined: &Outlined<'_>, out: &mut W) -> io::Result<()> {
+        if self.form == Form::Dot {
+            return self.write_graph(outlined, None, out);
+        }
+        self.write_told(outlined.program(), Ok(Told::new(self.alloc)), out)
+    }
+
+    // Why the program is refused.
+    fn write_refused<W: Write>(
+        &self,
+        outlined: &Outlined<'_>,
+        fault: &CheckFault,
+        out: &mut W,
+    ) -> io::Result<()> {
+        if self.form == Form::Dot {
+            return self.write_graph(outlined, Some(fault), out);
+        }
+        let told = all_told(self.alloc, self.bytes, outlined, fault);
+        self.write_told(outlined.program(), told, out)
     }
 
     fn write_one<W: Write>(
@@ -99,13 +139,12 @@ fn explain_outlined<W: Write, E: Write>(
     let fault = match check(report.alloc, outlined) {
         Ok(accepted) => {
             accepted.is_accepted();
-            return Ok(report.write_accepted(outlined.program(), out));
+            return Ok(report.write_accepted(outlined, out));
         }
         Err(CheckFault::OutOfMemory) => return Err(SourceFault::Check(CheckFault::OutOfMemory)),
         Err(fault) => fault,
     };
-    let told = all_told(report.alloc, report.bytes, outlined, &fault);
-    match report.write_told(outlined.program(), told, out) {
+    match report.write_refused(outlined, &fault, out) {
         Ok(()) => Err(tell(report.alloc, outlined.program(), fault, err)),
         Err(error) => Ok(Err(error)),
     }

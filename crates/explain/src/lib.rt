@@ -11,3 +11,5 @@ mod weights;
 pub use explaining::{Form, explain_source};
 pub use remedy::seek;
 pub use rendering::Remedy;
+pub use telling::all_told;
+pub use warnings::warnings_of;

@@ -2,7 +2,7 @@ use Rattle.std.proofs.Common.{◌≡◌, ◌∙◌, ap, false, true}
 use Rattle.std.proofs.lemmas.Result.{IfOk-weaker}
 use Rattle.clap.specs.Simple.{App, Shape, app_of, app_of_fields, on_top, with_subcommand}
 use Rattle.clap.specs.declared.builder.command.Command.TheViews.{out-Command}
-use Rattle.command.specs.CommandLine.{IsReadAs, check, explain, fix, list, run, step, witness}
+use Rattle.command.specs.CommandLine.{IsReadAs, check, explain, fix, list, run, step, view, witness}
 use Rattle.command.proofs.words.program.Goals as goal
 
 -- what the settings change of what a parse reads
@@ -28,12 +28,13 @@ returns c =
     let two = c.with_command-program-2.ensures (with_subcommand bare check) explain one c.explain_command.ensures in
     let three = c.with_command-program-3.ensures (with_subcommand (with_subcommand bare check) explain) fix two c.fix_command.ensures in
     let four = c.with_command-program-4.ensures (with_subcommand (with_subcommand (with_subcommand bare check) explain) fix) witness three c.witness_command.ensures in
-    let five = c.with_command-program-5.ensures (with_subcommand (with_subcommand (with_subcommand (with_subcommand bare check) explain) fix) witness) list four c.list_command.ensures in
-    let six = c.with_command-program-6.ensures (with_subcommand (with_subcommand (with_subcommand (with_subcommand (with_subcommand bare check) explain) fix) witness) list) run five c.run_command.ensures in
-    let seven = c.with_command.ensures (with_subcommand (with_subcommand (with_subcommand (with_subcommand (with_subcommand (with_subcommand bare check) explain) fix) witness) list) run) step six c.step_command.ensures in
+    let five = c.with_command-program-5.ensures (with_subcommand (with_subcommand (with_subcommand (with_subcommand bare check) explain) fix) witness) view four c.view_command.ensures in
+    let six = c.with_command-program-6.ensures (with_subcommand (with_subcommand (with_subcommand (with_subcommand (with_subcommand bare check) explain) fix) witness) view) list five c.list_command.ensures in
+    let seven = c.with_command-program-7.ensures (with_subcommand (with_subcommand (with_subcommand (with_subcommand (with_subcommand (with_subcommand bare check) explain) fix) witness) view) list) run six c.run_command.ensures in
+    let eight = c.with_command.ensures (with_subcommand (with_subcommand (with_subcommand (with_subcommand (with_subcommand (with_subcommand (with_subcommand bare check) explain) fix) witness) view) list) run) step seven c.step_command.ensures in
     IfOk-weaker c.with_command.result _ _ (λ r h. (
-      h.0 ∙ ap (λ (a : App). with_subcommand (with_subcommand (with_subcommand (with_subcommand
-          (with_subcommand (with_subcommand (with_subcommand (set a) check) explain) fix) witness) list) run) step)
+      h.0 ∙ ap (λ (a : App). with_subcommand (with_subcommand (with_subcommand (with_subcommand (with_subcommand
+          (with_subcommand (with_subcommand (with_subcommand (set a) check) explain) fix) witness) view) list) run) step)
           c.new.ensures.app,
       h.1,
-    )) seven
+    )) eight

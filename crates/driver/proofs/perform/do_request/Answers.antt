@@ -21,3 +21,6 @@ returns-in-Witness-clause-done g c = same_request c.do_witness.result (g.S.Sourc
 
 pub returns-in-Explain-clause-done : goal.returns-in-Explain-clause-done
 returns-in-Explain-clause-done g c = same_request c.do_explain.result (g.S.Sources.known c.args.sources.now) _ _ _ c.args.request _ c.in-Explain.is c.do_explain.ensures.done
+
+pub returns-in-View-clause-done : goal.returns-in-View-clause-done
+returns-in-View-clause-done g c = same_request c.do_view.result (g.S.Sources.known c.args.sources.now) _ _ _ c.args.request _ c.in-View.is c.do_view.ensures.done
