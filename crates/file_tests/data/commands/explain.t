@@ -118,8 +118,24 @@ in_part_on_one_device.c:4:1: help: this change is accepted
 +++ in_part_on_one_device.c
 @@ -4 +4 @@
 -#pragma omp target enter data map(to: A[1:3])
-+#pragma omp target enter data map(to: A[0:3])
++#pragma omp target enter data map(to: A[1:2])
 ! E501 item 1 A[1]
+[1]
+$ ompc explain block_one_short.c
+block_one_short.c:5:32: error: `map(tofrom: A[0:8])` overlaps A[0:7], which is on device 0, without lying inside it [E501]
+    #pragma omp target map(tofrom: A)
+                                   ^
+block_one_short.c:3:37: note: A[0:7] is on device 0 since item 0, which entered it here
+    #pragma omp target data map(tofrom: A[0:7])
+                                        ^
+block_one_short.c:3:37: help: enter all of A[0:8] here: the target touches A[0:8], and A[0:7] is not enough
+block_one_short.c:3:1: help: this change is accepted
+--- block_one_short.c
++++ block_one_short.c
+@@ -3 +3 @@
+-#pragma omp target data map(tofrom: A[0:7])
++#pragma omp target data map(tofrom: A[0:8])
+! E501 item 1 A[0]
 [1]
 $ ompc explain left_twice.c
 left_twice.c:3:33: error: the end of `target data` leaves A[0:2], which is not on device 0 [E502]
@@ -128,10 +144,42 @@ left_twice.c:3:33: error: the end of `target data` leaves A[0:2], which is not o
 left_twice.c:5:42: note: item 1 removed A[0] from device 0 here
     #pragma omp target exit data map(delete: A)
                                              ^
-left_twice.c:3:1: help: enter it before, as by `#pragma omp target enter data map(to: A[0:2])`
-    #pragma omp target data map(to: A)
-    ^
+left_twice.c:5:42: help: take this line away: the block that ends at line 6 leaves A[0:2] there
 ! E502 item 2 A[0]
+[1]
+$ ompc explain left_already.c
+left_already.c:5:42: error: `target exit data` leaves A[0:4], which is not on device 0 [E502]
+    #pragma omp target exit data map(delete: A)
+                                             ^
+left_already.c:4:40: note: item 1 removed A[0] from device 0 here
+    #pragma omp target exit data map(from: A)
+                                           ^
+left_already.c:5:42: help: item 1 left A[0:4] at line 4 already: take this line away
+    #pragma omp target exit data map(delete: A)
+                                             ^
+left_already.c:4:1: help: this change is accepted
+--- left_already.c
++++ left_already.c
+@@ -3,0 +4 @@
++#pragma omp target enter data map(to: A)
+! E502 item 2 A[0]
+[1]
+$ ompc explain left_before_the_next_turn.c
+left_before_the_next_turn.c:7:40: error: `target exit data` leaves A[0:4], which is not on device 0 (in the turn t = 1) [E502]
+    #pragma omp target exit data map(from: A)
+                                           ^
+left_before_the_next_turn.c:6:1: note: item 3 removed A[0] from device 0 here
+    for (uint64_t i = 0; i < 4; i += 1) { A[i] = A[i] + 1; }
+    ^
+left_before_the_next_turn.c:7:40: help: this line left A[0:4] in an earlier turn: write it behind the loop, or enter A[0:4] in each turn
+    #pragma omp target exit data map(from: A)
+                                           ^
+left_before_the_next_turn.c:7:1: help: this change is accepted
+--- left_before_the_next_turn.c
++++ left_before_the_next_turn.c
+@@ -6,0 +7 @@
++#pragma omp target enter data map(to: A)
+! E502 item 4 A[0]
 [1]
 $ ompc explain update_alone.c
 update_alone.c:3:30: error: `target update` copies A[0:4], which is not on device 0 [E503]
@@ -146,7 +194,31 @@ update_alone.c:3:1: help: this change is accepted
 +++ update_alone.c
 @@ -2,0 +3 @@
 +#pragma omp target enter data map(to: A)
+@@ -3,0 +5 @@
++#pragma omp target exit data map(release: A)
 ! E503 item 0 A[0]
+[1]
+$ ompc explain updated_on_another_device.c
+updated_on_another_device.c:4:30: error: `target update` copies A[0:4], which is not on device 0 [E503]
+    #pragma omp target update to(A)
+                                 ^
+updated_on_another_device.c:4:30: note: nothing before has entered A[0] on device 0
+updated_on_another_device.c:3:39: note: A[0:4] is on device 2 since item 0, which entered it here
+    #pragma omp target enter data map(to: A) device(2)
+                                          ^
+updated_on_another_device.c:4:30: help: write `device(2)` on this line: A[0:4] is present there
+    #pragma omp target update to(A)
+                                 ^
+updated_on_another_device.c:4:1: help: enter it before, as by `#pragma omp target enter data map(to: A[0:4])`
+    #pragma omp target update to(A)
+    ^
+updated_on_another_device.c:4:1: help: this change is accepted
+--- updated_on_another_device.c
++++ updated_on_another_device.c
+@@ -4 +4 @@
+-#pragma omp target update to(A)
++#pragma omp target update to(A) device(2)
+! E503 item 1 A[0]
 [1]
 $ ompc explain not_mapped.c
 not_mapped.c:4:3: error: the target writes A[2], which no map item of it has [E504]
@@ -155,7 +227,7 @@ not_mapped.c:4:3: error: the target writes A[2], which no map item of it has [E5
 not_mapped.c:3:32: note: `map(tofrom: A[0:2])` maps no more than A[0:2] to the device
     #pragma omp target map(tofrom: A[0:2])
                                    ^
-not_mapped.c:3:32: help: widen the section here so that it has A[2]
+not_mapped.c:3:32: help: widen the section here to A[0:3]
 not_mapped.c:3:1: help: this change is accepted
 --- not_mapped.c
 +++ not_mapped.c
@@ -163,6 +235,20 @@ not_mapped.c:3:1: help: this change is accepted
 -#pragma omp target map(tofrom: A[0:2])
 +#pragma omp target map(tofrom: A[0:3])
 ! E504 item 0 A[2]
+[1]
+$ ompc explain both_one_short.c
+both_one_short.c:6:39: error: the target writes A[7], which no map item of it has (in the turn i = 7) [E504]
+    for (uint64_t i = 0; i < 8; i += 1) { A[i] = i; }
+                                          ^
+both_one_short.c:5:32: note: `map(tofrom: A[0:7])` maps no more than A[0:7] to the device
+    #pragma omp target map(tofrom: A[0:7])
+                                   ^
+both_one_short.c:5:32: help: widen the section here to A[0:8]
+both_one_short.c:3:37: note: A[0:7] is on device 0 since item 0, which entered it here
+    #pragma omp target data map(tofrom: A[0:7])
+                                        ^
+both_one_short.c:3:37: help: widen the section here to A[0:8] too
+! E504 item 1 A[7]
 [1]
 $ ompc explain present_alone.c
 present_alone.c:3:37: error: `map(present, to: A[0:4])` of the target says that A[0:4] is present, and it is not on device 0 [E509]
@@ -177,6 +263,8 @@ present_alone.c:3:1: help: this change is accepted
 +++ present_alone.c
 @@ -2,0 +3 @@
 +#pragma omp target enter data map(to: A)
+@@ -4,0 +6 @@
++#pragma omp target exit data map(release: A)
 ! E509 item 0 A[0]
 [1]
 $ ompc explain present_update_alone.c
@@ -192,6 +280,8 @@ present_update_alone.c:3:1: help: this change is accepted
 +++ present_update_alone.c
 @@ -2,0 +3 @@
 +#pragma omp target enter data map(to: A)
+@@ -3,0 +5 @@
++#pragma omp target exit data map(release: A)
 ! E509 item 0 A[0]
 [1]
 
@@ -222,7 +312,10 @@ stale_part.c:8:7: error: the host reads A[2], whose last value is on device 0: n
 stale_part.c:6:39: note: A[2] is written here, on device 0, by the target (item 1) (in the turn i = 2)
     for (uint64_t i = 0; i < 4; i += 1) { A[i] = i + 5; }
                                           ^
-stale_part.c:8:7: help: write `#pragma omp target update from(A[2:1])` before this, or an update of all that is read
+stale_part.c:7:32: note: `from(A[0:2])` of item 2 does not have A[2]
+    #pragma omp target update from(A[0:2])
+                                   ^
+stale_part.c:8:7: help: write `#pragma omp target update from(A[2:2])` before this
     print(A[2]);
           ^
 stale_part.c:8:1: help: this change is accepted
@@ -232,6 +325,58 @@ stale_part.c:8:1: help: this change is accepted
 +#pragma omp target update from(A)
 ! E506 item 3 A[2]
 [1]
+$ ompc explain stays_on_the_device.c
+stays_on_the_device.c:7:7: error: the host reads A[0], whose last value is on device 0: nothing has copied it to the host since [E506]
+    print(A[0]);
+          ^
+stays_on_the_device.c:6:39: note: A[0] is written here, on device 0, by the target (item 1) (in the turn i = 0)
+    for (uint64_t i = 0; i < 4; i += 1) { A[i] = i; }
+                                          ^
+stays_on_the_device.c:5:30: note: `map(from: A[0:4])` of item 1 copies nothing to the host here, since A[0:4] was on device 0 before
+    #pragma omp target map(from: A)
+                                 ^
+stays_on_the_device.c:3:33: note: A[0:4] is on device 0 since item 0, which entered it here
+    #pragma omp target data map(to: A)
+                                    ^
+stays_on_the_device.c:5:30: help: write `always, from` in place of `from` here, which copies it to the host each time
+    #pragma omp target map(from: A)
+                                 ^
+stays_on_the_device.c:7:7: help: write `#pragma omp target update from(A)` before this
+    print(A[0]);
+          ^
+stays_on_the_device.c:7:1: help: this change is accepted
+--- stays_on_the_device.c
++++ stays_on_the_device.c
+@@ -6,0 +7 @@
++#pragma omp target update from(A)
+! E506 item 2 A[0]
+[1]
+$ ompc explain entered_twice.c
+entered_twice.c:8:7: error: the host reads A[0], whose last value is on device 0: nothing has copied it to the host since [E506]
+    print(A[0]);
+          ^
+entered_twice.c:6:39: note: A[0] is written here, on device 0, by the target (item 2) (in the turn i = 0)
+    for (uint64_t i = 0; i < 4; i += 1) { A[i] = i; }
+                                          ^
+entered_twice.c:7:40: note: `map(from: A[0:4])` of item 3 copies nothing to the host here: A[0:4] was entered 2 times, and left once
+    #pragma omp target exit data map(from: A)
+                                           ^
+entered_twice.c:3:39: note: A[0:4] is on device 0 since item 0, which entered it here
+    #pragma omp target enter data map(to: A)
+                                          ^
+entered_twice.c:4:39: note: item 1 entered A[0:4] once more here
+    #pragma omp target enter data map(to: A)
+                                          ^
+entered_twice.c:8:7: help: write `#pragma omp target update from(A)` before this
+    print(A[0]);
+          ^
+entered_twice.c:8:1: help: this change is accepted
+--- entered_twice.c
++++ entered_twice.c
+@@ -7,0 +8 @@
++#pragma omp target update from(A)
+! E506 item 4 A[0]
+[1]
 $ ompc explain written_or_not_and_read.c
 written_or_not_and_read.c:6:7: error: the host reads A[0], which was copied to the host from device 0, where it was not current itself [E506]
     print(A[0]);
@@ -240,7 +385,12 @@ written_or_not_and_read.c:4:30: note: `map(from: A[0:2])` of item 1 copies A[0] 
     #pragma omp target map(from: A)
                                  ^
 written_or_not_and_read.c:4:30: note: `map(from: A[0:2])` of item 1 creates A[0] on device 0 here, and copies nothing to it
+written_or_not_and_read.c:5:12: note: A[0] is written here, on device 0, by the target (item 1), only under a condition
+    { if (s) { A[0] = 1; A[1] = 2; } }
+               ^
 written_or_not_and_read.c:4:30: help: write `tofrom` in place of `from` here, which copies A[0] from the host, or write A[0] on the device before it is read
+    #pragma omp target map(from: A)
+                                 ^
 written_or_not_and_read.c:4:1: help: this change is accepted
 --- written_or_not_and_read.c
 +++ written_or_not_and_read.c
@@ -248,6 +398,28 @@ written_or_not_and_read.c:4:1: help: this change is accepted
 -#pragma omp target map(from: A)
 +#pragma omp target map(tofrom: A)
 ! E506 item 2 A[0]
+[1]
+$ ompc explain written_at_some_cell.c
+written_at_some_cell.c:7:7: error: the host reads A[2], which was copied to the host from device 0, where it was not current itself [E506]
+    print(A[2]);
+          ^
+written_at_some_cell.c:5:30: note: `map(from: A[0:4])` of item 1 copies A[2] from device 0 to the host here, whatever it is there
+    #pragma omp target map(from: A)
+                                 ^
+written_at_some_cell.c:5:30: note: `map(from: A[0:4])` of item 1 creates A[2] on device 0 here, and copies nothing to it
+written_at_some_cell.c:6:3: note: A[2] is written here, on device 0, by the target (item 1), only where the subscript is that of this cell
+    { A[s & 3] = 1; }
+      ^
+written_at_some_cell.c:5:30: help: write `tofrom` in place of `from` here, which copies A[2] from the host, or write A[2] on the device before it is read
+    #pragma omp target map(from: A)
+                                 ^
+written_at_some_cell.c:5:1: help: this change is accepted
+--- written_at_some_cell.c
++++ written_at_some_cell.c
+@@ -5 +5 @@
+-#pragma omp target map(from: A)
++#pragma omp target map(tofrom: A)
+! E506 item 2 A[2]
 [1]
 $ ompc explain stale_on_the_device.c
 stale_on_the_device.c:7:46: error: the target reads A[0], whose last value is on the host: nothing has copied it to device 0 since (in the turn i = 0) [E507]
@@ -285,18 +457,117 @@ stale_on_another_device.c:8:1: note: the implicit `map(tofrom: A[0:2])` copies n
 stale_on_another_device.c:4:39: note: A[0:2] is on device 1 since item 1, which entered it here
     #pragma omp target enter data map(to: A) device(1)
                                           ^
-stale_on_another_device.c:7:1: help: write `#pragma omp target update from(A[0:1])` before this, or an update of all that is read
+stale_on_another_device.c:7:1: help: write `#pragma omp target update from(A[0:1])` before this
     #pragma omp target device(1)
     ^
 stale_on_another_device.c:7:1: help: then write `#pragma omp target update to(A[0:1]) device(1)` before this
 stale_on_another_device.c:7:1: help: this change is accepted
 --- stale_on_another_device.c
 +++ stale_on_another_device.c
-@@ -6,0 +7 @@
+@@ -6,0 +7,2 @@
 +#pragma omp target update from(A[0:1])
-@@ -6,0 +8 @@
 +#pragma omp target update to(A[0:1]) device(1)
 ! E507 item 3 A[0]
+[1]
+
+# last values that were copied over, or may have been written over
+$ ompc explain updated_the_wrong_way.c
+updated_the_wrong_way.c:7:7: error: the host reads A[1], whose last value was on device 0, and `to(A[0:4])` of item 2 copied over it what the host had [E506]
+    print(A[1]);
+          ^
+updated_the_wrong_way.c:5:39: note: A[1] is written here, on device 0, by the target (item 1) (in the turn i = 1)
+    for (uint64_t i = 0; i < 4; i += 1) { A[i] = i + 1; }
+                                          ^
+updated_the_wrong_way.c:6:30: note: `to(A[0:4])` of item 2 copies A[1] from the host to device 0 here, whatever it is there
+    #pragma omp target update to(A)
+                                 ^
+updated_the_wrong_way.c:6:30: help: write `from` in place of `to` here, which copies it to the host
+updated_the_wrong_way.c:6:1: help: this change is accepted
+--- updated_the_wrong_way.c
++++ updated_the_wrong_way.c
+@@ -6 +6 @@
+-#pragma omp target update to(A)
++#pragma omp target update from(A)
+! E506 item 3 A[1]
+[1]
+$ ompc explain host_write_not_sent.c
+host_write_not_sent.c:11:7: error: the host reads A[0], whose last value was on the host, and `map(tofrom: A[0:8])` of item 4 copied over it what device 0 had [E506]
+    print(A[0]);
+          ^
+host_write_not_sent.c:3:37: note: `map(tofrom: A[0:8])` of item 4 copies A[0] from device 0 to the host at the end of its block, whatever it is there
+    #pragma omp target data map(tofrom: A)
+                                        ^
+host_write_not_sent.c:8:1: note: A[0] is written here, on the host, by item 3
+    A[0] = A[6];
+    ^
+host_write_not_sent.c:9:27: help: write `#pragma omp target update to(A[0:1])` after this, which copies it to device 0
+    if (A[0] > 3) { A[0] = 3; }
+                              ^
+host_write_not_sent.c:10:1: help: this change is accepted
+--- host_write_not_sent.c
++++ host_write_not_sent.c
+@@ -9,0 +10 @@
++#pragma omp target update to(A[0:1])
+! E506 item 5 A[0]
+[1]
+$ ompc explain copied_over_at_the_end.c
+copied_over_at_the_end.c:8:7: error: the host reads A[1], whose last value was on the host, and `map(from: A[0:4])` of item 2 copied over it what device 0 had [E506]
+    print(A[1]);
+          ^
+copied_over_at_the_end.c:3:35: note: `map(from: A[0:4])` of item 2 copies A[1] from device 0 to the host at the end of its block, whatever it is there
+    #pragma omp target data map(from: A)
+                                      ^
+copied_over_at_the_end.c:6:39: note: A[1] is written here, on device 1, by the target (item 1) (in the turn i = 1)
+    for (uint64_t i = 0; i < 4; i += 1) { A[i] = i + 1; }
+                                          ^
+copied_over_at_the_end.c:7:1: help: write `#pragma omp target update to(A)` before the end of this block, which copies it to device 0
+    }
+    ^
+copied_over_at_the_end.c:3:1: help: this change is accepted
+--- copied_over_at_the_end.c
++++ copied_over_at_the_end.c
+@@ -3 +3 @@
+-#pragma omp target data map(from: A)
++#pragma omp target data map(from: A) device(1)
+! E506 item 3 A[1]
+[1]
+$ ompc explain copied_over_and_entered_again.c
+copied_over_and_entered_again.c:8:46: error: the target reads A[1], which was copied to device 0 from the host, where it was not current itself (in the turn i = 1) [E507]
+    for (uint64_t i = 0; i < 4; i += 1) { B[i] = A[i]; }
+                                                 ^
+copied_over_and_entered_again.c:7:28: note: `map(to: A[0:4])` of item 3 copies A[1] from the host to device 0 here, whatever it is there
+    #pragma omp target map(to: A) map(from: B)
+                               ^
+copied_over_and_entered_again.c:6:40: note: `map(from: A[0:4])` of item 2 copies A[1] from device 0 to the host here, whatever it is there
+    #pragma omp target exit data map(from: A)
+                                           ^
+copied_over_and_entered_again.c:5:1: note: A[1] is written here, on the host, by item 1
+    A[1] = 5;
+    ^
+copied_over_and_entered_again.c:5:9: help: write `#pragma omp target update to(A[1:1])` after this, which copies it to device 0
+    A[1] = 5;
+            ^
+copied_over_and_entered_again.c:6:1: help: this change is accepted
+--- copied_over_and_entered_again.c
++++ copied_over_and_entered_again.c
+@@ -5,0 +6 @@
++#pragma omp target update to(A[1:1])
+! E507 item 3 A[1]
+[1]
+$ ompc explain written_or_not_on_the_host.c
+written_or_not_on_the_host.c:10:7: error: the host reads A[1], whose last value was on device 0, and which item 3 may have written on the host since [E506]
+    print(A[1]);
+          ^
+written_or_not_on_the_host.c:7:39: note: A[1] is written here, on device 0, by the target (item 2) (in the turn i = 1)
+    for (uint64_t i = 0; i < 4; i += 1) { A[i] = i; }
+                                          ^
+written_or_not_on_the_host.c:8:10: note: A[1] is written here, on the host, by item 3, only under a condition
+    if (s) { A[1] = 7; }
+             ^
+written_or_not_on_the_host.c:8:1: help: write `#pragma omp target update from(A)` before this, which copies it to the host
+    if (s) { A[1] = 7; }
+    ^
+! E506 item 5 A[1]
 [1]
 
 # turns that may run in any order, of which one writes what another one reads or writes
@@ -353,7 +624,7 @@ depends_overlap.c:5:53: error: `depend(in: A[2:4])` overlaps `depend(out: A[0:4]
 depends_overlap.c:3:54: note: `depend(out: A[0:4])` of item 0 stands here
     #pragma omp target map(tofrom: A) nowait depend(out: A[0:4])
                                                          ^
-depends_overlap.c:5:53: help: name the same section in both: tasks are ordered by equal sections alone
+depends_overlap.c:5:53: help: name the same section in both, as A[0:6]: tasks are ordered by equal sections alone
     #pragma omp target map(tofrom: A) nowait depend(in: A[2:4])
                                                         ^
 depends_overlap.c:3:1: help: this change is accepted
@@ -411,7 +682,7 @@ readers_create_both.c:5:1: help: this change is accepted
 +++ readers_create_both.c
 @@ -5 +5 @@
 -#pragma omp target map(to: A) map(from: B) nowait
-+#pragma omp target map(to: A) map(from: B) nowait depend(inout: A)
++#pragma omp target map(to: A) map(from: B) nowait depend(in: A)
 @@ -7 +7 @@
 -#pragma omp target map(to: A) map(from: C) nowait
 +#pragma omp target map(to: A) map(from: C) nowait depend(inout: A)
@@ -427,7 +698,7 @@ host_beside_a_copy_in.c:4:30: note: `target update` (item 1) copies A[5] from th
 host_beside_a_copy_in.c:4:1: note: item 1 is deferred by `nowait`: what stands after it does not wait for it
     #pragma omp target update to(A[4:4]) nowait
     ^
-host_beside_a_copy_in.c:5:1: note: no `taskwait` between the two waits for it, and neither has a `depend` clause
+host_beside_a_copy_in.c:5:1: note: no `taskwait` between the two waits for it
     A[1] = 1; print(A[6]); A[5] = 1;
     ^
 host_beside_a_copy_in.c:5:1: help: write `#pragma omp taskwait` before this
@@ -466,15 +737,10 @@ exit_before_the_wait.c:4:1: help: this change is accepted
 +++ exit_before_the_wait.c
 @@ -3,0 +4 @@
 +#pragma omp target enter data map(to: A)
-@@ -4 +5 @@
--#pragma omp target map(tofrom: A[0:4]) nowait
-+#pragma omp target map(tofrom: A[0:4]) nowait depend(inout: A)
-@@ -6 +7 @@
--#pragma omp target map(tofrom: A[4:4]) nowait
-+#pragma omp target map(tofrom: A[4:4]) nowait depend(inout: A)
-@@ -8 +9 @@
--#pragma omp target exit data map(from: A)
-+#pragma omp target exit data map(from: A) depend(inout: A)
+@@ -7,0 +9 @@
++#pragma omp taskwait
+@@ -11,0 +14 @@
++#pragma omp target exit data map(release: A)
 ! E508 item 3 A[0] with item 1
 [1]
 $ ompc explain several_cells.c
@@ -501,6 +767,94 @@ several_cells.c:5:1: help: this change is accepted
 -#pragma omp target nowait
 +#pragma omp target nowait depend(inout: A)
 ! E508 item 2 A[5] with item 1
+[1]
+$ ompc explain waits_for_another_array.c
+waits_for_another_array.c:9:7: error: item 3 reads B[0] on the host, and the target (item 1) copies B[0] from device 0 to the host, with no order between them [E508]
+    print(B[0]);
+          ^
+waits_for_another_array.c:6:30: note: the target (item 1) copies B[0] from device 0 to the host here
+    #pragma omp target map(from: B) nowait depend(out: B)
+                                 ^
+waits_for_another_array.c:6:1: note: item 1 is deferred by `nowait`: what stands after it does not wait for it
+    #pragma omp target map(from: B) nowait depend(out: B)
+    ^
+waits_for_another_array.c:8:1: note: this `taskwait` waits for `depend(in: A[0:4])` alone, and not for item 1
+    #pragma omp taskwait depend(in: A)
+    ^
+waits_for_another_array.c:9:1: help: write `#pragma omp taskwait` before this
+    print(B[0]);
+    ^
+waits_for_another_array.c:9:1: help: this change is accepted
+--- waits_for_another_array.c
++++ waits_for_another_array.c
+@@ -8,0 +9 @@
++#pragma omp taskwait
+! E508 item 3 B[0] with item 1
+[1]
+$ ompc explain no_wait_before_the_end.c
+no_wait_before_the_end.c:3:37: error: the end of `target data` (item 2) copies A[0] from device 0 to the host, and the target (item 1) writes A[0] on device 0, with no order between them [E508]
+    #pragma omp target data map(tofrom: A)
+                                        ^
+no_wait_before_the_end.c:6:39: note: the target (item 1) writes A[0] on device 0 here (in the turn i = 0)
+    for (uint64_t i = 0; i < 4; i += 1) { A[i] = i + 1; }
+                                          ^
+no_wait_before_the_end.c:5:1: note: item 1 is deferred by `nowait`: what stands after it does not wait for it
+    #pragma omp target nowait
+    ^
+no_wait_before_the_end.c:7:1: note: no `taskwait` between the two waits for it
+    }
+    ^
+no_wait_before_the_end.c:7:1: help: write `#pragma omp taskwait` before the end of this block
+no_wait_before_the_end.c:7:1: help: this change is accepted
+--- no_wait_before_the_end.c
++++ no_wait_before_the_end.c
+@@ -6,0 +7 @@
++#pragma omp taskwait
+! E508 item 2 A[0] with item 1
+[1]
+$ ompc explain reader_without_depend.c
+reader_without_depend.c:9:46: error: the target (item 2) reads A[0] on device 0, and the target (item 1) writes A[0] on device 0, with no order between them (in the turn i = 0) [E508]
+    for (uint64_t i = 0; i < 2; i += 1) { B[i] = A[i]; }
+                                                 ^
+reader_without_depend.c:7:39: note: the target (item 1) writes A[0] on device 0 here (in the turn i = 0)
+    for (uint64_t i = 0; i < 2; i += 1) { A[i] = i; }
+                                          ^
+reader_without_depend.c:6:1: note: item 1 is deferred by `nowait`: what stands after it does not wait for it
+    #pragma omp target nowait depend(out: A[0:2])
+    ^
+reader_without_depend.c:8:1: note: no `taskwait` between the two waits for it, and item 2 has no `depend` clause
+    #pragma omp target nowait
+    ^
+reader_without_depend.c:8:1: help: write `#pragma omp taskwait` before this, or `depend(in: A[0:2])` on it
+reader_without_depend.c:8:1: help: this change is accepted
+--- reader_without_depend.c
++++ reader_without_depend.c
+@@ -8 +8 @@
+-#pragma omp target nowait
++#pragma omp target nowait depend(in: A[0:2])
+! E508 item 2 A[0] with item 1
+[1]
+$ ompc explain other_half_named.c
+other_half_named.c:8:39: error: the target (item 2) writes A[2] on device 0, and the target (item 1) writes A[2] on device 0, with no order between them (in the turn i = 2) [E508]
+    for (uint64_t i = 2; i < 4; i += 1) { A[i] = A[i] * 5; }
+                                          ^
+other_half_named.c:6:39: note: the target (item 1) writes A[2] on device 0 here (in the turn i = 2)
+    for (uint64_t i = 2; i < 4; i += 1) { A[i] = i; }
+                                          ^
+other_half_named.c:5:1: note: item 1 is deferred by `nowait`: what stands after it does not wait for it
+    #pragma omp target nowait depend(out: A[2:2])
+    ^
+other_half_named.c:7:1: note: no `taskwait` between the two waits for it, and their `depend` clauses name no section in common
+    #pragma omp target nowait depend(inout: A[0:2])
+    ^
+other_half_named.c:7:1: help: write `#pragma omp taskwait` before this, or `depend(inout: A[2:2])` on it
+other_half_named.c:7:1: help: this change is accepted
+--- other_half_named.c
++++ other_half_named.c
+@@ -7 +7 @@
+-#pragma omp target nowait depend(inout: A[0:2])
++#pragma omp target nowait depend(inout: A[2:2])
+! E508 item 2 A[2] with item 1
 [1]
 
 # faults that do not follow from one before: of range, of depend items, conflicts and the item behind them that is refused by itself
@@ -550,7 +904,7 @@ two_overlaps.c:5:53: error: `depend(in: A[2:4])` overlaps `depend(out: A[0:4])` 
 two_overlaps.c:3:54: note: `depend(out: A[0:4])` of item 0 stands here
     #pragma omp target map(tofrom: A) nowait depend(out: A[0:4])
                                                          ^
-two_overlaps.c:5:53: help: name the same section in both: tasks are ordered by equal sections alone
+two_overlaps.c:5:53: help: name the same section in both, as A[0:6]: tasks are ordered by equal sections alone
     #pragma omp target map(tofrom: A) nowait depend(in: A[2:4])
                                                         ^
 two_overlaps.c:7:53: error: `depend(in: A[3:4])` overlaps `depend(out: A[0:4])` of item 0 in A[3], and is not the same section [E505]
@@ -559,9 +913,21 @@ two_overlaps.c:7:53: error: `depend(in: A[3:4])` overlaps `depend(out: A[0:4])` 
 two_overlaps.c:3:54: note: `depend(out: A[0:4])` of item 0 stands here
     #pragma omp target map(tofrom: A) nowait depend(out: A[0:4])
                                                          ^
-two_overlaps.c:7:53: help: name the same section in both: tasks are ordered by equal sections alone
+two_overlaps.c:7:53: help: name the same section in both, as A[0:7]: tasks are ordered by equal sections alone
     #pragma omp target map(tofrom: A) nowait depend(in: A[3:4])
                                                         ^
+two_overlaps.c:3:1: help: this change is accepted
+--- two_overlaps.c
++++ two_overlaps.c
+@@ -3 +3 @@
+-#pragma omp target map(tofrom: A) nowait depend(out: A[0:4])
++#pragma omp target map(tofrom: A) nowait depend(out: A[0:6])
+@@ -5 +5 @@
+-#pragma omp target map(tofrom: A) nowait depend(in: A[2:4])
++#pragma omp target map(tofrom: A) nowait depend(inout: A[0:6])
+@@ -7 +7 @@
+-#pragma omp target map(tofrom: A) nowait depend(in: A[3:4])
++#pragma omp target map(tofrom: A) nowait depend(in: A[0:6])
 ! E505 item 1 A[2] with item 0
 [1]
 $ ompc explain three_faults.c
@@ -612,7 +978,7 @@ three_faults.c:5:1: help: this change is accepted
 +#pragma omp target map(tofrom: A) nowait depend(inout: A)
 @@ -9 +9 @@
 -#pragma omp target map(tofrom: A) map(to: C) nowait
-+#pragma omp target map(tofrom: A) map(tofrom: C) nowait depend(inout: A)
++#pragma omp target map(tofrom: A, C) nowait depend(inout: A)
 ! E508 item 1 A[0] with item 0
 [1]
 $ ompc explain eleven_faults.c
@@ -1001,3 +1367,74 @@ $ ompc explain halves.c --format xml
 $ ompc explain absent.c
 ! cannot read absent.c
 [2]
+
+# lines that are inserted at one place are one edit
+$ ompc explain --format json stale_on_another_device.c
+{
+  "accepted": false,
+  "diagnostics": [
+    {
+      "array": "A",
+      "cell": 0,
+      "code": "E507",
+      "column": 10,
+      "item": 3,
+      "line": 8,
+      "loops": [],
+      "message": "the target reads A[0], whose last value is on device 0: nothing has copied it to device 1 since",
+      "notes": [
+        {
+          "column": 3,
+          "kind": "note",
+          "line": 6,
+          "message": "A[0] is written here, on device 0, by the target (item 2)"
+        },
+        {
+          "column": 1,
+          "kind": "note",
+          "line": 8,
+          "message": "the implicit `map(tofrom: A[0:2])` copies nothing here, since A[0:2] is on device 1 already"
+        },
+        {
+          "column": 39,
+          "kind": "note",
+          "line": 4,
+          "message": "A[0:2] is on device 1 since item 1, which entered it here"
+        },
+        {
+          "column": 1,
+          "kind": "help",
+          "line": 7,
+          "message": "write `#pragma omp target update from(A[0:1])` before this"
+        },
+        {
+          "column": 1,
+          "kind": "help",
+          "line": 7,
+          "message": "then write `#pragma omp target update to(A[0:1]) device(1)` before this"
+        }
+      ],
+      "rule": "a kernel reads values alone that are current on its device"
+    }
+  ],
+  "file": "stale_on_another_device.c",
+  "fixes": [
+    {
+      "edits": [
+        {
+          "column": 1,
+          "end_column": 1,
+          "end_line": 7,
+          "line": 7,
+          "text": "#pragma omp target update from(A[0:1])\n#pragma omp target update to(A[0:1]) device(1)\n"
+        }
+      ],
+      "message": "this change is accepted"
+    }
+  ],
+  "more": 0,
+  "version": 1,
+  "warnings": []
+}
+! E507 item 3 A[0]
+[1]

@@ -29,6 +29,96 @@ int main(void) {
 print(A[0]);
 }
 
+# another type on the `target data` around a kernel
+$ ompc fix data_mapped_to_only.c
+uint64_t A[4];
+int main(void) {
+#pragma omp target data map(tofrom: A)
+{
+#pragma omp target
+for (uint64_t i = 0; i < 4; i += 1) { A[i] = i + 1; }
+}
+print(A[1]);
+}
+
+# another type for all results of a kernel
+$ ompc fix five_results.c
+uint64_t A[2];
+uint64_t B[2];
+uint64_t C[2];
+uint64_t D[2];
+uint64_t E[2];
+int main(void) {
+#pragma omp target map(to: B) map(tofrom: A, C, D, E)
+{
+A[0] = 1;
+C[0] = 3;
+D[0] = 4;
+E[0] = 5;
+}
+print(A[0] + C[0] + D[0] + E[0]);
+}
+
+# the other direction
+$ ompc fix updated_in_the_other_direction.c
+uint64_t A[2];
+int main(void) {
+#pragma omp target enter data map(to: A)
+#pragma omp target
+{ A[0] = 7; }
+#pragma omp target update from(A)
+print(A[0]);
+#pragma omp target exit data map(release: A)
+}
+
+# what the host wrote between kernels, cell by cell
+$ ompc fix written_between.c
+uint64_t A[4];
+int main(void) {
+#pragma omp target data map(tofrom: A)
+{
+#pragma omp target
+{ A[1] = 3; }
+A[0] = 1;
+A[3] = 2;
+#pragma omp target update to(A[0:1])
+#pragma omp target update to(A[3:1])
+}
+print(A[0] + A[3]);
+}
+
+# the device that has the array
+$ ompc fix updated_without_its_device.c
+uint64_t A[2];
+int main(void) {
+#pragma omp target enter data map(to: A) device(2)
+#pragma omp target update to(A) device(2)
+#pragma omp target exit data map(release: A) device(2)
+}
+
+# a copy to the host, from where an entry copies it to another device
+$ ompc fix read_on_both.c
+uint64_t A[1];
+uint64_t B[1];
+int main(void) {
+#pragma omp target enter data map(alloc: A)
+#pragma omp target
+{ A[0] = 7; }
+#pragma omp target update from(A)
+#pragma omp target map(to: A) map(from: B) device(1)
+{ B[0] = A[0]; }
+print(B[0]);
+}
+
+# an entry with its exit
+$ ompc fix update_alone.c
+uint64_t A[4];
+int main(void) {
+#pragma omp target enter data map(to: A)
+#pragma omp target update to(A)
+#pragma omp target exit data map(release: A)
+}
+
 # a wider section
 $ ompc fix not_mapped.c
 uint64_t A[4];
@@ -52,6 +142,22 @@ $ ompc fix past_the_array.c
 uint64_t A[4];
 int main(void) {
 #pragma omp target enter data map(to: A[1:3])
+}
+
+# an order for a reader
+$ ompc fix reads_unordered.c
+uint64_t A[2];
+uint64_t B[2];
+int main(void) {
+#pragma omp target data map(to: A) map(from: B)
+{
+#pragma omp target nowait depend(out: A)
+{ A[0] = 7; }
+#pragma omp target nowait depend(in: A)
+{ B[0] = A[0]; }
+#pragma omp taskwait
+}
+print(B[0]);
 }
 
 # an order for two additions
@@ -98,12 +204,14 @@ for (uint64_t i = 0; i < 4; i += 1) {
 print(A[3]);
 }
 
-# what no directive mends
+# what no directive mends, and how much was tried
 $ ompc fix below_the_array.c
 ! E301 item 0 line 3 column 39
+! no change found: steps 1, checks 1
 [1]
 $ ompc fix long_loop.c
 ! E303 item 0 line 2 column 1
+! no change found: steps 1, checks 1
 [1]
 $ ompc fix an_item_many_times.c
 ! E401
@@ -113,4 +221,5 @@ $ ompc fix cut_off.c
 [1]
 $ ompc fix left_twice.c
 ! E502 item 2 A[0]
+! no change found: steps 1, checks 2
 [1]

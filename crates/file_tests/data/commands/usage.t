@@ -44,8 +44,9 @@ $ ompc
 ! Commands:
 !   check    says whether a program is accepted, and which arrays are current at its end
 !   explain  says why a program is refused: the places in the source, and what happens there
-!   fix      prints the source with its directives changed so that it is accepted, in at most 4 steps and 64 checks
+!   fix      prints the source with its directives changed so that it is accepted, in at most 12 steps and 128 checks
 !   witness  looks for choices by which a refused program prints something else than without directives, in at most 512 runs
+!   view     prints a page of HTML: the source, and where the arrays are current behind each item
 !   list     prints the items of an accepted program, a line each
 !   run      runs a program on what standard input holds, by worker threads, and prints its output
 !   step     runs a program likewise, but event by event, and prints its output and its log
@@ -63,8 +64,9 @@ $ ompc --help
 ! Commands:
 !   check    says whether a program is accepted, and which arrays are current at its end
 !   explain  says why a program is refused: the places in the source, and what happens there
-!   fix      prints the source with its directives changed so that it is accepted, in at most 4 steps and 64 checks
+!   fix      prints the source with its directives changed so that it is accepted, in at most 12 steps and 128 checks
 !   witness  looks for choices by which a refused program prints something else than without directives, in at most 512 runs
+!   view     prints a page of HTML: the source, and where the arrays are current behind each item
 !   list     prints the items of an accepted program, a line each
 !   run      runs a program on what standard input holds, by worker threads, and prints its output
 !   step     runs a program likewise, but event by event, and prints its output and its log
