@@ -1,7 +1,7 @@
 // A program with what is known of it.
 
 use base::item::{Item, ItemKind, Loc};
-use base::tree::ArrayId;
+use base::tree::{ArrayId, Place};
 use history::Side;
 use outline::Outlined;
 use reasons::{Diagnosis, loops_around};
@@ -12,22 +12,27 @@ use timeline::{Timeline, Turns};
 
 /// The names of the loops around places.
 #[derive(Drop)]
-pub struct LoopNames<'a> {
-    by_place: BTreeMap<(usize, usize), Vec<&'a str>>,
+pub struct LoopNames {
+    by_place: BTreeMap<(usize, usize), Vec<String>>,
 }
 
-impl<'a> LoopNames<'a> {
+// The names of the loops around a place.
+fn names_at(alloc: Global, bytes: &[u8], place: Place) -> Result<Vec<String>, AllocError> {
+    let mut names = Vec::new(alloc);
+    'names: for name in loops_around(alloc, bytes, place)? {
+        names.push(String::from_str(alloc, name)?)?;
+    }
+    Ok(names)
+}
+
+impl LoopNames {
     /// The names of the loops around items.
-    pub fn new(
-        alloc: Global,
-        bytes: &'a [u8],
-        items: &[Item],
-    ) -> Result<LoopNames<'a>, AllocError> {
+    pub fn new(alloc: Global, bytes: &[u8], items: &[Item]) -> Result<LoopNames, AllocError> {
         let mut by_place = BTreeMap::new(alloc);
         'items: for item in items {
             let place = (item.place.line, item.place.column);
             if !item.loops.values.as_slice().is_empty() && !by_place.contains_key(&place) {
-                by_place.insert(place, loops_around(alloc, bytes, item.place)?)?;
+                by_place.insert(place, names_at(alloc, bytes, item.place)?)?;
             }
         }
         Ok(LoopNames { by_place })
@@ -41,7 +46,7 @@ pub struct Scene<'a> {
     pub outlined: &'a Outlined<'a>,
     pub timeline: &'a Timeline,
     pub told: &'a Told,
-    pub names: &'a LoopNames<'a>,
+    pub names: &'a LoopNames,
     /// The arrays that have columns, in ascending order.
     pub arrays: &'a [ArrayId],
     /// The items that are shown whatever is folded.
@@ -105,10 +110,12 @@ pub fn arrays_of(
         }
     }
     let mut arrays = Vec::new(alloc);
-    'arrays: for (array, (is_used, is_blamed)) in used.iter().zip(blamed.iter()).enumerate() {
+    let mut array = 0u32;
+    'arrays: for (is_used, is_blamed) in used.iter().zip(blamed.iter()) {
         if *is_blamed || (*is_used && arrays.len() < MOST_ARRAYS) {
-            arrays.push(ArrayId(array as u32))?;
+            arrays.push(ArrayId(array))?;
         }
+        array = array.saturating_add(1);
     }
     Ok(arrays)
 }
@@ -215,7 +222,10 @@ impl<'a> Scene<'a> {
         };
         let around = item.loops.values.as_slice().len();
         match level.checked_sub(around.saturating_sub(names.len())) {
-            Some(inside) => names.get(inside).copied().unwrap_or("a loop"),
+            Some(inside) => match names.get(inside) {
+                Some(name) => name.as_str(),
+                None => "a loop",
+            },
             None => "a loop around the call",
         }
     }
