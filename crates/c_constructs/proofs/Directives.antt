@@ -85,6 +85,7 @@ over_types d e h = go d.kind refl e
     go kind.TargetUpdate i e = absurd cc
     go (kind.Combined c) i e = types_of d (line.map_types line.Target) (kind.Combined c) i (λ t. refl) h
     go kind.TaskWait i e = absurd cc
+    go kind.AtomicUpdate i e = absurd cc
 
 -- ---- what clauses mean to a directive
 

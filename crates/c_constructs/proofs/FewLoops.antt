@@ -5,7 +5,7 @@ use Rattle.std.proofs.lemmas.Bool.Decides.{nat_tests}
 use Rattle.base.specs.declared.fault.ReadCode.{ReadCode as Code}
 use Rattle.base.specs.declared.fault.ReadCode.TheVariants.{BadOperand}
 use Rattle.c_grammar.specs.Lexeme.{Lexeme, Reserved, Signed, Worded, Numbered, Strange, Ended, Placed as PlacedLexeme}
-use Rattle.c_grammar.specs.LineGrammar.{LineAct, Plain, Demands, Meets, Once, Ends, Maps, Depends, Heads, Modifies, Numbers, Amounts, Chunks, Opens, Begins, BeginsNamed, Times, Collapse, NumTeams, ThreadLimit, NumThreads, SimdLen, SafeLen, DirectiveKind, Target, Data, Enter, Exit, Update, Wait, Combined}
+use Rattle.c_grammar.specs.LineGrammar.{LineAct, Plain, Demands, Meets, Once, Ends, Maps, Depends, Heads, Modifies, Numbers, Amounts, Chunks, Opens, Begins, BeginsNamed, Times, Collapse, NumTeams, ThreadLimit, NumThreads, SimdLen, SafeLen, DirectiveKind, Target, Data, Enter, Exit, Update, Wait, AtomicUpdate, Combined}
 use Rattle.c_grammar.specs.LineMachine.{LineStack, line_advance, line_first_broken, line_machine, line_start}
 use Rattle.c_grammar.specs.LineRules.{LineContext, line_begin, line_breaks, line_breaks_act, line_enter, line_grammar, line_wrong, max_collapse}
 use Rattle.c_grammar.specs.Lines.{collapse_from, collapse_on, collapsed, depth_kind, depth_of, kind_of, line_depth, line_fault, numbered, place_and_code}
@@ -106,6 +106,7 @@ kind_few Exit n l = omega arith
 kind_few Update n l = omega arith
 kind_few (Combined c) n l = l
 kind_few Wait n l = omega arith
+kind_few AtomicUpdate n l = omega arith
 
 found_none : (o : Option (Found line_grammar line_machine)) → place_and_code o ≡ None → o ≡ None
 found_none None h = refl

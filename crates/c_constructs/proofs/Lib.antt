@@ -14,4 +14,5 @@ pub mod Matching
 pub mod LineMeanings
 pub mod Passing
 pub mod Counted
+pub mod Atomics
 pub mod AtStatement

@@ -67,6 +67,7 @@ len_head (kind.Combined construct.TeamsDistributeParallelFor) = refl
 len_head (kind.Combined construct.TeamsDistributeParallelForSimd) = refl
 len_head (kind.Combined construct.TeamsLoop) = refl
 len_head kind.TaskWait = refl
+len_head kind.AtomicUpdate = refl
 
 ends : Spelling
 ends = (Ended, None) ∷ []

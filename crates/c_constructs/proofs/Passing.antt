@@ -5,7 +5,7 @@ use Rattle.base.specs.declared.tree.Directive.{Directive}
 use Rattle.base.specs.declared.tree.Directive.TheVariants as directive
 use Rattle.c_grammar.specs.Grammar.{Over, for}
 use Rattle.c_grammar.specs.Lexeme.{Placed as PlacedLexeme}
-use Rattle.c_grammar.specs.LineGrammar.{DirectiveKind, Target, Data, Enter, Exit, Update, Wait, Combined}
+use Rattle.c_grammar.specs.LineGrammar.{DirectiveKind, Target, Data, Enter, Exit, Update, Wait, AtomicUpdate, Combined}
 use Rattle.c_grammar.specs.Lines.{collapse_in, depth_kind, depth_of, holds, holds_kind, is_omp, is_target, is_target_kind, line_depth}
 use Rattle.c_grammar.specs.Program.{Stack}
 use Rattle.c_grammar.specs.Rules.{enter, inside, under_if, max_statements}
@@ -55,12 +55,14 @@ target_holds Exit h = absurd cc
 target_holds Update h = absurd cc
 target_holds (Combined c) h = refl
 target_holds Wait h = absurd cc
+target_holds AtomicUpdate h = absurd cc
 
 resolved_holds : (names : Names) (at : Place) (d : Given) (r : Resolved) → IsResolvedAt names at d r →
     holds_kind (seen_kind d.kind) ≡ is_over r
 resolved_holds names at d (resolved.Alone place t) h = alone_holds names at.line d t h.1
 resolved_holds names at d (resolved.Over (construct.Target g n)) h = target_holds (seen_kind d.kind) h.1.kind
 resolved_holds names at d (resolved.Over (construct.Data g)) h = ap holds_kind h.kind
+resolved_holds names at d resolved.Atomic h = ap holds_kind h
 
 -- how many loops must follow
 
@@ -76,12 +78,14 @@ resolved_depth : (names : Names) (at : Place) (d : Given) (r : Resolved) → IsR
 resolved_depth names at d (resolved.Alone place t) h = alone_depth names at.line d t h.1
 resolved_depth names at d (resolved.Over (construct.Target g n)) h = h.0
 resolved_depth names at d (resolved.Over (construct.Data g)) h = kind_depth d h.kind
+resolved_depth names at d resolved.Atomic h = kind_depth d h
 
 all_mean : (names : Names) (i : Item Terminal) (is : Items) (d : Given) (r : Resolved) →
     Placed (line_marks d) i.columns → IsResolvedAt names (place_of (i ∷ is)) d r → Means names (i ∷ is) (text_of d) r
 all_mean names i is d (resolved.Alone place t) p h = (h.0, alone_means names i is d t p h.1)
 all_mean names i is d (resolved.Over (construct.Target g n)) p h = target_means names i is d g p h.1
 all_mean names i is d (resolved.Over (construct.Data g)) p h = data_means names i is d g p h
+all_mean names i is d resolved.Atomic p h = h
 
 line_holds : (l : List PlacedLexeme) (d : Given) → IsInSource l d →
     holds (kinds_of l) ≡ holds_kind (seen_kind d.kind)
@@ -131,3 +135,7 @@ passes sc names s line d (resolved.Over (construct.Data a)) t e cs h b g w known
     (run (enter (context_of sc 0 0) (Line (kinds_of line), for Over)) s (behind t))) n
     ∙ ap (λ (b : Bool). run (context_of (record sc { statements = sc.statements + 1; target = b }) 0 0) s (behind t))
     (ap is_target_kind known.kind ∙ ap is_target_kind m.kind)
+passes sc names s line d resolved.Atomic t e cs h b g w known n m =
+    named_line sc false s line d t e cs h b g w known
+    ∙ ap (λ (o : Option LineFault). fault_on (first_item t).line o
+    (run (context_of (one_more sc) 0 0) s (behind t))) n

@@ -66,3 +66,4 @@ IsConstructAt names at d (construct.Data g) = IsDataAt names at d g
 abbrev pub IsResolvedAt : Names → Place → Given → Resolved → Type 0
 IsResolvedAt names at d (resolved.Alone place t) = (place ≡ at) × IsAloneAt names at.line d t
 IsResolvedAt names at d (resolved.Over c) = IsConstructAt names at d c
+IsResolvedAt names at d resolved.Atomic = seen_kind d.kind ≡ line.AtomicUpdate

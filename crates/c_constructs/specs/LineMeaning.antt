@@ -1,7 +1,7 @@
 -- What the line of a directive means that was read.
 use Rattle.std.specs.Prelude.{◌≡◌, ℕ, ◌+◌, Bool, true, false, List, [], ◌∷◌, map}
 use Rattle.c_grammar.specs.Lexeme.{Lexeme}
-use Rattle.c_grammar.specs.LineGrammar.{LineText, line_slots}
+use Rattle.c_grammar.specs.LineGrammar.{AtomicUpdate, LineText, line_slots}
 use Rattle.c_grammar.specs.LineRules.{IsLine}
 use Rattle.c_grammar.specs.Lines.{holds, is_omp, depth_of}
 use Rattle.c_grammar.specs.Terminal.{Terminal, Line}
@@ -30,6 +30,7 @@ lexemes_on _ = []
 abbrev pub is_over : Resolved → Bool
 is_over (resolved.Alone place d) = false
 is_over (resolved.Over c) = true
+is_over resolved.Atomic = false
 
 -- how many nested loops must follow it, whose turns may run in any order
 abbrev pub depth_over : Construct → ℕ
@@ -39,12 +40,14 @@ depth_over (construct.Data g) = 0
 abbrev pub depth_in : Resolved → ℕ
 depth_in (resolved.Alone place d) = 0
 depth_in (resolved.Over c) = depth_over c
+depth_in resolved.Atomic = 0
 
--- the line that is the first of these tokens means this
+-- the line that is the first of these tokens means this; that of an atomic update means no directive of a part
 abbrev pub Means : Names → Items → LineText → Resolved → Type 0
 Means names is t (resolved.Alone place d) = (place ≡ place_of is) × IsAlone names is t d
 Means names is t (resolved.Over (construct.Target g depth)) = IsTarget names is t g
 Means names is t (resolved.Over (construct.Data g)) = IsData names is t g
+Means names is t resolved.Atomic = t.kind ≡ AtomicUpdate
 
 -- that is what the line of this token means, which the others follow
 pub record IsRead (names : Names) (item : Item Terminal) (behind : Items) (d : Resolved) : Type 0 where
@@ -62,4 +65,5 @@ is_target (construct.Data g) = false
 -- what is known behind the line: a statement more has begun, and a block or loop must follow
 abbrev pub scope_behind : Resolved → Scope → Scope
 scope_behind (resolved.Alone place d) s = one_more s
+scope_behind resolved.Atomic s = one_more s
 scope_behind (resolved.Over c) s = record s { statements = s.statements + 1; target = is_target c }

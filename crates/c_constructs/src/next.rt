@@ -3,7 +3,7 @@
 ghost use Rattle.std.specs.Prelude.{◌≡◌, ◌<◌, ◌≤◌, Bool, IfOk, IfErr, OnOk, OnErr, None, true, false};
 ghost use Rattle.c_grammar.specs.Grammar.{for};
 ghost use Rattle.c_grammar.specs.LineRules.{IsLine, max_collapse};
-ghost use Rattle.c_grammar.specs.Lines.{holds, holds_kind, line_depth};
+ghost use Rattle.c_grammar.specs.Lines.{holds, holds_kind, is_atomic_kind, line_depth};
 ghost use Rattle.c_grammar.specs.Program.{Stack};
 ghost use Rattle.c_grammar.specs.Rules.{inside, under_if};
 ghost use Rattle.c_grammar.specs.Terminal.{Line};
@@ -41,7 +41,15 @@ fn has_block(kind: DirectiveKind) -> bool
     }
 }
 
+/// Whether a directive of that kind is an atomic update.
+fn is_atomic(kind: DirectiveKind) -> bool
+    ensures { result ≡ is_atomic_kind (seen_kind kind) }
+{
+    matches!(kind, DirectiveKind::AtomicUpdate)
+}
+
 /// What a directive means, whose `#` stands at the place.
+#[tactic(auto, using(crate::proofs::Atomics::atomic_told, crate::proofs::Atomics::atomic_kind))]
 fn resolved_at(
     scope: &Scope<'_>,
     place: Place,
@@ -54,6 +62,9 @@ fn resolved_at(
 {
     if has_block(directive.kind) {
         return construct_at(scope, place, directive).map(Resolved::Over);
+    }
+    if is_atomic(directive.kind) {
+        return Ok(Resolved::Atomic);
     }
     let alone = alone_at(scope, place.line, directive)?;
     Ok(Resolved::Alone(place, alone))
@@ -102,6 +113,7 @@ fn begin(scope: &mut Scope<'_>, resolved: &Resolved)
     scope.statements += 1;
     match resolved {
         Resolved::Alone(_, _) => {}
+        Resolved::Atomic => {}
         Resolved::Over(construct) => {
             scope.target = is_target(construct);
         }

@@ -2,7 +2,7 @@
 
 ghost use Rattle.std.specs.Prelude.{◌≡◌, ◌≤◌, ◌∷◌, [], IfOk, None, true, false, map};
 ghost use Rattle.c_grammar.specs.LineRules.{IsLine, max_collapse};
-ghost use Rattle.c_grammar.specs.Lines.{collapse_in, holds_kind, line_depth};
+ghost use Rattle.c_grammar.specs.Lines.{collapse_in, holds_kind, is_atomic_kind, line_depth};
 ghost use Rattle.c_expressions.specs.Scopes.{names_of};
 ghost use Rattle.directives.specs.Kinds.{seen_kind};
 ghost use Rattle.directives.specs.Names.{names_in};
@@ -33,6 +33,8 @@ pub enum Resolved {
     Alone(Place, tree::Directive),
     /// A block or loop follows it.
     Over(Construct),
+    /// An atomic update: a store follows it.
+    Atomic,
 }
 
 /// What the clauses of a directive on that line of the source mean.
@@ -56,6 +58,7 @@ pub fn alone_at(
 ) -> Result<tree::Directive, DirectiveFault>
     requires line { IsLine (text_of directive.now) }
     requires kind { holds_kind (seen_kind directive.now.kind) ≡ false }
+    requires apart { is_atomic_kind (seen_kind directive.now.kind) ≡ false }
     ensures told { Outcome result (fault_in scope.now (names_in directive.now)) None }
     ensures means { IfOk result (λ d. IsAloneAt (names_of scope.now) line directive.now d) }
 {

@@ -121,6 +121,7 @@ impl<'a> Numbers<'a> {
     fn define(&mut self) -> Result<(), AllocError> {
         let mut in_const = false;
         let mut in_enum = false;
+        let mut ctype = Type::Unsigned;
         for number in 0..self.tokens.len() {
             let Some(token) = self.tokens.get(number).copied() else {
                 break;
@@ -128,10 +129,14 @@ impl<'a> Numbers<'a> {
             let text = text_of(self.bytes, &token);
             match token.kind {
                 Kind::Line => self.define_on(token)?,
-                Kind::Name if text == b"const".as_slice() => in_const = true,
+                Kind::Name if text == b"const".as_slice() => {
+                    in_const = true;
+                    ctype = Type::Unsigned;
+                }
+                Kind::Name if in_const && text == b"int".as_slice() => ctype = Type::Int,
                 Kind::Name if text == b"enum".as_slice() => in_enum = true,
                 Kind::Name if in_enum => self.add(text, Type::Int)?,
-                Kind::Name if in_const => self.add(text, Type::Unsigned)?,
+                Kind::Name if in_const => self.add(text, ctype)?,
                 Kind::Sign(Sign::Semicolon) => {
                     in_const = false;
                     in_enum = false;
@@ -168,6 +173,14 @@ impl<'a> Numbers<'a> {
                 type_of_group(rest, &self.constants, Tokens::new(rest))
             }
             _ => decimal_type(n),
+        }
+    }
+
+    /// Whether the name that stands at a place is declared there by the type `int`.
+    pub fn is_int_at(&self, place: Place) -> bool {
+        match self.tokens.get(self.index_of(place).wrapping_sub(1)) {
+            None => false,
+            Some(token) => text_of(self.bytes, token) == b"int".as_slice(),
         }
     }
 

@@ -27,6 +27,8 @@ pub enum Reason {
     Above,
     /// A shift by as many bits as the type has, or more.
     Count,
+    /// A loop's name that may pass its type behind the last turn.
+    Counter,
     /// A number that `printf` takes as an `unsigned long`.
     Printed,
     /// Another one.

@@ -33,6 +33,15 @@ pub fn unsigned() -> Shape {
     }
 }
 
+/// The name of a loop of the type `int`, from its first number to the one before its end.
+pub fn counter(first: u64, end: u64) -> Shape {
+    Shape {
+        ctype: Type::Int,
+        lo: first,
+        hi: end.saturating_sub(1).max(first),
+    }
+}
+
 /// What is 0 or 1.
 pub fn flag() -> Shape {
     Shape {

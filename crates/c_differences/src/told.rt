@@ -18,7 +18,8 @@ use std::alloc::{AllocError, Global};
 #[derive(Drop)]
 pub struct Differences {
     pub list: Vec<Difference>,
-    /// Each number is written as a decimal without a suffix, and `printf` prints none of a type with 32 bits.
+    /// Each number is written as a decimal without a suffix, `printf` prints none of a type with 32 bits, and no loop's
+    /// name is of the type `int`.
     pub plain: bool,
 }
 
@@ -70,6 +71,7 @@ pub fn differences_of(
         numbers: &numbers,
         stream: Stream::new(&tokens),
         found: Vec::new(alloc),
+        loops: Vec::new(alloc),
         plain: true,
     };
     walk.parts(&program.body)?;

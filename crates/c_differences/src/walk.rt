@@ -4,12 +4,12 @@ use crate::constants::Numbers;
 use crate::difference::{Difference, InC, Reason};
 use crate::literal::{Type, is_plain};
 use crate::shape::{
-    Misfit, Outcome, Shape, binary, division, flag, number, shift, unary, unsigned,
+    Misfit, Outcome, Shape, binary, counter, division, flag, number, shift, unary, unsigned,
 };
 use crate::stream::Stream;
 use base::tree::{
-    BinaryOp, Bounds, DivideOp, Divisor, Expr, Part, Place, ShiftCount, ShiftOp, Source, Stmt,
-    UnaryOp,
+    BinaryOp, Bounds, CombineOp, DivideOp, Divisor, Expr, Part, Place, ShiftCount, ShiftOp, Source,
+    Stmt, UnaryOp,
 };
 use std::alloc::AllocError;
 
@@ -19,7 +19,10 @@ pub struct Walk<'a, 'w> {
     pub numbers: &'w Numbers<'a>,
     pub stream: Stream<'a, 'w>,
     pub found: Vec<Difference>,
-    /// Each number so far is written as a decimal without a suffix, and `printf` prints none of a type with 32 bits.
+    /// What is known of the names of the loops around, the outermost first.
+    pub loops: Vec<Shape>,
+    /// Each number so far is written as a decimal without a suffix, `printf` prints none of a type with 32 bits, and no
+    /// loop's name is of the type `int`.
     pub plain: bool,
 }
 
@@ -28,6 +31,18 @@ fn literal(e: &Expr) -> Option<u64> {
     match e {
         Expr::Number(n) => Some(*n),
         _ => None,
+    }
+}
+
+// The operator of an update in an expression. None is the least or the greatest of two numbers.
+fn operator_of(op: CombineOp) -> Option<BinaryOp> {
+    match op {
+        CombineOp::Add => Some(BinaryOp::Add),
+        CombineOp::Multiply => Some(BinaryOp::Multiply),
+        CombineOp::BitAnd => Some(BinaryOp::BitAnd),
+        CombineOp::BitOr => Some(BinaryOp::BitOr),
+        CombineOp::BitXor => Some(BinaryOp::BitXor),
+        CombineOp::Min | CombineOp::Max => None,
     }
 }
 
@@ -173,9 +188,13 @@ impl Walk<'_, '_> {
     fn expr(&mut self, e: &Expr) -> Result<Option<Shape>, AllocError> {
         match e {
             Expr::Number(n) => self.number(*n, false),
-            Expr::Scalar(_) | Expr::LoopName(_) => {
+            Expr::Scalar(_) => {
                 self.stream.name();
                 Ok(Some(unsigned()))
+            }
+            Expr::LoopName(level) => {
+                self.stream.name();
+                Ok(Some(self.loop_name(*level as usize)))
             }
             Expr::Cell(_, _, subscript) => self.of_cell(subscript),
             Expr::Unary(op, a) => self.of_unary(*op, a),
@@ -228,14 +247,55 @@ impl Walk<'_, '_> {
         self.tell(place, misfit, literal(e))
     }
 
-    // The head of a loop.
+    fn loop_name(&self, level: usize) -> Shape {
+        match self.loops.get(level) {
+            None => unsigned(),
+            Some(shape) => *shape,
+        }
+    }
+
+    // The name of a loop of the type `int`, whose end is told where the type may not hold the number behind the last turn.
+    fn counted(&mut self, bounds: &Bounds, end: Place) -> Result<Shape, AllocError> {
+        self.plain = false;
+        let behind = bounds.end.saturating_sub(1).saturating_add(bounds.step);
+        if behind > Type::Int.greatest() {
+            let misfit = Misfit {
+                reason: Reason::Counter,
+                ctype: Type::Int,
+                in_c: InC::Unknown,
+                here: None,
+            };
+            self.tell(end, misfit, None)?;
+        }
+        Ok(counter(bounds.first, bounds.end))
+    }
+
+    // The head of a loop, behind which its name is known.
     fn head(&mut self, bounds: &Bounds) -> Result<(), AllocError> {
-        self.stream.name();
+        let name = self.stream.name();
         self.number(bounds.first, true)?;
-        self.stream.name();
+        let end = self.stream.name();
         self.number(bounds.end, true)?;
         self.stream.name();
         self.number(bounds.step, true)?;
+        let shape = if self.numbers.is_int_at(name) {
+            self.counted(bounds, end)?
+        } else {
+            unsigned()
+        };
+        self.loops.push(shape)?;
+        Ok(())
+    }
+
+    // An update: the cell, and behind the sign `=` the cell again, the operator and the value.
+    fn update(&mut self, op: CombineOp, subscript: &Expr, value: &Expr) -> Result<(), AllocError> {
+        self.of_cell(subscript)?;
+        self.stream.assigns();
+        self.of_cell(subscript)?;
+        if let Some(op) = operator_of(op) {
+            self.stream.binary(op);
+        }
+        self.expr(value)?;
         Ok(())
     }
 
@@ -250,16 +310,14 @@ impl Walk<'_, '_> {
                 self.of_cell(e)?;
                 self.source(v)
             }
-            Stmt::Combine(_, _, _, e, v) => {
-                self.of_cell(e)?;
-                self.expr(v)?;
-                Ok(())
-            }
+            Stmt::Combine(op, _, _, e, v) => self.update(*op, e, v),
             Stmt::Print(e) => self.printed(e),
             Stmt::Block(all) => self.stmts(all),
             Stmt::Loop(bounds, body) => {
                 self.head(bounds)?;
-                self.stmts(body)
+                self.stmts(body)?;
+                self.loops.pop();
+                Ok(())
             }
             Stmt::If(c, first, second) => {
                 self.expr(c)?;
@@ -284,7 +342,9 @@ impl Walk<'_, '_> {
             Part::Block(all) | Part::Data(_, all) => self.parts(all),
             Part::Loop(bounds, body) => {
                 self.head(bounds)?;
-                self.parts(body)
+                self.parts(body)?;
+                self.loops.pop();
+                Ok(())
             }
             Part::Alone(_, _) => Ok(()),
         }

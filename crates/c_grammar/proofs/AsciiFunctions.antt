@@ -316,12 +316,12 @@ call_text globals fs left (i ∷ []) a h k = tt
 call_text globals fs left (i ∷ o ∷ is) a h k =
     either_text (is_mark sign.OpenParen o) _ None (at_text globals fs i.terminal i left is a h k.1.1) tt
 
-take_text : (n : ℕ) (is : Items) → AreItemsText is → AreItemsText (take n is)
+pub take_text : (n : ℕ) (is : Items) → AreItemsText is → AreItemsText (take n is)
 take_text zero is h = tt
 take_text (suc n) [] h = tt
 take_text (suc n) (i ∷ is) h = (h.0, take_text n is h.1)
 
-drop_text : (n : ℕ) (is : Items) → AreItemsText is → AreItemsText (drop n is)
+pub drop_text : (n : ℕ) (is : Items) → AreItemsText is → AreItemsText (drop n is)
 drop_text zero is h = h
 drop_text (suc n) [] h = tt
 drop_text (suc n) (i ∷ is) h = drop_text n is h.1

@@ -1,6 +1,6 @@
 -- The names of a source are ASCII.
 use Rattle.std.proofs.Common.{◌≡◌, ℕ, zero, suc, ◌+◌, ◌-◌, ◌<◌, Bool, true, false, cond, eqb, List, [], ◌∷◌, ◌++◌, length, map, take, drop, Option, Some, None, refl, sym, ap, subst, ◌∙◌, arith}
-use Rattle.std.specs.Prelude.{◌&&◌, ◌==◌, not, nat_lt, slice_index, codes}
+use Rattle.std.specs.Prelude.{◌&&◌, ◌==◌, not, nat_le, nat_lt, slice_index, codes}
 use Rattle.std.specs.List.{prefix_len}
 use Rattle.std.specs.Str.{IsAscii}
 use Rattle.std.proofs.lemmas.List.{drop-drop}
@@ -25,7 +25,7 @@ use Rattle.c_tokens.specs.declared.kind.Sign.TheVariants as sign
 use Rattle.c_grammar.specs.Changes as changes
 use Rattle.c_grammar.specs.Changes.{With, ByNumber, ByOne}
 use Rattle.c_grammar.specs.Blocks as blocks
-use Rattle.c_grammar.specs.Blocks.{is_directive, bare, at, type_at, type_on, typed, longs, Open, Around, Reading, nothing_read, with_open, begins_body, is_else, is_name, Ends, ends, left, is_end, braces_at, parted, in_blocks}
+use Rattle.c_grammar.specs.Blocks.{is_directive, bare, at, type_at, type_on, typed, longs, Open, Around, Reading, nothing_read, with_open, begins_body, begins_update, is_atomic_line, line_in_block, is_else, is_name, Ends, ends, left, is_end, braces_at, parted, in_blocks}
 use Rattle.c_grammar.specs.Nesting.{nested}
 use Rattle.c_grammar.specs.DeclaredFunctions.{begins_part, ends_part, has_functions, undeclared}
 use Rattle.c_grammar.specs.Prints.{is_text, text_len, alone, print_at, print_on, printed}
@@ -36,8 +36,14 @@ use Rattle.c_grammar.specs.Allocations.{allocated}
 use Rattle.c_grammar.specs.Source.{text_of, word_or_name, kind_terminal, on_line, item_of, end_of, written_out, items_of}
 use Rattle.c_grammar.specs.AsciiNames.{IsAsciiTerminal, AreAscii, terminals_of}
 use Rattle.c_grammar.specs.Functions.{expanded}
+use Rattle.c_grammar.specs.Grids.{flat}
+use Rattle.c_grammar.specs.Declarations.{Other, settled}
+use Rattle.c_grammar.specs.Updates.{Outside, commuting}
 use Rattle.c_grammar.proofs.AsciiTokens.{AreItemsText, chosen_text, both_text, bare_text}
 use Rattle.c_grammar.proofs.AsciiNesting.{nested_text}
+use Rattle.c_grammar.proofs.AsciiGrids.{flat_text}
+use Rattle.c_grammar.proofs.AsciiDeclarations.{settled_text}
+use Rattle.c_grammar.proofs.AsciiUpdates.{commuting_text}
 use Rattle.c_grammar.proofs.AsciiFunctions.{expanded_text}
 use Rattle.c_grammar.proofs.AsciiAllocations.{allocated_text}
 
@@ -273,12 +279,18 @@ token_parted : (i : Item Terminal) (is : Items) (r : Reading) (go : Reading → 
 token_parted i is r go h k =
     chosen_text (r.declares && (r.brackets == 0) && same (Mark sign.Comma) i.terminal && is_name is) _ _ (tt, (tt, k r)) (token_plain i (is_else is) r go h k)
 
+line_text : (i : Item Terminal) (is : Items) (r : Reading) (go : Reading → Items) → IsAsciiTerminal i.terminal →
+    ((q : Reading) → AreItemsText (go q)) → AreItemsText (line_in_block i is r go)
+line_text i [] r go h k = (h, k r)
+line_text i (j ∷ js) r go h k =
+    chosen_text (r.body && is_atomic_line i.terminal && begins_update j.terminal) _ _ (tt, (h, k _)) (h, k r)
+
 blocks_text : (is : Items) (r : Reading) → AreItemsText is → AreItemsText (in_blocks r is)
 unfolding in_blocks
 blocks_text [] r h = tt
 blocks_text (i ∷ is) r h =
     let go : Reading → Items = λ q. in_blocks q is in
-    chosen_text (is_directive i.terminal) _ _ (h.0, blocks_text is r h.1)
+    chosen_text (is_directive i.terminal) _ _ (line_text i (bare is) r go h.0 (λ q. blocks_text is q h.1))
     (chosen_text (r.body && begins_body i.terminal) _ _
     (tt, token_plain i (is_else (bare is)) (with_open (Around ∷ r.levels) false r) go h.0 (λ q. blocks_text is q h.1))
     (token_parted i (bare is) (with_open r.levels false r) go h.0 (λ q. blocks_text is q h.1)))
@@ -335,10 +347,8 @@ printed_text (i ∷ is) k h =
 
 drop_text : (ns : Names) (d : ℕ) (i : Item Terminal) (is : Items) (o : Option ℕ) (go : Names → ℕ → ℕ → Items)
     → IsAsciiTerminal i.terminal → ((ns : Names) (d k : ℕ) → AreItemsText (go ns d k)) → AreItemsText (drop_on ns d i is o go)
-drop_text ns zero i is (Some k) go h r = r _ _ _
-drop_text ns zero i is None go h r = (h, r _ _ _)
-drop_text ns (suc d) i is None go h r = (h, r _ _ _)
-drop_text ns (suc d) i is (Some k) go h r = (h, r _ _ _)
+drop_text ns d i is None go h r = (h, r _ _ _)
+drop_text ns d i is (Some k) go h r = chosen_text (nat_le d 1) _ _ (r _ _ _) (h, r _ _ _)
 
 leave_text : (k : ℕ) (ns : Names) (d : ℕ) (i : Item Terminal) (is : Items) (go : Names → ℕ → ℕ → Items)
     → IsAsciiTerminal i.terminal → ((ns : Names) (d k : ℕ) → AreItemsText (go ns d k)) → AreItemsText (leave_on k ns d i is go)
@@ -598,16 +608,19 @@ written_text is h =
     let calls : Items = printed 0 (nested is) in
     let types : Items = typed 0 calls in
     let whole : Items = in_blocks nothing_read (undeclared false types) in
-    let numbered : Items = worked [] [] 0 whole in
+    let known : Items = settled Other whole in
+    let numbered : Items = worked [] [] 0 known in
     let plain : Items = undefined [] 0 0 (expanded numbered) in
-    full_text (initialized no_globals 0 (allocated plain)) changes.begin 0 tt
-    (initialized_text (allocated plain) no_globals 0 (tt, tt)
-    (allocated_text plain
+    let flattened : Items = flat [] [] [] 0 plain in
+    let cells : Items = commuting Outside flattened in
+    full_text (initialized no_globals 0 (allocated cells)) changes.begin 0 tt
+    (initialized_text (allocated cells) no_globals 0 (tt, tt)
+    (allocated_text cells (commuting_text flattened Outside (flat_text plain [] [] [] 0
     (undefined_text (expanded numbered) [] 0 0
     (expanded_text (λ is h. worked_text is [] [] 0 h) numbered
-    (worked_text whole [] [] 0
+    (worked_text known [] [] 0 (settled_text whole Other
     (blocks_text (undeclared false types) nothing_read (undeclared_text types false
-    (typed_text calls 0 (printed_text (nested is) 0 (nested_text is h))))))))))
+    (typed_text calls 0 (printed_text (nested is) 0 (nested_text is h)))))))))))))
 
 all_but : (is : Items) (e : Item Terminal) → AreItemsText (is ++ e ∷ []) → AreItemsText is
 all_but [] e h = tt

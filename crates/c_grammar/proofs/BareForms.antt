@@ -1,6 +1,6 @@
 -- Writing the tokens out and leaving the directive lines away can be done in any order.
-use Rattle.std.proofs.Common.{◌≡◌, ℕ, zero, suc, ◌+◌, Bool, true, false, cond, List, [], ◌∷◌, ◌++◌, Option, Some, None, refl, ap, ◌∙◌}
-use Rattle.std.specs.Prelude.{◌&&◌, ◌==◌, nat_lt, codes}
+use Rattle.std.proofs.Common.{◌≡◌, ℕ, zero, suc, ◌+◌, Bool, true, false, cond, List, [], ◌∷◌, ◌++◌, Option, Some, None, refl, sym, ap, ◌∙◌}
+use Rattle.std.specs.Prelude.{◌&&◌, ◌==◌, nat_le, nat_lt, codes}
 use Rattle.c_tokens.specs.declared.kind.Sign.{Sign}
 use Rattle.c_tokens.specs.declared.kind.Sign.TheVariants as sign
 use Rattle.c_grammar.specs.Lexeme.{Lexeme, Uint64, For, Print, Void}
@@ -8,9 +8,10 @@ use Rattle.c_grammar.specs.Terminal.{Terminal, Fixed, Mark, Name, Num, Line, Unk
 use Rattle.c_grammar.specs.Texts.{Item}
 use Rattle.c_grammar.specs.Lines.{is_omp}
 use Rattle.c_grammar.specs.Blocks as blocks
-use Rattle.c_grammar.specs.Blocks.{Items, is_directive, bare, at, type_at, type_on, longs, typed, Around, Reading, nothing_read, with_open, begins_body, is_else, is_name, Ends, ends, left, is_end, noted, read_in, braces_at, closed, parted, in_block, in_blocks}
+use Rattle.c_grammar.specs.Blocks.{Items, is_directive, bare, at, type_at, type_on, longs, typed, Around, Reading, nothing_read, with_open, begins_body, begins_update, is_atomic_line, line_in_block, is_else, is_name, Ends, ends, left, is_end, noted, read_in, braces_at, closed, parted, in_block, in_blocks}
 use Rattle.c_grammar.specs.Nesting.{nested}
 use Rattle.c_grammar.specs.DeclaredFunctions.{undeclared}
+use Rattle.c_grammar.specs.Declarations.{Other, settled}
 use Rattle.c_grammar.specs.Prints.{is_text, text_len, alone, print_at, print_on, printed}
 use Rattle.c_grammar.specs.Expressions.{Values, value_of, number_for, Worked, Number, Fault}
 use Rattle.c_grammar.specs.Constants.{with_terminal, front_two, put_item, Definition, Defines, Misdefines, definition, at_wanted, wanted, Names, definition_len, drop_on, leave_on, undefined, Onward, expressed, read_on, work_on, worked}
@@ -19,12 +20,17 @@ use Rattle.c_grammar.specs.Changes.{With, ByNumber, ByOne}
 use Rattle.c_grammar.specs.Initial as globals
 use Rattle.c_grammar.specs.Initial.{Globals, Initial, initialized, no_globals}
 use Rattle.c_grammar.specs.Functions.{expanded}
+use Rattle.c_grammar.specs.Grids.{flat}
+use Rattle.c_grammar.specs.Updates.{Outside, commuting}
 use Rattle.c_grammar.specs.Allocations.{allocated}
 use Rattle.c_grammar.specs.Source.{written_out}
 use Rattle.c_grammar.proofs.BareAllocations.{allocated_bare}
 use Rattle.c_grammar.proofs.BareNesting.{nested_bare}
 use Rattle.c_grammar.proofs.BareDeclaredFunctions.{undeclared_bare}
 use Rattle.c_grammar.proofs.BareFunctions.{expanded_bare}
+use Rattle.c_grammar.proofs.BareDeclarations.{settled_bare}
+use Rattle.c_grammar.proofs.BareGrids.{flat_bare}
+use Rattle.c_grammar.proofs.BareUpdates.{commuting_bare}
 use Rattle.c_grammar.proofs.BareTokens.{IsPlain, ArePlain, IsBare, either, one, some, either_plain, plain_bare, same_bare, both_plain}
 
 -- ---- types
@@ -113,13 +119,85 @@ block_bare i is r go go' h k =
     (token_bare i (is_else is) (with_open (Around ∷ r.levels) false r) go go' h k))
     (parted_bare i is (with_open r.levels false r) go go' h k)
 
+update_begins : (t : Terminal) → begins_update t ≡ true → begins_body t ≡ true
+update_begins (Name x) e = refl
+update_begins (Line ts) e = absurd cc
+update_begins (Fixed w) e = absurd cc
+update_begins (Mark s) e = absurd cc
+update_begins (Num n) e = absurd cc
+update_begins Unknown e = absurd cc
+update_begins Unworked e = absurd cc
+update_begins End e = absurd cc
+
+update_is_no_comma : (t : Terminal) → begins_update t ≡ true → same (Mark sign.Comma) t ≡ false
+update_is_no_comma (Name x) e = refl
+update_is_no_comma (Line ts) e = absurd cc
+update_is_no_comma (Fixed w) e = absurd cc
+update_is_no_comma (Mark s) e = absurd cc
+update_is_no_comma (Num n) e = absurd cc
+update_is_no_comma Unknown e = absurd cc
+update_is_no_comma Unworked e = absurd cc
+update_is_no_comma End e = absurd cc
+
+no_part : (a b c : Bool) → c ≡ false → (a && c) && b ≡ false
+no_part true b c e = rw e refl
+no_part false b c e = refl
+
+-- the brace of a body that a name begins can as well be put first
+block_body : (j : Item Terminal) (is : Items) (r : Reading) (go : Reading → Items) → r.body ≡ true →
+    begins_update j.terminal ≡ true →
+    in_block j is r go ≡ at j (Mark sign.OpenBrace) ∷ in_block j is (with_open (Around ∷ r.levels) false r) go
+block_body j is r go b e =
+    ap (λ (t : Bool). cond t (at j (Mark sign.OpenBrace) ∷ token) (parted j is (with_open r.levels false r) go))
+    (ap (λ (t : Bool). t && begins_body j.terminal) b ∙ update_begins j.terminal e)
+    ∙ ap (λ (v : Items). at j (Mark sign.OpenBrace) ∷ v) (sym inside)
+  where
+    after : Reading
+    after = with_open (Around ∷ r.levels) false r
+
+    token : Items
+    token = blocks.plain j (is_else is) after go
+
+    inside : parted j is after go ≡ token
+    inside =
+        ap (λ (t : Bool). cond t (at j (Mark sign.Semicolon) ∷ at j (Fixed Uint64) ∷ go after) token)
+        (no_part (r.declares && (r.brackets == 0)) (is_name is) (same (Mark sign.Comma) j.terminal)
+        (update_is_no_comma j.terminal e))
+
+put_before : (j : Item Terminal) (js : Items) (r : Reading) → is_directive j.terminal ≡ false → r.body ≡ true →
+    begins_update j.terminal ≡ true →
+    in_blocks r (j ∷ js) ≡ at j (Mark sign.OpenBrace) ∷ in_blocks (with_open (Around ∷ r.levels) false r) (j ∷ js)
+unfolding in_blocks
+put_before j js r f b e = rw f (block_body j (bare js) r (λ q. in_blocks q js) b e)
+
+line_bare : (i : Item Terminal) (bs : Items) (r : Reading) (go go' : Reading → Items) → is_directive i.terminal ≡ true →
+    ((q : Reading) → go' q ≡ in_blocks q bs) → ArePlain bs → ((q : Reading) → IsBare (go' q) (go q)) →
+    IsBare (go' r) (line_in_block i bs r go)
+line_bare i [] r go go' e f h k = rw e (k r)
+line_bare i (j ∷ js) r go go' e f h k = step (r.body) (is_atomic_line i.terminal) (begins_update j.terminal) refl refl
+  where
+    plain : IsBare (go' r) (i ∷ go r)
+    plain = rw e (k r)
+
+    step : (b c d : Bool) → r.body ≡ b → begins_update j.terminal ≡ d →
+        IsBare (go' r) (cond (b && c && d) (at j (Mark sign.OpenBrace) ∷ i ∷ go (with_open (Around ∷ r.levels) false r)) (i ∷ go r))
+    step true true true m n =
+        f r ∙ put_before j js r h.0 m n
+        ∙ ap (λ (is : Items). at j (Mark sign.OpenBrace) ∷ is) (sym (f (with_open (Around ∷ r.levels) false r)))
+        ∙ ap (λ (is : Items). at j (Mark sign.OpenBrace) ∷ is)
+        (rw e (k (with_open (Around ∷ r.levels) false r)))
+    step true true false m n = plain
+    step true false d m n = plain
+    step false c d m n = plain
+
 blocks_bare : (is : Items) (r : Reading) → IsBare (in_blocks r (bare is)) (in_blocks r is)
 unfolding in_blocks
 blocks_bare [] r = refl
 blocks_bare (i ∷ is) r = step (blocks_bare is) (is_directive i.terminal) refl
   where
     step : ((r : Reading) → IsBare (in_blocks r (bare is)) (in_blocks r is)) → (b : Bool) → is_directive i.terminal ≡ b → IsBare (in_blocks r (bare (i ∷ is))) (in_blocks r (i ∷ is))
-    step ih true e = rw e (rw e (ih r))
+    step ih true e =
+        rw e (line_bare i (bare is) r (λ q. in_blocks q is) (λ q. in_blocks q (bare is)) e (λ q. refl) (plain_bare is) ih)
     step ih false e =
         rw e (rw e (ap (λ (js : Items). in_block i js r (λ r. in_blocks r (bare is))) (same_bare is)
         ∙ block_bare i (bare is) r (λ r. in_blocks r is) (λ r. in_blocks r (bare is)) e (λ r. ih r)))
@@ -196,10 +274,8 @@ worked_bare (i ∷ is) vs past k = step (worked_bare is) (is_directive i.termina
 drop_bare : (ns : Names) (d : ℕ) (i : Item Terminal) (is : Items) (o : Option ℕ) (go go' : Names → ℕ → ℕ → Items)
     → IsPlain i → ((ns : Names) (d k : ℕ) → IsBare (go' ns d k) (go ns d k))
     → IsBare (drop_on ns d i is o go') (drop_on ns d i is o go)
-drop_bare ns zero i is (Some k) go go' h r = r _ _ _
-drop_bare ns zero i is None go go' h r = one i _ _ h (r _ _ _)
-drop_bare ns (suc d) i is None go go' h r = one i _ _ h (r _ _ _)
-drop_bare ns (suc d) i is (Some k) go go' h r = one i _ _ h (r _ _ _)
+drop_bare ns d i is None go go' h r = one i _ _ h (r _ _ _)
+drop_bare ns d i is (Some k) go go' h r = either (nat_le d 1) _ _ _ _ (r _ _ _) (one i _ _ h (r _ _ _))
 
 leave_bare : (k : ℕ) (ns : Names) (d : ℕ) (i : Item Terminal) (is : Items) (go go' : Names → ℕ → ℕ → Items)
     → IsPlain i → ((ns : Names) (d k : ℕ) → IsBare (go' ns d k) (go ns d k))
@@ -493,17 +569,25 @@ written_bare is =
     let a : Items = typed 0 p in
     let u : Items = undeclared false a in
     let b : Items = in_blocks nothing_read u in
-    let c : Items = worked [] [] 0 b in
+    let d : Items = settled Other b in
+    let c : Items = worked [] [] 0 d in
     let x : Items = expanded c in
+    let g : Items = flat [] [] [] 0 (undefined [] 0 0 x) in
     let later : Items → Items = λ js. changes.in_full changes.begin 0 (initialized no_globals 0 (allocated js)) in
-    let since_defined : Items → Items = λ js. later (undefined [] 0 0 js) in
-    let since_blocks : Items → Items = λ js. since_defined (expanded (worked [] [] 0 js)) in
+    let since_updates : Items → Items = λ js. later (commuting Outside js) in
+    let since_grids : Items → Items = λ js. since_updates (flat [] [] [] 0 js) in
+    let since_defined : Items → Items = λ js. since_grids (undefined [] 0 0 js) in
+    let since_declared : Items → Items = λ js. since_defined (expanded (worked [] [] 0 js)) in
+    let since_blocks : Items → Items = λ js. since_declared (settled Other js) in
     let since_typed : Items → Items = λ js. since_blocks (in_blocks nothing_read (undeclared false js)) in
     ap (λ (js : Items). since_typed (typed 0 (printed 0 js))) (nested_bare is)
     ∙ ap (λ (js : Items). since_typed (typed 0 js)) (printed_bare n 0)
     ∙ ap since_typed (typed_bare p 0)
     ∙ ap (λ (js : Items). since_blocks (in_blocks nothing_read js)) (undeclared_bare a false)
     ∙ ap since_blocks (blocks_bare u nothing_read)
-    ∙ ap (λ (js : Items). since_defined (expanded js)) (worked_bare b [] [] 0)
+    ∙ ap since_declared (settled_bare b Other)
+    ∙ ap (λ (js : Items). since_defined (expanded js)) (worked_bare d [] [] 0)
     ∙ ap since_defined (expanded_bare (λ js. worked_bare js [] [] 0) c)
-    ∙ ap later (undefined_bare x [] 0 0) ∙ later_bare (undefined [] 0 0 x)
+    ∙ ap since_grids (undefined_bare x [] 0 0)
+    ∙ ap since_updates (flat_bare (undefined [] 0 0 x) [] [] [] 0)
+    ∙ ap later (commuting_bare g) ∙ later_bare (commuting Outside g)

@@ -255,12 +255,12 @@ call_bare globals fs left (i ∷ []) h k = refl
 call_bare globals fs left (i ∷ o ∷ is) h k =
     either_expanded (is_mark sign.OpenParen o) _ None _ None (at_bare globals fs i.terminal i left is h k.1.1) refl
 
-take_plain : (n : ℕ) (is : Items) → ArePlain is → ArePlain (take n is)
+pub take_plain : (n : ℕ) (is : Items) → ArePlain is → ArePlain (take n is)
 take_plain zero is h = tt
 take_plain (suc n) [] h = tt
 take_plain (suc n) (i ∷ is) h = (h.0, take_plain n is h.1)
 
-drop_plain : (n : ℕ) (is : Items) → ArePlain is → ArePlain (drop n is)
+pub drop_plain : (n : ℕ) (is : Items) → ArePlain is → ArePlain (drop n is)
 drop_plain zero is h = h
 drop_plain (suc n) [] h = tt
 drop_plain (suc n) (i ∷ is) h = drop_plain n is h.1

@@ -8,7 +8,7 @@ use Rattle.c_grammar.specs.Lexeme.{Lexeme, Uint64, Int, Main, Void, For, Reserve
 use Rattle.c_grammar.specs.LineGrammar.{TeamsDistributeParallelForSimd, Combined}
 use Rattle.c_grammar.specs.LineRules.{line_breaks, line_wrong, line_enter}
 use Rattle.c_grammar.specs.LineMachine.{line_advance, line_place, line_first_broken, line_first_wrong}
-use Rattle.c_grammar.specs.Lines.{line_fault, is_omp, kind_of, depth_of, collapse_from, holds, is_target, uses_of, uses_from}
+use Rattle.c_grammar.specs.Lines.{line_fault, is_omp, kind_of, depth_of, collapse_from, holds, is_atomic, is_target, uses_of, uses_from}
 use Rattle.c_grammar.specs.Terminal.{Terminal, Fixed, Mark, Name, Num, Line, End}
 use Rattle.c_grammar.specs.Texts.{Item}
 use Rattle.c_grammar.specs.Machine.{Found, run}
@@ -139,24 +139,24 @@ abbrev j : List ℕ
 j = codes "j"
 
 a_loop : first (one ∷ loop i (close (close (End ∷ [])))) ≡ None
-unfolding line_fault run line_advance line_first_broken line_breaks line_wrong line_enter line_first_wrong line_place advance place_code first_broken first_wrong breaks wrong enter sort_of is_omp holds depth_of kind_of collapse_from uses_of uses_from is_target
+unfolding line_fault run line_advance line_first_broken line_breaks line_wrong line_enter line_first_wrong line_place advance place_code first_broken first_wrong breaks wrong enter sort_of is_omp holds is_atomic depth_of kind_of collapse_from uses_of uses_from is_target
 a_loop = refl
 
 -- a block where a loop must stand
 a_block : first (one ∷ Mark sign.OpenBrace ∷ close (close (End ∷ []))) ≡ Some (7, NoBody)
-unfolding line_fault run line_advance line_first_broken line_breaks line_wrong line_enter line_first_wrong line_place advance place_code first_broken first_wrong breaks wrong enter sort_of is_omp holds depth_of kind_of collapse_from uses_of uses_from is_target
+unfolding line_fault run line_advance line_first_broken line_breaks line_wrong line_enter line_first_wrong line_place advance place_code first_broken first_wrong breaks wrong enter sort_of is_omp holds is_atomic depth_of kind_of collapse_from uses_of uses_from is_target
 a_block = refl
 
 nest : first (two ∷ loop i (loop j (close (close (close (End ∷ [])))))) ≡ None
-unfolding line_fault run line_advance line_first_broken line_breaks line_wrong line_enter line_first_wrong line_place advance place_code first_broken first_wrong breaks wrong enter sort_of is_omp holds depth_of kind_of collapse_from uses_of uses_from is_target
+unfolding line_fault run line_advance line_first_broken line_breaks line_wrong line_enter line_first_wrong line_place advance place_code first_broken first_wrong breaks wrong enter sort_of is_omp holds is_atomic depth_of kind_of collapse_from uses_of uses_from is_target
 nest = refl
 
 -- a nest that is not as deep as the loops that are collapsed: at the token where another loop must stand
 shallow : first (two ∷ loop i (close (close (End ∷ [])))) ≡ Some (23, NoBody)
-unfolding line_fault run line_advance line_first_broken line_breaks line_wrong line_enter line_first_wrong line_place advance place_code first_broken first_wrong breaks wrong enter sort_of is_omp holds depth_of kind_of collapse_from uses_of uses_from is_target
+unfolding line_fault run line_advance line_first_broken line_breaks line_wrong line_enter line_first_wrong line_place advance place_code first_broken first_wrong breaks wrong enter sort_of is_omp holds is_atomic depth_of kind_of collapse_from uses_of uses_from is_target
 shallow = refl
 
 -- and at what stands behind the inner loop
 behind : first (two ∷ loop i (loop j (close (loop j (close (close (close (End ∷ [])))))))) ≡ Some (40, Unexpected)
-unfolding line_fault run line_advance line_first_broken line_breaks line_wrong line_enter line_first_wrong line_place advance place_code first_broken first_wrong breaks wrong enter sort_of is_omp holds depth_of kind_of collapse_from uses_of uses_from is_target
+unfolding line_fault run line_advance line_first_broken line_breaks line_wrong line_enter line_first_wrong line_place advance place_code first_broken first_wrong breaks wrong enter sort_of is_omp holds is_atomic depth_of kind_of collapse_from uses_of uses_from is_target
 behind = refl

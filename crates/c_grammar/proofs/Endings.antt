@@ -4,7 +4,7 @@ use Rattle.c_tokens.specs.declared.kind.Sign.TheVariants as sign
 use Rattle.c_grammar.specs.Lexeme.{Else, Int, Main, Void}
 use Rattle.c_grammar.specs.Terminal.{Terminal, Fixed, Mark, End, same}
 use Rattle.c_grammar.specs.Lines.{depth_of}
-use Rattle.c_grammar.specs.Grammar.{Plain, MakesScalar, Otherwise, Slot, Slots, for, mark, word, inner, closing, Term, Literal, Named, Element, Group, Prefixed, Both, By, operator_sign, fraction_sign, value_of, term, Source, Input, Value, source, Head, Stmt, Declare, Assign, Store, Repeat, Choose, ChooseElse, Show, Block, Directive, OverBlock, OverLoop, Stmts, Done, Then, head_slots, body_opening, body_closing, end_mark, deeper, stmt_in, stmts_in, stmts, Global, Scalar, Array, global, globals, Text, slots}
+use Rattle.c_grammar.specs.Grammar.{Plain, MakesScalar, Otherwise, Slot, Slots, for, mark, word, inner, closing, Term, Literal, Named, Element, Group, Prefixed, Both, By, operator_sign, fraction_sign, value_of, term, Source, Input, Value, source, Head, Stmt, Declare, Assign, Store, Repeat, Choose, ChooseElse, Show, Block, Directive, Atomic, OverBlock, OverLoop, Stmts, Done, Then, head_slots, body_opening, body_closing, end_mark, deeper, stmt_in, stmts_in, stmts, Global, Scalar, Array, global, globals, Text, slots}
 
 abbrev NoEnd : Slots → Type 0
 NoEnd [] = Unit {0}
@@ -34,15 +34,20 @@ in_head h =
 in_body : (xs : Slots) → NoEnd xs → NoEnd (xs ++ body_closing ∷ [])
 in_body xs h = both xs (body_closing ∷ []) h (refl, tt)
 
+-- an index with its closing bracket, and what is stored
+in_cell : (i : Term) (v : Source)
+    → NoEnd (term i ++ (mark sign.CloseBracket ∷ mark sign.Equal ∷ (source v ++ end_mark ∷ [])))
+in_cell i v =
+    let last : Slots = source v ++ end_mark ∷ [] in
+    let ends : NoEnd last = both (source v) (end_mark ∷ []) (in_source v) (refl, tt) in
+    both (term i) (mark sign.CloseBracket ∷ mark sign.Equal ∷ last) (in_term i) (refl, (refl, ends))
+
 mutual
   in_stmt : (s : Stmt) (d : ℕ) → NoEnd (stmt_in s d)
   in_stmt (Declare x v) d =
       (refl, (refl, (refl, both (source v) ((Mark sign.Semicolon, for MakesScalar) ∷ []) (in_source v) (refl, tt))))
   in_stmt (Assign x v) d = (refl, (refl, both (source v) (end_mark ∷ []) (in_source v) (refl, tt)))
-  in_stmt (Store x i v) d =
-      let last : Slots = source v ++ end_mark ∷ [] in
-      let ends : NoEnd last = both (source v) (end_mark ∷ []) (in_source v) (refl, tt) in
-      (refl, (refl, both (term i) (mark sign.CloseBracket ∷ mark sign.Equal ∷ last) (in_term i) (refl, (refl, ends))))
+  in_stmt (Store x i v) d = (refl, (refl, in_cell i v))
   in_stmt (Repeat h b) d = (
     refl,
     both (head_slots h) (body_opening ∷ (stmts_in b (deeper d) ++ body_closing ∷ [])) (in_head h)
@@ -70,6 +75,7 @@ mutual
   in_stmt (Show e) d = (refl, (refl, both (term e) (mark sign.CloseParen ∷ end_mark ∷ []) (in_term e) (refl, (refl, tt))))
   in_stmt (Block b) d = (refl, in_body (stmts b) (in_stmts b 0))
   in_stmt (Directive l) d = (refl, tt)
+  in_stmt (Atomic l x i v) d = (refl, (refl, (refl, in_cell i v)))
   in_stmt (OverBlock l b) d = (refl, (refl, in_body (stmts b) (in_stmts b 0)))
   in_stmt (OverLoop l h b) d = (
     refl,

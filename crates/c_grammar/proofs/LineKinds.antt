@@ -5,7 +5,7 @@ use Rattle.c_tokens.specs.declared.kind.Sign.TheVariants as sign
 use Rattle.base.specs.declared.fault.ReadCode.TheVariants.{BadBound}
 use Rattle.c_grammar.specs.Lexeme.{Signed, Numbered}
 use Rattle.c_grammar.specs.Texts.{kinds}
-use Rattle.c_grammar.specs.LineGrammar.{Modifier, Collapse, NumTeams, ThreadLimit, NumThreads, SimdLen, SafeLen, LineAct, Maps, Depends, Heads, Opens, Begins, LineSlots, of, mark, Construct, Simd, ParallelFor, ParallelForSimd, ParallelLoop, TeamsDistribute, TeamsDistributeSimd, TeamsDistributeParallelFor, TeamsDistributeParallelForSimd, TeamsLoop, DirectiveKind, Target, Data, Enter, Exit, Update, Wait, Combined, ToDevice, FromDevice, Term, Literal, Variable, Product, term, bound_sign, Bound, more_terms, bound, section, Section, more_items, Items, items_from, Clause, MapOf, DependOf, MotionOf, NoWait, DeviceOf, AmountOf, ScheduleOf, modifiers, motion, chunk, clause, clauses, head, LineText, line_slots}
+use Rattle.c_grammar.specs.LineGrammar.{Modifier, Collapse, NumTeams, ThreadLimit, NumThreads, SimdLen, SafeLen, LineAct, Maps, Depends, Heads, Opens, Begins, LineSlots, of, mark, Construct, Simd, ParallelFor, ParallelForSimd, ParallelLoop, TeamsDistribute, TeamsDistributeSimd, TeamsDistributeParallelFor, TeamsDistributeParallelForSimd, TeamsLoop, DirectiveKind, Target, Data, Enter, Exit, Update, Wait, AtomicUpdate, Combined, ToDevice, FromDevice, Term, Literal, Variable, Product, term, bound_sign, Bound, more_terms, bound, section, Section, more_items, Items, items_from, Clause, MapOf, DependOf, MotionOf, NoWait, DeviceOf, AmountOf, ScheduleOf, modifiers, motion, chunk, clause, clauses, head, LineText, line_slots}
 use Rattle.c_grammar.specs.LineRules.{line_grammar, IsLine}
 use Rattle.c_grammar.specs.LineMachine.{LineStack, line_start}
 use Rattle.c_grammar.specs.Lines.{is_first, kind_of, collapsed, collapse_from, collapse_in, depth_kind, depth_of, line_depth}
@@ -88,6 +88,7 @@ kind_is Exit cs = refl
 kind_is Update cs = refl
 kind_is (Combined c) cs = construct_is c cs
 kind_is Wait cs = refl
+kind_is AtomicUpdate cs = refl
 
 -- ---- the number of its collapse clause
 
@@ -199,6 +200,7 @@ head_depth Enter cs d = clauses_depth cs d
 head_depth Exit cs d = clauses_depth cs d
 head_depth Update cs d = clauses_depth cs d
 head_depth Wait cs d = clauses_depth cs d
+head_depth AtomicUpdate cs d = clauses_depth cs d
 head_depth (Combined Simd) cs d = clauses_depth cs d
 head_depth (Combined ParallelFor) cs d = clauses_depth cs d
 head_depth (Combined ParallelForSimd) cs d = clauses_depth cs d

@@ -1,13 +1,13 @@
 -- Where the machine for sources has come, a text of the grammar goes on.
-use Rattle.std.proofs.Common.{◌≡◌, ℕ, zero, suc, true, cond, List, [], ◌∷◌, ◌++◌, Option, Some, None, refl, sym, ap, subst, ◌∙◌, append_assoc, inl, inr}
+use Rattle.std.proofs.Common.{◌≡◌, ℕ, zero, suc, true, false, cond, List, [], ◌∷◌, ◌++◌, Option, Some, None, refl, sym, ap, subst, ◌∙◌, append_assoc, inl, inr}
 use Rattle.std.proofs.lemmas.List.{append-nil}
 use Rattle.c_tokens.specs.declared.kind.Sign.TheVariants as sign
 use Rattle.base.specs.declared.fault.ReadCode.TheVariants.{NoBody}
 use Rattle.c_grammar.specs.Lexeme.{Lexeme, Uint64, Int, Main, Void, For, If, Else, Print}
 use Rattle.c_grammar.specs.Terminal.{Terminal, Fixed, Mark, Name, Num, Line, Unknown, Unworked, End, same}
-use Rattle.c_grammar.specs.Lines.{is_omp, holds, depth_of}
-use Rattle.c_grammar.specs.Grammar.{Plain, DeclaresGlobal, MakesArray, MakesScalar, Length, Starts, StartsIf, Prints, Assigned, StartsBlock, Otherwise, Opens, Closes, Alone, Over, Slots, for, mark, word, Directive, stmt, IsStmt, Head, deeper, Stmts, Done, Then, stmts, AreStmts, body_opening, body_closing, end_mark, Global, Scalar, Array, Text, slots, IsText}
-use Rattle.c_grammar.specs.Program.{Want, WantName, WantNum, Globals, AfterGlobal, Body, OrElse, Under, Nested, Turn, AfterName, Value, Atom, Behind, Tail, Fractional, Stack, m, body, loop, other_step, stmt_step, under_step, nested_step, main_rest, globals_step, after_global, advance, start}
+use Rattle.c_grammar.specs.Lines.{is_omp, holds, is_atomic, depth_of}
+use Rattle.c_grammar.specs.Grammar.{Plain, DeclaresGlobal, MakesArray, MakesScalar, Length, Starts, StartsIf, Prints, Assigned, StartsBlock, Otherwise, Opens, Closes, Alone, Over, Marks, Slots, for, mark, word, Directive, stmt, IsStmt, Head, deeper, Stmts, Done, Then, stmts, AreStmts, body_opening, body_closing, end_mark, Global, Scalar, Array, Text, slots, IsText}
+use Rattle.c_grammar.specs.Program.{Want, WantName, WantNum, Globals, AfterGlobal, Body, OrElse, Under, Nested, Turn, AfterName, Value, Atom, Behind, Tail, Fractional, Stack, m, expr, body, loop, other_step, stmt_step, under_step, nested_step, main_rest, globals_step, after_global, advance, start}
 use Rattle.c_grammar.proofs.Ways.{some_of}
 use Rattle.c_grammar.proofs.Lexemes.{chosen, some_is}
 use Rattle.c_grammar.proofs.Terminals.{tested}
@@ -15,7 +15,7 @@ use Rattle.c_grammar.proofs.Goes.{Goes}
 use Rattle.c_grammar.proofs.Parts.{made, over, over_slots}
 use Rattle.c_grammar.proofs.SourceFits.{IsHeld, Fits, default}
 use Rattle.c_grammar.proofs.SourceBack.{Taken, Back, BackBelow, none, back_want, back_name, back_num, back_fractional, back_atom, back_behind, back_tail, back_value}
-use Rattle.c_grammar.proofs.SourceStatements.{HasStmt, StmtBack, declare_fits, assign_fits, repeat_fits, choose_fits, show_fits, block_fits, loop_fits, nested_fits, back_after_name, back_turn}
+use Rattle.c_grammar.proofs.SourceStatements.{HasStmt, StmtBack, declare_fits, assign_fits, atomic_fits, repeat_fits, choose_fits, show_fits, block_fits, loop_fits, nested_fits, back_after_name, back_turn}
 
 -- ---- lines, and what follows them
 
@@ -36,20 +36,32 @@ over_fits l s h k ws f = (
   f.6,
 )
 
-back_held : (l : List Lexeme) (s : Stack) (q : Taken) → is_omp l ≡ true
+back_held : (l : List Lexeme) (s : Stack) (q : Taken) → is_omp l ≡ true → is_atomic l ≡ false
     → cond (holds l) (some_of (for Over, Under (depth_of l) ∷ s)) (some_of (for Alone, s)) ≡ some_of q → StmtBack s (Line l) q
-back_held l s q h e =
+back_held l s q h n e =
     elim (chosen (holds l) (some_of (for Over, Under (depth_of l) ∷ s)) (some_of (for Alone, s)) (some_of q) e) [
       | inl k ↦ some_is (for Over, Under (depth_of l) ∷ s) q (λ p. StmtBack s (Line l) p) k.1 (over_fits l s h k.0)
       | inr k ↦ some_is (for Alone, s) q (λ p. StmtBack s (Line l) p) k.1
-          (λ ws f. (Directive l, (h, k.0), ws, refl, f))
+          (λ ws f. (Directive l, (h, k.0, n), ws, refl, f))
+    ]
+
+-- what follows the line of an atomic store, with what follows that
+abbrev stored : Stack → Stack
+stored s = WantName Assigned ∷ m sign.OpenBracket ∷ expr (m sign.CloseBracket ∷ m sign.Equal ∷ Value ∷ m sign.Semicolon ∷ s)
+
+back_omp : (l : List Lexeme) (s : Stack) (q : Taken) → is_omp l ≡ true
+    → cond (is_atomic l) (some_of (for Marks, stored s))
+    (cond (holds l) (some_of (for Over, Under (depth_of l) ∷ s)) (some_of (for Alone, s))) ≡ some_of q → StmtBack s (Line l) q
+back_omp l s q h e =
+    elim (chosen (is_atomic l) (some_of (for Marks, stored s)) _ (some_of q) e) [
+      | inl k ↦ some_is (for Marks, stored s) q (λ p. StmtBack s (Line l) p) k.1 (atomic_fits l s h k.0)
+      | inr k ↦ back_held l s q h k.0 k.1
     ]
 
 back_line : (l : List Lexeme) (s : Stack) (q : Taken) → other_step s (Line l) ≡ some_of q → StmtBack s (Line l) q
 back_line l s q e =
-    elim (chosen (is_omp l) (cond (holds l) (some_of (for Over, Under (depth_of l) ∷ s)) (some_of (for Alone, s))) None (some_of q)
-    e) [
-      | inl h ↦ back_held l s q h.0 h.1
+    elim (chosen (is_omp l) _ None (some_of q) e) [
+      | inl h ↦ back_omp l s q h.0 h.1
       | inr h ↦ absurd cc
     ]
 

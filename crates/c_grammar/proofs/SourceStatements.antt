@@ -1,11 +1,12 @@
 -- What goes on from where the machine for sources has come goes on from where it was: statements.
-use Rattle.std.proofs.Common.{◌≡◌, ℕ, zero, suc, List, [], ◌∷◌, ◌++◌, Some, None, sym, ap, ◌∙◌, append_assoc}
+use Rattle.std.proofs.Common.{◌≡◌, ℕ, zero, suc, true, List, [], ◌∷◌, ◌++◌, Some, None, sym, ap, ◌∙◌, append_assoc}
 use Rattle.std.proofs.lemmas.List.{append-nil}
 use Rattle.base.specs.declared.fault.ReadCode.TheVariants.{NoBody}
 use Rattle.c_tokens.specs.declared.kind.Sign.TheVariants as sign
-use Rattle.c_grammar.specs.Lexeme.{Uint64, For, If, Print}
+use Rattle.c_grammar.specs.Lexeme.{Lexeme, Uint64, For, If, Print}
 use Rattle.c_grammar.specs.Terminal.{Terminal, Fixed, Mark, Name, Num, Line, Unknown, Unworked, End}
-use Rattle.c_grammar.specs.Grammar.{Plain, DeclaresLocal, DeclaresLoop, MakesScalar, Limit, Step, Starts, StartsIf, Prints, Assigned, StartsBlock, Slots, for, mark, word, term, source, Stmt, Declare, Assign, Store, Repeat, Choose, ChooseElse, Show, Block, stmt_in, stmts_in, stmt, IsStmt, IsNest, Done, Then, nest_slots, Head, head_rest, Stmts, stmts, AreStmts, body_opening, body_closing, end_mark}
+use Rattle.c_grammar.specs.Lines.{is_omp, is_atomic}
+use Rattle.c_grammar.specs.Grammar.{Plain, DeclaresLocal, DeclaresLoop, MakesScalar, Limit, Step, Starts, StartsIf, Prints, Assigned, StartsBlock, Marks, Slots, for, mark, word, Term, term, IsRanked, Source, source, IsRankedSource, Stmt, Declare, Assign, Store, Atomic, Repeat, Choose, ChooseElse, Show, Block, stmt_in, stmts_in, stmt, IsStmt, IsNest, Done, Then, nest_slots, Head, head_rest, Stmts, stmts, AreStmts, body_opening, body_closing, end_mark}
 use Rattle.c_grammar.specs.Program.{Want, WantName, Body, OrElse, Nested, Turn, AfterName, Value, Stack, m, expr, body, inner_body, loop_body, head_of, turn_step, loop, after_name}
 use Rattle.c_grammar.proofs.Ways.{some_of}
 use Rattle.c_grammar.proofs.Lexemes.{some_is}
@@ -53,10 +54,15 @@ scalar_fits s ws f =
     let g = append_assoc (source f.0) (end_mark ∷ []) last.0 in
     (None, tt, f.0, f.1, last.0, cc, last.2)
 
-cell_fits : (s : Stack) (ws : Slots)
+-- an index in brackets, a value, and what follows them
+abbrev HasCell : Stack → Slots → Type 0
+HasCell s ws =
+    (i : Term) × IsRanked i × (e : Source) × IsRankedSource e × (v : Slots) × (ws ≡ assigned (Some i) e ++ v) × Fits s v
+
+has_cell : (s : Stack) (ws : Slots)
     → Fits (expr (m sign.CloseBracket ∷ m sign.Equal ∷ Value ∷ m sign.Semicolon ∷ s)) ws
-    → Fits (AfterName ∷ s) (mark sign.OpenBracket ∷ ws)
-cell_fits s ws f =
+    → HasCell s (mark sign.OpenBracket ∷ ws)
+has_cell s ws f =
     let index = has_term (m sign.CloseBracket ∷ m sign.Equal ∷ Value ∷ m sign.Semicolon ∷ s) ws f in
     let close = index.4 in
     let equal = close.2 in
@@ -71,7 +77,30 @@ cell_fits s ws f =
     append_assoc (term index.0) (mark sign.CloseBracket ∷ mark sign.Equal ∷ (source value.0 ++ end_mark ∷ []))
     last.0 in
     let g1 = append_assoc (source value.0) (end_mark ∷ []) last.0 in
-    (Some index.0, index.1, value.0, value.1, last.0, cc, last.2)
+    (index.0, index.1, value.0, value.1, last.0, cc, last.2)
+
+cell_fits : (s : Stack) (ws : Slots)
+    → Fits (expr (m sign.CloseBracket ∷ m sign.Equal ∷ Value ∷ m sign.Semicolon ∷ s)) ws
+    → Fits (AfterName ∷ s) (mark sign.OpenBracket ∷ ws)
+cell_fits s ws f = (let c = has_cell s ws f in (Some c.0, c.1, c.2, c.3, c.4, c.5, c.6))
+
+-- an atomic store behind its line
+pub atomic_fits : (l : List Lexeme) (s : Stack) → is_omp l ≡ true → is_atomic l ≡ true
+    → StmtBack s (Line l) (
+      for Marks,
+      WantName Assigned ∷ m sign.OpenBracket ∷ expr (m sign.CloseBracket ∷ m sign.Equal ∷ Value ∷ m sign.Semicolon ∷ s),
+    )
+atomic_fits l s h k ws f =
+    let bracket = f.3 in
+    let c = has_cell s bracket.0 bracket.2 in
+    let behind : f.1 ≡ assigned (Some c.0) c.2 ++ c.4 = bracket.1 ∙ c.5 in (
+      Atomic l f.0 c.0 c.2,
+      (h, k, c.1, c.3),
+      c.4,
+      ap (λ (v : Slots). (Line l, for Marks) ∷ v)
+          (f.2 ∙ ap (λ (v : Slots). (Name f.0, for Assigned) ∷ v) behind),
+      c.6,
+    )
 
 pub back_after_name : (s : Stack) (t : Terminal) (q : Taken) → after_name s t ≡ some_of q → Back AfterName s t q
 back_after_name s t q e =

@@ -5,10 +5,10 @@ use Rattle.c_tokens.specs.declared.kind.Sign.TheVariants as sign
 use Rattle.c_grammar.specs.Lexeme.{Lexeme, For, If, Else}
 use Rattle.c_grammar.specs.Terminal.{Terminal, Fixed, same}
 use Rattle.c_grammar.specs.Lines.{depth_of}
-use Rattle.c_grammar.specs.Grammar.{Act, Starts, StartsIf, Prints, Assigned, StartsBlock, Otherwise, Alone, Over, Slots, for, mark, Term, term, IsRanked, Source, Head, Stmt, Declare, Assign, Store, Repeat, Choose, ChooseElse, Show, Block, Directive, OverBlock, OverLoop, Stmts, body_opening, body_closing, deeper, stmt_in, stmt, stmts, nest_slots, loop_slots}
+use Rattle.c_grammar.specs.Grammar.{Act, Starts, StartsIf, Prints, Assigned, StartsBlock, Otherwise, Alone, Over, Marks, Slots, for, mark, Term, term, IsRanked, Source, IsRankedSource, Head, Stmt, Declare, Assign, Store, Repeat, Choose, ChooseElse, Show, Block, Directive, Atomic, OverBlock, OverLoop, Stmts, body_opening, body_closing, deeper, stmt_in, stmt, stmts, nest_slots, loop_slots}
 use Rattle.c_grammar.proofs.GoesOn.{NoElse}
 use Rattle.c_grammar.proofs.TermReader.{one_term}
-use Rattle.c_grammar.proofs.Views.{tokens_too, OneNest, OneBody, one_body, one_turns}
+use Rattle.c_grammar.proofs.Views.{tokens_too, one_store, OneNest, OneBody, one_body, one_turns}
 
 -- ---- how a statement begins
 
@@ -24,6 +24,7 @@ act_number t Prints = 5
 act_number t StartsBlock = 6
 act_number t Alone = 7
 act_number t Over = 8
+act_number t Marks = 9
 act_number t _ = 0
 
 abbrev number_at : Slots → ℕ
@@ -40,6 +41,7 @@ number_of (ChooseElse e a b) = 4
 number_of (Show e) = 5
 number_of (Block b) = 6
 number_of (Directive l) = 7
+number_of (Atomic l x i v) = 9
 number_of (OverBlock l b) = 8
 number_of (OverLoop l h b) = 8
 
@@ -53,6 +55,7 @@ begins (ChooseElse e a b) xs = refl
 begins (Show e) xs = refl
 begins (Block b) xs = refl
 begins (Directive l) xs = refl
+begins (Atomic l x i v) xs = refl
 begins (OverBlock l b) xs = refl
 begins (OverLoop l h b) xs = refl
 
@@ -81,6 +84,7 @@ numbered (ChooseElse e a b) h = absurd cc
 numbered (Show e) h = absurd cc
 numbered (Block b) h = absurd cc
 numbered (Directive l) h = absurd cc
+numbered (Atomic l x i v) h = absurd cc
 numbered (OverBlock l b) h = absurd cc
 numbered (OverLoop l h b) e = absurd cc
 
@@ -167,6 +171,17 @@ one_directive l k xs ys e =
     let all = tokens_too _ _ e in
     let lines : l ≡ k = cc in
     (ap (λ (u : List Lexeme). Directive u) lines, cc)
+
+pub one_atomic : (l k : List Lexeme) (x y : List ℕ) (i j : Term) (v w : Source) → IsRanked i → IsRanked j
+    → IsRankedSource v → IsRankedSource w → (xs ys : Slots) → stmt (Atomic l x i v) ++ xs ≡ stmt (Atomic k y j w) ++ ys
+    → (Atomic l x i v ≡ Atomic k y j w) × (xs ≡ ys)
+one_atomic l k x y i j v w hi hj hv hw xs ys e =
+    let all = tokens_too _ _ e in
+    let lines : l ≡ k = cc in
+    let tail : stmt (Store x i v) ++ xs ≡ stmt (Store y j w) ++ ys = cc in
+    let rest = one_store x y i j v w hi hj hv hw xs ys tail in
+    let stores : Store x i v ≡ Store y j w = rest.0 in
+    (cc, rest.1)
 
 pub one_over_block : (l k : List Lexeme) (b c : Stmts) → OneBody b c → (xs ys : Slots)
     → stmt (OverBlock l b) ++ xs ≡ stmt (OverBlock k c) ++ ys → (OverBlock l b ≡ OverBlock k c) × (xs ≡ ys)

@@ -4,7 +4,7 @@ use Rattle.std.specs.Prelude.{ℕ, zero, suc, ◌+◌, ◌-◌, Bool, true, fals
 use Rattle.c_tokens.specs.declared.kind.Sign.TheVariants as sign
 use Rattle.c_grammar.specs.Lexeme.{Uint64, For, If, Else, Print}
 use Rattle.c_grammar.specs.Terminal.{Terminal, Fixed, Mark, Name, Line, same}
-use Rattle.c_grammar.specs.Lines.{is_omp}
+use Rattle.c_grammar.specs.Lines.{is_atomic, is_omp}
 use Rattle.c_grammar.specs.Texts.{Item}
 
 abbrev pub Items : Type 0
@@ -198,7 +198,25 @@ in_block i is r go =
     then at i (Mark sign.OpenBrace) ∷ plain i (is_else is) (with_open (Around ∷ r.levels) false r) go
     else parted i is (with_open r.levels false r) go
 
+-- a line that says of the update behind it that it is atomic
+abbrev pub is_atomic_line : Terminal → Bool
+is_atomic_line (Line ts) = is_atomic ts
+is_atomic_line t = false
+
+abbrev pub begins_update : Terminal → Bool
+begins_update (Name x) = true
+begins_update t = false
+
+-- a directive line: where it belongs to a body of one statement, the brace stands before it
+abbrev pub line_in_block : Item Terminal → Items → Reading → (Reading → Items) → Items
+line_in_block i [] r go = i ∷ go r
+line_in_block i (j ∷ js) r go =
+    if r.body && is_atomic_line i.terminal && begins_update j.terminal
+    then at j (Mark sign.OpenBrace) ∷ i ∷ go (with_open (Around ∷ r.levels) false r) else i ∷ go r
+
 -- the tokens with their braces and types
 unfoldable pub in_blocks : Reading → Items → Items
 in_blocks r [] = []
-in_blocks r (i ∷ is) = if is_directive i.terminal then i ∷ in_blocks r is else in_block i (bare is) r (λ r. in_blocks r is)
+in_blocks r (i ∷ is) =
+    if is_directive i.terminal then line_in_block i (bare is) r (λ r. in_blocks r is)
+    else in_block i (bare is) r (λ r. in_blocks r is)

@@ -1,6 +1,6 @@
 -- Constants: names that stand for numbers, and expressions of numbers where C wants a constant. They are worked out
 -- before the grammar is asked, so that it sees a number wherever one of them stands.
-use Rattle.std.specs.Prelude.{ℕ, zero, suc, ◌+◌, ◌-◌, Bool, true, false, not, ◌&&◌, ◌||◌, ◌==◌, if◌then◌else◌, List, [], ◌∷◌, ◌++◌, length, map, drop, Option, Some, None, codes}
+use Rattle.std.specs.Prelude.{ℕ, zero, suc, ◌+◌, ◌-◌, Bool, true, false, not, ◌&&◌, ◌||◌, ◌==◌, nat_le, if◌then◌else◌, List, [], ◌∷◌, ◌++◌, length, map, drop, Option, Some, None, codes}
 use Rattle.std.specs.Str.{bytes_eq}
 use Rattle.c_tokens.specs.declared.kind.Sign.{Sign}
 use Rattle.c_tokens.specs.declared.kind.Sign.TheVariants as sign
@@ -64,6 +64,10 @@ constant_value = sign_is sign.Equal ∷ AnyName ∷ Is (Fixed Uint64) ∷ Is con
 -- uint64_t NAME [
 abbrev pub array_length : List Shape
 array_length = sign_is sign.OpenBracket ∷ AnyName ∷ Is (Fixed Uint64) ∷ []
+
+-- the same with NUM ] [ behind it
+abbrev pub row_length : List Shape
+row_length = sign_is sign.OpenBracket ∷ sign_is sign.CloseBracket ∷ AnyNumber ∷ array_length
 
 -- for ( uint64_t NAME =, then NUM ; NAME <, then NUM ; NAME +=
 abbrev pub loop_first : List Shape
@@ -152,7 +156,7 @@ wants_factor ts =
 -- behind these tokens a constant expression may stand
 abbrev pub wants_expression : List Terminal → Bool
 wants_expression ts =
-    ends_with constant_value ts || ends_with array_length ts || ends_with loop_first ts || ends_with (loop_limit sign.Less) ts ||
+    ends_with constant_value ts || ends_with array_length ts || ends_with row_length ts || ends_with loop_first ts || ends_with (loop_limit sign.Less) ts ||
     ends_with (loop_limit sign.LessEqual) ts || ends_with (loop_step sign.Less) ts || ends_with (loop_step sign.LessEqual) ts ||
     enumerated_value ts || behind_changing ts || ends_with cell_count ts
 
@@ -393,14 +397,16 @@ depth_behind t d =
     if same (Mark sign.OpenBrace) t then d + 1 else (if same (Mark sign.CloseBrace) t then d - 1 else d)
 
 abbrev pub drop_on : Names → ℕ → Item Terminal → Items → Option ℕ → (Names → ℕ → ℕ → Items) → Items
-drop_on names zero i is (Some k) go = go names zero k
-drop_on names depth i is o go = i ∷ go (with_global i.terminal is names) (depth_behind i.terminal depth) 0
+drop_on names depth i is None go = i ∷ go (with_global i.terminal is names) (depth_behind i.terminal depth) 0
+drop_on names depth i is (Some k) go =
+    if nat_le depth 1 then go names depth k else i ∷ go (with_global i.terminal is names) (depth_behind i.terminal depth) 0
 
 abbrev pub leave_on : ℕ → Names → ℕ → Item Terminal → Items → (Names → ℕ → ℕ → Items) → Items
 leave_on (suc k) names depth i is go = go names depth k
 leave_on zero names depth i is go = drop_on names depth i is (definition_len names i.terminal is) go
 
--- the tokens without the definitions of constants outside of blocks; so many blocks are open, and k more tokens are left out
+-- the tokens without the definitions of constants outside of blocks, and in the block of main; so many blocks are open, and k
+-- more tokens are left out
 unfoldable pub undefined : Names → ℕ → ℕ → Items → Items
 undefined names depth k [] = []
 undefined names depth k (i ∷ is) =

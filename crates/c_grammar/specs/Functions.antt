@@ -46,6 +46,8 @@ pub data Head : Type 0 where
   Begins Typed Starred : Head
   Named : (x : List ℕ) (array : Bool) → Head
   Opened Sized : (x : List ℕ) → Head
+  -- behind the first brackets; in second ones, before their number and behind it
+  Rows Second Wide : (x : List ℕ) → Head
 
 -- the parameter goes on, another one follows, it was the last one, or it is none
 pub data Step : Type 0 where
@@ -69,7 +71,13 @@ behind_name x array t =
     else (if same (Mark sign.OpenBracket) t && not array then Goes (Opened x) else Stops))
 
 abbrev pub closing : List ℕ → Terminal → Step
-closing x t = if same (Mark sign.CloseBracket) t then Goes (Named x true) else Stops
+closing x t = if same (Mark sign.CloseBracket) t then Goes (Rows x) else Stops
+
+abbrev pub behind_rows : List ℕ → Terminal → Step
+behind_rows x t = if same (Mark sign.OpenBracket) t then Goes (Second x) else behind_name x true t
+
+abbrev pub columns : List ℕ → Terminal → Step
+columns x t = if is_number t then Goes (Wide x) else Stops
 
 abbrev pub behind : Head → Terminal → Step
 behind Begins t =
@@ -80,6 +88,9 @@ behind Starred t = if is_qualifier t then Goes Starred else named t true
 behind (Named x array) t = behind_name x array t
 behind (Opened x) t = if is_number t then Goes (Sized x) else closing x t
 behind (Sized x) t = closing x t
+behind (Rows x) t = behind_rows x t
+behind (Second x) t = columns x t
+behind (Wide x) t = if same (Mark sign.CloseBracket) t then Goes (Named x true) else Stops
 
 abbrev pub Parameters : Type 0
 Parameters = Option (List Declared × ℕ)

@@ -3,7 +3,7 @@
 use Rattle.std.specs.Prelude.{ℕ, ◌+◌, ◌-◌, ◌==◌, Bool, true, false, not, ◌&&◌, ◌||◌, if◌then◌else◌, List, [], ◌∷◌, ◌++◌, take, drop, codes}
 use Rattle.c_tokens.specs.declared.kind.Sign.TheVariants as sign
 use Rattle.c_grammar.specs.Lexeme as lexeme
-use Rattle.c_grammar.specs.Lexeme.{Lexeme, Reserved, Ended, For, Placed}
+use Rattle.c_grammar.specs.Lexeme.{Lexeme, Reserved, Worded, Ended, For, Placed}
 use Rattle.c_grammar.specs.Terminal.{Terminal, Fixed, Line, same}
 use Rattle.c_grammar.specs.Texts.{Item}
 use Rattle.c_grammar.specs.Blocks.{Items, is_directive}
@@ -12,7 +12,7 @@ use Rattle.c_grammar.specs.Constants.{with_tokens}
 use Rattle.c_grammar.specs.Expressions.{placed_of}
 use Rattle.c_grammar.specs.LineForms.{is_sign}
 use Rattle.c_grammar.specs.Lines.{is_omp}
-use Rattle.c_grammar.specs.Presence.{before_end, closes_list, goes_on, is_else, is_target, is_word, opens_list, opens_part, target_column}
+use Rattle.c_grammar.specs.Presence.{before_end, closes_list, goes_on, is_else, is_mapped, is_target, is_word, opens_list, opens_part, target_column}
 
 -- ---- the names of constructs
 
@@ -35,47 +35,97 @@ abbrev pub last_word : Lexeme → List Lexeme → Lexeme
 last_word t [] = t
 last_word t (u ∷ us) = if is_part u then last_word u us else t
 
--- the name goes on with the second word behind the first
+-- the name goes on with the second word behind the first, on a line of its own: behind distribute and for a loop has to follow
 abbrev pub may_follow : Lexeme → Lexeme → Bool
 may_follow t u =
     if is_word (codes "target") t then is_word (codes "teams") u || is_word (codes "parallel") u || is_word (codes "simd") u
     else (if is_word (codes "teams") t then is_word (codes "distribute") u || is_word (codes "loop") u
-    else (if is_word (codes "distribute") t then is_word (codes "parallel") u || is_word (codes "simd") u
-    else (if is_word (codes "parallel") t then is_for u || is_word (codes "loop") u else is_for t && is_word (codes "simd") u)))
+    else is_word (codes "parallel") t && (is_for u || is_word (codes "loop") u))
 
 -- ---- two lines
 
--- a clause with this word may stand on the line inside
-abbrev pub is_inner : Lexeme → Bool
-is_inner t =
-    is_word (codes "collapse") t || is_word (codes "num_teams") t || is_word (codes "thread_limit") t ||
-    is_word (codes "num_threads") t || is_word (codes "schedule") t || is_word (codes "simdlen") t ||
-    is_word (codes "safelen") t || is_word (codes "default") t || is_word (codes "shared") t || is_word (codes "firstprivate") t
+abbrev pub has : List ℕ → List Lexeme → Bool
+has x [] = false
+has x (t ∷ ts) = is_word x t || has x ts
+
+abbrev pub has_for : List Lexeme → Bool
+has_for [] = false
+has_for (t ∷ ts) = is_for t || has_for ts
+
+-- a construct with these words takes a clause with this one
+abbrev pub takes : List Lexeme → Lexeme → Bool
+takes ns t =
+    if is_word (codes "collapse") t then has (codes "distribute") ns || has_for ns || has (codes "simd") ns || has (codes "loop") ns
+    else (if is_word (codes "num_teams") t || is_word (codes "thread_limit") t then has (codes "teams") ns
+    else (if is_word (codes "num_threads") t then has (codes "parallel") ns
+    else (if is_word (codes "schedule") t then has_for ns
+    else (if is_word (codes "simdlen") t || is_word (codes "safelen") t then has (codes "simd") ns
+    else (if is_word (codes "default") t || is_word (codes "shared") t then has (codes "teams") ns || has (codes "parallel") ns
+    else (if is_word (codes "reduction") t
+    then has (codes "teams") ns || has (codes "parallel") ns || has (codes "simd") ns || has (codes "loop") ns
+    else is_word (codes "firstprivate") t))))))
+
+-- a clause that a target by itself does not take
+abbrev pub is_of_construct : Lexeme → Bool
+is_of_construct t =
+    is_word (codes "collapse") t || is_word (codes "num_teams") t || is_word (codes "num_threads") t ||
+    is_word (codes "schedule") t || is_word (codes "simdlen") t || is_word (codes "safelen") t ||
+    is_word (codes "default") t || is_word (codes "shared") t || is_word (codes "reduction") t
 
 -- what stands between clauses
 abbrev pub is_between : Lexeme → Bool
 is_between t = is_sign sign.Comma t || lexeme.same Ended t
 
--- such clauses alone, behind a place in so many brackets
-abbrev pub are_inner : ℕ → List Lexeme → Bool
-are_inner d [] = true
-are_inner d (t ∷ ts) =
-    if opens_list t then are_inner (d + 1) ts
-    else (if closes_list t then are_inner (d - 1) ts
-    else (if (d == 0) && not (is_inner t || is_between t) then false else are_inner d ts))
+-- the clauses of a line inside, whose construct has these words, behind a place in so many brackets
+abbrev pub are_inner : List Lexeme → ℕ → List Lexeme → Bool
+are_inner ns d [] = true
+are_inner ns d (t ∷ ts) =
+    if opens_list t then are_inner ns (d + 1) ts
+    else (if closes_list t then are_inner ns (d - 1) ts
+    else (if (d == 0) && not (takes ns t || is_between t) then false else are_inner ns d ts))
+
+-- the same of the line of a target
+abbrev pub are_own : List Lexeme → ℕ → List Lexeme → Bool
+are_own ns d [] = true
+are_own ns d (t ∷ ts) =
+    if opens_list t then are_own ns (d + 1) ts
+    else (if closes_list t then are_own ns (d - 1) ts
+    else (if (d == 0) && is_of_construct t && not (takes ns t) then false else are_own ns d ts))
+
+abbrev pub is_mapped_on : List Lexeme → Lexeme → Bool
+is_mapped_on ts (Worded x) = is_mapped x 0 false ts
+is_mapped_on ts t = true
+
+-- the names of the reduction clauses of a line inside stand in map clauses of the first line, since C maps none of them by
+-- itself; in so many brackets, of which the first are those of such a clause or not
+abbrev pub sums_mapped : List Lexeme → ℕ → Bool → List Lexeme → Bool
+sums_mapped ts d sum [] = true
+sums_mapped ts d sum (u ∷ us) =
+    if opens_list u then sums_mapped ts (d + 1) sum us
+    else (if closes_list u then sums_mapped ts (d - 1) sum us
+    else (if d == 0 then sums_mapped ts 0 (is_word (codes "reduction") u) us
+    else (if sum && (d == 1) && not (is_mapped_on ts u) then false else sums_mapped ts d sum us)))
 
 -- behind the words pragma omp of the line inside
 abbrev pub follows : Lexeme → List Lexeme → Bool
 follows last [] = false
-follows last (u ∷ us) = may_follow last u && are_inner 0 (drop (name_len (u ∷ us)) (u ∷ us))
+follows last (u ∷ us) =
+    let k = name_len (u ∷ us) in may_follow last u && are_inner (take k (u ∷ us)) 0 (drop k (u ∷ us))
 
 -- the last word of the name of a target's construct
 abbrev pub construct_end : List Lexeme → Lexeme
 construct_end (p ∷ o ∷ t ∷ ts) = last_word t ts
 construct_end ts = Ended
 
+-- behind the words pragma omp target
+abbrev pub is_own : List Lexeme → Bool
+is_own ts = let k = name_len ts in are_own (take k ts) 0 (drop k ts)
+
+abbrev pub fit : List Lexeme → List Lexeme → Bool
+fit ts us = is_own (drop 3 ts) && follows (construct_end ts) (drop 2 us) && sums_mapped ts 0 false us
+
 abbrev pub join_lines : List Lexeme → List Lexeme → Bool
-join_lines ts us = is_omp ts && is_target ts && is_omp us && follows (construct_end ts) (drop 2 us)
+join_lines ts us = is_omp ts && is_target ts && is_omp us && fit ts us
 
 -- all but the end of a line, at this column
 abbrev pub inner_at : ℕ → List Placed → List Placed

@@ -12,23 +12,29 @@ use Rattle.base.specs.declared.tree.Part.TheVariants as part
 use Rattle.c_grammar.specs.Lexeme.{Lexeme, For}
 use Rattle.c_grammar.specs.Texts.{Item}
 use Rattle.c_grammar.specs.Terminal.{Terminal, Fixed, Mark, Name, Num, Line, Unknown, Unworked, End}
-use Rattle.c_grammar.specs.Rules.{inside}
-use Rattle.c_grammar.specs.Lines.{depth_of}
-use Rattle.c_grammar.specs.Grammar.{Head, Stmt, Stmts, Done, Then, Repeat, Directive, OverBlock, OverLoop, stmt, stmts, IsStmt as IsText, IsNest, deeper, loop_slots, nest_slots}
+use Rattle.c_grammar.specs.Rules.{Context, inside}
+use Rattle.c_grammar.specs.LineGrammar.{AtomicUpdate}
+use Rattle.c_grammar.specs.Lines.{depth_of, holds, is_atomic, is_atomic_kind, is_omp, kind_of}
+use Rattle.c_grammar.specs.Program.{Stack, Body}
+use Rattle.c_grammar.proofs.LineKinds.{kind_is}
+use Rattle.c_grammar.specs.Grammar.{Head, Stmt, Stmts, Done, Then, Repeat, Directive, OverBlock, OverLoop, stmt, stmts, IsStmt as IsText, IsNest, for, deeper, loop_slots, nest_slots}
 use Rattle.c_expressions.specs.declared.cursor.Cursor.{Cursor}
 use Rattle.c_expressions.specs.declared.scope.Scope.{Scope}
-use Rattle.c_expressions.specs.Means.{Items, place_of}
+use Rattle.c_expressions.specs.Means.{Items, Names, place_of}
 use Rattle.c_expressions.specs.Cursor.{items, first_item, behind}
-use Rattle.c_expressions.specs.Reading.{terminals, kinds, is_directive}
+use Rattle.c_expressions.specs.Reading.{run, took, terminals, kinds, is_directive}
 use Rattle.c_expressions.specs.Scopes.{context_of}
 use Rattle.c_expressions.proofs.Expressions.{first_then, behind_less, drops, drop_by, drop_one}
 use Rattle.c_statements.specs.Bodies.{IsBodyRead}
-use Rattle.c_statements.specs.Simple.{env_of}
+use Rattle.c_statements.specs.Simple.{env_of, is_atomic_line}
+use Rattle.c_statements.proofs.Directives.{apart}
 use Rattle.c_statements.specs.Statements.{Env, stmt_size, head_size, declared_in, more, in_loop, IsHead, IsStatement, AreStatements, behind as behind_of}
 use Rattle.c_statements.proofs.Wholes.{kinds_ended, size_ended}
 use Rattle.c_constructs.specs.declared.resolved.Construct.TheVariants as construct
 use Rattle.c_constructs.specs.declared.resolved.Resolved.TheVariants as resolved
 use Rattle.c_constructs.specs.LineMeaning.{IsRead, lexemes_on, scope_behind}
+use Rattle.c_constructs.specs.Steps.{act_of, followed}
+use Rattle.c_constructs.proofs.AtStatement.{directive_begins}
 use Rattle.c_read.specs.declared.piece.Piece.{Piece}
 use Rattle.c_read.specs.declared.piece.Piece.TheVariants as piece
 use Rattle.c_read.specs.Parts.{in_target, pieces_of, AreLongest, AreMixed, ArePieces, IsHostLoop, IsPiece, OneLoop}
@@ -46,19 +52,48 @@ line_is Unknown d = absurd cc
 line_is Unworked d = absurd cc
 line_is End d = absurd cc
 
+-- ---- a directive that is no atomic update
+
+pub apart_line : (t : Terminal) → is_directive t ≡ true → is_atomic_line t ≡ false → is_atomic (lexemes_on t) ≡ false
+apart_line (Line ts) d a = apart (is_omp ts) (is_atomic ts) d a
+apart_line (Fixed w) d a = absurd cc
+apart_line (Mark x) d a = absurd cc
+apart_line (Name x) d a = absurd cc
+apart_line (Num n) d a = absurd cc
+apart_line Unknown d a = absurd cc
+apart_line Unworked d a = absurd cc
+apart_line End d a = absurd cc
+
+pub no_update : (names : Names) (i : Item Terminal) (is : Items) → is_directive i.terminal ≡ true →
+    is_atomic_line i.terminal ≡ false → IsRead names i is resolved.Atomic → ⊥
+unfolding is_atomic
+no_update names i is d a r =
+    let kind : kind_of (lexemes_on i.terminal) ≡ AtomicUpdate = ap kind_of (sym r.line.tokens)
+    ∙ kind_is r.line.text.kind r.line.text.clauses ∙ r.means in
+    let marks : is_atomic (lexemes_on i.terminal) ≡ true = ap is_atomic_kind kind in
+    let no : is_atomic (lexemes_on i.terminal) ≡ false = apart_line i.terminal d a in
+    absurd (let e : true ≡ false = sym marks ∙ no in cc)
+
+pub directive_comes : (c : Context) (s : Stack) (t : Cursor) → is_directive (first_item t).terminal ≡ true →
+    is_atomic_line (first_item t).terminal ≡ false → run c (Body ∷ s) (items t) ≡
+    took c (for (act_of (holds (lexemes_on (first_item t).terminal))))
+    (followed (holds (lexemes_on (first_item t).terminal)) (depth_of (lexemes_on (first_item t).terminal)) (Body ∷ s))
+    (items t)
+directive_comes c s t d a = directive_begins c s t d (apart_line (first_item t).terminal d a)
+
 -- ---- a directive that stands alone
 
 pub read_alone : (old new : Scope) (u u' : Cursor) (at : Place) (d : Alone) → is_directive (first_item u).terminal ≡ true →
-    behind u ≡ items u' → new ≡ scope_behind (resolved.Alone at d) old →
+    is_atomic_line (first_item u).terminal ≡ false → behind u ≡ items u' → new ≡ scope_behind (resolved.Alone at d) old →
     IsRead (env_of old).names (first_item u) (behind u) (resolved.Alone at d) →
     IsPieceRead (env_of old) (env_of new) (items u) (items u') (piece.Part (part.Alone at d))
-read_alone old new u u' at d e b s r =
+read_alone old new u u' at d e a b s r =
     let l = lexemes_on (first_item u).terminal in
     record {
       text = Directive l;
       tokens = first_then (Line l) u u' (line_is (first_item u).terminal e) b;
       rest = drop_one u u' b;
-      is_text = (r.words, r.over);
+      is_text = (r.words, r.over, apart_line (first_item u).terminal e a);
       fewer = behind_less u u' b;
       means = (r.line, r.means.0, r.means.1);
       next_is = ap env_of s ∙ more_none (env_of old);

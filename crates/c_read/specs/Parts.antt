@@ -1,4 +1,5 @@
--- Which parts a text means: the longest runs of statements without a directive are regions of the host.
+-- Which parts a text means: the longest runs of statements without a directive of a part are regions of the host. An
+-- atomic update is such a statement.
 use Rattle.std.specs.Prelude.{◌≡◌, ◌≢◌, ◌+◌, Bool, true, false, List, [], ◌∷◌, ◌++◌, drop, map, Option, Some, None, ◌⊎◌}
 use Rattle.base.specs.declared.tree.Bounds.{Bounds}
 use Rattle.base.specs.declared.tree.Place.{Place}
@@ -62,7 +63,7 @@ abbrev pub IsPlaceAt : Items → Option Place → Type 0
 IsPlaceAt is None = Unit {0}
 IsPlaceAt is (Some place) = place ≡ place_of is
 
--- a loop without a directive is a region of the host
+-- a loop without a directive of a part is a region of the host
 abbrev pub IsHostLoop : Env → Items → Head → Stmts → List Part → Type 0
 IsHostLoop env is h b (part.Host r ∷ []) =
     (r.place ≡ place_of is) × AreStatements env is (Then (Repeat h b) Done) r.body.items × (r.depth ≡ 0)
@@ -84,7 +85,7 @@ abbrev mutual
   ArePieces env is (Then s ss) ((at, piece.Part p) ∷ ps) =
       IsPlaceAt is at × IsPart env is s p × ArePieces (behind s env) (drop (stmt_size s) is) ss ps
 
-  -- the part that a statement with a directive means
+  -- the part that a statement with a directive of a part means
   pub IsPart : Env → Items → Stmt → Part → Type 0
   IsPart env is (Block b) (part.Block' shape row) =
       AreMixed (items-the_row-Part _ row) × ArePieces env (drop 1 is) b (pieces_of (items-the_row-Part _ row))

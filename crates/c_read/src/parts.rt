@@ -11,7 +11,7 @@ ghost use Rattle.c_expressions.specs.Reading.{run, took, is_directive, Outcome};
 ghost use Rattle.c_expressions.specs.Scopes.{context_of};
 ghost use Rattle.c_statements.specs.Bodies.{IsSameBlock, IsLeft};
 ghost use Rattle.c_constructs.specs.LineMeaning.{depth_over};
-ghost use Rattle.c_statements.specs.Simple.{env_of};
+ghost use Rattle.c_statements.specs.Simple.{env_of, is_atomic_line};
 ghost use Rattle.c_read.specs.Gathering.{so_far, IsGathered, IsNoHost};
 ghost use Rattle.c_read.specs.Parts.{AreLongest};
 ghost use Rattle.c_read.specs.declared.piece.Piece.TheVariants as piece;
@@ -27,14 +27,15 @@ use base::tree::Part;
 use c_constructs::{Construct, Resolved, directive};
 use c_expressions::{Cursor, ReadError, Scope, Turn};
 use c_statements::{
-    begin_block, begin_loop, bounds, close_body, head_name, loops_around, open_body,
+    at_atomic, atomic_update, begin_block, begin_loop, bounds, close_body, head_name, loops_around,
+    open_body,
 };
 use c_tokens::Sign;
 use directives::Word;
 
 /// The statement or part that stands next.
 #[cycle(piece)]
-#[tactic(auto, using(c_expressions::proofs::Outcomes::on_from, c_statements::proofs::Begins::at_loop, c_statements::proofs::Begins::at_block, crate::proofs::Pieces::read_statement))]
+#[tactic(auto, using(c_expressions::proofs::Outcomes::on_from, c_statements::proofs::Begins::at_loop, c_statements::proofs::Begins::at_block, crate::proofs::Pieces::read_statement, c_statements::proofs::Levels::same_counted_twice))]
 fn piece<'a>(scope: &mut Scope<'a>, tokens: &mut Cursor<'a, '_>) -> Result<Piece, ReadError>
     requires outside { IsOutside scope.old }
     requires goes_on { same (Mark sign.CloseBrace) (first_item tokens.old).terminal ≡ false }
@@ -45,6 +46,9 @@ fn piece<'a>(scope: &mut Scope<'a>, tokens: &mut Cursor<'a, '_>) -> Result<Piece
         (items tokens.new) p) }
     ensures mixed { IfOk result IsNoHost }
 {
+    if at_atomic(tokens) {
+        return atomic_update(scope, tokens).map(Piece::Statement);
+    }
     if tokens.at_directive() {
         return directed(scope, tokens).map(Piece::Part);
     }
@@ -115,12 +119,13 @@ fn blocked<'a>(scope: &mut Scope<'a>, tokens: &mut Cursor<'a, '_>) -> Result<Pie
     Ok(block)
 }
 
-/// The part of the directive whose line stands next.
+/// The part of the directive whose line stands next, which is no atomic update.
 #[cycle(piece)]
-#[tactic(auto, using(c_expressions::proofs::Outcomes::on_from, c_constructs::proofs::AtStatement::directive_begins))]
+#[tactic(auto, using(c_expressions::proofs::Outcomes::on_from, crate::proofs::Directed::directive_comes, crate::proofs::Directed::no_update))]
 fn directed<'a>(scope: &mut Scope<'a>, tokens: &mut Cursor<'a, '_>) -> Result<Part, ReadError>
     requires outside { IsOutside scope.old }
     requires line { is_directive (first_item tokens.old).terminal ≡ true }
+    requires apart { is_atomic_line (first_item tokens.old).terminal ≡ false }
     ensures read { (s : Stack) → Outcome result (run (context_of scope.old 0 0) (Body ∷ s) (items tokens.old))
         (run (context_of scope.new 0 0) (Body ∷ s) (items tokens.new)) }
     ensures scope { OnOk result (IsSameBlock scope.old scope.new) }
@@ -135,6 +140,7 @@ fn directed<'a>(scope: &mut Scope<'a>, tokens: &mut Cursor<'a, '_>) -> Result<Pa
             let part = over(scope, tokens, construct)?;
             Ok(part)
         }
+        Resolved::Atomic => unreachable!(),
     }
 }
 

@@ -2,7 +2,7 @@
 
 use base::tree::{Part, Stmt};
 
-/// A statement without a directive, or a part that has one.
+/// A statement without a directive of a part, or a part.
 #[derive(Drop)]
 pub enum Piece {
     Statement(Stmt),

@@ -13,7 +13,7 @@ use crate::piece::Piece;
 use base::tree::{Bounds, Part, Place, Region, Stmt};
 use std::alloc::{AllocError, Global};
 
-/// The block of what was gathered: a statement, where nothing has a directive.
+/// The block of what was gathered: a statement, where nothing has a directive of a part.
 #[tactic(auto, using(crate::proofs::Wraps::block_statement, crate::proofs::Wraps::block_part))]
 pub fn block_of(gathered: Gathered) -> Result<Piece, AllocError>
     requires { IsGathered gathered }
@@ -28,7 +28,7 @@ pub fn block_of(gathered: Gathered) -> Result<Piece, AllocError>
     Ok(Piece::Part(Part::Block(parts)))
 }
 
-/// The loop of what was gathered: a statement, where nothing has a directive.
+/// The loop of what was gathered: a statement, where nothing has a directive of a part.
 #[tactic(auto, using(crate::proofs::Wraps::loop_statement, crate::proofs::Wraps::loop_part))]
 pub fn loop_of(bounds: Bounds, gathered: Gathered) -> Result<Piece, AllocError>
     requires { IsGathered gathered }

@@ -3,6 +3,7 @@ pub mod Sources
 pub mod Prints
 pub mod Assigns
 pub mod Stores
+pub mod Marking
 pub mod Heads
 pub mod Braces
 pub mod Directives
@@ -15,5 +16,6 @@ pub mod Nesting
 pub mod Fronts
 pub mod Wholes
 pub mod Begins
+pub mod Atomics
 pub mod Choices
 pub mod Composes

@@ -6,6 +6,7 @@ use Rattle.base.specs.declared.tree.ArrayId.{ArrayId}
 use Rattle.base.specs.declared.tree.ScalarId.{ScalarId}
 use Rattle.base.specs.declared.tree.Expr.{Expr}
 use Rattle.base.specs.declared.tree.Source.{Source as Assigned}
+use Rattle.base.specs.declared.tree.Stmt.{Stmt as Statement}
 use Rattle.base.specs.declared.tree.Stmt.TheVariants as statement
 use Rattle.c_grammar.specs.Terminal.{Terminal, Mark, Name}
 use Rattle.c_grammar.specs.Grammar.{Slots, mark, end_mark, term, source, Stmt, Assign, Store}
@@ -20,7 +21,8 @@ use Rattle.c_expressions.specs.Scopes.{names_of}
 use Rattle.c_expressions.specs.Trees.{IsReadBefore}
 use Rattle.c_expressions.proofs.Expressions.{first_then, kinds_append, behind_less, drops, drop_by, drop_one}
 use Rattle.c_statements.specs.Statements.{Env, source_size, stmt_size, IsSource}
-use Rattle.c_statements.specs.Simple.{env_of, counted, IsSourceBefore, IsAssignRead, IsStoreRead, IsStmtRead}
+use Rattle.c_statements.specs.Simple.{env_of, counted, IsSourceBefore, IsAssignRead, IsStoreRead, IsStmtRead, IsUpdateRead, IsWholeStore}
+use Rattle.c_statements.specs.Updates.{as_update}
 use Rattle.c_statements.proofs.Prints.{more_none}
 
 pub read_assign_rest : (env : Env) (t0 t1 : Cursor) (after : Items) (v : Assigned) → (first_item t0).terminal ≡
@@ -100,12 +102,12 @@ read_store_rest sc t0 t1 middle after e v h b i r =
       value_means = subst (λ (is : Items). IsSource (env_of sc) is r.value v) value r.means;
     }
 
-pub read_store : (old new : Scope) (x : List ℕ) (id : ArrayId) (place : Place) (t t1 : Cursor) (after : Items)
+pub read_whole : (old new : Scope) (x : List ℕ) (id : ArrayId) (place : Place) (t t1 : Cursor) (after : Items)
     (e : Expr) (v : Assigned) → new ≡ counted old → (first_item t).terminal ≡ Name x → behind t ≡ items t1 → place ≡
     place_of (items t) → Some (meaning.Array id) ≡ meaning_of (names_of old) x →
-    IsStoreRead (env_of new) (items t1) after e v → IsStmtRead (env_of old) (env_of new) (items t) after
+    IsStoreRead (env_of new) (items t1) after e v → IsWholeStore (env_of old) (env_of new) (items t) after
     (statement.Store id place e v)
-read_store old new x id place t t1 after e v q first b w named p =
+read_whole old new x id place t t1 after e v q first b w named p =
     let r : IsStoreRead (env_of old) (items t1) after e v =
     subst (λ (sc : Scope). IsStoreRead (env_of sc) (items t1) after e v) q p in
     let m = term_size r.index in
@@ -130,12 +132,15 @@ read_store old new x id place t t1 after e v q first b w named p =
     let back : items t1 ≡ drop 1 (items t) = drop_one t t1 b in
     let four : m + 4 ≡ suc (m + 3) = omega arith in
     record {
-      text = text;
+      name = x;
+      index = r.index;
+      value = r.value;
       tokens = first_then (Name x) t t1 first b ∙ ap (λ (ts : List Terminal). Name x ∷ ts)
           (r.tokens ∙ ap (λ (ts : List Terminal). Mark sign.OpenBracket ∷ ts) (sym split));
       rest = drop_by (1 + (m + n + 4)) (stmt_size text) (items t) after (omega (arith, size, size1, size2))
           (drops 1 (m + n + 4) (items t) (items t1) after back r.rest);
-      is_text = (r.ranked, r.value_ranked);
+      ranked = r.ranked;
+      value_ranked = r.value_ranked;
       fewer = omega (arith, behind_less t t1 b, r.fewer);
       means = (
         sym named,
@@ -146,3 +151,32 @@ read_store old new x id place t t1 after e v q first b w named p =
       );
       next_is = ap env_of q ∙ more_none (env_of old);
     }
+
+pub read_store : (old new : Scope) (x : List ℕ) (id : ArrayId) (place : Place) (t t1 : Cursor) (after : Items)
+    (e : Expr) (v : Assigned) → new ≡ counted old → (first_item t).terminal ≡ Name x → behind t ≡ items t1 → place ≡
+    place_of (items t) → Some (meaning.Array id) ≡ meaning_of (names_of old) x →
+    IsStoreRead (env_of new) (items t1) after e v → IsStmtRead (env_of old) (env_of new) (items t) after
+    (statement.Store id place e v)
+read_store old new x id place t t1 after e v q first b w named p =
+    let r : IsWholeStore (env_of old) (env_of new) (items t) after (statement.Store id place e v) =
+    read_whole old new x id place t t1 after e v q first b w named p in
+    record {
+      text = Store r.name r.index r.value;
+      tokens = r.tokens;
+      rest = r.rest;
+      is_text = (r.ranked, r.value_ranked);
+      fewer = r.fewer;
+      means = r.means;
+      next_is = r.next_is;
+    }
+
+pub read_updated : (old new : Scope) (x : List ℕ) (id : ArrayId) (place : Place) (t t1 : Cursor) (after : Items)
+    (e : Expr) (v : Assigned) (s : Statement) → new ≡ counted old → (first_item t).terminal ≡ Name x → behind t ≡
+    items t1 → place ≡ place_of (items t) → Some (meaning.Array id) ≡ meaning_of (names_of old) x →
+    IsStoreRead (env_of new) (items t1) after e v → s ≡ as_update (statement.Store id place e v) →
+    IsUpdateRead (env_of old) (env_of new) (items t) after s
+read_updated old new x id place t t1 after e v s q first b w named p u = record {
+  store = statement.Store id place e v;
+  whole = read_whole old new x id place t t1 after e v q first b w named p;
+  update = u;
+}

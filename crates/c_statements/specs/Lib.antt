@@ -1,3 +1,4 @@
+pub mod Updates
 pub mod Statements
 pub mod Simple
 pub mod Loops

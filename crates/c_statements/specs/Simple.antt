@@ -7,17 +7,23 @@ use Rattle.base.specs.declared.tree.Stmt.{Stmt as Statement}
 use Rattle.base.specs.declared.fault.ReadCode.{ReadCode as Code}
 use Rattle.base.specs.declared.fault.ReadCode.TheVariants.{Undeclared, LoopNameAssigned, TooMany, OuterAssigned}
 use Rattle.c_grammar.specs.LineRules.{max_name}
-use Rattle.c_grammar.specs.Terminal.{Terminal, Mark, same}
-use Rattle.c_grammar.specs.Grammar.{Act, Plain, MakesScalar, for, Source, Stmt, Term, source, stmt, term, IsRanked, IsRankedSource, IsStmt}
+use Rattle.c_grammar.specs.Lines.{is_atomic, is_omp}
+use Rattle.c_grammar.specs.Terminal.{Terminal, Mark, Line, same}
+use Rattle.c_grammar.specs.Grammar.{Act, Plain, MakesScalar, for, Source, Stmt, Store, Term, source, stmt, term, IsRanked, IsRankedSource, IsStmt}
 use Rattle.c_grammar.specs.Rules.{Sort, AnArray, AScalar, ALoop, inside, max_statements}
-use Rattle.c_grammar.specs.Program.{Symbol, Stack, Want, Atom, Tail, m}
+use Rattle.c_grammar.specs.Program.{Symbol, Stack, Want, Atom, Tail, Value, m}
+use Rattle.c_expressions.specs.declared.fault.ReadError.{ReadError}
+use Rattle.c_expressions.specs.declared.fault.ReadError.TheVariants as error
 use Rattle.c_expressions.specs.declared.scope.Meaning.{Meaning}
 use Rattle.c_expressions.specs.declared.scope.Meaning.TheVariants as meaning
 use Rattle.c_expressions.specs.declared.scope.Scope.{Scope}
 use Rattle.c_expressions.specs.Means.{Items, Names, term_size, IsExpr}
 use Rattle.c_expressions.specs.Reading.{terminals, kinds}
 use Rattle.c_expressions.specs.Scopes.{context_of, names_of}
-use Rattle.c_statements.specs.Statements.{Env, source_size, stmt_size, behind, IsSource, IsStatement}
+use Rattle.directives.specs.declared.fault.DirectiveFault.{DirectiveFault}
+use Rattle.directives.specs.declared.fault.DirectiveFault.TheVariants as fault
+use Rattle.c_statements.specs.Statements.{Env, source_size, stmt_size, behind, IsSource, IsStore, IsStatement}
+use Rattle.c_statements.specs.Updates.{as_update}
 
 -- how many loops some names are those of
 abbrev pub loops_in : Names → ℕ
@@ -48,9 +54,23 @@ end_act false = Plain
 abbrev pub ending : Bool → Symbol
 ending b = Want (Mark sign.Semicolon) (for (end_act b))
 
+-- the line of an atomic update
+abbrev pub is_atomic_line : Terminal → Bool
+is_atomic_line (Line ts) = is_omp ts && is_atomic ts
+is_atomic_line _ = false
+
+-- a fault of a line of the source
+abbrev pub seen_error : ℕ → DirectiveFault → ReadError
+seen_error line fault.OutOfMemory = error.Memory
+seen_error line (fault.Line f) = error.Fault (record { code = f.code; line = line; column = f.column })
+
 -- behind the word print
 abbrev pub print_rest : Stack → Stack
 print_rest s = m sign.OpenParen ∷ Atom ∷ Tail 9 ∷ m sign.CloseParen ∷ m sign.Semicolon ∷ s
+
+-- behind the name of the array in which is stored
+abbrev pub store_rest : Stack → Stack
+store_rest s = m sign.OpenBracket ∷ Atom ∷ Tail 9 ∷ m sign.CloseBracket ∷ m sign.Equal ∷ Value ∷ m sign.Semicolon ∷ s
 
 -- these tokens are those of what is assigned and then these
 pub record IsSourceRead (env : Env) (before after : Items) (v : Assigned) : Type 0 where
@@ -101,6 +121,25 @@ pub record IsStoreRead (env : Env) (before after : Items) (e : Expr) (v : Assign
   pub fewer : length after < length before
   pub index_means : IsExpr env.names (drop 1 before) index e
   pub value_means : IsSource env (drop (term_size index + 3) before) value v
+
+-- a store; env is what stands before it, next what stands behind it
+pub record IsWholeStore (env next : Env) (before after : Items) (x : Statement) : Type 0 where
+  pub name : List ℕ
+  pub index : Term
+  pub value : Source
+  pub tokens : terminals before ≡ kinds (stmt (Store name index value)) ++ terminals after
+  pub rest : after ≡ drop (stmt_size (Store name index value)) before
+  pub ranked : IsRanked index
+  pub value_ranked : IsRankedSource value
+  pub fewer : length after < length before
+  pub means : IsStore env before name index value x
+  pub next_is : next ≡ behind (Store name index value) env
+
+-- the update that a store is
+pub record IsUpdateRead (env next : Env) (before after : Items) (x : Statement) : Type 0 where
+  pub store : Statement
+  pub whole : IsWholeStore env next before after store
+  pub update : x ≡ as_update store
 
 -- a statement; env is what stands before it, next what stands behind it
 pub record IsStmtRead (env next : Env) (before after : Items) (x : Statement) : Type 0 where

@@ -5,9 +5,10 @@ use Rattle.base.specs.declared.tree.Source.{Source as Assigned}
 use Rattle.base.specs.declared.tree.Source.TheVariants as from
 use Rattle.base.specs.declared.tree.Stmt.{Stmt as Statement, items-the_row-Stmt}
 use Rattle.base.specs.declared.tree.Stmt.TheVariants as statement
-use Rattle.c_grammar.specs.Grammar.{Source, Input, Value, Head, head_slots, Stmt, Declare, Assign, Store, Repeat, Choose, ChooseElse, Show, Block, Directive, OverBlock, OverLoop, stmt, source, Stmts, Done, Then, stmts}
+use Rattle.c_grammar.specs.Grammar.{Source, Input, Value, Head, head_slots, Stmt, Declare, Assign, Store, Repeat, Choose, ChooseElse, Show, Block, Directive, Atomic, OverBlock, OverLoop, stmt, source, Term, Stmts, Done, Then, stmts}
 use Rattle.c_expressions.specs.declared.scope.Meaning.TheVariants as meaning
 use Rattle.c_expressions.specs.Means.{Items, Names, meaning_of, place_of, term_size, MeansScalar, IsExpr}
+use Rattle.c_statements.specs.Updates.{as_update}
 
 -- what stands before a statement: the names that can be used, how many scalars are declared, how many loops stand
 -- around, and whether a target does
@@ -41,6 +42,7 @@ abbrev mutual
   declared_by (Store x i v) = 0
   declared_by (Show e) = 0
   declared_by (Directive l) = 0
+  declared_by (Atomic l x i v) = 0
 
   pub declared_in : Stmts → ℕ
   declared_in Done = 0
@@ -75,15 +77,22 @@ IsSource env is Input from.Read = Unit {0}
 IsSource env is (Value t) (from.Value e) = IsExpr env.names is t e
 IsSource env is _ _ = ⊥
 
+-- a store in an array of that name, whose name is the first of these tokens
+abbrev pub IsStore : Env → Items → List ℕ → Term → Source → Statement → Type 0
+IsStore env is x i v (statement.Store a at e w) =
+    (meaning_of env.names x ≡ Some (meaning.Array a)) × (at ≡ place_of is) × IsExpr env.names (drop 2 is) i e ×
+    IsSource env (drop (term_size i + 4) is) v w
+IsStore env is x i v _ = ⊥
+
 abbrev mutual
-  -- the statement that a text without a directive means, where the text is spelled by the first of these tokens
+  -- the statement that a text without a directive of a part means, where the text is spelled by the first of these
+  -- tokens; the line of an atomic update and the store behind it mean the update that the store is
   pub IsStatement : Env → Items → Stmt → Statement → Type 0
   IsStatement env is (Declare x v) (statement.Declare id w) = (id.0 ≡ env.scalars) × IsSource env (drop 3 is) v w
   IsStatement env is (Assign x v) (statement.Assign id w) =
       MeansScalar (meaning_of env.names x) id × IsSource env (drop 2 is) v w
-  IsStatement env is (Store x i v) (statement.Store a at e w) =
-      (meaning_of env.names x ≡ Some (meaning.Array a)) × (at ≡ place_of is) × IsExpr env.names (drop 2 is) i e ×
-      IsSource env (drop (term_size i + 4) is) v w
+  IsStatement env is (Store x i v) s = IsStore env is x i v s
+  IsStatement env is (Atomic l x i v) s = (u : Statement) × IsStore env (drop 1 is) x i v u × (s ≡ as_update u)
   IsStatement env is (Show t) (statement.Print e) = IsExpr env.names (drop 2 is) t e
   IsStatement env is (Block b) (statement.Block' shape row) =
       AreStatements env (drop 1 is) b (items-the_row-Stmt _ row)

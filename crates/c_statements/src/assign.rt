@@ -11,9 +11,10 @@ ghost use Rattle.c_expressions.specs.Cursor.{items, first_item, behind};
 ghost use Rattle.c_expressions.specs.Means.{meaning_of};
 ghost use Rattle.c_expressions.specs.Reading.{run, took, Outcome};
 ghost use Rattle.c_expressions.specs.Scopes.{context_of, names_of, sort_of_meaning};
-ghost use Rattle.c_statements.specs.Simple.{assign_code, code_at, env_of, counted, is_over, IsKept, IsAssignRead, IsStoreRead, IsStmtRead};
+ghost use Rattle.c_statements.specs.Simple.{assign_code, code_at, env_of, counted, is_over, IsKept, IsAssignRead, IsStoreRead, IsStmtRead, IsUpdateRead, store_rest};
 
 use crate::right_side::{ended_source, is_inside};
+use crate::update::store_or_update;
 use base::fault::{ReadCode, TextFault};
 use base::tree::{Expr, Source, Stmt};
 use c_expressions::{Cursor, Meaning, ReadError, Scope};
@@ -130,8 +131,7 @@ fn assigned_source(scope: &Scope<'_>, tokens: &mut Cursor<'_, '_>) -> Result<Sou
 
 /// What is stored, behind an array's name: the subscript and the value.
 fn element(scope: &Scope<'_>, tokens: &mut Cursor<'_, '_>) -> Result<(Expr, Source), ReadError>
-    requires { same (Mark sign.Equal) (first_item tokens.old).terminal ≡ false }
-    ensures read { (s : Stack) → Outcome result (run (context_of scope.now 0 0) (AfterName ∷ s) (items tokens.old))
+    ensures read { (s : Stack) → Outcome result (run (context_of scope.now 0 0) (store_rest s) (items tokens.old))
         (run (context_of scope.now 0 0) s (items tokens.new)) }
     ensures tree { IfOk result (λ p. IsStoreRead (env_of scope.now) (items tokens.old) (items tokens.new) p.0 p.1) }
 {
@@ -161,6 +161,29 @@ pub fn assigned(
         }
         Some(Meaning::Scalar(scalar, _)) => {
             assigned_source(scope, tokens).map(|value| Stmt::Assign(scalar, value))
+        }
+        _ => Err(ReadError::Fault(tokens.refuse())),
+    }
+}
+
+/// The update that the store which begins with the name that stands next is, or the store.
+pub fn updated(
+    scope: &mut Scope<'_>,
+    tokens: &mut Cursor<'_, '_>,
+    name: &[u8],
+) -> Result<Stmt, ReadError>
+    requires { (first_item tokens.old).terminal ≡ Name name.now }
+    ensures read { (s : Stack) → Outcome result (took (context_of scope.old 0 0) (for Assigned) (store_rest s)
+        (items tokens.old)) (run (context_of scope.new 0 0) s (items tokens.new)) }
+    ensures scope { OnOk result (scope.new ≡ counted scope.old) }
+    ensures tree { IfOk result (λ x. IsUpdateRead (env_of scope.old) (env_of scope.new) (items tokens.old)
+        (items tokens.new) x) }
+{
+    let place = tokens.place();
+    let meaning = begin_assigned(scope, tokens, name)?;
+    match meaning {
+        Some(Meaning::Array(array)) => {
+            element(scope, tokens).map(|(index, value)| store_or_update(array, place, index, value))
         }
         _ => Err(ReadError::Fault(tokens.refuse())),
     }

@@ -1,7 +1,8 @@
-//! Statements of a source that are no directive lines. After an error neither the scope nor the tokens are of use.
+//! Statements of a source that are no directives of parts. After an error neither the scope nor the tokens are of use.
 #![tactic(auto)]
 
 mod assign;
+mod atomic;
 mod block;
 mod declare;
 mod directive;
@@ -11,11 +12,12 @@ mod level;
 mod print;
 mod right_side;
 mod stmt;
+mod update;
 
 pub use assign::assigned;
+pub use atomic::{at_atomic, atomic_update};
 pub use block::{begin_block, begin_choice, begin_loop, close_body, open_body, otherwise};
 pub use declare::{declared, new_scalar};
-pub use directive::line_fault;
 pub use head::{bounds, head_name};
 pub use if_head::condition;
 pub use level::loops_around;

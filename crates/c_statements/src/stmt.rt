@@ -1,4 +1,4 @@
-//! Statements where no directive may stand: inside a target or under an `if`.
+//! Statements where no directive but that of an atomic update may stand: inside a target or under an `if`.
 
 ghost use Rattle.std.specs.Prelude.{◌≡◌, ◌≤◌, ◌∷◌, ◌++◌, ◌||◌, OnOk, IfOk, false, true};
 ghost use Rattle.c_tokens.specs.declared.kind.Sign.TheVariants as sign;
@@ -16,6 +16,7 @@ ghost use Rattle.c_statements.specs.Bodies.{inner_env, IsReady, IsSameBlock, IsL
 ghost use Rattle.c_statements.specs.Simple.{env_of, loops_in, IsStmtRead};
 
 use crate::assign::assigned;
+use crate::atomic::{at_atomic, atomic_update};
 use crate::block::{begin_block, begin_choice, begin_loop, close_body, open_body, otherwise};
 use crate::declare::declared;
 use crate::directive::line_fault;
@@ -41,6 +42,9 @@ pub fn statement<'a>(scope: &mut Scope<'a>, tokens: &mut Cursor<'a, '_>) -> Resu
     ensures tree { IfOk result (λ x. IsStmtRead (env_of scope.old) (env_of scope.new) (items tokens.old)
         (items tokens.new) x) }
 {
+    if at_atomic(tokens) {
+        return atomic_update(scope, tokens);
+    }
     if tokens.at_directive() {
         return Err(ReadError::Fault(line_fault(scope, tokens)));
     }

@@ -1,11 +1,11 @@
 -- The braces and types that are put in, one token after another.
-use Rattle.std.proofs.Common.{◌≡◌, ◌∙◌, ℕ, suc, ◌+◌, Bool, true, false, cond, List, [], ◌∷◌, ◌++◌, map, Option, Some, None, refl, sym, ap, append_assoc, arith}
+use Rattle.std.proofs.Common.{◌≡◌, ◌∙◌, ℕ, suc, ◌+◌, Bool, true, false, cond, List, [], ◌∷◌, ◌++◌, map, take, Option, Some, None, refl, sym, ap, append_assoc, arith}
 use Rattle.std.specs.Prelude.{not, ◌==◌, ◌&&◌, ◌||◌, MatchOption, OnOk, Result, Ok, Err}
 use Rattle.c_tokens.specs.declared.kind.Sign.TheVariants as sign
 use Rattle.c_grammar.specs.Lexeme.{Uint64}
 use Rattle.c_grammar.specs.Terminal.{Terminal, Fixed, Mark, same}
 use Rattle.c_grammar.specs.Texts.{Item}
-use Rattle.c_grammar.specs.Blocks.{Items, Open, Head, Block as SpecBlock, First, Around as SpecAround, Ends, Reading, is_directive, bare, at, braces_at, ends, in_block, in_blocks, in_head, is_headless, is_end, is_else, is_name, begins_body, left, noted, parted, plain, closed, opened, otherwise, read_in, with_open}
+use Rattle.c_grammar.specs.Blocks.{Items, Open, Head, Block as SpecBlock, First, Around as SpecAround, Ends, Reading, is_directive, bare, at, braces_at, ends, in_block, in_blocks, in_head, is_headless, is_end, is_else, is_name, begins_body, left, line_in_block, noted, parted, plain, closed, opened, otherwise, read_in, with_open}
 use Rattle.c_written.specs.declared.blocks.Open.{Open as GivenOpen}
 use Rattle.c_written.specs.declared.blocks.Open.TheVariants as opens
 use Rattle.c_written.specs.Stack.{item_at}
@@ -17,7 +17,7 @@ unfolding in_blocks
 blocks_end r = refl
 
 pub blocks_line : (r : Reading) (i : Item Terminal) (is : Items) → is_directive i.terminal ≡ true →
-    in_blocks r (i ∷ is) ≡ i ∷ in_blocks r is
+    in_blocks r (i ∷ is) ≡ line_in_block i (bare is) r (λ r. in_blocks r is)
 unfolding in_blocks
 blocks_line r i is e = rw e refl
 
@@ -232,22 +232,41 @@ gone_read (Ok x) ds es fs i other r n s e f g a b =
     ∙ ap (λ (k : Reading). (ds ++ i ∷ []) ++ go (read_in k.levels i.terminal k)) g
     ∙ append_assoc ds (i ∷ []) (go (read_in m.levels i.terminal m)))
 
+-- ---- what comes next
+
+pub line_next : (i : Item Terminal) (is js : Items) (r : Reading) (go : Reading → Items) → js ≡ take 1 is →
+    line_in_block i is r go ≡ line_in_block i js r go
+line_next i is js r go e = go_on is ∙ ap (λ (ks : Items). line_in_block i ks r go) (sym e)
+  where
+    go_on : (is : Items) → line_in_block i is r go ≡ line_in_block i (take 1 is) r go
+    go_on [] = refl
+    go_on (k ∷ ks) = refl
+
+pub else_next : (is js : Items) → js ≡ take 1 is → is_else is ≡ is_else js
+else_next [] js e = ap is_else (sym e)
+else_next (i ∷ is) js e = ap is_else (sym e)
+
+pub name_next : (is js : Items) → js ≡ take 1 is → is_name is ≡ is_name js
+name_next [] js e = ap is_name (sym e)
+name_next (i ∷ is) js e = ap is_name (sym e)
+
 -- ---- all tokens
 
-pub begins_is : (i : Item Terminal) (is : Items) (r : Reading) (go : Reading → Items) →
+pub begins_is : (i : Item Terminal) (is js : Items) (r : Reading) (go : Reading → Items) → js ≡ take 1 is →
     (r.body && begins_body i.terminal) ≡ true →
-    in_block i is r go ≡ at i (Mark sign.OpenBrace) ∷ plain i (is_else is) (with_open (SpecAround ∷ r.levels) false r) go
-begins_is i is r go e = rw e refl
+    in_block i is r go ≡ at i (Mark sign.OpenBrace) ∷ plain i (is_else js) (with_open (SpecAround ∷ r.levels) false r) go
+begins_is i is js r go f e = rw (e, else_next is js f) refl
 
 pub begins_not : (i : Item Terminal) (is : Items) (r : Reading) (go : Reading → Items) →
     (r.body && begins_body i.terminal) ≡ false → in_block i is r go ≡ parted i is (with_open r.levels false r) go
 begins_not i is r go e = rw e refl
 
-pub parted_is : (i : Item Terminal) (is : Items) (r : Reading) (go : Reading → Items) →
-    (r.declares && (r.brackets == 0) && same (Mark sign.Comma) i.terminal && is_name is) ≡ true →
+pub parted_is : (i : Item Terminal) (is js : Items) (r : Reading) (go : Reading → Items) → js ≡ take 1 is →
+    (r.declares && (r.brackets == 0) && same (Mark sign.Comma) i.terminal && is_name js) ≡ true →
     parted i is r go ≡ at i (Mark sign.Semicolon) ∷ at i (Fixed Uint64) ∷ go r
-parted_is i is r go e = rw e refl
+parted_is i is js r go f e = rw (name_next is js f, e) refl
 
-pub parted_not : (i : Item Terminal) (is : Items) (r : Reading) (go : Reading → Items) →
-    (r.declares && (r.brackets == 0) && same (Mark sign.Comma) i.terminal && is_name is) ≡ false → parted i is r go ≡ plain i (is_else is) r go
-parted_not i is r go e = rw e refl
+pub parted_not : (i : Item Terminal) (is js : Items) (r : Reading) (go : Reading → Items) → js ≡ take 1 is →
+    (r.declares && (r.brackets == 0) && same (Mark sign.Comma) i.terminal && is_name js) ≡ false →
+    parted i is r go ≡ plain i (is_else js) r go
+parted_not i is js r go f e = rw (name_next is js f, e, else_next is js f) refl

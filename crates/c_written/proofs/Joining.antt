@@ -1,5 +1,5 @@
 -- The line of a target with the words and the clauses of the construct inside it.
-use Rattle.std.proofs.Common.{◌≡◌, ◌∙◌, ℕ, zero, suc, ◌+◌, ◌-◌, ◌<◌, ◌≤◌, Bool, true, false, cond, List, [], ◌∷◌, ◌++◌, length, map, take, drop, get_or, refl, sym, ap, arith, append_assoc}
+use Rattle.std.proofs.Common.{◌≡◌, ◌∙◌, ℕ, zero, suc, ◌+◌, ◌-◌, ◌<◌, ◌≤◌, Bool, true, false, cond, List, [], ◌∷◌, ◌++◌, length, take, drop, refl, sym, ap, arith, append_assoc}
 use Rattle.std.specs.Borrow.{Bor}
 use Rattle.std.specs.Prelude.{◌&&◌}
 use Rattle.std.proofs.lemmas.List.{drop-map, length-drop, length-map, map-append, take-map, take_all}
@@ -8,9 +8,9 @@ use Rattle.c_grammar.specs.Constants.{behind_two, front_two, with_tokens}
 use Rattle.c_grammar.specs.Expressions.{placed_of}
 use Rattle.c_grammar.specs.Lines.{is_omp}
 use Rattle.c_grammar.specs.Presence.{before_end, is_target, target_column}
-use Rattle.c_grammar.specs.Nesting.{are_inner, construct_end, follows, inner_at, is_part, join_lines, joined, joined_at, joined_of, joined_tokens, joins, may_follow, name_len}
+use Rattle.c_grammar.specs.Nesting.{fit, inner_at, is_part, join_lines, joined, joined_at, joined_of, joined_tokens, joins, name_len}
 use Rattle.c_grammar.specs.Terminal.{Line}
-use Rattle.directives.specs.Seen.{all_end_well, ends_well, is_whole, seen_lexeme, seen_placed}
+use Rattle.directives.specs.Seen.{all_end_well, ends_well, is_whole, seen_placed}
 use Rattle.directives.specs.declared.lexeme.PlacedLexeme.{PlacedLexeme}
 use Rattle.directives.specs.declared.line_tokens.LineTokens.{LineTokens}
 use Rattle.directives.specs.Ahead.{seen_line}
@@ -165,8 +165,8 @@ line_put n k ts ms us vs ws e f g =
     ∙ append_assoc (all_placed (take n ts)) (all_placed (take k ms)) (before_end (all_placed (drop k ms)) (all_placed (drop n ts)))
     ∙ parts_at n k ts ms
 
-behind_put : (j : ℕ) (ts us : List PlacedLexeme) (ps : List Placed) → all_placed ts ≡ ps → us ≡ take (length ts - j) (drop j ts) →
-    all_placed us ≡ drop j ps
+pub behind_put : (j : ℕ) (ts us : List PlacedLexeme) (ps : List Placed) → all_placed ts ≡ ps →
+    us ≡ take (length ts - j) (drop j ts) → all_placed us ≡ drop j ps
 behind_put j ts us ps e f =
     ap all_placed (f ∙ take_all (length ts - j) (drop j ts) (omega (arith, length-drop j ts)))
     ∙ sym (drop-map seen_placed j ts) ∙ ap (drop j) e
@@ -228,12 +228,12 @@ joined_item t u ls ms e =
 pub target_of : (ts us : List Lexeme) → join_lines ts us ≡ true → is_target ts ≡ true
 target_of ts us e =
     second_true (is_omp ts) (is_target ts) (first_true (is_omp ts && is_target ts) (is_omp us)
-    (first_true (is_omp ts && is_target ts && is_omp us) (follows (construct_end ts) (drop 2 us)) e))
+    (first_true (is_omp ts && is_target ts && is_omp us) (fit ts us) e))
 
 pub directive_of : (ts us : List Lexeme) → join_lines ts us ≡ true → is_omp us ≡ true
 directive_of ts us e =
     second_true (is_omp ts && is_target ts) (is_omp us)
-    (first_true (is_omp ts && is_target ts && is_omp us) (follows (construct_end ts) (drop 2 us)) e)
+    (first_true (is_omp ts && is_target ts && is_omp us) (fit ts us) e)
 
 pub joined_put : (t u : Token) (l m : Bor LineTokens) (qs : List Placed) → t.terminal ≡ given.Line l → u.terminal ≡ given.Line m →
     joins (seen_terminal t.terminal) (seen_terminal u.terminal) ≡ true →
@@ -247,7 +247,7 @@ joined_put t u l m qs e f g h =
     ∙ sym (ap (λ (a : Given). joined (item_at t a) (seen u)) e
     ∙ ap (λ (a : Given). joined (item_at t (given.Line l)) (item_at u a)) f)
 
--- ---- whether two lines are joined
+-- ---- lines that are joined
 
 omp_long : (ts : List Lexeme) → is_omp ts ≡ true → 2 ≤ length ts
 unfolding is_omp
@@ -267,15 +267,3 @@ target_words ts ps e t =
     let long = target_long ps t in
     let same : length (all_placed ts) ≡ length ps = ap length e in
     omega (arith, long, same, length-map ts seen_placed)
-
-pub follows_on : (w : Lexeme) (ts : List PlacedLexeme) (d : PlacedLexeme) (n : ℕ) (b : Bool) → 1 ≤ length ts →
-    may_follow w (seen_lexeme (get_or ts 0 d).lexeme) ≡ true → n ≡ name_len (all_kinds ts) →
-    b ≡ are_inner 0 (all_kinds (take (length ts - n) (drop n ts))) → b ≡ follows w (all_kinds ts)
-follows_on w [] d n b h m e f = absurd (omega (arith, h))
-follows_on w (t ∷ ts) d n b h m e f =
-    f
-    ∙ ap (λ (ps : List Placed). are_inner 0 (kinds_of ps))
-    (behind_put n (t ∷ ts) (take (length (t ∷ ts) - n) (drop n (t ∷ ts))) (all_placed (t ∷ ts)) refl refl)
-    ∙ ap (are_inner 0) (sym (drop-map (λ (p : Placed). p.lexeme) n (all_placed (t ∷ ts))))
-    ∙ ap (λ (k : ℕ). are_inner 0 (drop k (all_kinds (t ∷ ts)))) e
-    ∙ sym (rw m refl)

@@ -49,4 +49,16 @@ pub mod CallLefts
 pub mod CallWalk
 pub mod Guarding
 pub mod Joining
+pub mod Fitting
 pub mod DeclaringFunctions
+pub mod Ranging
+pub mod Subscripts
+pub mod Flattening
+pub mod CellUpdating
+pub mod Summing
+pub mod TakenClauses
+pub mod AtomicLines
+pub mod PlainClauses
+pub mod ReducedLines
+pub mod CommutingLines
+pub mod Rows

@@ -1,14 +1,14 @@
 -- Names with what stands for them.
-use Rattle.std.proofs.Common.{◌≡◌, ◌∙◌, ℕ, ◌-◌, ◌<◌, ◌≤◌, Bool, true, false, cond, List, [], ◌∷◌, ◌++◌, length, get_or, map, take, drop, Option, Some, None, refl, sym, ap, arith, append_assoc}
+use Rattle.std.proofs.Common.{◌≡◌, ◌∙◌, ℕ, ◌<◌, Bool, true, false, cond, List, [], ◌∷◌, ◌++◌, length, map, Option, Some, None, refl, sym, ap, arith}
 use Rattle.std.specs.Borrow.{Bor}
-use Rattle.std.specs.Prelude.{not, ◌&&◌, ◌||◌, ◌==◌, nat_lt, if◌then◌else◌}
+use Rattle.std.specs.Prelude.{not, ◌&&◌, ◌||◌, ◌==◌, nat_lt}
 use Rattle.std.proofs.lemmas.List.{append-nil}
 use Rattle.c_grammar.specs.Lexeme.{Lexeme, Reserved, Signed, Worded, Numbered, Strange, Ended, Placed}
 use Rattle.c_grammar.specs.Constants.{Names}
 use Rattle.c_grammar.specs.Functions.{Called, Counts, Others, Put as SpecPut, Puts as SpecPuts, Spot, lexeme_for, line_begins, put_at, put_for, put_from, put_lexeme, put_line, put_terminal, spot_behind}
 use Rattle.directives.specs.declared.lexeme.PlacedLexeme.{PlacedLexeme}
 use Rattle.directives.specs.declared.line_tokens.LineTokens.{LineTokens}
-use Rattle.directives.specs.Seen.{all_end_well, ends_well, is_empty, is_whole, seen_lexeme}
+use Rattle.directives.specs.Seen.{all_end_well, ends_well, is_empty, is_whole}
 use Rattle.directives.specs.Spells.{columns_of, kinds_of}
 use Rattle.c_written.specs.declared.puts.Put.{Put}
 use Rattle.c_written.specs.Forms.{all_placed}
@@ -37,7 +37,7 @@ all_well (t ∷ ts) = ends_well t (is_empty ts) && all_well ts
 abbrev pub whole_kinds : List Lexeme → Bool
 whole_kinds ts = not (is_empty ts) && all_well ts
 
-well_kinds : (ps : List Placed) → all_end_well ps ≡ all_well (kinds_of ps)
+pub well_kinds : (ps : List Placed) → all_end_well ps ≡ all_well (kinds_of ps)
 well_kinds [] = refl
 well_kinds (p ∷ []) = refl
 well_kinds (p ∷ q ∷ ps) = ap (λ (b : Bool). ends_well p.lexeme false && b) (well_kinds (q ∷ ps))

@@ -11,6 +11,9 @@ pub mod Lines
 pub mod Forms
 pub mod Opens
 pub mod Changes
+pub mod Atomics
+pub mod CellUpdates
+pub mod Declarations
 pub mod Definitions
 pub mod Constants
 pub mod Globals
@@ -19,3 +22,10 @@ pub mod Allocations
 pub mod Names
 pub mod Clauses
 pub mod Spots
+pub mod Ranges
+pub mod Indices
+pub mod Grids
+pub mod Updates
+pub mod Reductions
+pub mod Regions
+pub mod RowSections

@@ -1,14 +1,15 @@
 //! The braces round a body of one statement, and the type of a further name in a declaration.
 
 ghost use Rattle.std.specs.Prelude.{◌≡◌, IfOk};
-ghost use Rattle.c_grammar.specs.Blocks.{bare, begins_body, brackets_behind, in_blocks, is_break, is_else, is_name, nothing_read};
+ghost use Rattle.c_grammar.specs.Blocks.{begins_body, begins_update, brackets_behind, in_blocks, is_atomic_line, is_break, is_else, is_name, nothing_read};
+ghost use Rattle.c_written.specs.Ahead.{next_of};
 ghost use Rattle.c_written.specs.Seen.{seen_all, seen_terminal};
 
 use crate::ahead::Ahead;
 use crate::stack::Stack;
 use crate::token::{Terminal, Token};
 use c_tokens::Sign;
-use directives::Word;
+use directives::{Word, is_atomic};
 use std::alloc::{AllocError, Global};
 
 /// What is open.
@@ -106,21 +107,41 @@ fn is_break(terminal: Terminal<'_, '_>) -> bool
     }
 }
 
-/// Whether the word `else` comes next.
-fn is_else(rest: &[Token<'_, '_>]) -> bool
-    ensures { result ≡ is_else (bare (seen_all rest.now)) }
+/// Whether the line says that the update behind it is atomic.
+fn is_atomic_line(terminal: Terminal<'_, '_>) -> bool
+    ensures { result ≡ is_atomic_line (seen_terminal terminal.entry) }
 {
-    match Ahead::new(rest).next() {
+    match terminal {
+        Terminal::Line(line) => is_atomic(line),
+        _ => false,
+    }
+}
+
+/// Whether an update begins by the token.
+fn begins_update(terminal: Terminal<'_, '_>) -> bool
+    ensures { result ≡ begins_update (seen_terminal terminal.entry) }
+{
+    match terminal {
+        Terminal::Name(_) => true,
+        _ => false,
+    }
+}
+
+/// Whether the next token is the word `else`.
+fn is_else(next: Option<Token<'_, '_>>) -> bool
+    ensures { result ≡ is_else (next_of next.entry) }
+{
+    match next {
         Some(token) => token.terminal.is_word(Word::Else),
         None => false,
     }
 }
 
-/// Whether a name comes next.
-fn is_name(rest: &[Token<'_, '_>]) -> bool
-    ensures { result ≡ is_name (bare (seen_all rest.now)) }
+/// Whether the next token is a name.
+fn is_name(next: Option<Token<'_, '_>>) -> bool
+    ensures { result ≡ is_name (next_of next.entry) }
 {
-    match Ahead::new(rest).next() {
+    match next {
         Some(token) => {
             token.terminal.is_name() && !token.terminal.is_named(b"sizeof".as_slice())
         }
@@ -145,14 +166,15 @@ fn brackets_behind(terminal: Terminal<'_, '_>, brackets: usize) -> Result<usize,
 }
 
 impl<'a, 'l> Blocks<'a, 'l> {
-    ghost use Rattle.std.specs.Prelude.{◌≡◌, ◌==◌, ◌&&◌, ◌∷◌, ◌++◌, [], List, MatchOption, OnOk, Some, true, false, if◌then◌else◌};
+    ghost use Rattle.std.specs.Prelude.{◌≡◌, ◌==◌, ◌&&◌, ◌∷◌, ◌++◌, [], List, MatchOption, OnOk, Some, take, true, false, if◌then◌else◌};
     ghost use Rattle.c_tokens.specs.declared.kind.Sign.TheVariants as sign;
     ghost use Rattle.c_grammar.specs.Lexeme.{Uint64};
     ghost use Rattle.c_grammar.specs.Terminal.{Fixed, Mark, same};
     ghost use Rattle.c_written.specs.declared.blocks.Open.TheVariants as opens;
     ghost use Rattle.c_written.specs.Opens.{is_around, is_first_branch};
     ghost use Rattle.c_written.specs.Stack.{held, item_at};
-    ghost use Rattle.c_grammar.specs.Blocks.{Around, Head, Items, Open as SpecOpen, Reading, at, bare, begins_body, braces_at, ends, is_else, is_name, in_head, is_end, is_headless, left, noted, opened, otherwise, plain, read_in, with_open, without_block};
+    ghost use Rattle.c_grammar.specs.Blocks.{Around, Head, Items, Open as SpecOpen, Reading, at, bare, begins_body, begins_update, braces_at, ends, in_head, is_atomic_line, is_else, is_end, is_headless, is_name, left, line_in_block, noted, opened, otherwise, plain, read_in, with_open, without_block};
+    ghost use Rattle.c_written.specs.Ahead.{next_of};
     ghost use Rattle.c_written.specs.Seen.{seen, seen_all, seen_terminal};
     ghost use Rattle.c_written.specs.Passes.{IsRead, levels_of, reading, with_blocks};
 
@@ -379,23 +401,27 @@ impl<'a, 'l> Blocks<'a, 'l> {
     }
 
     /// A token that begins a body without braces.
-    fn begin_body(&mut self, token: Token<'a, 'l>, rest: &[Token<'a, 'l>]) -> Result<(), AllocError>
+    fn begin_body(
+        &mut self,
+        token: Token<'a, 'l>,
+        next: Option<Token<'a, 'l>>,
+    ) -> Result<(), AllocError>
         ensures { OnOk result ((go : Reading → Items) → seen_all self.old.done.items ++
-            (at (seen token.entry) (Mark sign.OpenBrace) ∷ plain (seen token.entry) (is_else (bare (seen_all rest.now)))
+            (at (seen token.entry) (Mark sign.OpenBrace) ∷ plain (seen token.entry) (is_else (next_of next.entry))
             (with_open (Around ∷ levels_of self.old.levels) false (reading self.old)) go) ≡
             seen_all self.new.done.items ++ go (reading self.new)) }
     {
         self.done.push(token.at(Terminal::Sign(Sign::OpenBrace)))?;
         self.levels.push(Open::Around)?;
         self.body = false;
-        self.plain(token, is_else(rest))
+        self.plain(token, is_else(next))
     }
 
     /// Whether a comma ends one declaration and begins another.
-    fn parts(&self, terminal: Terminal<'a, 'l>, rest: &[Token<'a, 'l>]) -> bool
-        ensures { result ≡ (self.now.declares && (self.now.brackets == 0) && same (Mark sign.Comma) (seen_terminal terminal.entry) && is_name (bare (seen_all rest.now))) }
+    fn parts(&self, terminal: Terminal<'a, 'l>, next: Option<Token<'a, 'l>>) -> bool
+        ensures { result ≡ (self.now.declares && (self.now.brackets == 0) && same (Mark sign.Comma) (seen_terminal terminal.entry) && is_name (next_of next.entry)) }
     {
-        self.declares && self.brackets == 0 && terminal.is_sign(Sign::Comma) && is_name(rest)
+        self.declares && self.brackets == 0 && terminal.is_sign(Sign::Comma) && is_name(next)
     }
 
     /// A comma between two names of a declaration.
@@ -409,22 +435,50 @@ impl<'a, 'l> Blocks<'a, 'l> {
         Ok(())
     }
 
-    /// The next token, before others.
-    fn take(&mut self, token: Token<'a, 'l>, rest: &[Token<'a, 'l>]) -> Result<(), AllocError>
-        ensures { OnOk result (with_blocks self.old (seen token.entry ∷ seen_all rest.now) ≡ with_blocks self.new (seen_all rest.now)) }
+    /// Whether the line belongs to a body without braces, which begins by the token behind it.
+    fn begins_before(&self, line: Terminal<'a, 'l>, next: Terminal<'a, 'l>) -> bool
+        ensures { result ≡ (self.now.body && is_atomic_line (seen_terminal line.entry) && begins_update (seen_terminal next.entry)) }
+    {
+        self.body && is_atomic_line(line) && begins_update(next)
+    }
+
+    /// A directive line. The brace of a body that it belongs to stands before it, at the place of the update.
+    fn take_line(
+        &mut self,
+        line: Token<'a, 'l>,
+        next: Option<Token<'a, 'l>>,
+    ) -> Result<(), AllocError>
+        ensures { OnOk result ((go : Reading → Items) → seen_all self.old.done.items ++
+            line_in_block (seen line.entry) (next_of next.entry) (reading self.old) go ≡
+            seen_all self.new.done.items ++ go (reading self.new)) }
+    {
+        if let Some(update) = next {
+            if self.begins_before(line.terminal, update.terminal) {
+                self.done.push(update.at(Terminal::Sign(Sign::OpenBrace)))?;
+                self.levels.push(Open::Around)?;
+                self.body = false;
+            }
+        }
+        self.done.push(line)?;
+        Ok(())
+    }
+
+    /// The next token, before another behind directive lines.
+    fn take(&mut self, token: Token<'a, 'l>, next: Option<Token<'a, 'l>>) -> Result<(), AllocError>
+        ensures { OnOk result ((is : Items) → next_of next.entry ≡ take 1 (bare is) →
+            with_blocks self.old (seen token.entry ∷ is) ≡ with_blocks self.new is) }
     {
         if token.terminal.is_directive() {
-            self.done.push(token)?;
-            return Ok(());
+            return self.take_line(token, next);
         }
         if self.begins(token.terminal) {
-            return self.begin_body(token, rest);
+            return self.begin_body(token, next);
         }
         self.body = false;
-        if self.parts(token.terminal, rest) {
+        if self.parts(token.terminal, next) {
             return self.part(token);
         }
-        self.plain(token, is_else(rest))
+        self.plain(token, is_else(next))
     }
 }
 
@@ -443,9 +497,13 @@ pub fn in_blocks<'a, 'l>(
         brackets: 0,
         constant: false,
     };
+    let mut next = Ahead::new(tokens).next();
     let mut rest = tokens;
     'tokens: while let [token, behind @ ..] = rest {
-        blocks.take(*token, behind)?;
+        if !token.terminal.is_directive() {
+            next = Ahead::new(behind).next();
+        }
+        blocks.take(*token, next)?;
         rest = behind;
     }
     Ok(blocks.done)

@@ -605,8 +605,8 @@ fn left_len(start: Ahead<'_, '_, '_>) -> Option<usize>
     }
 }
 
-// How many tokens there are up to the bracket that closes the first one.
-fn index_len(start: Ahead<'_, '_, '_>) -> Option<usize>
+/// How many tokens there are up to the bracket that closes the first one.
+pub fn index_len(start: Ahead<'_, '_, '_>) -> Option<usize>
     requires { length (ahead start) < 2 ^ 63 }
     ensures { result ≡ index_len 0 0 (ahead start.entry) }
 {

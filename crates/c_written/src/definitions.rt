@@ -213,7 +213,7 @@ impl<'a, 'l> Definitions<'a, 'l> {
             self.left -= 1;
             return Ok(());
         }
-        if self.depth == 0 {
+        if self.depth <= 1 {
             if let Some(len) = self.definition_len(token, rest) {
                 self.left = len;
                 return Ok(());
@@ -223,7 +223,7 @@ impl<'a, 'l> Definitions<'a, 'l> {
     }
 }
 
-/// The tokens without the definitions of constants outside of blocks.
+/// The tokens without the definitions of constants outside of blocks, and in that of `main`.
 pub fn undefined<'a, 'l>(
     alloc: Global,
     tokens: &[Token<'a, 'l>],

@@ -2,7 +2,7 @@
 
 ghost use Rattle.std.specs.Prelude.{◌≡◌, ◌≤◌, ◌<◌, ◌+◌, ◌^◌, [], length, drop, IfOk, IfSome};
 ghost use Rattle.std.specs.Option.{option_map};
-ghost use Rattle.c_grammar.specs.Functions.{Begins, behind_name, closing, head_at, headed, is_qualifier, named, no_parameters, parameters, parameters_in};
+ghost use Rattle.c_grammar.specs.Functions.{Begins, Wide, behind, behind_name, behind_rows, closing, columns, head_at, headed, is_qualifier, named, no_parameters, parameters, parameters_in};
 ghost use Rattle.c_written.specs.Ahead.{ahead};
 ghost use Rattle.c_written.specs.Functions.{all_declared, seen_headed, seen_step};
 ghost use Rattle.c_written.specs.Seen.{seen, seen_terminal};
@@ -39,6 +39,12 @@ enum Head<'a> {
     Named(Declared<'a>),
     Opened(&'a [u8]),
     Sized(&'a [u8]),
+    /// Behind the first brackets.
+    Rows(&'a [u8]),
+    /// In second brackets, before their number.
+    Second(&'a [u8]),
+    /// Behind this number.
+    Wide(&'a [u8]),
 }
 
 #[derive(Clone, Copy)]
@@ -84,6 +90,33 @@ fn behind_name<'a>(declared: Declared<'a>, terminal: Terminal<'a, '_>) -> Step<'
 
 fn closing<'a>(name: &'a [u8], terminal: Terminal<'a, '_>) -> Step<'a>
     ensures { seen_step result ≡ closing name.now (seen_terminal terminal.entry) }
+{
+    if terminal.is_sign(Sign::CloseBracket) {
+        return Step::Goes(Head::Rows(name));
+    }
+    Step::Stops
+}
+
+fn behind_rows<'a>(name: &'a [u8], terminal: Terminal<'a, '_>) -> Step<'a>
+    ensures { seen_step result ≡ behind_rows name.now (seen_terminal terminal.entry) }
+{
+    if terminal.is_sign(Sign::OpenBracket) {
+        return Step::Goes(Head::Second(name));
+    }
+    behind_name(Declared { name, array: true }, terminal)
+}
+
+fn columns<'a>(name: &'a [u8], terminal: Terminal<'a, '_>) -> Step<'a>
+    ensures { seen_step result ≡ columns name.now (seen_terminal terminal.entry) }
+{
+    if terminal.is_number() {
+        return Step::Goes(Head::Wide(name));
+    }
+    Step::Stops
+}
+
+fn closing_second<'a>(name: &'a [u8], terminal: Terminal<'a, '_>) -> Step<'a>
+    ensures { seen_step result ≡ behind (Wide name.now) (seen_terminal terminal.entry) }
 {
     if terminal.is_sign(Sign::CloseBracket) {
         return Step::Goes(Head::Named(Declared { name, array: true }));
@@ -135,6 +168,9 @@ impl<'a> Head<'a> {
                 }
             }
             Head::Sized(name) => closing(name, terminal),
+            Head::Rows(name) => behind_rows(name, terminal),
+            Head::Second(name) => columns(name, terminal),
+            Head::Wide(name) => closing_second(name, terminal),
         }
     }
 }

@@ -1,7 +1,7 @@
 //! Constructs inside a target: the line of one goes on that of the target, where both are one combined construct.
 
 ghost use Rattle.std.specs.Prelude.{◌≡◌, ◌≤◌, ◌++◌, false, length, map, true, IfOk, OnOk};
-ghost use Rattle.c_grammar.specs.Nesting.{are_inner, closes_block, construct_end, follows, has_construct, inner_at, is_between, is_for, is_inner, is_last, is_only, is_part, join_lines, joined, joined_tokens, joins, last_word, may_follow, moves, name_len, nested};
+ghost use Rattle.c_grammar.specs.Nesting.{are_inner, are_own, closes_block, construct_end, follows, has, has_construct, has_for, inner_at, is_between, is_for, is_last, is_mapped_on, is_of_construct, is_only, is_own, is_part, join_lines, joined, joined_tokens, joins, last_word, may_follow, moves, name_len, nested, sums_mapped, takes};
 ghost use Rattle.c_grammar.specs.Presence.{before_end};
 ghost use Rattle.directives.specs.Ahead.{seen_line};
 ghost use Rattle.directives.specs.Seen.{is_whole, seen_lexeme};
@@ -13,7 +13,7 @@ ghost use Rattle.c_written.specs.Spots.{all_kinds};
 
 use crate::held::{Written, WrittenTerminal};
 use crate::line_forms::{is_name, is_sign};
-use crate::presence::{goes_on, is_else, is_target, opens_part, target_column};
+use crate::presence::{goes_on, is_else, is_mapped, is_target, opens_part, target_column};
 use crate::spots::{closes_list, opens_list};
 use crate::token::{Terminal, Token};
 use c_tokens::Sign;
@@ -38,8 +38,8 @@ fn is_part(lexeme: Lexeme<'_>) -> bool
         || is_name(lexeme, b"loop")
 }
 
-// How many of them stand at the front.
-fn name_len(tokens: &[PlacedLexeme<'_>]) -> usize
+/// How many of them stand at the front.
+pub fn name_len(tokens: &[PlacedLexeme<'_>]) -> usize
     ensures value { result ≡ name_len (all_kinds tokens.now) }
     ensures within { result ≤ length tokens.now }
 {
@@ -71,7 +71,7 @@ fn last_word<'a>(word: Lexeme<'a>, tokens: &[PlacedLexeme<'a>]) -> Lexeme<'a>
     last
 }
 
-// Whether a name goes on with the second word behind the first.
+// Whether a name goes on with the second word behind the first, on a line of its own.
 fn may_follow(word: Lexeme<'_>, next: Lexeme<'_>) -> bool
     ensures { result ≡ may_follow (seen_lexeme word.entry) (seen_lexeme next.entry) }
 {
@@ -79,29 +79,76 @@ fn may_follow(word: Lexeme<'_>, next: Lexeme<'_>) -> bool
         is_name(next, b"teams") || is_name(next, b"parallel") || is_name(next, b"simd")
     } else if is_name(word, b"teams") {
         is_name(next, b"distribute") || is_name(next, b"loop")
-    } else if is_name(word, b"distribute") {
-        is_name(next, b"parallel") || is_name(next, b"simd")
-    } else if is_name(word, b"parallel") {
-        is_for(next) || is_name(next, b"loop")
     } else {
-        is_for(word) && is_name(next, b"simd")
+        is_name(word, b"parallel") && (is_for(next) || is_name(next, b"loop"))
     }
 }
 
-// Whether a clause with this word may stand on the line inside.
-fn is_inner(lexeme: Lexeme<'_>) -> bool
-    ensures { result ≡ is_inner (seen_lexeme lexeme.entry) }
+fn has(word: &[u8], tokens: &[PlacedLexeme<'_>]) -> bool
+    ensures { result ≡ has word.now (all_kinds tokens.now) }
+{
+    let mut rest = tokens;
+    'tokens: while let [token, behind @ ..] = rest {
+        if is_name(token.lexeme, word) {
+            return true;
+        }
+        rest = behind;
+    }
+    false
+}
+
+fn has_for(tokens: &[PlacedLexeme<'_>]) -> bool
+    ensures { result ≡ has_for (all_kinds tokens.now) }
+{
+    let mut rest = tokens;
+    'tokens: while let [token, behind @ ..] = rest {
+        if is_for(token.lexeme) {
+            return true;
+        }
+        rest = behind;
+    }
+    false
+}
+
+// Whether a construct with these words takes a clause with this one.
+fn takes(words: &[PlacedLexeme<'_>], lexeme: Lexeme<'_>) -> bool
+    ensures { result ≡ takes (all_kinds words.now) (seen_lexeme lexeme.entry) }
+{
+    if is_name(lexeme, b"collapse") {
+        has(b"distribute", words) || has_for(words) || has(b"simd", words) || has(b"loop", words)
+    } else if is_name(lexeme, b"num_teams") || is_name(lexeme, b"thread_limit") {
+        has(b"teams", words)
+    } else if is_name(lexeme, b"num_threads") {
+        has(b"parallel", words)
+    } else if is_name(lexeme, b"schedule") {
+        has_for(words)
+    } else if is_name(lexeme, b"simdlen") || is_name(lexeme, b"safelen") {
+        has(b"simd", words)
+    } else if is_name(lexeme, b"default") || is_name(lexeme, b"shared") {
+        has(b"teams", words) || has(b"parallel", words)
+    } else if is_name(lexeme, b"reduction") {
+        has(b"teams", words)
+            || has(b"parallel", words)
+            || has(b"simd", words)
+            || has(b"loop", words)
+    } else {
+        is_name(lexeme, b"firstprivate")
+    }
+}
+
+// Whether a target by itself does not take a clause with this word.
+fn is_of_construct(lexeme: Lexeme<'_>) -> bool
+    ensures { result ≡ is_of_construct (seen_lexeme lexeme.entry) }
 {
     is_name(lexeme, b"collapse")
         || is_name(lexeme, b"num_teams")
-        || is_name(lexeme, b"thread_limit")
         || is_name(lexeme, b"num_threads")
         || is_name(lexeme, b"schedule")
         || is_name(lexeme, b"simdlen")
         || is_name(lexeme, b"safelen")
         || is_name(lexeme, b"default")
         || is_name(lexeme, b"shared")
-        || is_name(lexeme, b"firstprivate")
+        || is_name(lexeme, b"reduction")
 }
 
 // What stands between clauses.
@@ -111,9 +158,9 @@ fn is_between(lexeme: Lexeme<'_>) -> bool
     is_sign(lexeme, Sign::Comma) || same_lexeme(Lexeme::Ended, lexeme)
 }
 
-// Whether there are such clauses alone.
-fn are_inner(tokens: &[PlacedLexeme<'_>]) -> bool
-    ensures { result ≡ are_inner 0 (all_kinds tokens.now) }
+// Whether there are clauses alone that a construct with these words takes.
+fn are_inner(words: &[PlacedLexeme<'_>], tokens: &[PlacedLexeme<'_>]) -> bool
+    ensures { result ≡ are_inner (all_kinds words.now) 0 (all_kinds tokens.now) }
 {
     let mut depth = 0usize;
     let mut rest = tokens;
@@ -123,7 +170,58 @@ fn are_inner(tokens: &[PlacedLexeme<'_>]) -> bool
             depth += 1;
         } else if closes_list(token.lexeme) {
             depth = depth.saturating_sub(1);
-        } else if depth == 0 && !(is_inner(token.lexeme) || is_between(token.lexeme)) {
+        } else if depth == 0 && !(takes(words, token.lexeme) || is_between(token.lexeme)) {
+            return false;
+        }
+    }
+    true
+}
+
+// Whether the clauses of a target's line are its own, or those of a construct with these words.
+fn are_own(words: &[PlacedLexeme<'_>], tokens: &[PlacedLexeme<'_>]) -> bool
+    ensures { result ≡ are_own (all_kinds words.now) 0 (all_kinds tokens.now) }
+{
+    let mut depth = 0usize;
+    let mut rest = tokens;
+    'tokens: while let [token, behind @ ..] = rest {
+        rest = behind;
+        if opens_list(token.lexeme) {
+            depth += 1;
+        } else if closes_list(token.lexeme) {
+            depth = depth.saturating_sub(1);
+        } else if depth == 0 && is_of_construct(token.lexeme) && !takes(words, token.lexeme) {
+            return false;
+        }
+    }
+    true
+}
+
+// Whether the token, if it is a name, stands in a map clause of the line.
+fn is_mapped_on(target: &[PlacedLexeme<'_>], lexeme: Lexeme<'_>) -> bool
+    ensures { result ≡ is_mapped_on (all_kinds target.now) (seen_lexeme lexeme.entry) }
+{
+    match lexeme {
+        Lexeme::Name(name) => is_mapped(name, target),
+        _ => true,
+    }
+}
+
+// Whether the names of the reduction clauses of a line inside stand in map clauses of the line of the target.
+fn sums_mapped(target: &[PlacedLexeme<'_>], tokens: &[PlacedLexeme<'_>]) -> bool
+    ensures { result ≡ sums_mapped (all_kinds target.now) 0 false (all_kinds tokens.now) }
+{
+    let mut depth = 0usize;
+    let mut sum = false;
+    let mut rest = tokens;
+    'tokens: while let [token, behind @ ..] = rest {
+        rest = behind;
+        if opens_list(token.lexeme) {
+            depth += 1;
+        } else if closes_list(token.lexeme) {
+            depth = depth.saturating_sub(1);
+        } else if depth == 0 {
+            sum = is_name(token.lexeme, b"reduction");
+        } else if sum && depth == 1 && !is_mapped_on(target, token.lexeme) {
             return false;
         }
     }
@@ -134,10 +232,19 @@ fn are_inner(tokens: &[PlacedLexeme<'_>]) -> bool
 fn follows(last: Lexeme<'_>, tokens: &[PlacedLexeme<'_>]) -> bool
     ensures { result ≡ follows (seen_lexeme last.entry) (all_kinds tokens.now) }
 {
+    let len = name_len(tokens);
     match tokens {
-        [word, ..] => may_follow(last, word.lexeme) && are_inner(&tokens[name_len(tokens)..]),
+        [word, ..] => may_follow(last, word.lexeme) && are_inner(&tokens[..len], &tokens[len..]),
         [] => false,
     }
+}
+
+// Whether what stands behind the word target is its own.
+fn is_own(tokens: &[PlacedLexeme<'_>]) -> bool
+    ensures { result ≡ is_own (all_kinds tokens.now) }
+{
+    let len = name_len(tokens);
+    are_own(&tokens[..len], &tokens[len..])
 }
 
 // The last word of the name of a target's construct.
@@ -158,10 +265,14 @@ fn join_lines(target: &LineTokens<'_>, inner: &LineTokens<'_>) -> bool
     if !is_directive(target) || !is_target(tokens) || !is_directive(inner) {
         return false;
     }
-    match inner.tokens() {
-        [_, _, behind @ ..] => follows(construct_end(tokens), behind),
-        _ => false,
+    if !is_own(&tokens[3..]) {
+        return false;
     }
+    let words = inner.tokens();
+    let [_, _, behind @ ..] = words else {
+        return false;
+    };
+    follows(construct_end(tokens), behind) && sums_mapped(tokens, words)
 }
 
 // All but the end of a line, at this column.

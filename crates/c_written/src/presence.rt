@@ -38,8 +38,8 @@ pub fn is_target(tokens: &[PlacedLexeme<'_>]) -> bool
     }
 }
 
-// Whether the name stands in a map clause.
-fn is_mapped(name: &[u8], tokens: &[PlacedLexeme<'_>]) -> bool
+/// Whether the name stands in a map clause.
+pub fn is_mapped(name: &[u8], tokens: &[PlacedLexeme<'_>]) -> bool
     ensures { result ≡ is_mapped name.now 0 false (all_kinds tokens.now) }
 {
     let mut depth = 0usize;

@@ -2,7 +2,7 @@
 
 ghost use Rattle.std.specs.Prelude.{◌≡◌, ◌+◌, ◌<◌, ◌^◌, ◌∷◌, List, length, map, drop, true};
 ghost use Rattle.c_grammar.specs.Terminal.{Terminal as SpecTerminal};
-ghost use Rattle.c_grammar.specs.Constants.{ends_with, constant_value, array_length, loop_first, loop_limit, loop_step, in_enumeration, enumerated_value, behind_divider, behind_changing, behind_cell_size, behind_open_size, behind_type_size, cell_count, first_factor, in_factors, wants_expression, wants_factor, wanted};
+ghost use Rattle.c_grammar.specs.Constants.{ends_with, constant_value, array_length, row_length, loop_first, loop_limit, loop_step, in_enumeration, enumerated_value, behind_divider, behind_changing, behind_cell_size, behind_open_size, behind_type_size, cell_count, first_factor, in_factors, wants_expression, wants_factor, wanted};
 ghost use Rattle.c_written.specs.Past.{past_of, seen_shape};
 ghost use Rattle.c_written.specs.Seen.{seen_terminal};
 
@@ -98,6 +98,22 @@ pub fn at_array_length(past: &Stack<Terminal<'_, '_>>, behind: usize) -> bool
         Shape::Word(Word::Uint64),
     ];
     ends_with(past, behind, &shapes)
+}
+
+/// Whether `uint64_t NAME [ NUM ] [` stands before.
+fn at_row_length(past: &Stack<Terminal<'_, '_>>) -> bool
+    ensures { result ≡ ends_with row_length (past_of past.now) }
+{
+    let open = Shape::Sign(Sign::OpenBracket);
+    let shapes = [
+        open,
+        Shape::Sign(Sign::CloseBracket),
+        Shape::Number,
+        open,
+        Shape::Name,
+        Shape::Word(Word::Uint64),
+    ];
+    ends_with(past, 0, &shapes)
 }
 
 /// Whether `for ( uint64_t NAME =` stands before.
@@ -344,6 +360,7 @@ fn wants_expression(past: &Stack<Terminal<'_, '_>>) -> bool
 {
     at_constant_value(past, 0)
         || at_array_length(past, 0)
+        || at_row_length(past)
         || at_loop_first(past)
         || at_loop_limit(past, Sign::Less)
         || at_loop_limit(past, Sign::LessEqual)

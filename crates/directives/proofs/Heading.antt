@@ -3,7 +3,7 @@ use Rattle.std.proofs.Common.{◌≡◌, ℕ, true, false, List, [], ◌∷◌, 
 use Rattle.std.specs.Prelude.{codes}
 use Rattle.base.specs.declared.fault.ReadCode.TheVariants.{UnknownDirective, UnknownClause}
 use Rattle.c_grammar.specs.Lexeme.{Lexeme, For, Reserved, Worded, Ended, same}
-use Rattle.c_grammar.specs.LineGrammar.{Plain, Demands, of, Construct, Simd, ParallelFor, ParallelForSimd, ParallelLoop, TeamsDistribute, TeamsDistributeSimd, TeamsDistributeParallelFor, TeamsDistributeParallelForSimd, TeamsLoop, Target, Data, Enter, Exit, Update, Wait, Combined}
+use Rattle.c_grammar.specs.LineGrammar.{Plain, Demands, of, Construct, Simd, ParallelFor, ParallelForSimd, ParallelLoop, TeamsDistribute, TeamsDistributeSimd, TeamsDistributeParallelFor, TeamsDistributeParallelForSimd, TeamsLoop, Target, Data, Enter, Exit, Update, Wait, AtomicUpdate, Combined}
 use Rattle.c_grammar.specs.LineMachine.{LineStack, Want, Begin, AfterTarget, AfterParallel, AfterTeams, AfterDistribute, AfterFor, Clauses, is_word, line_advance, line_place}
 use Rattle.directives.specs.declared.line.Line.{Line}
 use Rattle.directives.specs.declared.tree.Directive.{Directive}
@@ -272,16 +272,33 @@ pub at_wait : (l : Line) (s : LineStack) → is_word (codes "target") (first_ite
 at_wait l s d e = goes l (Begin ∷ s) (Clauses Wait ∷ s) (of UnknownDirective Plain)
     (wait_goes s (first_item l).terminal d e)
 
-begin_none : (s : LineStack) (t : Lexeme) → is_word (codes "target") t ≡ false → is_word (codes "taskwait") t ≡ false →
-    line_advance (Begin ∷ s) t ≡ None
+-- what stands behind the word atomic
+abbrev behind_atomic : LineStack → LineStack
+behind_atomic s = Want (Worded (codes "update")) (of UnknownClause Plain) ∷ Clauses AtomicUpdate ∷ s
+
+atomic_goes : (s : LineStack) (t : Lexeme) → is_word (codes "target") t ≡ false → is_word (codes "taskwait") t ≡ false →
+    is_word (codes "atomic") t ≡ true → line_advance (Begin ∷ s) t ≡ Some (of UnknownDirective Plain, behind_atomic s)
 unfolding line_advance
-begin_none s t d e = rw (d, e) refl
+atomic_goes s t d w e = rw (d, w, e) refl
+
+pub at_atomic : (l : Line) (s : LineStack) → is_word (codes "target") (first_item l).terminal ≡ false →
+    is_word (codes "taskwait") (first_item l).terminal ≡ false →
+    is_word (codes "atomic") (first_item l).terminal ≡ true →
+    rest l (Begin ∷ s) ≡ took l (of UnknownDirective Plain) (behind_atomic s)
+at_atomic l s d w e = goes l (Begin ∷ s) (behind_atomic s) (of UnknownDirective Plain)
+    (atomic_goes s (first_item l).terminal d w e)
+
+begin_none : (s : LineStack) (t : Lexeme) → is_word (codes "target") t ≡ false → is_word (codes "taskwait") t ≡ false →
+    is_word (codes "atomic") t ≡ false → line_advance (Begin ∷ s) t ≡ None
+unfolding line_advance
+begin_none s t d w e = rw (d, w, e) refl
 
 pub stop_begin : (l : Line) (s : LineStack) → is_word (codes "target") (first_item l).terminal ≡ false →
     is_word (codes "taskwait") (first_item l).terminal ≡ false →
+    is_word (codes "atomic") (first_item l).terminal ≡ false →
     rest l (Begin ∷ s) ≡ Some (misfit_at UnknownDirective (first_item l))
 unfolding line_place
-stop_begin l s d e = stops l (Begin ∷ s) UnknownDirective (begin_none s (first_item l).terminal d e) refl
+stop_begin l s d w e = stops l (Begin ∷ s) UnknownDirective (begin_none s (first_item l).terminal d w e) refl
 
 -- ---- what was read
 

@@ -2,7 +2,7 @@
 use Rattle.std.proofs.Common.{◌≡◌, ◌≢◌, ℕ, Bool, true, false, List, [], ◌∷◌, Option, Some, None, refl, sym, ap, ◌∙◌}
 use Rattle.c_tokens.specs.declared.kind.Sign.{Sign}
 use Rattle.base.specs.declared.fault.ReadCode.{ReadCode as Code}
-use Rattle.base.specs.declared.fault.ReadCode.TheVariants.{Unexpected, UnknownDirective}
+use Rattle.base.specs.declared.fault.ReadCode.TheVariants.{Unexpected, UnknownDirective, UnknownClause}
 use Rattle.c_grammar.specs.Lexeme.{Lexeme, For, Reserved, Signed, Worded, Numbered, Strange, Ended, same}
 use Rattle.c_grammar.specs.Code.{lower_code}
 use Rattle.c_grammar.specs.Texts.{Item, next_of}
@@ -112,6 +112,11 @@ pub stop_named : (l : Line) (x : List ℕ) (a : LineAct) (s : LineStack) →
     is_word x (first_item l).terminal ≡ false →
     rest l (Want (Worded x) (of UnknownDirective a) ∷ s) ≡ Some (misfit_at UnknownDirective (first_item l))
 stop_named l x a s e = stop_want l (Worded x) (of UnknownDirective a) s e
+
+pub stop_later : (l : Line) (x : List ℕ) (a : LineAct) (s : LineStack) →
+    is_word x (first_item l).terminal ≡ false →
+    rest l (Want (Worded x) (of UnknownClause a) ∷ s) ≡ Some (misfit_at UnknownClause (first_item l))
+stop_later l x a s e = stop_want l (Worded x) (of UnknownClause a) s e
 
 pub at_for : (l : Line) (r : Option Code × LineAct) (s : LineStack) → same (Reserved For) (first_item l).terminal ≡ true →
     rest l (Want (Reserved For) r ∷ s) ≡ took l r s

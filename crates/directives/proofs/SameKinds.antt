@@ -155,6 +155,7 @@ kind_same (kind.Combined construct.TeamsDistributeParallelFor) = refl
 kind_same (kind.Combined construct.TeamsDistributeParallelForSimd) = refl
 kind_same (kind.Combined construct.TeamsLoop) = refl
 kind_same kind.TaskWait = refl
+kind_same kind.AtomicUpdate = refl
 
 pub line_same : (d : Directive) → ks (line_marks d) ≡ ss (grammar.line_slots (text_of d))
 unfolding line_marks

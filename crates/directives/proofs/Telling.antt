@@ -249,6 +249,7 @@ kind_tells n (kind.Combined construct.TeamsDistributeParallelFor) = refl
 kind_tells n (kind.Combined construct.TeamsDistributeParallelForSimd) = refl
 kind_tells n (kind.Combined construct.TeamsLoop) = refl
 kind_tells n kind.TaskWait = refl
+kind_tells n kind.AtomicUpdate = refl
 
 pub line_tells : (d : Directive) → Tells (line_marks d) (grammar.line_slots (text_of d)) Ended (names_in d)
 unfolding line_marks names_in

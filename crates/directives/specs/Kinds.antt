@@ -3,7 +3,7 @@ use Rattle.std.specs.Prelude.{◌≡◌, Bool, false, ◌&&◌}
 use Rattle.c_grammar.specs.Lexeme.{Lexeme, Worded}
 use Rattle.c_grammar.specs.LineMachine.{is_word, is_map_type}
 use Rattle.c_grammar.specs.LineGrammar as grammar
-use Rattle.c_grammar.specs.LineGrammar.{Modifier, Always, Present, modifier_word, takes_modifier, map_word, depend_word, map_types, Amount, Construct, ScheduleType, DirectiveKind, Target, Data, Enter, Exit, Update, Wait, Combined, MapType, To, From, ToFrom, Alloc, Release, Delete, DependType, In, Out, InOut, MotionType, ToDevice, FromDevice}
+use Rattle.c_grammar.specs.LineGrammar.{Modifier, Always, Present, modifier_word, takes_modifier, map_word, depend_word, map_types, Amount, Construct, ScheduleType, DirectiveKind, Target, Data, Enter, Exit, Update, Wait, AtomicUpdate, Combined, MapType, To, From, ToFrom, Alloc, Release, Delete, DependType, In, Out, InOut, MotionType, ToDevice, FromDevice}
 use Rattle.directives.specs.declared.tree.DirectiveKind.{DirectiveKind as GivenKind}
 use Rattle.directives.specs.declared.tree.DirectiveKind.TheVariants as kind
 use Rattle.directives.specs.declared.tree.Amount.{Amount as GivenAmount}
@@ -55,6 +55,7 @@ seen_kind kind.TargetExitData = Exit
 seen_kind kind.TargetUpdate = Update
 seen_kind (kind.Combined c) = Combined (seen_construct c)
 seen_kind kind.TaskWait = Wait
+seen_kind kind.AtomicUpdate = AtomicUpdate
 
 abbrev pub seen_modifier : GivenModifier → Modifier
 seen_modifier modifier.Always = Always

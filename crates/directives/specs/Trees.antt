@@ -203,6 +203,7 @@ target_marks kind.TargetExitData = word_mark (codes "exit") ∷ word_mark (codes
 target_marks kind.TargetUpdate = word_mark (codes "update") ∷ []
 target_marks (kind.Combined c) = construct_marks c
 target_marks kind.TaskWait = []
+target_marks kind.AtomicUpdate = []
 
 abbrev pub kind_marks : GivenKind → Spelling
 kind_marks kind.Target = word_mark (codes "target") ∷ target_marks kind.Target
@@ -212,6 +213,7 @@ kind_marks kind.TargetExitData = word_mark (codes "target") ∷ target_marks kin
 kind_marks kind.TargetUpdate = word_mark (codes "target") ∷ target_marks kind.TargetUpdate
 kind_marks (kind.Combined c) = word_mark (codes "target") ∷ target_marks (kind.Combined c)
 kind_marks kind.TaskWait = word_mark (codes "taskwait") ∷ []
+kind_marks kind.AtomicUpdate = word_mark (codes "atomic") ∷ word_mark (codes "update") ∷ []
 
 abbrev pub head_marks : GivenKind → Spelling
 head_marks k = word_mark (codes "pragma") ∷ word_mark (codes "omp") ∷ kind_marks k

@@ -2,7 +2,7 @@
 
 ghost use Rattle.std.specs.Prelude.{◌≡◌, ◌≤◌, ◌^◌};
 ghost use Rattle.c_grammar.specs.Lexeme.{lexemes_of};
-ghost use Rattle.c_grammar.specs.Lines.{is_omp};
+ghost use Rattle.c_grammar.specs.Lines.{is_atomic, is_omp};
 ghost use Rattle.directives.specs.Ahead.{seen_line};
 ghost use Rattle.directives.specs.Spells.{kinds_of};
 
@@ -38,4 +38,14 @@ pub fn is_directive_at(line: &[u8], column: usize) -> bool
     }
     let second = lexemes.next();
     same_lexeme(Lexeme::Name(b"omp".as_slice()), second.lexeme)
+}
+
+/// Whether the line says of the store behind it that it is atomic.
+pub fn is_atomic(line: &LineTokens<'_>) -> bool
+    ensures { result ≡ is_atomic (kinds_of (seen_line line.now)) }
+{
+    match line.tokens() {
+        [_, _, third, ..] => same_lexeme(Lexeme::Name(b"atomic".as_slice()), third.lexeme),
+        _ => false,
+    }
 }

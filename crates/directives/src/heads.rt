@@ -20,12 +20,14 @@ use base::fault::ReadCode;
 use std::alloc::Global;
 
 impl<'a, 'l> Line<'a, 'l> {
-    ghost use Rattle.std.specs.Prelude.{◌≡◌, ◌∷◌, ◌++◌, [], false, IfOk, None, codes, if◌then◌else◌};
+    ghost use Rattle.std.specs.Prelude.{◌≡◌, ◌∷◌, ◌++◌, [], false, IfOk, OnOk, None, codes, if◌then◌else◌};
+    ghost use Rattle.base.specs.declared.fault.ReadCode.TheVariants.{UnknownClause};
+    ghost use Rattle.c_grammar.specs.Lexeme.{Worded};
     ghost use Rattle.c_grammar.specs.LineGrammar as grammar;
     ghost use Rattle.c_grammar.specs.LineRules.{IsLine};
-    ghost use Rattle.c_grammar.specs.LineMachine.{LineStack, AfterDistribute, AfterFor, AfterParallel, AfterTarget, AfterTeams, Begin, Clauses, is_word, line_start};
+    ghost use Rattle.c_grammar.specs.LineMachine.{LineStack, AfterDistribute, AfterFor, AfterParallel, AfterTarget, AfterTeams, Begin, Clauses, Want, is_word, line_start};
     ghost use Rattle.directives.specs.Kinds.{seen_construct, seen_kind};
-    ghost use Rattle.directives.specs.Cursor.{first_item, items};
+    ghost use Rattle.directives.specs.Cursor.{behind, first_item, items};
     ghost use Rattle.directives.specs.Reading.{IsSpelled, Outcome, OutcomeBy, rest};
     ghost use Rattle.directives.specs.Trees.{construct_marks, distribute_marks, head_marks, kind_marks, line_marks, parallel_marks, simd_marks, target_marks, teams_marks, text_of, word_mark};
 
@@ -165,6 +167,20 @@ impl<'a, 'l> Line<'a, 'l> {
         self.construct()
     }
 
+    /// Goes past the word `update` behind `atomic`.
+    #[tactic(auto, using(crate::proofs::Outcomes::on_from, crate::proofs::Moves::at_named, crate::proofs::Moves::stop_later, crate::proofs::Moves::word_is))]
+    fn expect_update(&mut self) -> Result<(), DirectiveFault>
+        ensures read { (s : LineStack) → Outcome result (rest self.old
+            (Want (Worded (codes "update")) (grammar.of UnknownClause grammar.Plain) ∷ s)) (rest self.new s) }
+        ensures first { OnOk result ((first_item self.old).terminal ≡ Worded (codes "update")) }
+        ensures taken { OnOk result (behind self.old ≡ items self.new) }
+    {
+        if !self.at_word(b"update".as_slice()) {
+            return Err(DirectiveFault::Line(self.misfit(ReadCode::UnknownClause)));
+        }
+        self.enter(Act::Plain)
+    }
+
     /// The kind of the directive.
     fn kind(&mut self) -> Result<DirectiveKind, DirectiveFault>
         ensures read { (s : LineStack) → OutcomeBy result (rest self.old (Begin ∷ s))
@@ -179,6 +195,11 @@ impl<'a, 'l> Line<'a, 'l> {
         if self.at_word(b"taskwait".as_slice()) {
             self.enter(Act::Plain)?;
             return Ok(DirectiveKind::TaskWait);
+        }
+        if self.at_word(b"atomic".as_slice()) {
+            self.enter(Act::Plain)?;
+            self.expect_update()?;
+            return Ok(DirectiveKind::AtomicUpdate);
         }
         Err(DirectiveFault::Line(self.misfit(ReadCode::UnknownDirective)))
     }

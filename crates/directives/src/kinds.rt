@@ -149,7 +149,8 @@ impl DirectiveKind {
         ensures { result ≡ grammar.takes_map (seen_kind self) }
     {
         match self {
-            DirectiveKind::TargetUpdate | DirectiveKind::TaskWait => false,
+            DirectiveKind::TargetUpdate | DirectiveKind::TaskWait | DirectiveKind::AtomicUpdate =>
+                false,
             _ => true,
         }
     }
@@ -169,7 +170,7 @@ impl DirectiveKind {
         ensures { result ≡ grammar.takes_depend (seen_kind self) }
     {
         match self {
-            DirectiveKind::TargetData => false,
+            DirectiveKind::TargetData | DirectiveKind::AtomicUpdate => false,
             _ => true,
         }
     }
@@ -179,7 +180,8 @@ impl DirectiveKind {
         ensures { result ≡ grammar.takes_nowait (seen_kind self) }
     {
         match self {
-            DirectiveKind::TargetData | DirectiveKind::TaskWait => false,
+            DirectiveKind::TargetData | DirectiveKind::TaskWait | DirectiveKind::AtomicUpdate =>
+                false,
             _ => true,
         }
     }
@@ -189,7 +191,7 @@ impl DirectiveKind {
         ensures { result ≡ grammar.takes_device (seen_kind self) }
     {
         match self {
-            DirectiveKind::TaskWait => false,
+            DirectiveKind::TaskWait | DirectiveKind::AtomicUpdate => false,
             _ => true,
         }
     }
@@ -222,10 +224,11 @@ impl DirectiveKind {
                 MapType::From | MapType::Release | MapType::Delete => true,
                 _ => false,
             },
-            DirectiveKind::TargetUpdate | DirectiveKind::TaskWait => match map_type {
-                MapType::To | MapType::From => true,
-                _ => false,
-            },
+            DirectiveKind::TargetUpdate | DirectiveKind::TaskWait | DirectiveKind::AtomicUpdate =>
+                match map_type {
+                    MapType::To | MapType::From => true,
+                    _ => false,
+                },
         }
     }
 }

@@ -22,7 +22,7 @@ mod word;
 
 pub use code::lower;
 pub use fault::{DirectiveFault, LineFault};
-pub use first_words::{is_directive, is_directive_at};
+pub use first_words::{is_atomic, is_directive, is_directive_at};
 pub use heads::{read_directive, read_directive_in};
 pub use lexeme::{Lexeme, PlacedLexeme, same_lexeme};
 pub use lexemes::Lexemes;

@@ -145,6 +145,8 @@ pub enum DirectiveKind {
     TargetUpdate,
     Combined(Construct),
     TaskWait,
+    /// `atomic update`, before a store.
+    AtomicUpdate,
 }
 
 /// A directive and its clauses, in the order of the source. Which clauses and types its kind takes is part of what

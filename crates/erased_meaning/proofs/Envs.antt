@@ -4,7 +4,7 @@ use Rattle.std.specs.Str.{bytes_eq}
 use Rattle.base.specs.declared.tree.ScalarId.{ScalarId}
 use Rattle.base.specs.declared.tree.Stmt.{Stmt as Statement}
 use Rattle.base.specs.Memory.{Scalars}
-use Rattle.c_grammar.specs.Grammar.{Source, Input, Value, Stmt, Declare, Assign, Store, Repeat, Choose, ChooseElse, Show, Block, Directive, OverBlock, OverLoop, Stmts, Done, Then}
+use Rattle.c_grammar.specs.Grammar.{Source, Input, Value, Stmt, Declare, Assign, Store, Repeat, Choose, ChooseElse, Show, Block, Directive, Atomic, OverBlock, OverLoop, Stmts, Done, Then}
 use Rattle.c_expressions.specs.declared.scope.Meaning.{Meaning}
 use Rattle.c_expressions.specs.declared.scope.Meaning.TheVariants as meaning
 use Rattle.c_expressions.specs.Means.{Items, Names, meaning_of}
@@ -16,7 +16,7 @@ use Rattle.erased_meaning.proofs.Likeness.{Mode, OnHost, InTarget}
 abbrev pub plain_env : Env → Env
 plain_env env = record env { names = plain_names env.names; inside = false }
 
--- a statement that has no line of a directive of its own
+-- a statement that has no line of a directive of a part
 abbrev pub plain_one : Stmt → Stmt
 plain_one (Declare x v) = Declare x v
 plain_one (Assign x v) = Assign x v
@@ -27,6 +27,7 @@ plain_one (ChooseElse e a b) = ChooseElse e (plain_stmts a) (plain_stmts b)
 plain_one (Show e) = Show e
 plain_one (Block b) = Block (plain_stmts b)
 plain_one (Directive l) = Directive l
+plain_one (Atomic l x i v) = Store x i v
 plain_one (OverBlock l b) = OverBlock l b
 plain_one (OverLoop l h b) = OverLoop l h b
 
@@ -41,6 +42,7 @@ plain_then env is (ChooseElse e a b) x ss h = refl
 plain_then env is (Show e) x ss h = refl
 plain_then env is (Block b) x ss h = refl
 plain_then env is (Directive l) x ss h = absurd h
+plain_then env is (Atomic l y i v) x ss h = refl
 plain_then env is (OverBlock l b) x ss h = absurd h
 plain_then env is (OverLoop l g b) x ss h = absurd h
 
@@ -63,6 +65,7 @@ mutual
   declared_before (Show e) ss = refl
   declared_before (Block b) ss = ap (λ (n : ℕ). n + declared_in ss) (declared_plain b)
   declared_before (Directive l) ss = omega arith
+  declared_before (Atomic l x i v) ss = refl
   declared_before (OverBlock l b) ss = ap (λ (n : ℕ). n + declared_in ss) (declared_plain b)
   declared_before (OverLoop l h b) ss = ap (λ (n : ℕ). n + declared_in ss) (declared_plain b)
 
@@ -82,6 +85,7 @@ behind_plain env is (ChooseElse e a b) x h =
 behind_plain env is (Show e) x h = refl
 behind_plain env is (Block b) x h = more_plain _ _ env (declared_plain b)
 behind_plain env is (Directive l) x h = absurd h
+behind_plain env is (Atomic l y i v) x h = refl
 behind_plain env is (OverBlock l b) x h = absurd h
 behind_plain env is (OverLoop l g b) x h = absurd h
 
@@ -96,6 +100,7 @@ agree_before (ChooseElse e b d) env f g a = a
 agree_before (Show e) env f g a = a
 agree_before (Block b) env f g a = a
 agree_before (Directive l) env f g a = a
+agree_before (Atomic l x i v) env f g a = a
 agree_before (OverBlock l b) env f g a = a
 agree_before (OverLoop l h b) env f g a = a
 
@@ -122,6 +127,7 @@ abbrev mutual
   IsQuiet env (Show e) = ⊥
   IsQuiet env (Block b) = AreQuiet env b
   IsQuiet env (Directive l) = ⊥
+  IsQuiet env (Atomic l x i v) = IsQuietSource v
   IsQuiet env (OverBlock l b) = ⊥
   IsQuiet env (OverLoop l h b) = ⊥
 
@@ -196,6 +202,7 @@ placed_behind (InTarget first input printed scalars) s env p = go s
     go (Show e) = (omega (arith, p.0), p.1)
     go (Block b) = (omega (arith, p.0), p.1)
     go (Directive l) = (omega (arith, p.0), p.1)
+    go (Atomic l x i v) = (omega (arith, p.0), p.1)
     go (OverBlock l b) = (omega (arith, p.0), p.1)
     go (OverLoop l h b) = (omega (arith, p.0), p.1)
 

@@ -1,5 +1,6 @@
 pub mod Values
 pub mod Likeness
+pub mod Updates
 pub mod Envs
 pub mod Statements
 pub mod Parts

@@ -1,5 +1,5 @@
 -- The parts that a text means, and the one region that it means without its directives, run alike.
-use Rattle.std.proofs.Common.{◌≡◌, ℕ, ◌+◌, ◌≤◌, true, false, List, [], ◌∷◌, ◌++◌, drop, map, Option, Some, None, refl, sym, ap, subst, ◌∙◌, arith, ◌⊎◌, inl, inr}
+use Rattle.std.proofs.Common.{◌≡◌, ℕ, ◌+◌, ◌≤◌, true, false, List, [], ◌∷◌, ◌++◌, drop, Option, Some, None, refl, sym, ap, subst, ◌∙◌, arith, ◌⊎◌, inl, inr}
 use Rattle.std.specs.Prelude.{option_and_then, option_map}
 use mathlib.Core.Former.{Count}
 use Rattle.base.specs.declared.tree.Bounds.{Bounds}
@@ -14,7 +14,7 @@ use Rattle.base.specs.Meaning.{Run, Plain, turn, turns_of, all_turns, run_stmt, 
 use Rattle.c_grammar.specs.Lexeme.{Lexeme}
 use Rattle.c_grammar.specs.LineGrammar as line
 use Rattle.c_grammar.specs.Lines.{is_target, is_target_kind}
-use Rattle.c_grammar.specs.Grammar.{Head, Stmt, Declare, Assign, Store, Repeat, Choose, ChooseElse, Show, Block, Directive, OverBlock, OverLoop, Stmts, Done, Then}
+use Rattle.c_grammar.specs.Grammar.{Head, Stmt, Declare, Assign, Store, Repeat, Choose, ChooseElse, Show, Block, Directive, Atomic, OverBlock, OverLoop, Stmts, Done, Then}
 use Rattle.c_grammar.proofs.LineKinds.{kind_is}
 use Rattle.c_expressions.specs.declared.scope.Meaning.TheVariants as meaning
 use Rattle.c_expressions.specs.Means.{Items, Names}
@@ -83,6 +83,7 @@ outside_behind (ChooseElse e b d) env o = outside_more (declared_in b + declared
 outside_behind (Show e) env o = outside_more 0 env o
 outside_behind (Block b) env o = outside_more (declared_in b) env o
 outside_behind (Directive l) env o = outside_more 0 env o
+outside_behind (Atomic l x i v) env o = outside_more 0 env o
 outside_behind (OverBlock l b) env o = outside_more (declared_in b) env o
 outside_behind (OverLoop l h b) env o = outside_more (declared_in b) env o
 
@@ -303,6 +304,7 @@ module _ (lengths : List ℕ) (w : Memory) where
   part_then (Declare v a) alike ss env is js x ys next loops p q safe o h k e follow = absurd h
   part_then (Assign v a) alike ss env is js x ys next loops p q safe o h k e follow = absurd h
   part_then (Store v i a) alike ss env is js x ys next loops p q safe o h k e follow = absurd h
+  part_then (Atomic l v i a) alike ss env is js x ys next loops p q safe o h k e follow = absurd h
   part_then (Choose t a) alike ss env is js x ys next loops p q safe o h k e follow = absurd h
   part_then (ChooseElse t a b) alike ss env is js x ys next loops p q safe o h k e follow = absurd h
   part_then (Show t) alike ss env is js x ys next loops p q safe o h k e follow = absurd h
@@ -388,6 +390,7 @@ module _ (lengths : List ℕ) (w : Memory) where
     inner_alike (ChooseElse e a b) = tt
     inner_alike (Show e) = tt
     inner_alike (Directive l) = tt
+    inner_alike (Atomic l x i v) = tt
 
   -- the parts of a text and the statements that it means without its directives
   pub texts_alike : (b : Stmts) (env : Env) (is js : Items) (ps : List Part) (ys : List Statement) (loops : List ℕ) (p : Plain) (q : Run) →

@@ -7,7 +7,7 @@ use Rattle.c_tokens.specs.declared.kind.Sign.TheVariants as sign
 use Rattle.c_grammar.specs.Lexeme.{Lexeme, For, If, Else, Uint64}
 use Rattle.c_grammar.specs.Lines.{depth_of, is_target}
 use Rattle.c_grammar.specs.Terminal.{Terminal, Fixed, Mark, Name, Line}
-use Rattle.c_grammar.specs.Grammar.{Plain, DeclaresLocal, MakesScalar, Starts, StartsIf, StartsBlock, Assigned, Otherwise, Opens, Over, for, mark, Slot, Slots, Term, term, Source, Input, Value, source, Head, head_slots, body_opening, body_closing, end_mark, Stmt, Declare, Assign, Store, Repeat, Choose, ChooseElse, Show, Block, Directive, OverBlock, OverLoop, Stmts, Done, Then, deeper, loop_role, stmt, stmt_in, stmts, stmts_in}
+use Rattle.c_grammar.specs.Grammar.{Plain, DeclaresLocal, MakesScalar, Starts, StartsIf, StartsBlock, Assigned, Otherwise, Opens, Over, Marks, for, mark, Slot, Slots, Term, term, Source, Input, Value, source, Head, head_slots, body_opening, body_closing, end_mark, Stmt, Declare, Assign, Store, Repeat, Choose, ChooseElse, Show, Block, Directive, Atomic, OverBlock, OverLoop, Stmts, Done, Then, deeper, loop_role, stmt, stmt_in, stmts, stmts_in}
 use Rattle.c_grammar.specs.Rules.{Context, begun, out, with_name, Frame, Rule, Sort, AScalar, top, below, inside, act, enter, breaks, sort_of, is_array, is_scalar, is_visible, is_loop, is_outer}
 use Rattle.c_expressions.specs.declared.scope.Meaning.{Meaning}
 use Rattle.c_expressions.specs.declared.scope.Meaning.TheVariants as meaning
@@ -190,6 +190,12 @@ store_known x i v depth c env n s k =
     (still_append (term i) value (term_still i) (still_append (source v) last (source_still v) refl)) s in
     ((λ e. tt {0}, λ e. quiet_source v d (next_in last n) (in_d ∙ inside_at c env s e) more_parts.0), after.0, after.1)
 
+atomic_known : (l : List Lexeme) (x : List ℕ) (i : Term) (v : Source) → StmtKnown (Atomic l x i v)
+unfolding enter
+atomic_known l x i v depth c env n s k =
+    store_known x i v depth (enter c (Line l, for Marks)) env n
+    (record { names = s.names; inside_is = s.inside_is; target = s.target; turn = s.turn }) k.1
+
 show_known : (e : Term) → StmtKnown (Show e)
 unfolding breaks
 show_known e depth c env n s k =
@@ -346,6 +352,7 @@ behind_inside (ChooseElse e a b) env = refl
 behind_inside (Show e) env = refl
 behind_inside (Block b) env = refl
 behind_inside (Directive l) env = refl
+behind_inside (Atomic l x i v) env = refl
 behind_inside (OverBlock l b) env = refl
 behind_inside (OverLoop l h b) env = refl
 
@@ -372,5 +379,6 @@ mutual
   stmt_known (Show e) = show_known e
   stmt_known (Block b) = block_known b (stmts_known b)
   stmt_known (Directive l) = alone_known l
+  stmt_known (Atomic l x i v) = atomic_known l x i v
   stmt_known (OverBlock l b) = over_block_known l b (stmts_known b)
   stmt_known (OverLoop l h b) = over_loop_known l h b (stmts_known b)

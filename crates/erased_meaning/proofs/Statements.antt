@@ -16,13 +16,14 @@ use Rattle.base.specs.declared.tree.Stmt.TheVariants as statement
 use Rattle.base.specs.Memory.{Memory, View, view_of}
 use Rattle.base.specs.Value.{value}
 use Rattle.base.specs.Meaning.{Run, names_in, read_next, source_of, set_scalar, assigned, stored, printed, choose, turn, turns_of, all_turns, run_stmt, run_row, run_list}
-use Rattle.c_grammar.specs.Grammar.{Source, Input, Value, Head, Term, Stmt, Declare, Assign, Store, Repeat, Choose, ChooseElse, Show, Block, Directive, OverBlock, OverLoop, Stmts, Done, Then, stmts}
+use Rattle.c_grammar.specs.Grammar.{Source, Input, Value, Head, Term, Stmt, Declare, Assign, Store, Repeat, Choose, ChooseElse, Show, Block, Directive, Atomic, OverBlock, OverLoop, Stmts, Done, Then, stmts}
 use Rattle.c_expressions.specs.declared.scope.Meaning.TheVariants as meaning
 use Rattle.c_expressions.specs.Means.{Items, Names, meaning_of, term_size, MeansScalar, IsExpr}
-use Rattle.c_statements.specs.Statements.{Env, stmt_size, head_size, declared_in, more, behind, in_loop, IsHead, IsSource, IsStatement, AreStatements}
+use Rattle.c_statements.specs.Statements.{Env, stmt_size, head_size, declared_in, more, behind, in_loop, IsHead, IsSource, IsStore, IsStatement, AreStatements}
 use Rattle.erasure.specs.Plain.{plain_stmts}
 use Rattle.erased_meaning.proofs.Values.{plain_names, scalar_is, same_scalar, same_array, same_value}
 use Rattle.erased_meaning.proofs.Likeness.{Mode, OnHost, InTarget, IsPassed, IsOwn, Like, Both, seen_same, stored_same, both_then, both_less, both_turns, both_choose, set_like, declare_like}
+use Rattle.erased_meaning.proofs.Updates.{update_runs}
 use Rattle.erased_meaning.proofs.Envs.{plain_env, plain_one, plain_then, declared_plain, behind_plain, more_plain, agree_before, IsQuietSource, IsQuiet, AreQuiet, IsPlaced, MayDo, MayDoAll, own_at, placed_behind, placed_more, placed_loop}
 
 pub row_runs : (n : Count) (row : Row_of-Stmt n) (view : View) (loops : List ℕ) (s : Run) →
@@ -191,6 +192,16 @@ module _ (lengths : List ℕ) (m w : Memory) (mode : Mode) where
   store_ends names a b None (Some j) o p e f g = absurd cc
   store_ends names a b (Some i) None o p e f g = absurd cc
 
+  stores_end : (env : Env) (x : List ℕ) (i : Term) (v : Source) (is js : Items) (s y : Statement) (loops : List ℕ) (r q : Run) →
+      MaySource mode v → Alike env.names r q → IsStore env is x i v s → IsStore (plain_env env) js x i v y →
+      Ends env.names (run_stmt s here loops r) (run_stmt y there loops q)
+  stores_end env x i v is js (statement.Store a at e c) (statement.Store b to u d) loops r q may l h g =
+      store_ends env.names a b (value e (names_in here loops r)) (value u (names_in there loops q)) (source_of c here loops r) (source_of d there loops q)
+      (same_array env.names x a b h.0 g.0) (values_same env.names i (drop 2 is) (drop 2 js) e u loops r q l h.2 g.2)
+      (sources_given env v (drop (term_size i + 4) is) (drop (term_size i + 4) js) c d loops r q may l h.3 g.3)
+  stores_end env x i v is js (statement.Store a at e c) _ loops r q may l h g = absurd g
+  stores_end env x i v is js _ y loops r q may l h g = absurd h
+
   printed_ends : (env : Env) (t : Term) (o p : Option ℕ) (r q : Run) → o ≡ p → MayDo mode env (Show t) → Alike env.names r q →
       Ends env.names (option_map (printed r) o) (option_map (printed q) p)
   printed_ends env t None None r q e may l = tt
@@ -282,13 +293,12 @@ module _ (lengths : List ℕ) (m w : Memory) (mode : Mode) where
         (sources_given env v (drop 2 is) (drop 2 js) a b loops r q (may_source mode env (Assign x v) v (λ u. u.0) may) l h.1 g.1)
     one_ends (Assign x v) env is js (statement.Assign n a) _ loops r q may p l h g = absurd g
     one_ends (Assign x v) env is js _ y loops r q may p l h g = absurd h
-    one_ends (Store x i v) env is js (statement.Store a at e c) (statement.Store b to u d) loops r q may p l h g =
-        store_ends env.names a b (value e (names_in here loops r)) (value u (names_in there loops q)) (source_of c here loops r) (source_of d there loops q)
-        (same_array env.names x a b h.0 g.0) (values_same env.names i (drop 2 is) (drop 2 js) e u loops r q l h.2 g.2)
-        (sources_given env v (drop (term_size i + 4) is) (drop (term_size i + 4) js) c d loops r q
-        (may_source mode env (Store x i v) v (λ u. u) may) l h.3 g.3)
-    one_ends (Store x i v) env is js (statement.Store a at e c) _ loops r q may p l h g = absurd g
-    one_ends (Store x i v) env is js _ y loops r q may p l h g = absurd h
+    one_ends (Store x i v) env is js s y loops r q may p l h g =
+        stores_end env x i v is js s y loops r q (may_source mode env (Store x i v) v (λ u. u) may) l h g
+    one_ends (Atomic d x i v) env is js s y loops r q may p l h g =
+        subst (λ (o : Option Run). Ends env.names o (run_stmt y there loops q))
+        (sym (ap (λ (a : Statement). run_stmt a here loops r) h.2 ∙ update_runs here loops r h.0))
+        (stores_end env x i v (drop 1 is) js h.0 y loops r q (may_source mode env (Atomic d x i v) v (λ u. u) may) l h.1 g)
     one_ends (Show t) env is js (statement.Print e) (statement.Print u) loops r q may p l h g =
         printed_ends env t (value e (names_in here loops r)) (value u (names_in there loops q)) r q
         (values_same env.names t (drop 2 is) (drop 2 js) e u loops r q l h g) may l

@@ -5,7 +5,7 @@ use Rattle.c_grammar.specs.Blocks.{bare, is_directive}
 use Rattle.c_grammar.specs.Lexeme.{Lexeme, For, If, Else, Int, Main, Void}
 use Rattle.c_grammar.specs.Terminal.{Terminal, Fixed, Mark, Name, Num, Line, Unknown, Unworked, End}
 use Rattle.c_grammar.specs.Lines.{is_omp, depth_of}
-use Rattle.c_grammar.specs.Grammar.{Slots, Plain, StartsIf, Otherwise, for, mark, Term, Literal, Named, Element, Group, Prefixed, Both, By, term, Source, Input, Value, source, Head, head_slots, body_opening, body_closing, Stmt, Declare, Assign, Store, Repeat, Choose, ChooseElse, Show, Block, Directive, OverBlock, OverLoop, Stmts, Done, Then, deeper, stmt_in, stmts_in, stmt, stmts, IsStmt, AreStmts, IsText, Global, Scalar, Array, global, globals, Text, main_part, slots}
+use Rattle.c_grammar.specs.Grammar.{Slots, Plain, StartsIf, Otherwise, for, mark, Term, Literal, Named, Element, Group, Prefixed, Both, By, term, Source, Input, Value, source, Head, head_slots, body_opening, body_closing, Stmt, Declare, Assign, Store, Repeat, Choose, ChooseElse, Show, Block, Directive, Atomic, OverBlock, OverLoop, Stmts, Done, Then, deeper, stmt_in, stmts_in, stmt, stmts, IsStmt, AreStmts, IsText, Global, Scalar, Array, global, globals, Text, main_part, slots}
 use Rattle.c_grammar.specs.Rules.{source_grammar}
 use Rattle.c_grammar.specs.Texts.{Item, kinds, terminals}
 use Rattle.erasure.specs.Plain.{plain_before, plain_stmts, plain_tree}
@@ -122,6 +122,11 @@ bares_block : (b : Stmts) → Bares (stmts b) (stmts (plain_stmts b)) →
     Bares (body_opening ∷ (stmts b ++ close)) (stmt (Block (plain_stmts b)))
 bares_block b p = ap (λ (ts : List Terminal). Mark sign.OpenBrace ∷ ts) (bares_body (stmts b) (stmts (plain_stmts b)) p)
 
+bares_store : (x : List ℕ) (i : Term) (v : Source) → Bares (stmt (Store x i v)) (stmt (Store x i v))
+bares_store x i v =
+    bares_same (stmt (Store x i v))
+    (no_lines_append (term i) _ (term_no_lines i) (no_lines_append (source v) _ (source_no_lines v) refl))
+
 mutual
   -- whether they are a nest of loops or not
   pub bares_stmts : (b : Stmts) (d : ℕ) → AreStmts b → Bares (stmts_in b d) (stmts (plain_stmts b))
@@ -137,9 +142,7 @@ mutual
       bares_join (stmt (Assign x v)) (stmt (Assign x v)) xs (stmts ss)
       (bares_same (stmt (Assign x v)) (no_lines_append (source v) _ (source_no_lines v) refl)) p
   bares_stmt (Store x i v) d xs ss g p =
-      bares_join (stmt (Store x i v)) (stmt (Store x i v)) xs (stmts ss)
-      (bares_same (stmt (Store x i v))
-      (no_lines_append (term i) _ (term_no_lines i) (no_lines_append (source v) _ (source_no_lines v) refl))) p
+      bares_join (stmt (Store x i v)) (stmt (Store x i v)) xs (stmts ss) (bares_store x i v) p
   bares_stmt (Repeat h b) d xs ss g p =
       bares_join (stmt_in (Repeat h b) d) (stmt (Repeat h (plain_stmts b))) xs (stmts ss)
       (ap (λ (ts : List Terminal). Fixed For ∷ ts)
@@ -160,6 +163,9 @@ mutual
   bares_stmt (Block b) d xs ss g p =
       bares_join (stmt (Block b)) (stmt (Block (plain_stmts b))) xs (stmts ss) (bares_block b (bares_stmts b 0 g)) p
   bares_stmt (Directive l) d xs ss g p = line_gone l xs (stmts ss) g.0 p
+  bares_stmt (Atomic l x i v) d xs ss g p =
+      line_gone l (stmt (Store x i v) ++ xs) (stmt (Store x i v) ++ stmts ss) g.0
+      (bares_join (stmt (Store x i v)) (stmt (Store x i v)) xs (stmts ss) (bares_store x i v) p)
   bares_stmt (OverBlock l b) d xs ss g p =
       bares_join (stmt (OverBlock l b)) (stmt (Block (plain_stmts b))) xs (stmts ss)
       (line_gone l (body_opening ∷ (stmts b ++ close)) (stmt (Block (plain_stmts b))) g.0 (bares_block b (bares_stmts b 0 g.2))) p

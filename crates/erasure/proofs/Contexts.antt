@@ -7,7 +7,7 @@ use Rattle.base.specs.declared.fault.ReadCode.{ReadCode as Code}
 use Rattle.base.specs.declared.fault.ReadCode.TheVariants.{UnknownByte, Unexpected, Undeclared, AlreadyDeclared, BadNumber, BadLength, LoopNameAssigned, BadOperand, TooDeep, TooMany, UnknownDirective, UnknownClause, ClauseCount, BadMapType, BadBound, ArrayTwice, DirectiveInTarget, OuterAssigned, HostOnly, NoBody, DirectiveUnderIf, BadDevice}
 use Rattle.c_tokens.specs.declared.kind.Sign.TheVariants as sign
 use Rattle.c_grammar.specs.Terminal.{Terminal, Fixed, Mark, Name, Num, Line, Unknown, Unworked, End, same}
-use Rattle.c_grammar.specs.Grammar.{Act, Plain, DeclaresGlobal, DeclaresLocal, DeclaresLoop, MakesArray, MakesScalar, Length, Limit, Step, Starts, StartsIf, Prints, Assigned, StartsBlock, Otherwise, Reads, Opens, Closes, Alone, Over, Operand, OpensBracket, ClosesBracket, Divisor, Count, Inner}
+use Rattle.c_grammar.specs.Grammar.{Act, Plain, DeclaresGlobal, DeclaresLocal, DeclaresLoop, MakesArray, MakesScalar, Length, Limit, Step, Starts, StartsIf, Prints, Assigned, StartsBlock, Otherwise, Reads, Opens, Closes, Alone, Over, Marks, Operand, OpensBracket, ClosesBracket, Divisor, Count, Inner}
 use Rattle.c_grammar.specs.Rules.{Context, declared, opened, out, begun, Frame, Sort, AnArray, AScalar, ALoop, max_statements, top, below, with_name, inside, act, found, sort_in, sort_of, sort_at, is_array, is_scalar, is_visible, is_loop, breaks_act}
 
 abbrev pub is_line_terminal : Terminal → Bool
@@ -149,6 +149,7 @@ module _ (c : Context) (n : ℕ) (h : n ≤ c.statements) (t next : Terminal) wh
   plain_breaks TooMany StartsBlock e = no_more n c.statements max_statements h e
   plain_breaks TooMany Alone e = no_more n c.statements max_statements h e
   plain_breaks TooMany Over e = no_more n c.statements max_statements h e
+  plain_breaks TooMany Marks e = no_more n c.statements max_statements h e
   plain_breaks TooMany DeclaresGlobal e = e
   plain_breaks TooMany _ e = e
   plain_breaks DirectiveInTarget Alone e = not_inside c.frames
@@ -258,6 +259,7 @@ plain_enter c n Unknown Over h l = (n + 1, refl, omega (arith, h))
 plain_enter c n Unworked Over h l = (n + 1, refl, omega (arith, h))
 plain_enter c n End Over h l = (n + 1, refl, omega (arith, h))
 plain_enter c n (Line ts) Over h l = absurd cc
+plain_enter c n t Marks h l = (n + 1, refl, omega (arith, h))
 plain_enter c n t Operand h l = (n, refl, h)
 plain_enter c n t OpensBracket h l = (n, refl, h)
 plain_enter c n t ClosesBracket h l = (n, refl, h)

@@ -4,7 +4,7 @@ use Rattle.std.specs.Prelude.{◌||◌}
 use Rattle.base.specs.declared.fault.ReadCode.{ReadCode as Code}
 use Rattle.base.specs.declared.fault.ReadCode.TheVariants.{UnknownByte, Unexpected, Undeclared, AlreadyDeclared, BadNumber, BadLength, LoopNameAssigned, BadOperand, TooDeep, TooMany, UnknownDirective, UnknownClause, ClauseCount, BadMapType, BadBound, ArrayTwice, DirectiveInTarget, OuterAssigned, HostOnly, NoBody, DirectiveUnderIf, BadDevice}
 use Rattle.c_grammar.specs.Terminal.{Terminal, Fixed, Mark, Name, Num, Line, Unknown, Unworked, End}
-use Rattle.c_grammar.specs.Grammar.{Act, Plain, DeclaresGlobal, DeclaresLocal, DeclaresLoop, MakesArray, MakesScalar, Length, Limit, Step, Starts, StartsIf, Prints, Assigned, StartsBlock, Otherwise, Reads, Opens, Closes, Alone, Over, Operand, OpensBracket, ClosesBracket, Divisor, Count, Inner, Slot, Slots}
+use Rattle.c_grammar.specs.Grammar.{Act, Plain, DeclaresGlobal, DeclaresLocal, DeclaresLoop, MakesArray, MakesScalar, Length, Limit, Step, Starts, StartsIf, Prints, Assigned, StartsBlock, Otherwise, Reads, Opens, Closes, Alone, Over, Marks, Operand, OpensBracket, ClosesBracket, Divisor, Count, Inner, Slot, Slots}
 use Rattle.c_grammar.specs.Rules.{Context, begin, act, enter, breaks, breaks_act, breaks_part, misuses, wrong_token, Rule, source_grammar}
 use Rattle.c_grammar.specs.Texts.{KeepsRules, enter_all, next_slot}
 use Rattle.erasure.proofs.Contexts.{is_line_terminal, plain, Follows, plain_breaks, plain_enter}
@@ -247,6 +247,7 @@ free_out c (Line ts) Over f = (refl, refl)
 free_out c Unknown Over f = (refl, refl)
 free_out c Unworked Over f = (refl, refl)
 free_out c End Over f = (refl, refl)
+free_out c t Marks f = (refl, refl)
 free_out c t Operand f = absurd f
 free_out c t OpensBracket f = absurd f
 free_out c t ClosesBracket f = absurd f

@@ -1,5 +1,5 @@
 -- A tree without its directives keeps the rules that the tree keeps.
-use Rattle.std.proofs.Common.{◌≡◌, ℕ, zero, suc, ◌+◌, ◌≤◌, false, List, [], ◌∷◌, ◌++◌, length, Some, refl, ap, ◌∙◌, arith, append_assoc, append-nil}
+use Rattle.std.proofs.Common.{◌≡◌, ℕ, zero, suc, ◌+◌, ◌≤◌, false, List, [], ◌∷◌, ◌++◌, length, Some, refl, ap, subst, ◌∙◌, arith, append_assoc, append-nil}
 use Rattle.std.specs.Prelude.{nat_le, nat_lt}
 use Rattle.base.specs.declared.fault.ReadCode.{ReadCode as Code}
 use Rattle.base.specs.declared.fault.ReadCode.TheVariants.{TooDeep, TooMany, NoBody}
@@ -7,12 +7,12 @@ use Rattle.c_tokens.specs.declared.kind.Sign.TheVariants as sign
 use Rattle.c_grammar.specs.Lexeme.{Lexeme, For, If, Else, Int, Main, Void, Uint64, Print}
 use Rattle.c_grammar.specs.Terminal.{Terminal, Mark, Fixed, Name, Line, End}
 use Rattle.c_grammar.specs.Lines.{depth_of}
-use Rattle.c_grammar.specs.Grammar.{Slot, Slots, Plain, DeclaresLocal, MakesScalar, Starts, StartsIf, StartsBlock, Prints, Assigned, Otherwise, Opens, Alone, Over, for, mark, word, Term, term, source, Head, head_slots, body_opening, body_closing, end_mark, Stmt, Declare, Assign, Store, Repeat, Choose, ChooseElse, Show, Block, Directive, OverBlock, OverLoop, Stmts, Done, Then, deeper, loop_role, stmt_in, stmts_in, stmt, stmts, IsStmt, AreStmts, Global, Scalar, Array, global, globals, Text, main_part, slots, IsText}
+use Rattle.c_grammar.specs.Grammar.{Slot, Slots, Plain, DeclaresLocal, MakesScalar, Starts, StartsIf, StartsBlock, Prints, Assigned, Otherwise, Opens, Alone, Over, Marks, for, mark, word, Term, term, Source, source, Head, head_slots, body_opening, body_closing, end_mark, Stmt, Declare, Assign, Store, Repeat, Choose, ChooseElse, Show, Block, Directive, Atomic, OverBlock, OverLoop, Stmts, Done, Then, deeper, loop_role, stmt_in, stmts_in, stmt, stmts, IsStmt, AreStmts, Global, Scalar, Array, global, globals, Text, main_part, slots, IsText}
 use Rattle.c_grammar.specs.Rules.{Context, Rule, begin, begun, out, enter, breaks, breaks_part, source_grammar, max_statements, max_braces}
 use Rattle.c_grammar.specs.Texts.{KeepsRules}
 use Rattle.erasure.specs.Plain.{plain_before, plain_stmts, plain_tree}
 use Rattle.erasure.proofs.Contexts.{plain, Follows, opened_same, depth_same, no_more}
-use Rattle.erasure.proofs.Follows.{entered, next_in, Keeps, keeps_at, keeps_all, NoLines, no_lines_append, EndsFree, ends_free, Keeping, keeping_none, keeping_same, keeping_join, keeping_as}
+use Rattle.erasure.proofs.Follows.{entered, next_in, IsOut, Goes, Keeps, keeps_at, keeps_all, NoLines, no_lines_append, EndsFree, ends_free, Keeping, keeping_none, keeping_same, keeping_join, keeping_as}
 use Rattle.erasure.proofs.BareTexts.{term_no_lines, source_no_lines, head_no_lines, global_no_lines}
 
 -- ---- the line of a directive, and the first token behind it
@@ -81,13 +81,23 @@ keeping_loop l zs c d n m end f o k go =
       rest.1,
     )
 
-keeping_alone : (l : List Lexeme) → Keeping ((Line l, for Alone) ∷ []) []
-unfolding enter
-keeping_alone l zs c d n m end f o k go =
+-- a token that does no more than begin a statement may be gone
+keeping_gone : (x : Slot) → ((c : Context) → enter c x ≡ begun (out c)) → Keeping (x ∷ []) []
+keeping_gone x begins zs c d n m end f o k go =
     let same : plain f.0 c ≡ plain f.0 (out c) =
     ap (λ (a : ℕ). record (plain f.0 c) { depth = a }) o.0
     ∙ ap (λ (a : ℕ). record (plain f.0 c) { depth = 0; tokens = a }) o.1 in
-    go d (f.0, f.1 ∙ same, omega (arith, f.2)) (refl, refl)
+    let goes : (e : Context) → Follows (begun (out c)) e → IsOut (begun (out c)) → Goes e zs m end =
+    subst (λ (b : Context). (e : Context) → Follows b e → IsOut b → Goes e zs m end) (begins c) go in
+    goes d (f.0, f.1 ∙ same, omega (arith, f.2)) (refl, refl)
+
+keeping_alone : (l : List Lexeme) → Keeping ((Line l, for Alone) ∷ []) []
+unfolding enter
+keeping_alone l = keeping_gone (Line l, for Alone) (λ c. refl)
+
+keeping_marks : (l : List Lexeme) → Keeping ((Line l, for Marks) ∷ []) []
+unfolding enter
+keeping_marks l = keeping_gone (Line l, for Marks) (λ c. refl)
 
 -- ---- statements
 
@@ -145,6 +155,13 @@ keeping_simple : (x : Slot) (xs : Slots) (y : Slot) (ys : Slots) → NoLines (x 
     Keeping (x ∷ (xs ++ (y ∷ ys))) (x ∷ (xs ++ (y ∷ ys)))
 keeping_simple x xs y ys l e = keeping_same x (xs ++ (y ∷ ys)) l (ends_free (x ∷ xs) y ys e)
 
+keeping_store : (x : List ℕ) (i : Term) (v : Source) → Keeping (stmt (Store x i v)) (stmt (Store x i v))
+keeping_store x i v =
+    let value : Slots = mark sign.CloseBracket ∷ mark sign.Equal ∷ (source v ++ end_mark ∷ []) in
+    keeping_simple (Name x, for Assigned) (mark sign.OpenBracket ∷ term i) (mark sign.CloseBracket) (mark sign.Equal ∷ (source v ++ end_mark ∷ []))
+    (no_lines_append (term i) value (term_no_lines i) (no_lines_append (source v) (end_mark ∷ []) (source_no_lines v) refl))
+    (ends_free (mark sign.CloseBracket ∷ mark sign.Equal ∷ source v) end_mark [] tt)
+
 mutual
   keeping_stmts : (b : Stmts) (d : ℕ) → Keeping (stmts_in b d) (stmts (plain_stmts b))
   keeping_stmts Done d = keeping_none
@@ -162,11 +179,7 @@ mutual
       (keeping_simple (Name x, for Assigned) (mark sign.Equal ∷ source v) end_mark []
       (no_lines_append (source v) (end_mark ∷ []) (source_no_lines v) refl) tt) k
   keeping_stmt (Store x i v) d xs ss k =
-      let value : Slots = mark sign.CloseBracket ∷ mark sign.Equal ∷ (source v ++ end_mark ∷ []) in
-      keeping_join (stmt (Store x i v)) (stmt (Store x i v)) xs (stmts ss)
-      (keeping_simple (Name x, for Assigned) (mark sign.OpenBracket ∷ term i) (mark sign.CloseBracket) (mark sign.Equal ∷ (source v ++ end_mark ∷ []))
-      (no_lines_append (term i) value (term_no_lines i) (no_lines_append (source v) (end_mark ∷ []) (source_no_lines v) refl))
-      (ends_free (mark sign.CloseBracket ∷ mark sign.Equal ∷ source v) end_mark [] tt)) k
+      keeping_join (stmt (Store x i v)) (stmt (Store x i v)) xs (stmts ss) (keeping_store x i v) k
   keeping_stmt (Repeat h b) d xs ss k =
       let inner : Slots = stmts_in b (deeper d) in
       keeping_join (stmt_in (Repeat h b) d) (stmt (Repeat h (plain_stmts b))) xs (stmts ss)
@@ -191,6 +204,9 @@ mutual
       (keeping_join ((Mark sign.OpenBrace, for StartsBlock) ∷ []) ((Mark sign.OpenBrace, for StartsBlock) ∷ []) (stmts b ++ close) (stmts (plain_stmts b) ++ close)
       (keeping_same (Mark sign.OpenBrace, for StartsBlock) [] refl tt) (keeping_body (stmts b) (stmts (plain_stmts b)) (keeping_stmts b 0))) k
   keeping_stmt (Directive l) d xs ss k = keeping_join ((Line l, for Alone) ∷ []) [] xs (stmts ss) (keeping_alone l) k
+  keeping_stmt (Atomic l x i v) d xs ss k =
+      keeping_join ((Line l, for Marks) ∷ []) [] (stmt (Store x i v) ++ xs) (stmt (Store x i v) ++ stmts ss) (keeping_marks l)
+      (keeping_join (stmt (Store x i v)) (stmt (Store x i v)) xs (stmts ss) (keeping_store x i v) k)
   keeping_stmt (OverBlock l b) d xs ss k =
       keeping_join (stmt (OverBlock l b)) (stmt (Block (plain_stmts b))) xs (stmts ss)
       (keeping_join (line_slot l ∷ (Mark sign.OpenBrace, (Some NoBody, Opens)) ∷ []) ((Mark sign.OpenBrace, for StartsBlock) ∷ [])
@@ -249,6 +265,7 @@ mutual
   plain_is (Show e) ss h k = (h, k)
   plain_is (Block b) ss h k = (plain_are b h, k)
   plain_is (Directive l) ss h k = k
+  plain_is (Atomic l x i v) ss h k = ((h.2, h.3), k)
   plain_is (OverBlock l b) ss h k = (plain_are b h.2, k)
   plain_is (OverLoop l g b) ss h k = (plain_are b h.2, k)
 

@@ -9,3 +9,6 @@ pub returns-in-Over : goal.returns-in-Over
 returns-in-Over c =
     rw c.in-Over.is (same_over c.args.scope.now c.is_target-scope.result (is_target c.in-Over.construct) _
     c.is_target-scope.ensures)
+
+pub returns-in-Atomic : goal.returns-in-Atomic
+returns-in-Atomic c = rw c.in-Atomic.is (same_counted c.args.scope.now c.args.scope.now.target _)

@@ -24,9 +24,8 @@ use Rattle.c_read.specs.Parts.{Placed}
 use Rattle.c_read.specs.Read.{AreAlone, IsBlockRead, IsLoopRead, IsOverRead}
 use Rattle.c_read.proofs.Pieces.{front_none, front_more, front_ends, front_outside}
 use Rattle.c_read.proofs.Trees.{body_braces, loop_turns, read_block, read_loop, same_inner}
-use Rattle.c_read.proofs.Directed.{read_alone}
+use Rattle.c_read.proofs.Directed.{directive_comes, read_alone}
 use Rattle.c_read.proofs.Overs.{read_over}
-use Rattle.c_constructs.proofs.AtStatement.{directive_begins}
 use Rattle.c_read.proofs.Unders.{under_loop, under_brace, stop_under}
 use Rattle.c_statements.proofs.Begins.{at_loop, at_block}
 use Rattle.std.proofs.lemmas.Grind.{common_steps}
@@ -52,7 +51,7 @@ looped-returns-clause-tree t c = read_loop (env_of c.args.scope.now) (env_of c.b
 pub directed-returns-in-Alone-clause-tree : goal.directed-returns-in-Alone-clause-tree
 directed-returns-in-Alone-clause-tree t c =
     read_alone c.args.scope.now c.directive.new.scope c.args.tokens.now c.directive.new.tokens c.in-Alone.place c.in-Alone.directive
-    c.requires.line c.in_ok-resolved.ensures.taken
+    c.requires.line c.requires.apart c.in_ok-resolved.ensures.taken
     (c.in_ok-resolved.ensures.scope ∙ ap (λ (r : Resolved). scope_behind r c.args.scope.now) c.in-Alone.is)
     (subst (λ (r : Resolved). IsRead (env_of c.args.scope.now).names (first_item c.args.tokens.now) (behind c.args.tokens.now) r)
     c.in-Alone.is c.in_ok-resolved.ensures.means)
@@ -201,7 +200,7 @@ pub data_parts-returns-clause-read : goal.data_parts-returns-clause-read
 data_parts-returns-clause-read t c = grind (arith, stop_under)
 
 pub directed-returns-in-Alone-clause-read : goal.directed-returns-in-Alone-clause-read
-directed-returns-in-Alone-clause-read t c = grind (arith, directive_begins)
+directed-returns-in-Alone-clause-read t c = grind (arith, directive_comes)
 
 pub piece-returns-then-at_word-clause-read : goal.piece-returns-then-at_word-clause-read
 piece-returns-then-at_word-clause-read t c = grind (arith, at_loop)

@@ -1,7 +1,10 @@
 use Rattle.c_statements.proofs.Stores.{read_assign, read_store}
-use Rattle.c_statements.proofs.Assigns.{scalar_name, stop_name}
+use Rattle.c_statements.proofs.Assigns.{array_name, scalar_name, stop_name}
 use Rattle.std.proofs.Common.{arith}
 use Rattle.c_statements.proofs.assign.assigned.Goals as goal
+
+pub returns-in-Some-Array-clause-read : goal.returns-in-Some-Array-clause-read
+returns-in-Some-Array-clause-read c = grind (arith, array_name)
 
 pub returns-in-Some-Array-clause-tree : goal.returns-in-Some-Array-clause-tree
 returns-in-Some-Array-clause-tree c = grind (arith, read_store)

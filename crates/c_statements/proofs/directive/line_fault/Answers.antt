@@ -9,6 +9,6 @@ use Rattle.c_statements.proofs.directive.line_fault.Goals as goal
 
 pub returns : goal.returns
 returns c = λ s.
-    stop_line (context_of c.args.scope.now 0 0) s c.args.tokens.now c.requires.line c.requires.within
+    stop_line (context_of c.args.scope.now 0 0) s c.args.tokens.now c.requires.line c.requires.apart c.requires.within
     ∙ ap (λ (k : Code). Some (fault_at (first_item c.args.tokens.now) k)) (sym c.line_code.ensures)
     ∙ ap (λ (f : TextFault). Some f) (sym c.fault.ensures)

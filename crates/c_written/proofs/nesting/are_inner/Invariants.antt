@@ -5,7 +5,8 @@ use Rattle.c_written.proofs.nesting.are_inner.Given as goal
 
 abbrev pub invariant-tokens : goal.invariant-tokens
 invariant-tokens l = record {
-  same : are_inner l.depth (all_kinds l.rest) ≡ are_inner 0 (all_kinds l.tokens);
+  same :
+      are_inner (all_kinds l.words) l.depth (all_kinds l.rest) ≡ are_inner (all_kinds l.words) 0 (all_kinds l.tokens);
   few : l.depth + length l.rest ≤ length l.tokens;
 }
 

@@ -1,5 +1,4 @@
 use Rattle.std.proofs.Common.{◌∙◌, ℕ, ◌+◌, List, ◌++◌, take, drop, ap}
-use Rattle.c_grammar.specs.Lexeme.{Placed}
 use Rattle.c_grammar.specs.Nesting.{name_len}
 use Rattle.c_grammar.specs.Presence.{before_end}
 use Rattle.directives.specs.declared.lexeme.PlacedLexeme.{PlacedLexeme}

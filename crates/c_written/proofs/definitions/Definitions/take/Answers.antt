@@ -6,7 +6,7 @@ use Rattle.c_written.specs.Seen.{seen, seen_all}
 use Rattle.c_written.proofs.Lists.{written_one}
 use Rattle.c_written.proofs.Undefining.{all_four, undefined_definition, undefined_inside, undefined_left, undefined_line, undefined_none}
 use Rattle.c_written.proofs.definitions.Definitions.take.Goals as goal
-use Rattle.c_written.proofs.definitions.Definitions.take.Goals.{then-self-eq0+in_default, else-self-eq0}
+use Rattle.c_written.proofs.definitions.Definitions.take.Goals.{then-self-le1+in_default, else-self-le1}
 
 pub returns-then-is_directive : goal.returns-then-is_directive
 returns-then-is_directive c =
@@ -21,7 +21,7 @@ returns-then-self-gt0 c =
 pub returns-in-Some : goal.returns-in-Some
 returns-in-Some c =
     ap (λ is. seen_all c.args.self.now.done.items ++ is)
-    (undefined_definition _ _ _ _ _ _ (omega (arith, c.if-self-gt0.false)) c.if-self-eq0.true
+    (undefined_definition _ _ _ _ _ _ (omega (arith, c.if-self-gt0.false)) c.if-self-le1.true
     (sym c.is_directive.ensures ∙ c.if-is_directive.false) (sym c.definition_len.ensures ∙ c.in-Some.is))
 
 pub returns : goal.returns
@@ -34,10 +34,10 @@ returns c =
     let none : old.left ≡ 0 = omega (arith, c.if-self-gt0.false) in
     let step : undefined (names_of old) old.depth old.left (i ∷ is)
     ≡ i ∷ undefined (with_global i.terminal (bare is) (names_of old)) (depth_behind i.terminal old.depth) old.left is =
-    elim c.if-self-eq0.branch [
-      | then-self-eq0+in_default w ↦
-          undefined_none _ _ _ _ _ none w.if-self-eq0.true plain (sym w.definition_len.ensures ∙ w.in_default.is)
-      | else-self-eq0 w ↦ undefined_inside _ _ _ _ _ none w.if-self-eq0.false plain
+    elim c.if-self-le1.branch [
+      | then-self-le1+in_default w ↦
+          undefined_none _ _ _ _ _ none plain (sym w.definition_len.ensures ∙ w.in_default.is)
+      | else-self-le1 w ↦ undefined_inside _ _ _ _ _ none w.if-self-le1.false plain
     ] in
     all_four c.keep.result c.keep.ensures.done c.keep.ensures.names c.keep.ensures.depth c.keep.ensures.left
     (λ done names depth left.

@@ -1,0 +1,140 @@
+//! The commuting update that a store is.
+
+ghost use Rattle.std.specs.Prelude.{◌≡◌};
+ghost use Rattle.base.specs.declared.tree.Stmt.TheVariants as statement;
+ghost use Rattle.c_statements.specs.Updates.{as_update, binary_number, combine_op, divide_number, same_expr, shift_number, unary_number, op_of};
+
+use base::tree::{
+    ArrayId, BinaryOp, CombineOp, DivideOp, Expr, Place, ShiftOp, Source, Stmt, UnaryOp,
+};
+
+/// The operator of updates that an operator of expressions is.
+fn combine_op(op: BinaryOp) -> Option<CombineOp>
+    ensures { result ≡ combine_op op }
+{
+    match op {
+        BinaryOp::Add => Some(CombineOp::Add),
+        BinaryOp::Multiply => Some(CombineOp::Multiply),
+        BinaryOp::BitAnd => Some(CombineOp::BitAnd),
+        BinaryOp::BitOr => Some(CombineOp::BitOr),
+        BinaryOp::BitXor => Some(CombineOp::BitXor),
+        BinaryOp::Equal
+        | BinaryOp::NotEqual
+        | BinaryOp::Less
+        | BinaryOp::LessOrEqual
+        | BinaryOp::Greater
+        | BinaryOp::GreaterOrEqual
+        | BinaryOp::Subtract => None,
+    }
+}
+
+fn unary_number(op: UnaryOp) -> u8
+    ensures { result ≡ unary_number op }
+{
+    match op {
+        UnaryOp::Not => 0,
+        UnaryOp::Complement => 1,
+    }
+}
+
+fn binary_number(op: BinaryOp) -> u8
+    ensures { result ≡ binary_number op }
+{
+    match op {
+        BinaryOp::BitOr => 0,
+        BinaryOp::BitXor => 1,
+        BinaryOp::BitAnd => 2,
+        BinaryOp::Equal => 3,
+        BinaryOp::NotEqual => 4,
+        BinaryOp::Less => 5,
+        BinaryOp::LessOrEqual => 6,
+        BinaryOp::Greater => 7,
+        BinaryOp::GreaterOrEqual => 8,
+        BinaryOp::Add => 9,
+        BinaryOp::Subtract => 10,
+        BinaryOp::Multiply => 11,
+    }
+}
+
+fn shift_number(op: ShiftOp) -> u8
+    ensures { result ≡ shift_number op }
+{
+    match op {
+        ShiftOp::Left => 0,
+        ShiftOp::Right => 1,
+    }
+}
+
+fn divide_number(op: DivideOp) -> u8
+    ensures { result ≡ divide_number op }
+{
+    match op {
+        DivideOp::Quotient => 0,
+        DivideOp::Remainder => 1,
+    }
+}
+
+/// Whether the expressions are the same, wherever their tokens stand.
+fn is_same_expr(left: &Expr, right: &Expr) -> bool
+    ensures { result ≡ same_expr left.now right.now }
+{
+    match (left, right) {
+        (Expr::Number(m), Expr::Number(n)) => *m == *n,
+        (Expr::Scalar(x), Expr::Scalar(y)) => x.0 == y.0,
+        (Expr::LoopName(m), Expr::LoopName(n)) => *m == *n,
+        (Expr::Cell(x, _, i), Expr::Cell(y, _, j)) => x.0 == y.0 && is_same_expr(i, j),
+        (Expr::Unary(o, a), Expr::Unary(u, b)) => {
+            unary_number(*o) == unary_number(*u) && is_same_expr(a, b)
+        }
+        (Expr::Binary(o, a, c), Expr::Binary(u, b, d)) => {
+            binary_number(*o) == binary_number(*u) && (is_same_expr(a, b) && is_same_expr(c, d))
+        }
+        (Expr::And(a, c), Expr::And(b, d)) => is_same_expr(a, b) && is_same_expr(c, d),
+        (Expr::Or(a, c), Expr::Or(b, d)) => is_same_expr(a, b) && is_same_expr(c, d),
+        (Expr::Shift(o, a, m), Expr::Shift(u, b, n)) => {
+            shift_number(*o) == shift_number(*u) && (m.count == n.count && is_same_expr(a, b))
+        }
+        (Expr::Divide(o, a, m), Expr::Divide(u, b, n)) => {
+            divide_number(*o) == divide_number(*u) && (m.value == n.value && is_same_expr(a, b))
+        }
+        _ => false,
+    }
+}
+
+/// The operator of the update that a store of the value in an array's cell is, if it is one.
+fn update_op(array: ArrayId, index: &Expr, value: &Source) -> Option<CombineOp>
+    ensures { result ≡ op_of array index.now value.now }
+{
+    let Source::Value(Expr::Binary(op, left, _)) = value else {
+        return None;
+    };
+    let Expr::Cell(other, _, subscript) = &**left else {
+        return None;
+    };
+    if array.0 == other.0 && is_same_expr(index, subscript) {
+        combine_op(*op)
+    } else {
+        None
+    }
+}
+
+/// The update that the store of a value in an array's cell is, or the store.
+pub fn store_or_update(array: ArrayId, place: Place, index: Expr, value: Source) -> Stmt
+    ensures { result ≡ as_update (statement.Store array place index value) }
+{
+    let Some(op) = update_op(array, &index, &value) else {
+        return Stmt::Store(array, place, index, value);
+    };
+    let expr = match value {
+        Source::Value(expr) => expr,
+        Source::Read => return Stmt::Store(array, place, index, Source::Read),
+    };
+    match expr {
+        Expr::Binary(_op, left, right) => {
+            // A call, since an expression dropped here without one is proved for each kind of expression.
+            drop(left);
+            Stmt::Combine(op, array, place, index, Box::into_inner(right))
+        }
+        other => Stmt::Store(array, place, index, Source::Value(other)),
+    }
+}

@@ -1,0 +1,9 @@
+use Rattle.std.proofs.Common.{◌≡◌, drop, map}
+use Rattle.c_grammar.specs.Updates.{are_summed}
+use Rattle.c_written.specs.Seen.{seen_all}
+use Rattle.c_written.proofs.regions.are_summed.Given as goal
+
+abbrev pub invariant-names : goal.invariant-names
+invariant-names l =
+    are_summed (map (λ x. x.now) (drop l.name-index l.names)) l.op (seen_all l.tokens)
+    ≡ are_summed (map (λ x. x.now) l.names) l.op (seen_all l.tokens)

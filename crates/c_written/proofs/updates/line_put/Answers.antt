@@ -1,0 +1,31 @@
+use Rattle.std.proofs.Common.{◌<◌, ◌^◌, ◌∙◌, List, ap, length, rules, sym}
+use Rattle.c_grammar.specs.Lexeme.{Placed}
+use Rattle.c_grammar.specs.Updates.{is_atomic, is_combined}
+use Rattle.directives.specs.Spells.{kinds_of}
+use Rattle.c_written.specs.Ahead.{ahead}
+use Rattle.c_written.specs.Seen.{seen_all}
+use Rattle.c_written.proofs.CommutingLines.{atomic_put, combined_put}
+use Rattle.c_written.proofs.Summing.{few_tokens}
+use Rattle.c_written.proofs.updates.line_put.Goals as goal
+
+pub returns-then-is_combined : goal.returns-then-is_combined
+returns-then-is_combined c =
+    combined_put c.args.token c.in-Line.line (seen_all c.args.behind.now) _ c.in-Line.is c.requires
+    (sym (c.is_combined.ensures ∙ ap (λ (ps : List Placed). is_combined (kinds_of ps)) c.tokens.ensures.tokens)
+    ∙ c.if-is_combined.true)
+    c.in_ok-reduced_line.ensures
+
+pub has_update-updates-requires : goal.has_update-updates-requires
+has_update-updates-requires c =
+    let small : length c.args.behind.now < 2 ^ 63 = search rules in
+    few_tokens c.args.behind.now _ small c.new.ensures
+
+pub returns-then-is_atomic : goal.returns-then-is_atomic
+returns-then-is_atomic c =
+    atomic_put c.args.token c.in-Line.line (seen_all c.args.behind.now) (ahead c.new.result) c.has_update-updates.result _
+    c.in-Line.is
+    (sym (c.is_combined.ensures ∙ ap (λ (ps : List Placed). is_combined (kinds_of ps)) c.tokens.ensures.tokens)
+    ∙ c.if-is_combined.false)
+    (sym (c.is_atomic.ensures ∙ ap (λ (ps : List Placed). is_atomic (kinds_of ps)) c.tokens-2.ensures.tokens)
+    ∙ c.if-is_atomic.true)
+    c.new.ensures c.has_update-updates.ensures c.in_ok-atomic_line.ensures
