@@ -25,6 +25,8 @@ use std::io::Write;
 #[derive(Clone, Copy, Debug, PartialEq, Eq)]
 pub enum Form {
     Text,
+    /// Text in the colours of a terminal.
+    Coloured,
     Json,
     Sarif,
     /// A graph in the language DOT.
@@ -49,9 +51,10 @@ fn with_end(text: String) -> Result<Vec<u8>, AllocError> {
 impl Report<'_> {
     fn text(&self, told: &Told) -> Result<Vec<u8>, AllocError> {
         match self.form {
-            Form::Text => as_text(self.alloc, self.file, self.bytes, told),
-            Form::Json => with_end(as_json(self.alloc, self.file, told)?),
-            Form::Sarif => with_end(as_sarif(self.alloc, self.file, told)?),
+            Form::Text => as_text(self.alloc, self.file, self.bytes, told, false),
+            Form::Coloured => as_text(self.alloc, self.file, self.bytes, told, true),
+            Form::Json => with_end(as_json(self.alloc, self.file, self.bytes, told)?),
+            Form::Sarif => with_end(as_sarif(self.alloc, self.file, self.bytes, told)?),
             Form::Dot => self.message(told),
         }
     }

@@ -24,6 +24,7 @@ fn note_unsought(
                 weight: Weight::Help,
                 place,
                 message: help,
+                loops: Vec::new(alloc),
             })?;
         }
     }

@@ -45,6 +45,11 @@ fn c_text(alloc: Global, difference: &Difference) -> Result<String, AllocError> 
                 "in C this has type `{word}`, where `printf` takes an `unsigned long`"
             )
         }
+        Reason::Counter => {
+            format!(in alloc;
+                "in C this is an `{word}`, which may not hold the number behind the last turn"
+            )
+        }
         Reason::Other => String::from_str(alloc, "this may have another value in C"),
         _ => value_text(alloc, difference),
     }
@@ -65,6 +70,9 @@ fn help_without(alloc: Global, reason: Reason) -> Result<String, AllocError> {
             alloc,
             "write `print(..)`, or make it a `uint64_t`: `0ul + (..)`",
         );
+    }
+    if reason == Reason::Counter {
+        return String::from_str(alloc, "let its type be `uint64_t`");
     }
     String::from_str(alloc, "make an operand a `uint64_t`: `(0ul + ..)`")
 }
@@ -89,6 +97,7 @@ fn warning(alloc: Global, difference: &Difference) -> Result<Diagnosis, AllocErr
         weight: Weight::Help,
         place: difference.place,
         message: help(alloc, difference)?,
+        loops: Vec::new(alloc),
     })?;
     Ok(Diagnosis {
         code: CODE,

@@ -1,5 +1,6 @@
 // What is tried where two turns of a loop meet that may run in any order.
 
+use crate::atomic::mark_updates;
 use crate::candidates::Candidates;
 use crate::clauses::without_clause;
 use crate::inner::before_inner;
@@ -115,13 +116,14 @@ fn collapse_fewer(
     Ok(())
 }
 
-/// Two turns of a target meet on a cell: with fewer loops in any order they may not, those of a loop inside may not, and as
+/// Two turns of a target meet on a cell: they may update it in any order; with fewer loops in any order they may not, those of a loop inside may not, and as
 /// a `target` alone it has its turns in order.
 pub fn turns_meet(view: &View<'_>, at: usize, out: &mut Candidates) -> Result<(), AllocError> {
     let Some(item) = view.item(at) else {
         return Ok(());
     };
     let line = view.line_of(item);
+    mark_updates(view, item, out)?;
     collapse_fewer(view, item.place.line, line, out)?;
     before_inner(view, item, line, out)?;
     let plain = without_combined(view.alloc, line)?;

@@ -1,6 +1,7 @@
 //! Sources whose directives are changed so that their programs are accepted.
 #![tactic(auto)]
 
+mod atomic;
 mod bare;
 mod blocks;
 mod candidates;

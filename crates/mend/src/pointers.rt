@@ -26,27 +26,6 @@ fn text_of<'t>(text: &'t [u8], token: &Token) -> &'t [u8] {
     cut(text, token.first, token.last.saturating_add(1))
 }
 
-fn is_type(text: &[u8]) -> bool {
-    text == b"uint64_t".as_slice() || text == b"size_t".as_slice() || text == b"long".as_slice()
-}
-
-/// Whether a name is declared as a pointer somewhere in a text: a type and a star stand before it.
-pub fn is_pointer(text: &[u8], name: &str) -> bool {
-    let mut behind_type = false;
-    let mut behind_star = false;
-    for token in tokens(text) {
-        if behind_star
-            && matches!(token.kind, Kind::Name)
-            && text_of(text, &token) == name.as_bytes()
-        {
-            return true;
-        }
-        behind_star = behind_type && matches!(token.kind, Kind::Sign(Sign::Star));
-        behind_type = matches!(token.kind, Kind::Name) && is_type(text_of(text, &token));
-    }
-    false
-}
-
 // The line of the first token that is a name.
 fn first_line(text: &[u8], name: &[u8]) -> Option<usize> {
     for token in tokens(text) {

@@ -1,12 +1,12 @@
 // A program that is refused, with its text.
 
 use crate::lines::{Change, cut, indent};
-use crate::pointers::is_pointer;
 use crate::sections::covers;
 use crate::stores::stores_to;
 use crate::words::item_around;
 use base::item::{Cell, Item, ItemKind, MapItem, MapKind, Section};
 use base::tree::{ArrayId, DeviceId, Place, Program};
+use c_names::{cell_of, columns_of, is_pointer};
 use outline::Outlined;
 use ranges::{Footprint, FootprintFault, footprint};
 use std::alloc::{AllocError, Global};
@@ -56,7 +56,7 @@ impl<'v> View<'v> {
     /// An array as it is written: its name alone, but of a pointer in C its cells.
     pub fn whole(&self, array: ArrayId) -> Result<String, AllocError> {
         let (name, length) = (self.name(array), self.length(array));
-        if is_pointer(self.text, name) {
+        if is_pointer(self.text, name.as_bytes()) {
             format!(in self.alloc; "{name}[0:{length}]")
         } else {
             format!(in self.alloc; "{name}")
@@ -69,8 +69,21 @@ impl<'v> View<'v> {
         if section.first == 0 && section.length == self.length(section.array) {
             self.whole(section.array)
         } else {
-            format!(in self.alloc; "{name}[{}:{}]", section.first, section.length)
+            self.part_text(name, section)
         }
+    }
+
+    // Some of an array's cells, or, where it has rows, all rows that have one of them.
+    fn part_text(&self, name: &str, section: Section) -> Result<String, AllocError> {
+        let end = section.first.saturating_add(section.length);
+        if let Some(columns) = columns_of(self.text, name.as_bytes())
+            && let Some(first) = cell_of(section.first, columns)
+            && let Some(last) = cell_of(end.saturating_sub(1), columns)
+        {
+            let count = last.row.saturating_sub(first.row).saturating_add(1);
+            return format!(in self.alloc; "{name}[{}:{count}][0:{columns}]", first.row);
+        }
+        format!(in self.alloc; "{name}[{}:{}]", section.first, section.length)
     }
 
     /// Whether a line belongs to the directive that begins at another one.

@@ -29,6 +29,8 @@ pub struct Note {
     pub weight: Weight,
     pub place: Place,
     pub message: String,
+    /// The loops around the place, the outermost first, where the note is of one turn of them; else none.
+    pub loops: Vec<Turn>,
 }
 
 /// The value that a loop's name has.

@@ -78,7 +78,7 @@ impl Scene<'_> {
             }
             Some(access) => {
                 let message = self.write_here_text(number, item, cell, side, &access)?;
-                add(notes, Weight::Note, access.place, message)
+                self.add_in_turn(notes, access.place, message, &access.loops)
             }
         }
     }

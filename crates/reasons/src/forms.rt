@@ -15,15 +15,15 @@ pub struct Telling {
 
 // A loop.
 const LOOP: &str =
-    "a loop counts upwards, `for (uint64_t i = NUM; i < NUM; i += NUM) { .. }`, also with `i <= NUM` and with `i++`, each NUM a constant expression";
+    "a loop counts upwards, `for (uint64_t i = NUM; i < NUM; i += NUM) { .. }`, also with `int i`, with `i <= NUM` and with `i++`, each NUM a constant expression";
 
 const MAIN: &str = "a program is its globals, and then `int main(void) { .. }`";
 
 const TYPE: &str =
-    "the one type is `uint64_t`, also written `size_t`, `unsigned long` or `unsigned long long`, without other words before it";
+    "the one type is `uint64_t`, also written `size_t`, `unsigned long` or `unsigned long long`, without other words before it; the name of a loop, and a constant, may be an `int`";
 
 const CONSTANT: &str =
-    "a constant is `const uint64_t N = NUM;` or `#define N NUM`, before `main`: it has a name of its own, and NUM is a constant expression, with `#define` in brackets";
+    "a constant is `const uint64_t N = NUM;`, before `main` or in no block within it, or `#define N NUM`: it has a name of its own, and NUM is a constant expression, with `#define` in brackets";
 
 const ENUMERATION: &str =
     "an enumeration is `enum { A = NUM, B = NUM };` before `main`: each of its names has a value, a constant expression";
@@ -39,7 +39,13 @@ const COMMA: &str =
 const LOCAL: &str = "a local is declared with its value: `uint64_t a = 0, b = 0;`";
 
 const LENGTH: &str =
-    "an array is `uint64_t A[NUM];`, NUM a constant expression, of one dimension: the cell in row i and column j is `A[NUM * i + j]`";
+    "an array is `uint64_t A[NUM];` or `uint64_t A[NUM][NUM];`, each NUM a constant expression";
+
+const ROW: &str =
+    "a second subscript is surely within its row: a sum or a difference of numbers, names of loops and products of these";
+
+const ROW_ALONE: &str =
+    "an array of two dimensions has both subscripts, `A[i][j]`, the second one surely within its row: numbers, names of loops, sums and products of these";
 
 const FUNCTION: &str =
     "a function stands before `main`, `void f(uint64_t *a, uint64_t n) { .. }` or `uint64_t f(uint64_t n) { .. return e; }`, and is called as a statement, `f(A, 8);`, or as all of a right side, `x = f(8);`";
@@ -174,7 +180,7 @@ fn in_expression(around: &Around<'_>) -> Option<&'static str> {
         "=" | "++" | "--" => Some(ASSIGNMENT),
         _ if is_compound(word) => Some(ASSIGNMENT),
         "," => Some(COMMA),
-        "[" if before == "]" => Some(LENGTH),
+        "[" if before == "]" => Some(ROW),
         "}" if ends_operand(before) => Some("an operator or a `;` is missing before it"),
         _ if begins_word(word) => word_in_expression(around),
         _ => None,
@@ -235,6 +241,10 @@ fn misused(naming: Naming, around: &Around<'_>) -> Option<Telling> {
         Naming::Array if is_on_line => Some(Telling {
             said: "is an array, and stands in a bound",
             help: BOUND,
+        }),
+        Naming::Array if around.next == b'[' => Some(Telling {
+            said: "has one subscript here, and two in its declaration",
+            help: ROW_ALONE,
         }),
         Naming::Array => Some(Telling {
             said: "is an array, and has no subscript here",

@@ -37,5 +37,5 @@ pub use diagnosis::{Conflict, Diagnosis, NamedCell, Note, Since, Touch, Turn, We
 pub use faults::{Faults, faults_of};
 pub use limits::{too_many, turns_in_all};
 pub use nest::loops_around;
-pub use source::line_of;
+pub use source::{end_of, line_of};
 pub use texts::text_diagnosis;

@@ -75,6 +75,16 @@ pub fn unknown_clause(around: &Around<'_>) -> Option<&'static str> {
             "a construct is `target` with `parallel for`, `simd`, `parallel loop`, `teams loop` or `teams distribute` behind it",
         );
     }
+    if word == "reduction" {
+        return Some(
+            "a reduction, by one of `+ * & | ^`, is of arrays, each of whose names in the loop begins an update by that operator, `s[0] += e;`, and stands nowhere else; it stands on a construct with its loop, whose `map` clauses name all of these arrays or none",
+        );
+    }
+    if around.is_behind(b"atomic".as_slice()) {
+        return Some(
+            "behind `atomic` or `atomic update` stands a statement that changes one cell: `A[e] op= x;`, `A[e]++;` or `A[e] = A[e] op x;`",
+        );
+    }
     if is_one_of(word, &SHARING) {
         return Some(
             "arrays are shared, scalars captured and locals private without a clause: `default(shared)`, `shared` of names that are declared before the line and `firstprivate` of such scalars are read, on the constructs that take them",

@@ -4,12 +4,15 @@ use crate::diagnosis::{Diagnosis, Note, Weight};
 use crate::rules::refusal_rule;
 use crate::scene::Scene;
 use crate::search::{Access, Wanted, first_but};
-use crate::source::{has_word, line_of};
+use crate::source::{has_word, is_update_at, line_of};
 use crate::words::add;
 use base::fault::Refusal;
 use base::item::{Cell, Item};
 use base::tree::Region;
 use std::alloc::AllocError;
+
+const ATOMIC: &str =
+    "with `#pragma omp atomic` before each update of it, turns may update it in any order";
 
 const FEWER: &str = "with a smaller `collapse`, or with none, fewer loops are in any order";
 
@@ -31,8 +34,8 @@ impl Scene<'_> {
     ) -> Result<(), AllocError> {
         let verb = if access.writes { "written" } else { "read" };
         let turn = self.turn_at(access.place, &access.loops)?;
-        let told = format!(in self.alloc; "{cell} is {verb} here{turn}")?;
-        add(notes, Weight::Note, access.place, told)
+        let message = format!(in self.alloc; "{cell} is {verb} here{turn}")?;
+        self.add_in_turn(notes, access.place, message, &access.loops)
     }
 
     // The first access in another turn than that of this one.
@@ -93,6 +96,10 @@ impl Scene<'_> {
             return Ok(());
         };
         self.note_turn(&name, &other, notes)?;
+        if is_update_at(self.bytes, write.place) && is_update_at(self.bytes, other.place) {
+            let atomic = String::from_str(self.alloc, ATOMIC)?;
+            add(notes, Weight::Help, write.place, atomic)?;
+        }
         self.help_other_array(cell, item, region, &write, notes)
     }
 

@@ -58,6 +58,9 @@ pub fn word_at(bytes: &[u8], place: Place) -> &str {
     let Some(rest) = line.get(place.column.saturating_sub(1)..) else {
         return "";
     };
+    if rest.first().is_some_and(|byte| byte.is_ascii_control()) {
+        return "this byte";
+    }
     let len = word_len(rest).max(operator_len(rest)).max(1);
     match rest.get(..len) {
         None => "",
@@ -65,14 +68,74 @@ pub fn word_at(bytes: &[u8], place: Place) -> &str {
     }
 }
 
-// How many bytes stand up to the first `]` and with it; none where there is none.
+// How many bytes stand up to the last `]` of the brackets that follow one another, and with it; none where there is none.
 fn bracket_len(text: &[u8]) -> usize {
     for i in 0..text.len() {
         if text[i] == b']' {
-            return i.saturating_add(1);
+            let behind = text.get(i.saturating_add(1)..).unwrap_or(&[]);
+            if behind.trim_ascii_start().first() != Some(&b'[') {
+                return i.saturating_add(1);
+            }
         }
     }
     0
+}
+
+// How many bytes a name has with the subscripts or bounds that stand behind it.
+fn with_brackets(text: &[u8], name: usize) -> usize {
+    let mut depth = 0usize;
+    let mut len = name;
+    for i in name..text.len() {
+        let byte = text[i];
+        if byte == b'[' {
+            depth = depth.saturating_add(1);
+        } else if byte == b']' && depth > 0 {
+            depth = depth.saturating_sub(1);
+            if depth == 0 {
+                len = i.saturating_add(1);
+            }
+        } else if depth == 0 && byte != b' ' {
+            return len;
+        }
+    }
+    len
+}
+
+// How many bytes a directive has, up to the end of its line or to a comment.
+fn directive_len(text: &[u8]) -> usize {
+    for i in 1..text.len() {
+        if text[i - 1] == b'/' && (text[i] == b'/' || text[i] == b'*') {
+            return text[..i - 1].trim_ascii_end().len();
+        }
+    }
+    text.trim_ascii_end().len()
+}
+
+// How many bytes stand behind the first one that belong to the same character.
+fn character_len(text: &[u8]) -> usize {
+    for i in 1..text.len() {
+        if text[i] & 0xC0 != 0x80 {
+            return i;
+        }
+    }
+    text.len()
+}
+
+/// The column behind what is written at a place: a directive, a name with the brackets behind it, a number, an operator
+/// or a character. At the end of a line it is the place's own.
+pub fn end_of(bytes: &[u8], place: Place) -> usize {
+    let line = line_of(bytes, place.line);
+    let Some(rest) = line.get(place.column.saturating_sub(1)..) else {
+        return place.column;
+    };
+    let word = word_len(rest);
+    let len = match rest {
+        [b'#', ..] => directive_len(rest),
+        [b'0'..=b'9', ..] => word,
+        _ if word > 0 => with_brackets(rest, word),
+        _ => operator_len(rest).max(character_len(rest)),
+    };
+    place.column.saturating_add(len)
 }
 
 /// The array or the section that is written at a place of a directive.
@@ -120,21 +183,6 @@ pub fn is_type(word: &str) -> bool {
     word == "uint64_t" || word == "size_t" || word == "long"
 }
 
-/// Whether a name is declared as a pointer somewhere in a text: a type and a star stand before it.
-pub fn is_pointer(bytes: &[u8], name: &str) -> bool {
-    let mut behind_type = false;
-    let mut behind_star = false;
-    'tokens: for token in Tokens::new(bytes) {
-        let text = text_of(bytes, &token);
-        if behind_star && text == name {
-            return true;
-        }
-        behind_star = behind_type && text == "*";
-        behind_type = is_type(text);
-    }
-    false
-}
-
 // Whether a declaration has ended at this token.
 fn ends_declaration(text: &str) -> bool {
     text == ";" || text == "{" || text == "}" || text == ")"
@@ -160,6 +208,33 @@ pub fn naming_of(bytes: &[u8], name: &str) -> Naming {
         in_declaration = is_type(text) || (in_declaration && !ends_declaration(text));
     }
     Naming::Nothing
+}
+
+fn is_commuting_change(text: &str) -> bool {
+    text == "+=" || text == "*=" || text == "&=" || text == "|=" || text == "^=" || text == "++"
+}
+
+/// Whether the cell whose name stands at a place is changed there by an operator that commutes.
+pub fn is_update_at(bytes: &[u8], place: Place) -> bool {
+    let mut depth = 0u32;
+    let mut behind_index = false;
+    'tokens: for token in Tokens::new(bytes) {
+        if is_before(&token, place) {
+            continue;
+        }
+        let text = text_of(bytes, &token);
+        if text == "[" {
+            depth = depth.saturating_add(1);
+        } else if text == "]" {
+            depth = depth.saturating_sub(1);
+            behind_index = depth == 0;
+        } else if depth == 0 && behind_index {
+            return is_commuting_change(text);
+        } else if text == ";" {
+            return false;
+        }
+    }
+    false
 }
 
 /// Whether a word stands in a line.

@@ -119,12 +119,12 @@ fn add_map(
     Ok(())
 }
 
-// Where a part of an item stands, what it does, and in which turn.
+// Where a part of an item stands, what it does, and in which turn of the loops around its place.
 #[derive(Drop)]
 struct Told {
     place: Place,
     verb: String,
-    turn: String,
+    turn: Vec<u64>,
 }
 
 // The first two parts of two items that touch a cell at one location, where one writes.
@@ -247,7 +247,7 @@ impl Scene<'_> {
         Ok(Told {
             place: item.maps.as_slice().get(map).map_or(item.place, place_of),
             verb: self.deed_verb(deed, cell, item.device.number)?,
-            turn: String::new(self.alloc),
+            turn: Vec::new(self.alloc),
         })
     }
 
@@ -271,8 +271,8 @@ impl Scene<'_> {
     ) -> Result<Told, AllocError> {
         let verb = self.access_verb(item, verb, cell)?;
         let (place, turn) = match self.access(item, wanted)? {
-            None => (item.place, String::new(self.alloc)),
-            Some(access) => (access.place, self.turn_at(access.place, &access.loops)?),
+            None => (item.place, Vec::new(self.alloc)),
+            Some(access) => (access.place, access.loops),
         };
         Ok(Told { place, verb, turn })
     }
@@ -316,9 +316,10 @@ impl Scene<'_> {
         first: &Told,
         second: &Told,
     ) -> Result<String, AllocError> {
+        let turn = self.turn_at(second.place, &second.turn)?;
         format!(in self.alloc;
-            "{what} {}, and {which} {}, with no order between them{}",
-            second.verb, first.verb, second.turn
+            "{what} {}, and {which} {}, with no order between them{turn}",
+            second.verb, first.verb
         )
     }
 
@@ -328,8 +329,9 @@ impl Scene<'_> {
         first: &Told,
         notes: &mut Vec<Note>,
     ) -> Result<(), AllocError> {
-        let told = format!(in self.alloc; "{which} {} here{}", first.verb, first.turn)?;
-        add(notes, Weight::Note, first.place, told)
+        let turn = self.turn_at(first.place, &first.turn)?;
+        let message = format!(in self.alloc; "{which} {} here{turn}", first.verb)?;
+        self.add_in_turn(notes, first.place, message, &first.turn)
     }
 
     // Of these parts of two items.

@@ -3,9 +3,9 @@
 use crate::diagnosis::{Note, Turn, Weight};
 use crate::ends::block_end;
 use crate::scene::Scene;
-use crate::source::is_pointer;
 use base::item::{Cell, Depend, Item, ItemKind, MapItem, MapKind, Section};
 use base::tree::{DependKind, Place};
+use c_names::{cell_of, columns_of, is_pointer, rows_of};
 use history::Side;
 use std::alloc::{AllocError, Global};
 
@@ -16,10 +16,12 @@ pub fn add(
     place: Place,
     message: String,
 ) -> Result<(), AllocError> {
+    let loops = Vec::new(*notes.allocator());
     notes.push(Note {
         weight,
         place,
         message,
+        loops,
     })?;
     Ok(())
 }
@@ -96,13 +98,48 @@ fn turn_value_text(alloc: Global, level: usize, turn: &Turn) -> Result<String, A
 }
 
 impl Scene<'_> {
+    // How many cells a row has of an array with rows.
+    fn columns_of(&self, name: &str) -> Option<u64> {
+        columns_of(self.bytes, name.as_bytes())
+    }
+
     pub fn cell_text(&self, cell: Cell) -> Result<String, AllocError> {
-        format!(in self.alloc; "{}[{}]", self.name_of(cell.array), cell.index)
+        let name = self.name_of(cell.array);
+        self.index_text(name, cell.index)
+    }
+
+    // A cell of an array, by its row where there are rows.
+    fn index_text(&self, name: &str, index: u64) -> Result<String, AllocError> {
+        if let Some(columns) = self.columns_of(name)
+            && let Some(cell) = cell_of(index, columns)
+        {
+            return format!(in self.alloc; "{name}[{}][{}]", cell.row, cell.column);
+        }
+        format!(in self.alloc; "{name}[{index}]")
     }
 
     pub fn section_text(&self, section: &Section) -> Result<String, AllocError> {
         let name = self.name_of(section.array);
-        format!(in self.alloc; "{}[{}:{}]", name, section.first, section.length)
+        match self.columns_of(name) {
+            None => format!(in self.alloc; "{name}[{}:{}]", section.first, section.length),
+            Some(columns) => self.rows_text(name, section, columns),
+        }
+    }
+
+    // A section of an array with rows; the first and the last of its cells where these are no whole rows.
+    fn rows_text(&self, name: &str, section: &Section, columns: u64) -> Result<String, AllocError> {
+        if let Some(rows) = rows_of(section.first, section.length, columns) {
+            return format!(in self.alloc; "{name}[{}:{}][0:{columns}]", rows.first, rows.count);
+        }
+        let last = section
+            .first
+            .saturating_add(section.length)
+            .saturating_sub(1);
+        let (first, last) = (
+            self.index_text(name, section.first)?,
+            self.index_text(name, last)?,
+        );
+        format!(in self.alloc; "{first} to {last}")
     }
 
     /// A map item as it is written, with the bounds of its section.
@@ -134,7 +171,7 @@ impl Scene<'_> {
     pub fn short_text(&self, section: &Section) -> Result<String, AllocError> {
         if section.first == 0
             && section.length == u64::from(self.length_of(section.array))
-            && !is_pointer(self.bytes, self.name_of(section.array))
+            && !is_pointer(self.bytes, self.name_of(section.array).as_bytes())
         {
             return String::from_str(self.alloc, self.name_of(section.array));
         }
@@ -196,6 +233,23 @@ impl Scene<'_> {
     pub fn turn_at(&self, place: Place, values: &[u64]) -> Result<String, AllocError> {
         let turns = self.turns(place, values)?;
         self.turn_text(&turns)
+    }
+
+    /// One note more, of a place in the turn of the loops around it that has these values.
+    pub fn add_in_turn(
+        &self,
+        notes: &mut Vec<Note>,
+        place: Place,
+        message: String,
+        values: &[u64],
+    ) -> Result<(), AllocError> {
+        notes.push(Note {
+            weight: Weight::Note,
+            place,
+            message,
+            loops: self.turns(place, values)?,
+        })?;
+        Ok(())
     }
 
     /// An item as the one that did something.

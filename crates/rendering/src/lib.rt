@@ -1,6 +1,7 @@
 //! What is told of a program, written as text, as JSON or in the Static Analysis Results Interchange Format.
 #![tactic(auto)]
 
+mod excerpt;
 mod objects;
 mod sarif;
 mod sarif_fixes;

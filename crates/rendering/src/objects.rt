@@ -2,7 +2,7 @@
 
 use crate::told::{ACCEPTED, Remedy, Told};
 use mend::{Edit, Mended};
-use reasons::{Diagnosis, NamedCell, Note, Turn};
+use reasons::{Diagnosis, NamedCell, Note, Turn, end_of};
 use serde_json::{Value, json, push};
 use std::alloc::{AllocError, Global};
 
@@ -13,7 +13,8 @@ fn turn_object(alloc: Global, turn: &Turn) -> Result<Value, AllocError> {
     json!(in alloc; {"name": &turn.name, "value": turn.value})
 }
 
-fn turn_objects(alloc: Global, turns: &[Turn]) -> Result<Value, AllocError> {
+/// The loops around a place, with their values.
+pub fn turn_objects(alloc: Global, turns: &[Turn]) -> Result<Value, AllocError> {
     let mut list = Vec::new(alloc);
     'turns: for turn in turns {
         push(&mut list, turn_object(alloc, turn)?)?;
@@ -21,15 +22,25 @@ fn turn_objects(alloc: Global, turns: &[Turn]) -> Result<Value, AllocError> {
     Ok(Value::Array(list))
 }
 
-fn note_object(alloc: Global, note: &Note) -> Result<Value, AllocError> {
+fn note_object(alloc: Global, bytes: &[u8], note: &Note) -> Result<Value, AllocError> {
     let (line, column) = (note.place.line, note.place.column);
-    json!(in alloc; {"kind": note.weight.as_str(), "line": line, "column": column, "message": &note.message})
+    let end = end_of(bytes, note.place);
+    let loops = turn_objects(alloc, &note.loops)?;
+    json!(in alloc; {
+        "kind": note.weight.as_str(),
+        "line": line,
+        "column": column,
+        "end_line": line,
+        "end_column": end,
+        "message": &note.message,
+        "loops": loops
+    })
 }
 
-fn note_objects(alloc: Global, notes: &[Note]) -> Result<Value, AllocError> {
+fn note_objects(alloc: Global, bytes: &[u8], notes: &[Note]) -> Result<Value, AllocError> {
     let mut list = Vec::new(alloc);
     'notes: for note in notes {
-        push(&mut list, note_object(alloc, note)?)?;
+        push(&mut list, note_object(alloc, bytes, note)?)?;
     }
     Ok(Value::Array(list))
 }
@@ -48,18 +59,25 @@ fn index_value(cell: &Option<NamedCell>) -> Value {
     }
 }
 
-fn diagnosis_object(alloc: Global, diagnosis: &Diagnosis) -> Result<Value, AllocError> {
+fn diagnosis_object(
+    alloc: Global,
+    bytes: &[u8],
+    diagnosis: &Diagnosis,
+) -> Result<Value, AllocError> {
     let loops = turn_objects(alloc, &diagnosis.loops)?;
-    let notes = note_objects(alloc, &diagnosis.notes)?;
+    let notes = note_objects(alloc, bytes, &diagnosis.notes)?;
     let array = array_value(alloc, &diagnosis.cell)?;
     let cell = index_value(&diagnosis.cell);
     let (line, column) = (diagnosis.place.line, diagnosis.place.column);
+    let end = end_of(bytes, diagnosis.place);
     json!(in alloc; {
         "code": diagnosis.code,
         "rule": diagnosis.rule,
         "message": &diagnosis.message,
         "line": line,
         "column": column,
+        "end_line": line,
+        "end_column": end,
         "item": diagnosis.item,
         "array": array,
         "cell": cell,
@@ -68,10 +86,14 @@ fn diagnosis_object(alloc: Global, diagnosis: &Diagnosis) -> Result<Value, Alloc
     })
 }
 
-fn diagnosis_objects(alloc: Global, diagnoses: &[Diagnosis]) -> Result<Value, AllocError> {
+fn diagnosis_objects(
+    alloc: Global,
+    bytes: &[u8],
+    diagnoses: &[Diagnosis],
+) -> Result<Value, AllocError> {
     let mut list = Vec::new(alloc);
     'diagnoses: for diagnosis in diagnoses {
-        push(&mut list, diagnosis_object(alloc, diagnosis)?)?;
+        push(&mut list, diagnosis_object(alloc, bytes, diagnosis)?)?;
     }
     Ok(Value::Array(list))
 }
@@ -113,11 +135,11 @@ fn fix_objects(alloc: Global, remedy: &Remedy) -> Result<Value, AllocError> {
     Ok(Value::Array(list))
 }
 
-/// What is told of a file, as one object.
-pub fn as_json(alloc: Global, file: &str, told: &Told) -> Result<String, AllocError> {
+/// What is told of a file whose bytes these are, as one object.
+pub fn as_json(alloc: Global, file: &str, bytes: &[u8], told: &Told) -> Result<String, AllocError> {
     let accepted = told.diagnoses.is_empty();
-    let all = diagnosis_objects(alloc, &told.diagnoses)?;
-    let warnings = diagnosis_objects(alloc, &told.warnings)?;
+    let all = diagnosis_objects(alloc, bytes, &told.diagnoses)?;
+    let warnings = diagnosis_objects(alloc, bytes, &told.warnings)?;
     let fixes = fix_objects(alloc, &told.remedy)?;
     let report = json!(in alloc; {
         "version": FORM,

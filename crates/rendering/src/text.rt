@@ -1,9 +1,10 @@
 // A diagnosis as compilers print one.
 
+use crate::excerpt::excerpt_of;
 use crate::told::{ACCEPTED, Remedy, Told};
 use base::tree::Place;
 use mend::{Edit, Mended};
-use reasons::{Diagnosis, line_of};
+use reasons::{Diagnosis, end_of, line_of};
 use std::alloc::{AllocError, Global};
 
 // Where the texts go, and what they are of.
@@ -12,16 +13,79 @@ struct Page<'a> {
     alloc: Global,
     file: &'a str,
     bytes: &'a [u8],
+    colours: bool,
     text: Vec<u8>,
+}
+
+// Colours of a terminal, as ECMA-48 selects them.
+const PLAIN: &str = "\x1b[0m";
+
+const BOLD: &str = "\x1b[1m";
+
+const RED: &str = "\x1b[31m";
+
+const BOLD_RED: &str = "\x1b[1;31m";
+
+const GREEN: &str = "\x1b[32m";
+
+const BOLD_GREEN: &str = "\x1b[1;32m";
+
+const BOLD_MAGENTA: &str = "\x1b[1;35m";
+
+const BOLD_CYAN: &str = "\x1b[1;36m";
+
+fn colour_of(word: &str) -> &'static str {
+    match word {
+        "error" => BOLD_RED,
+        "warning" => BOLD_MAGENTA,
+        "note" => BOLD_CYAN,
+        _ => BOLD_GREEN,
+    }
 }
 
 fn is_same(left: Place, right: Place) -> bool {
     left.line == right.line && left.column == right.column
 }
 
-// Whether a byte begins a character.
-fn begins(byte: u8) -> bool {
-    byte & 0xC0 != 0x80
+// A line without a carriage return at its end.
+fn without_return(line: &[u8]) -> &[u8] {
+    match line {
+        [front @ .., b'\r'] => front,
+        _ => line,
+    }
+}
+
+// Whether a name stands in a diff as it is.
+fn is_plain(byte: u8) -> bool {
+    byte > b' ' && byte != b'"' && byte != b'\\' && byte != 127
+}
+
+// A name as the program `patch` reads it: one with blanks ends with a tabulator, and one with quotation marks, backslashes
+// or control characters is quoted.
+fn name_in_diff(alloc: Global, file: &str) -> Result<String, AllocError> {
+    let mut name = String::new(alloc);
+    let is_quoted = file.bytes().any(|byte| byte != b' ' && !is_plain(byte));
+    if !is_quoted {
+        name.push_str(file)?;
+        if file.contains(' ') {
+            name.push('\t')?;
+        }
+        return Ok(name);
+    }
+    name.push('"')?;
+    'characters: for c in file.chars() {
+        match c {
+            '\n' => name.push_str("\\n")?,
+            '\t' => name.push_str("\\t")?,
+            '"' | '\\' => {
+                name.push('\\')?;
+                name.push(c)?;
+            }
+            _ => name.push(c)?,
+        }
+    }
+    name.push('"')?;
+    Ok(name)
 }
 
 impl Page<'_> {
@@ -29,40 +93,49 @@ impl Page<'_> {
         self.text.extend_from_slice(text.as_bytes())
     }
 
-    // The bytes of a line up to a column, as blanks.
-    fn add_blanks(&mut self, line: &[u8], column: usize) -> Result<(), AllocError> {
-        let end = column.saturating_sub(1).min(line.len());
-        'bytes: for byte in &line[..end] {
-            if *byte == b'\t' {
-                self.text.push(b'\t')?;
-            } else if begins(*byte) {
-                self.text.push(b' ')?;
-            }
+    // Selects a colour for what follows.
+    fn paint(&mut self, colour: &'static str) -> Result<(), AllocError> {
+        if self.colours {
+            return self.add(colour);
         }
         Ok(())
     }
 
     // A place with what is said of it.
     fn add_place(&mut self, place: Place, word: &str, message: &str) -> Result<(), AllocError> {
-        let head = format!(in self.alloc;
-            "{}:{}:{}: {word}: {message}\n",
-            self.file, place.line, place.column
-        )?;
-        self.add(&head)
+        self.paint(BOLD)?;
+        let head = format!(in self.alloc; "{}:{}:{}: ", self.file, place.line, place.column)?;
+        self.add(&head)?;
+        self.paint(colour_of(word))?;
+        self.add(word)?;
+        self.add(": ")?;
+        self.paint(PLAIN)?;
+        self.add(message)?;
+        self.add("\n")
     }
 
-    // The line of a place, and a caret under it.
+    // The line of a place behind its number, and marks under what is written there.
     fn add_line(&mut self, place: Place) -> Result<(), AllocError> {
         let bytes = self.bytes;
-        let line = line_of(bytes, place.line);
+        let line = without_return(line_of(bytes, place.line));
         if line.is_empty() {
             return Ok(());
         }
-        self.add("    ")?;
-        self.text.extend_from_slice(line)?;
-        self.add("\n    ")?;
-        self.add_blanks(line, place.column)?;
-        self.add("^\n")
+        let at = place.column.saturating_sub(1);
+        let end = end_of(bytes, place).saturating_sub(1);
+        let excerpt = excerpt_of(self.alloc, line, at, end)?;
+        let number = format!(in self.alloc; "{:5} | ", place.line)?;
+        self.add(&number)?;
+        self.text.extend_from_slice(&excerpt.text)?;
+        self.add("\n")?;
+        for _ in 3..number.len() {
+            self.text.push(b' ')?;
+        }
+        self.add(" | ")?;
+        self.paint(BOLD_GREEN)?;
+        self.text.extend_from_slice(&excerpt.marks)?;
+        self.paint(PLAIN)?;
+        self.add("\n")
     }
 
     // A line that was shown just before is not shown again.
@@ -83,6 +156,7 @@ impl Page<'_> {
 
     // Lines of a change, each behind the sign that says whether it goes or comes.
     fn add_side(&mut self, sign: u8, lines: &[u8]) -> Result<(), AllocError> {
+        self.paint(if sign == b'-' { RED } else { GREEN })?;
         self.text.push(sign)?;
         'bytes: for byte in lines {
             self.text.push(*byte)?;
@@ -90,8 +164,8 @@ impl Page<'_> {
                 self.text.push(sign)?;
             }
         }
-        self.text.push(b'\n')?;
-        Ok(())
+        self.paint(PLAIN)?;
+        self.add("\n")
     }
 
     // The numbers of new lines in a unified diff.
@@ -132,7 +206,8 @@ impl Page<'_> {
             column: 1,
         };
         self.add_place(place, "help", ACCEPTED)?;
-        let head = format!(in self.alloc; "--- {}\n+++ {}\n", self.file, self.file)?;
+        let name = name_in_diff(self.alloc, self.file)?;
+        let head = format!(in self.alloc; "--- {name}\n+++ {name}\n")?;
         self.add(&head)?;
         let mut inserted = 0usize;
         'edits: for edit in &mended.edits {
@@ -156,17 +231,20 @@ impl Page<'_> {
     }
 }
 
-/// What is told of a file whose bytes these are; where it has no faults, that its program is accepted.
+/// What is told of a file whose bytes these are, in the colours of a terminal or in none; where it has no faults, that its
+/// program is accepted.
 pub fn as_text(
     alloc: Global,
     file: &str,
     bytes: &[u8],
     told: &Told,
+    colours: bool,
 ) -> Result<Vec<u8>, AllocError> {
     let mut page = Page {
         alloc,
         file,
         bytes,
+        colours,
         text: Vec::new(alloc),
     };
     if told.diagnoses.is_empty() {

@@ -14,6 +14,9 @@ mod UnlinedGlobals
 mod UnlinedChanges
 mod UnlinedCalls
 mod UnlinedFunctions
+mod UnlinedGrids
+mod UnlinedDeclarations
+mod UnlinedUpdates
 mod UnlinedTexts
 mod Told
 mod Whole

@@ -6,7 +6,7 @@ use Rattle.c_grammar.specs.Lexeme.{Uint64}
 use Rattle.c_grammar.specs.Terminal.{Terminal, Fixed, Mark, Name, same}
 use Rattle.c_grammar.specs.Texts.{Item}
 use Rattle.c_grammar.specs.Blocks as blocks
-use Rattle.c_grammar.specs.Blocks.{Items, is_directive, bare, at, type_at, type_on, longs, typed, Around, Reading, with_open, begins_body, is_else, is_name, Ends, ends, left, is_end, braces_at, parted, in_block, in_blocks}
+use Rattle.c_grammar.specs.Blocks.{Items, is_directive, bare, at, type_at, type_on, longs, typed, Around, Reading, with_open, begins_body, begins_update, is_atomic_line, line_in_block, is_else, is_name, Ends, ends, left, is_end, braces_at, parted, in_block, in_blocks}
 use Rattle.same_text.specs.Laws.{unlined}
 
 abbrev pub all_unlined : Items → Items
@@ -117,6 +117,16 @@ module _ (go go' : Reading → Items) (r : (q : Reading) → AreUnlined (go' q) 
       ∙ token_unlined i (is_else is) (with_open (Around ∷ q.levels) false q)))
       (parted_unlined i is (with_open q.levels false q))
 
+line_unlined : (i : Item Terminal) (is : Items) (q : Reading) (go go' : Reading → Items) →
+    ((q : Reading) → AreUnlined (go' q) (go q)) →
+    AreUnlined (line_in_block (unlined i) (all_unlined is) q go') (line_in_block i is q go)
+line_unlined i [] q go go' r = one i (go q) (go' q) (r q)
+line_unlined i (j ∷ js) q go go' r =
+    either (q.body && is_atomic_line i.terminal && begins_update j.terminal) _ _ _ _ _ refl
+    (one (at j (Mark sign.OpenBrace)) (i ∷ go (with_open (Around ∷ q.levels) false q)) _
+    (one i (go (with_open (Around ∷ q.levels) false q)) (go' (with_open (Around ∷ q.levels) false q))
+    (r (with_open (Around ∷ q.levels) false q)))) (one i (go q) (go' q) (r q))
+
 pub blocks_unlined : (is : Items) (q : Reading) → AreUnlined (in_blocks q (all_unlined is)) (in_blocks q is)
 unfolding in_blocks
 blocks_unlined [] q = refl
@@ -124,10 +134,12 @@ blocks_unlined (i ∷ is) q = step (is_directive i.terminal) (λ q. blocks_unlin
   where
     step : (b : Bool) → ((q : Reading) → AreUnlined (in_blocks q (all_unlined is)) (in_blocks q is)) →
         AreUnlined
-        (cond b (unlined i ∷ in_blocks q (all_unlined is))
+        (cond b (line_in_block (unlined i) (bare (all_unlined is)) q (λ q. in_blocks q (all_unlined is)))
         (in_block (unlined i) (bare (all_unlined is)) q (λ q. in_blocks q (all_unlined is))))
-        (cond b (i ∷ in_blocks q is) (in_block i (bare is) q (λ q. in_blocks q is)))
-    step true ih = one i (in_blocks q is) (in_blocks q (all_unlined is)) (ih q)
+        (cond b (line_in_block i (bare is) q (λ q. in_blocks q is)) (in_block i (bare is) q (λ q. in_blocks q is)))
+    step true ih =
+        ap (λ (js : Items). line_in_block (unlined i) js q (λ q. in_blocks q (all_unlined is))) (bare_unlined is)
+        ∙ line_unlined i (bare is) q (λ q. in_blocks q is) (λ q. in_blocks q (all_unlined is)) ih
     step false ih =
         ap (λ (js : Items). in_block (unlined i) js q (λ q. in_blocks q (all_unlined is))) (bare_unlined is)
         ∙ block_unlined (λ q. in_blocks q is) (λ q. in_blocks q (all_unlined is)) ih i (bare is) q

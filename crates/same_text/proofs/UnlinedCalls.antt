@@ -54,7 +54,7 @@ pub length_unlined : (is : Items) → length (all_unlined is) ≡ length is
 length_unlined [] = refl
 length_unlined (i ∷ is) = ap suc (length_unlined is)
 
-take_unlined : (n : ℕ) (is : Items) → AreUnlined (take n (all_unlined is)) (take n is)
+pub take_unlined : (n : ℕ) (is : Items) → AreUnlined (take n (all_unlined is)) (take n is)
 take_unlined zero is = refl
 take_unlined (suc n) [] = refl
 take_unlined (suc n) (i ∷ is) = one i _ _ (take_unlined n is)
@@ -305,7 +305,7 @@ call_same globals fs left (i ∷ o ∷ is) =
 
 -- ---- what is given a value
 
-index_same : (is : Items) (depth k : ℕ) → index_len depth k (all_unlined is) ≡ index_len depth k is
+pub index_same : (is : Items) (depth k : ℕ) → index_len depth k (all_unlined is) ≡ index_len depth k is
 unfolding index_len
 index_same [] depth k = refl
 index_same (i ∷ is) depth k = on (λ d. index_same is d (k + 1))

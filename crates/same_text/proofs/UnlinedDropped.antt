@@ -1,13 +1,13 @@
 -- Definitions of constants are left out without a look at the lines of the tokens.
 use Rattle.std.proofs.Common.{◌≡◌, ℕ, zero, suc, ◌+◌, Bool, true, false, cond, List, [], ◌∷◌, Option, Some, None, refl, ap, ◌∙◌}
-use Rattle.std.specs.Prelude.{◌&&◌}
+use Rattle.std.specs.Prelude.{◌&&◌, nat_le}
 use Rattle.c_tokens.specs.declared.kind.Sign.TheVariants as sign
 use Rattle.c_grammar.specs.Terminal.{Terminal, Fixed, Mark, Name, Num, Line, Unknown, Unworked, End, same}
 use Rattle.c_grammar.specs.Texts.{Item}
 use Rattle.c_grammar.specs.Blocks.{Items, is_directive, bare}
 use Rattle.c_grammar.specs.Constants.{is_number, is_unworked, is_mark, is_free, const_word, enum_word, Names, const_len, enumerators_len, enum_len, definition_len, with_global, depth_behind, drop_on, leave_on, undefined}
 use Rattle.same_text.specs.Laws.{unlined}
-use Rattle.same_text.proofs.Unlined.{all_unlined, AreUnlined, one, bare_unlined}
+use Rattle.same_text.proofs.Unlined.{either, all_unlined, AreUnlined, one, bare_unlined}
 
 -- with that token behind the sign =
 value_same : (ns : Names) (t x e : Item Terminal) (u : Terminal) (l c : ℕ) (cs : List ℕ) (s : Item Terminal) (is : Items) →
@@ -73,10 +73,8 @@ left_same ns d i is go go' r =
 
 drop_same : (ns : Names) (d : ℕ) (i : Item Terminal) (is : Items) (o : Option ℕ) (go go' : Names → ℕ → ℕ → Items) →
     GoesSame go' go → AreUnlined (drop_on ns d (unlined i) (all_unlined is) o go') (drop_on ns d i is o go)
-drop_same ns zero i is (Some k) go go' r = r ns zero k
-drop_same ns zero i is None go go' r = left_same ns zero i is go go' r
-drop_same ns (suc d) i is None go go' r = left_same ns (suc d) i is go go' r
-drop_same ns (suc d) i is (Some k) go go' r = left_same ns (suc d) i is go go' r
+drop_same ns d i is None go go' r = left_same ns d i is go go' r
+drop_same ns d i is (Some k) go go' r = either (nat_le d 1) _ _ _ _ _ refl (r ns d k) (left_same ns d i is go go' r)
 
 leave_same : (k : ℕ) (ns : Names) (d : ℕ) (i : Item Terminal) (is : Items) (go go' : Names → ℕ → ℕ → Items) →
     GoesSame go' go → AreUnlined (leave_on k ns d (unlined i) (all_unlined is) go') (leave_on k ns d i is go)
