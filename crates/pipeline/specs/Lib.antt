@@ -3,3 +3,4 @@ pub mod Fine
 pub mod Checking
 pub mod Listing
 pub mod InC
+pub mod Loading

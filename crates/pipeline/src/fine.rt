@@ -1,31 +1,41 @@
 //! From a source to what it answers on the fine-grained machine.
 
-ghost use Rattle.std.specs.Prelude.{IfOk, IfErr};
-ghost use Rattle.stepper.specs.Answering.{IsFineAnswer, IsFineFault};
+ghost use Rattle.std.specs.Prelude.{◌≤◌, IfOk, IfErr, length};
+ghost use Rattle.base.specs.Items.{plan};
+ghost use Rattle.base.specs.Limits.{most_items};
+ghost use Rattle.c_read.specs.Spells.{Spells};
 ghost use Rattle.pipeline.specs.Fine.{IsFineSourceAnswer, IsFineSourceFault};
 
+use crate::loaded::Loaded;
 use crate::text::{items, read};
-use base::fault::{RunFault, SourceFault};
+use base::fault::SourceFault;
 use base::item::Answer;
-use erased_meaning::erased_text_runs;
 use outline::Outlined;
 use std::alloc::Global;
-use stepper::run_fine;
+use stepper::shown_of;
 
-// Runs a program action by action, whatever the borrows that are in it outlive.
+// Checks a program, and runs it action by action, whatever the borrows that are in it outlive.
 #[tactic(auto)]
 fn run_by_actions(
     alloc: Global,
+    bytes: &[u8],
     outlined: &Outlined<'_>,
     input: &[u64],
     choices: &[u32],
     turns: &[u32],
     capacity: u64,
-) -> Result<Answer, RunFault>
-    ensures answer { IfOk result (IsFineAnswer outlined.now input.now choices.now turns.now capacity) }
-    ensures fault { IfErr result (IsFineFault outlined.now input.now choices.now turns.now capacity) }
+) -> Result<Answer, SourceFault>
+    requires spelled { Spells bytes.now outlined.now }
+    requires few { length (plan outlined.now).items ≤ most_items }
+    ensures answer { IfOk result (IsFineSourceAnswer bytes.now input.now choices.now turns.now capacity) }
+    ensures fault { IfErr result (IsFineSourceFault bytes.now input.now choices.now turns.now capacity) }
 {
-    run_fine(alloc, outlined, input, choices, turns, capacity)
+    match shown_of(alloc, outlined) {
+        Ok(arrays) => Loaded::new(alloc, bytes, outlined, &arrays).run_fine(
+            input, choices, turns, capacity,
+        ),
+        Err(fault) => Err(SourceFault::Run(fault)),
+    }
 }
 
 /// Runs a source on the fine-grained machine, whether its program is accepted or not, on devices each of which has room
@@ -47,9 +57,5 @@ pub fn run_source_fine(
 {
     let program = read(alloc, bytes)?;
     let outlined = items(alloc, &program)?;
-    erased_text_runs();
-    match run_by_actions(alloc, &outlined, input, choices, turns, capacity) {
-        Ok(answer) => Ok(answer),
-        Err(fault) => Err(SourceFault::Run(fault)),
-    }
+    run_by_actions(alloc, bytes, &outlined, input, choices, turns, capacity)
 }

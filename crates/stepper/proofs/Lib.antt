@@ -1,6 +1,6 @@
 mod Starting
 mod Sections
-mod Shown
+pub mod Shown
 mod Rows
 mod GraphItems
 mod Places

@@ -3,7 +3,7 @@
 
 pub use crate::fine_run::FineRun;
 pub use crate::marked::shown_of;
-pub use crate::run::run_fine;
+pub use crate::run::{run_fine, run_fine_shown};
 pub use crate::sides::Turn;
 
 mod beginning;

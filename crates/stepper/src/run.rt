@@ -2,7 +2,7 @@
 
 ghost use Rattle.std.specs.Prelude.{◌≡◌, IfErr, IfOk, drop, length};
 ghost use Rattle.base.specs.Items.{plan};
-ghost use Rattle.stepper.specs.Answering.{IsAnswerOf, IsFineAnswer, IsFineFault, next_by};
+ghost use Rattle.stepper.specs.Answering.{AreShown, IsAnswerOf, IsFineAnswer, IsFineFault, next_by};
 ghost use Rattle.stepper.specs.Run.{IsGoing, state_of};
 ghost use Rattle.stepper.specs.Running.{IsAnswerAt};
 
@@ -54,6 +54,35 @@ impl<'p> FineRun<'p> {
     }
 }
 
+/// Runs a program as `run_fine` does, where it is known which arrays an answer shows: those that `shown_of` answers, so
+/// that a program that is run often is checked once.
+pub fn run_fine_shown<'p>(
+    alloc: Global,
+    outlined: &'p Outlined<'p>,
+    arrays: &[ArrayId],
+    input: &'p [u64],
+    choices: &[u32],
+    turns: &'p [u32],
+    capacity: u64,
+) -> Result<Answer, RunFault>
+    requires { AreShown outlined.now arrays.now }
+    ensures answer { IfOk result (IsFineAnswer outlined.now input.now choices.now turns.now capacity) }
+    ensures fault { IfErr result (IsFineFault outlined.now input.now choices.now turns.now capacity) }
+{
+    let Ok(mut run) = FineRun::new(alloc, outlined, input, turns, capacity) else {
+        return Err(RunFault::OutOfMemory);
+    };
+    while let Some(event) = run.next_event(choices) {
+        run.has_come();
+        run.take(event)?;
+    }
+    run.has_come();
+    match run.answer(arrays) {
+        Ok(answer) => Ok(answer),
+        Err(_) => Err(RunFault::OutOfMemory),
+    }
+}
+
 /// Runs a program on the fine-grained machine by these choices, on devices each with room for `capacity` cells, whether
 /// it is accepted or not. At each step the next choice picks among the events that may happen, counted around: for each
 /// open item, ascending, its next action or its closing; the openings by ascending item; and what the host may do. Of
@@ -75,16 +104,5 @@ pub fn run_fine<'p>(
     ensures fault { IfErr result (IsFineFault outlined.now input.now choices.now turns.now capacity) }
 {
     let arrays = shown_of(alloc, outlined)?;
-    let Ok(mut run) = FineRun::new(alloc, outlined, input, turns, capacity) else {
-        return Err(RunFault::OutOfMemory);
-    };
-    while let Some(event) = run.next_event(choices) {
-        run.has_come();
-        run.take(event)?;
-    }
-    run.has_come();
-    match run.answer(&arrays) {
-        Ok(answer) => Ok(answer),
-        Err(_) => Err(RunFault::OutOfMemory),
-    }
+    run_fine_shown(alloc, outlined, &arrays, input, choices, turns, capacity)
 }

@@ -30,11 +30,11 @@ IsOther plain (Done a) = a.out.items ≢ plain
 IsOther plain Absent = ⊤
 
 abbrev pub IsRun : Trials → List ℕ → List ℕ → RunOutcome → Type 0
-IsRun t choices turns (EndedSo e) = IsEnd t.bytes.now t.input.now choices turns t.capacity e
+IsRun t choices turns (EndedSo e) = IsEnd t.source.now t.input.now choices turns t.capacity e
 IsRun t choices turns Full = ⊤
 
 pub record IsTrial (t : Trials) (w : Witness) : Type 0 where
-  pub end : IsEnd t.bytes.now t.input.now w.choices.items w.turns.items t.capacity w.end
+  pub end : IsEnd t.source.now t.input.now w.choices.items w.turns.items t.capacity w.end
   pub differs : IsOther t.plain.now w.end
 
 -- a run of the source by choices and an order of turns that prints something else than its text without directive lines, or

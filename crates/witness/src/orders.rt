@@ -1,7 +1,7 @@
 // Orders of turns to try.
 
 use crate::lists::drawn_list;
-use base::fault::{CheckFault, RefusalCode};
+use base::fault::{Refusal, RefusalCode};
 use base::tree::{Region, Stmt};
 use outline::Outlined;
 use std::alloc::{AllocError, Global};
@@ -40,10 +40,7 @@ fn count_of(region: &Region) -> u64 {
 }
 
 /// How many turns the kernel has of which two meet; none where the program is refused for something else.
-pub fn turns_that_meet(outlined: &Outlined<'_>, fault: &CheckFault) -> Option<u64> {
-    let CheckFault::Refused(refusal) = fault else {
-        return None;
-    };
+pub fn turns_that_meet(outlined: &Outlined<'_>, refusal: &Refusal) -> Option<u64> {
     let RefusalCode::TurnsMeet = refusal.code else {
         return None;
     };

@@ -1,10 +1,13 @@
 // The search for a witness.
 
-ghost use Rattle.std.specs.Prelude.{IfErr, IfOk, IfSome, OnOk};
+ghost use Rattle.std.specs.Prelude.{◌≤◌, [], IfErr, IfOk, IfSome, OnOk, length};
 ghost use Rattle.base.specs.Accepted.{IsAccepted};
 ghost use Rattle.base.specs.Items.{plan};
+ghost use Rattle.base.specs.Limits.{most_items};
+ghost use Rattle.c_read.specs.Spells.{Spells};
 ghost use Rattle.mapcheck.specs.Passes.{IsCheckFault};
 ghost use Rattle.pipeline.specs.Checking.{IsRefused};
+ghost use Rattle.stepper.specs.Answering.{AreShown};
 ghost use Rattle.witness.specs.Witnesses.{IsFinding, IsTrial};
 
 use crate::lists::{drawn_list, last_first};
@@ -16,7 +19,7 @@ use base::item::Answer;
 use erasure::erase;
 use mapcheck::check;
 use outline::Outlined;
-use pipeline::{items, read, run_source_fine};
+use pipeline::{Loaded, items, read, run_source_fine};
 use std::alloc::{AllocError, Global};
 
 /// The most runs that are tried.
@@ -143,15 +146,19 @@ fn search_and_shorten(
     Ok(Some(shorten(trials, &mut budget, found)?))
 }
 
-// What is found of a program that is refused without a fault of range. Where two turns of a kernel meet, `meeting` is how
-// many it has.
+// What is found of a program that is refused without a fault of range, so that no array is shown. Where two turns of a
+// kernel meet, `meeting` is how many it has.
 fn find(
     alloc: Global,
     bytes: &[u8],
+    outlined: &Outlined<'_>,
     input: &[u64],
     capacity: u64,
     meeting: Option<u64>,
 ) -> Result<Finding, SourceFault>
+    requires spelled { Spells bytes.now outlined.now }
+    requires few { length (plan outlined.now).items ≤ most_items }
+    requires shown { AreShown outlined.now [] }
     ensures found { IfOk result (IsFinding bytes.now input.now capacity) }
     ensures fault { IfErr result (IsRefused bytes.now) }
 {
@@ -161,9 +168,10 @@ fn find(
     let Ok(plain) = run_source_fine(alloc, &erased, input, &[], &[], capacity) else {
         return Err(SourceFault::Read(ReadFault::OutOfMemory));
     };
+    let source = Loaded::new(alloc, bytes, outlined, &[]);
     let trials = Trials {
         alloc,
-        bytes,
+        source: &source,
         input,
         capacity,
         plain: &plain.out,
@@ -214,12 +222,10 @@ pub fn witness(
         Err(CheckFault::Range { item, fault }) => {
             Ok(Finding::OutOfRange(CheckFault::Range { item, fault }))
         }
-        Err(fault) => find(
-            alloc,
-            bytes,
-            input,
-            capacity,
-            turns_that_meet(&outlined, &fault),
-        ),
+        Err(CheckFault::Order(_)) => find(alloc, bytes, &outlined, input, capacity, None),
+        Err(CheckFault::Refused(refusal)) => {
+            let meeting = turns_that_meet(&outlined, &refusal);
+            find(alloc, bytes, &outlined, input, capacity, meeting)
+        }
     }
 }

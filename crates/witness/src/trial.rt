@@ -5,7 +5,7 @@ ghost use Rattle.witness.specs.Witnesses.{IsRun, IsTrial};
 
 use base::fault::{RunFault, SourceFault};
 use base::item::Answer;
-use pipeline::run_source_fine;
+use pipeline::Loaded;
 use std::alloc::{AllocError, Global};
 
 /// What a run ends with.
@@ -25,11 +25,11 @@ pub struct Witness {
     pub end: Ended,
 }
 
-/// A source with its input, the room of each device, and what the source prints without its directives.
+/// A source, read and checked, with its input, the room of each device, and what the source prints without its directives.
 #[derive(Clone, Copy)]
 pub struct Trials<'s> {
     pub alloc: Global,
-    pub bytes: &'s [u8],
+    pub source: &'s Loaded<'s>,
     pub input: &'s [u64],
     pub capacity: u64,
     pub plain: &'s [u8],
@@ -66,13 +66,13 @@ fn run_by(trials: Trials<'_>, choices: &[u32], turns: &[u32]) -> Result<Run, All
     ensures { IfOk result (IsRun trials.entry choices.now turns.now) }
 {
     let Trials {
-        alloc,
-        bytes,
+        alloc: _,
+        source,
         input,
         capacity,
         plain: _,
     } = trials;
-    match run_source_fine(alloc, bytes, input, choices, turns, capacity) {
+    match source.run_fine(input, choices, turns, capacity) {
         Ok(answer) => Ok(Run::Ended(Ended::Done(answer))),
         Err(SourceFault::Run(RunFault::Absent)) => Ok(Run::Ended(Ended::Absent)),
         Err(SourceFault::Run(RunFault::DeviceFull)) => Ok(Run::Full),

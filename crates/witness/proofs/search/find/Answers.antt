@@ -5,7 +5,5 @@ use Rattle.witness.proofs.search.find.Goals as goal
 pub returns-in-Ok-Some-clause-found : goal.returns-in-Ok-Some-clause-found
 returns-in-Ok-Some-clause-found c =
     let trial = rw c.in-Ok-Some.field-0-is at c.in-Ok-Some.ensures in
-    differing
-    (record { alloc = c.args.alloc; bytes = c.args.bytes; input = c.args.input; capacity = c.args.capacity; plain = c.deref-2.result })
-    c.in-Ok-Some.found c.deref.result.now c.in-Ok-run_source_fine.plain (c.deref.ensures.value ∙ c.in-Ok.ensures.erased)
-    c.in-Ok-run_source_fine.ensures.answer c.deref-2.ensures.value trial
+    differing _ c.args.bytes.now c.in-Ok-Some.found c.deref.result.now c.in-Ok-run_source_fine.plain c.new-source.ensures
+    (c.deref.ensures.value ∙ c.in-Ok.ensures.erased) c.in-Ok-run_source_fine.ensures.answer c.deref-2.ensures.value trial

@@ -1,6 +1,6 @@
 use Rattle.std.proofs.Common.{◌-◌, length}
 use Rattle.stepper.proofs.Plays.{Plays}
-use Rattle.stepper.proofs.run.run_fine.Given as goal
+use Rattle.stepper.proofs.run.run_fine_shown.Given as goal
 
 abbrev pub invariant-loop-event : goal.invariant-loop-event
 invariant-loop-event l = Plays l.outlined l.input l.choices l.turns l.capacity l.run

@@ -1,12 +1,12 @@
-use Rattle.std.proofs.Common.{◌≡◌, Some, drop, length, sym, ◌∙◌, subst}
+use Rattle.std.proofs.Common.{◌≡◌, Some, drop, length, sym, ◌∙◌}
 use Rattle.std.proofs.lemmas.Result.{err_from_is_err_and}
 use Rattle.base.specs.Items.{plan}
-use Rattle.stepper.specs.Answering.{AreShown, next_by}
+use Rattle.stepper.specs.Answering.{next_by}
 use Rattle.stepper.specs.Run.{state_of}
 use Rattle.stepper.proofs.Plays.{begins, goes_on, may, over, stops}
 use Rattle.stepper.proofs.Fines.{answers}
-use Rattle.stepper.proofs.run.run_fine.Goals.{In-Some}
-use Rattle.stepper.proofs.run.run_fine.Goals as goal
+use Rattle.stepper.proofs.run.run_fine_shown.Goals.{In-Some}
+use Rattle.stepper.proofs.run.run_fine_shown.Goals as goal
 
 pub loop-event-init : goal.loop-event-init
 loop-event-init c =
@@ -34,10 +34,10 @@ pub returns-in_err-take-clause-fault : goal.returns-in_err-take-clause-fault
 returns-in_err-take-clause-fault c =
     let at = goal.at.returns-in_err-take-clause-fault c in
     let f = c.in_err-take.field-0.0 in
-    let p = err_from_is_err_and c.from_residual-in_err-take.result c.from_residual-in_err-take.ensures.1 in
+    let p = err_from_is_err_and c.from_residual.result c.from_residual.ensures.1 in
     rw (p.1, p.2)
     (stops c.args.outlined.now c.args.input.now c.args.choices.now c.args.turns.now c.args.capacity c.loop-event.run c.loop-event.invariant
-    c.in-Some.event (next at.In-Some) (c.has_come.ensures c.loop-event.invariant.going) c.in_ok-arrays.ensures.shown.fine f c.in_err-take.ensures.fault)
+    c.in-Some.event (next at.In-Some) (c.has_come.ensures c.loop-event.invariant.going) c.requires.fine f c.in_err-take.ensures.fault)
 
 pub returns-in-Ok-answer-clause-answer : goal.returns-in-Ok-answer-clause-answer
 returns-in-Ok-answer-clause-answer c =
@@ -46,5 +46,4 @@ returns-in-Ok-answer-clause-answer c =
     let play = c.loop-event.invariant in
     answers p c.args.input.now c.args.choices.now c.args.turns.now c.args.capacity r play (c.has_come-2.ensures play.going)
     (over p c.args.input.now c.args.choices.now c.args.turns.now c.args.capacity r play (sym c.in_default-next_event.is ∙ c.next_event.ensures))
-    c.deref.result.now c.in-Ok-answer.answer c.in-Ok-answer.ensures
-    (subst (AreShown p) (sym c.deref.ensures.value) c.in_ok-arrays.ensures.shown)
+    c.args.arrays.now c.in-Ok-answer.answer c.in-Ok-answer.ensures c.requires
