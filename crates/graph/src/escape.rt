@@ -62,19 +62,3 @@ pub fn quoted(alloc: Global, bytes: &[u8]) -> Result<Vec<u8>, AllocError>
     text.push(b'"')?;
     Ok(text)
 }
-
-#[cfg(test)]
-mod tests {
-    use super::*;
-    use std::test::Fail;
-
-    #[test]
-    fn keeps_texts(rt: HostRuntime) -> Result<(), Fail> {
-        let text = quoted(rt.alloc(), "a\t\"\\\u{e9}&lt;<b>".as_bytes())?;
-        let wanted = "\"a\t\\\"\\\\\u{e9}&amp;lt;<b>\"".as_bytes();
-        assert_eq!(rt; text.as_slice(), wanted);
-        let cut = escaped(rt.alloc(), b"a\xff\r\n")?;
-        assert_eq!(rt; cut.as_slice(), "a\u{fffd}\u{fffd}\u{fffd}".as_bytes());
-        Ok(())
-    }
-}

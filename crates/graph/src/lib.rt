@@ -9,8 +9,6 @@ mod escape;
 mod levels;
 mod nodes;
 mod ordered;
-#[cfg(test)]
-mod tests;
 
 pub use drawing::{graph_text, message_graph};
 pub use escape::{escaped, quoted};

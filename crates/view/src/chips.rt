@@ -38,7 +38,8 @@ fn count_of(what: What) -> Option<u64> {
     }
 }
 
-fn add_section(page: &mut Page, span: Span) -> Result<(), AllocError> {
+/// A section, by its first cell and how many there are.
+pub fn add_section(page: &mut Page, span: Span) -> Result<(), AllocError> {
     page.add("[")?;
     page.add_number(span.first)?;
     page.add(":")?;

@@ -48,39 +48,3 @@ pub fn escaped(alloc: Global, bytes: &[u8]) -> Result<Vec<u8>, AllocError>
     }
     Ok(text)
 }
-
-#[cfg(test)]
-mod tests {
-    use super::*;
-    use std::test::Fail;
-
-    fn is_mark(byte: u8) -> bool {
-        byte == b'<' || byte == b'>' || byte == b'"' || byte == b'\''
-    }
-
-    // each byte that a comment may hold, alone and with all others
-    #[test]
-    fn escapes_each_byte(rt: HostRuntime) -> Result<(), Fail> {
-        let mut all = Vec::new(rt.alloc());
-        for byte in 0..=255u8 {
-            all.push(byte)?;
-            let alone = escaped(rt.alloc(), &[byte])?;
-            assert!(rt; !alone.is_empty());
-            assert!(rt; !alone.iter().any(|b| is_mark(*b)));
-        }
-        let text = escaped(rt.alloc(), &all)?;
-        assert!(rt; !text.iter().any(|b| is_mark(*b)));
-        assert!(rt; str::from_utf8(&text).is_ok());
-        Ok(())
-    }
-
-    #[test]
-    fn keeps_texts(rt: HostRuntime) -> Result<(), Fail> {
-        let text = escaped(rt.alloc(), "</code>\t\u{e9}&amp;".as_bytes())?;
-        let wanted = "&lt;/code&gt;\t\u{e9}&amp;amp;".as_bytes();
-        assert_eq!(rt; text.as_slice(), wanted);
-        let cut = escaped(rt.alloc(), b"a\xff\r'")?;
-        assert_eq!(rt; cut.as_slice(), b"a&#65533;&#65533;&#39;".as_slice());
-        Ok(())
-    }
-}

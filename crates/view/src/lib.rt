@@ -3,15 +3,18 @@
 
 mod bars;
 mod chips;
+mod copies;
 mod document;
 mod escape;
 mod faults;
+mod kernel;
 mod page;
 mod rows;
 mod scene;
 mod source;
 mod style;
 mod table;
+mod turn_rows;
 mod viewing;
 
 pub use escape::escaped;

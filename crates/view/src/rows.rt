@@ -35,12 +35,9 @@ pub fn add_side(page: &mut Page, side: usize) -> Result<(), AllocError> {
 
 // Of how many loops of an item's region the turns may run in any order.
 fn depth_of(scene: &Scene<'_>, item: &Item) -> u8 {
-    let Some(number) = item.region else {
-        return 0;
-    };
-    match scene.outlined.regions().get(number as usize) {
+    match scene.region_of(item) {
         None => 0,
-        Some(entry) => entry.region.depth,
+        Some(region) => region.depth,
     }
 }
 
@@ -90,8 +87,8 @@ fn add_head(
     page.add("</div>")
 }
 
-// Where a diagnosis finds fault with a cell.
-fn add_marker(
+/// Where a diagnosis finds fault with a cell.
+pub fn add_marker(
     page: &mut Page,
     diagnosis: &Diagnosis,
     index: u64,

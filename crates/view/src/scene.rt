@@ -1,7 +1,7 @@
 // A program with what is known of it.
 
 use base::item::{Item, ItemKind, Loc};
-use base::tree::{ArrayId, Place};
+use base::tree::{ArrayId, Place, Region};
 use history::Side;
 use outline::Outlined;
 use reasons::{Diagnosis, loops_around};
@@ -159,6 +159,14 @@ pub fn is_of(diagnosis: &Diagnosis, item: usize) -> bool {
 impl<'a> Scene<'a> {
     pub fn item(&self, number: usize) -> Option<&'a Item> {
         self.outlined.items().get(number)
+    }
+
+    /// The region of an item.
+    pub fn region_of(&self, item: &Item) -> Option<&'a Region> {
+        match self.outlined.regions().get(item.region? as usize) {
+            None => None,
+            Some(entry) => Some(entry.region),
+        }
     }
 
     /// The name of an array.

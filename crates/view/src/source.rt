@@ -2,6 +2,7 @@
 
 use crate::page::Page;
 use base::item::Item;
+use reasons::end_of;
 use rendering::Told;
 use std::alloc::{AllocError, Global};
 
@@ -10,14 +11,16 @@ use std::alloc::{AllocError, Global};
 struct Mark {
     // The first item that begins here.
     item: Option<usize>,
-    // The column of an error, or 0.
+    // The column of an error, or 0, and the one behind it.
     error: usize,
+    end: usize,
     has_note: bool,
 }
 
 const NO_MARK: Mark = Mark {
     item: None,
     error: 0,
+    end: 0,
     has_note: false,
 };
 
@@ -42,11 +45,11 @@ fn marks_of(
             }
         }
     }
-    mark_told(&mut marks, told);
+    mark_told(&mut marks, bytes, told);
     Ok(marks)
 }
 
-fn mark_told(marks: &mut [Mark], told: &Told) {
+fn mark_told(marks: &mut [Mark], bytes: &[u8], told: &Told) {
     'told: for diagnosis in &told.diagnoses {
         'notes: for note in &diagnosis.notes {
             if let Some(mark) = marks.get_mut(note.place.line.saturating_sub(1)) {
@@ -55,29 +58,19 @@ fn mark_told(marks: &mut [Mark], told: &Told) {
         }
         if let Some(mark) = marks.get_mut(diagnosis.place.line.saturating_sub(1)) {
             mark.error = diagnosis.place.column;
+            mark.end = end_of(bytes, diagnosis.place);
         }
     }
 }
 
-// How many bytes of a name stand at the front, or one.
-fn word_len(text: &[u8]) -> usize {
-    for i in 0..text.len() {
-        let byte = text[i];
-        if !byte.is_ascii_alphanumeric() && byte != b'_' {
-            return i.max(1);
-        }
-    }
-    text.len()
-}
-
-// A line, in which the word at a column is wrong.
-fn add_wrong(page: &mut Page, line: &[u8], column: usize) -> Result<(), AllocError> {
+// A line, in which what stands from a column to another one is wrong.
+fn add_wrong(page: &mut Page, line: &[u8], column: usize, end: usize) -> Result<(), AllocError> {
     let at = column.saturating_sub(1).min(line.len());
     let (before, rest) = line.split_at(at);
-    let (word, behind) = rest.split_at(word_len(rest).min(rest.len()));
+    let (wrong, behind) = rest.split_at(end.saturating_sub(column).min(rest.len()));
     page.add_bytes(before)?;
     page.add("<b>")?;
-    page.add_bytes(word)?;
+    page.add_bytes(wrong)?;
     page.add("</b>")?;
     page.add_bytes(behind)
 }
@@ -128,7 +121,7 @@ fn add_line(page: &mut Page, number: usize, line: &[u8], mark: &Mark) -> Result<
     add_line_number(page, number, mark)?;
     page.add("<code>")?;
     if mark.error > 0 {
-        add_wrong(page, line, mark.error)?;
+        add_wrong(page, line, mark.error, mark.end)?;
     } else {
         page.add_bytes(line)?;
     }

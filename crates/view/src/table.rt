@@ -3,6 +3,7 @@
 use crate::page::Page;
 use crate::rows::{Shown, add_row, add_side};
 use crate::scene::Scene;
+use crate::turn_rows::Kernels;
 use base::tree::ArrayId;
 use std::alloc::AllocError;
 use timeline::{Line, Turns, last_shown};
@@ -41,7 +42,12 @@ fn state_of(scene: &Scene<'_>, number: usize) -> Option<usize> {
     }
 }
 
-fn add_item(page: &mut Page, scene: &Scene<'_>, number: usize) -> Result<(), AllocError> {
+fn add_item(
+    page: &mut Page,
+    scene: &Scene<'_>,
+    number: usize,
+    kernels: &mut Kernels,
+) -> Result<(), AllocError> {
     let (Some(item), Some(row)) = (scene.item(number), scene.timeline.rows.get(number)) else {
         return Ok(());
     };
@@ -51,12 +57,18 @@ fn add_item(page: &mut Page, scene: &Scene<'_>, number: usize) -> Result<(), All
         row,
         state: state_of(scene, number),
     };
-    add_row(page, scene, &shown)
+    add_row(page, scene, &shown)?;
+    kernels.add(page, scene, &shown)
 }
 
-fn add_line(page: &mut Page, scene: &Scene<'_>, line: &Line) -> Result<(), AllocError> {
+fn add_line(
+    page: &mut Page,
+    scene: &Scene<'_>,
+    line: &Line,
+    kernels: &mut Kernels,
+) -> Result<(), AllocError> {
     match line {
-        Line::Item(number) => add_item(page, scene, *number),
+        Line::Item(number) => add_item(page, scene, *number, kernels),
         Line::Same(turns) => {
             page.add("<p class=m>")?;
             add_turns(page, scene, turns)?;
@@ -156,8 +168,9 @@ pub fn add_table(page: &mut Page, scene: &Scene<'_>, lines: &[Line]) -> Result<(
     }
     page.add("<div class=tb>\n")?;
     add_heads(page, scene)?;
+    let mut kernels = Kernels::new(page.alloc);
     'lines: for line in lines {
-        add_line(page, scene, line)?;
+        add_line(page, scene, line, &mut kernels)?;
     }
     add_behind(page, scene)?;
     add_hidden(page, scene)?;
