@@ -17,7 +17,7 @@ abbrev told : Text × List Row → List Text → Told
 told p options = record { name = p.0; file = text_in (codes "FILE") p.1; options = map (λ id. one_of id p.1) options }
 
 abbrev options_of_run : List Text
-options_of_run = codes "workers" ∷ codes "capacity" ∷ codes "log" ∷ codes "finals" ∷ []
+options_of_run = codes "workers" ∷ codes "capacity" ∷ codes "log" ∷ codes "maps" ∷ codes "finals" ∷ []
 
 abbrev by_two : List Text
 by_two = codes "run" ∷ codes "--workers=2" ∷ codes "a.c" ∷ codes "--log" ∷ []
@@ -25,7 +25,7 @@ by_two = codes "run" ∷ codes "--workers=2" ∷ codes "a.c" ∷ codes "--log" �
 by_two_asks : option_map (λ p. told p options_of_run) (subcommand_of ompc by_two) ≡ Some (record {
   name = codes "run";
   file = codes "a.c";
-  options = Some (codes "2") ∷ None ∷ Some (codes "true") ∷ Some (codes "false") ∷ [];
+  options = Some (codes "2") ∷ None ∷ Some (codes "true") ∷ Some (codes "false") ∷ Some (codes "false") ∷ [];
 })
 unfolding clap_on_literals
 by_two_asks = refl
@@ -61,6 +61,18 @@ by_actions_asks = refl
 by_actions_is_well_formed : fault_of ompc by_actions ≡ []
 unfolding clap_on_literals
 by_actions_is_well_formed = refl
+
+-- a step that tells what its directives do
+abbrev with_maps : List Text
+with_maps = codes "step" ∷ codes "a.c" ∷ codes "--maps" ∷ []
+
+with_maps_asks : option_map (λ p. told p (codes "fine" ∷ codes "maps" ∷ [])) (subcommand_of ompc with_maps) ≡ Some (record {
+  name = codes "step";
+  file = codes "a.c";
+  options = Some (codes "false") ∷ Some (codes "true") ∷ [];
+})
+unfolding clap_on_literals
+with_maps_asks = refl
 
 nothing_is_refused : fault_of ompc [] ≡ DisplayHelpOnMissingArgumentOrSubcommand ∷ []
 unfolding clap_on_literals

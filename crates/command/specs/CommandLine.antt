@@ -13,6 +13,8 @@ use Rattle.clap.specs.declared.builder.action.ArgAction.TheVariants.{SetTrue}
 use Rattle.clap.specs.declared.builder.value_parser.ValueParser.TheVariants.{Unsigned}
 use Rattle.command.specs.declared.request.Request.{Request}
 use Rattle.command.specs.declared.request.Request.TheVariants as request
+use Rattle.command.specs.declared.request.Color.{Color}
+use Rattle.command.specs.declared.request.Color.TheVariants as color
 use Rattle.command.specs.declared.request.Explain.{Explain}
 use Rattle.command.specs.declared.request.Format.{Format}
 use Rattle.command.specs.declared.request.Format.TheVariants as format
@@ -49,7 +51,7 @@ abbrev pub check : Shape
 check = command (codes "check") (file ∷ [])
 
 abbrev pub explain : Shape
-explain = command (codes "explain") (file ∷ text_option (codes "format") ∷ [])
+explain = command (codes "explain") (file ∷ text_option (codes "format") ∷ text_option (codes "color") ∷ [])
 
 abbrev pub fix : Shape
 fix = command (codes "fix") (file ∷ [])
@@ -64,10 +66,10 @@ abbrev pub list : Shape
 list = command (codes "list") (file ∷ [])
 
 abbrev pub run : Shape
-run = command (codes "run") (file ∷ workers ∷ capacity ∷ flag (codes "log") ∷ flag (codes "finals") ∷ [])
+run = command (codes "run") (file ∷ workers ∷ capacity ∷ flag (codes "log") ∷ flag (codes "maps") ∷ flag (codes "finals") ∷ [])
 
 abbrev pub step : Shape
-step = command (codes "step") (file ∷ text_option (codes "choices") ∷ capacity ∷ flag (codes "fine") ∷ text_option (codes "turns") ∷ [])
+step = command (codes "step") (file ∷ text_option (codes "choices") ∷ capacity ∷ flag (codes "fine") ∷ text_option (codes "turns") ∷ flag (codes "maps") ∷ [])
 
 -- the words are a command's name and its arguments; without any there is help
 abbrev pub ompc : App
@@ -123,6 +125,7 @@ pub record IsRun (rows : List Row) (r : Run) : Type 0 where
   pub workers : AreWorkers rows r.workers.count
   pub capacity : IsCapacity rows r.capacity
   pub log : IsFlag (one_of (codes "log") rows) r.log
+  pub maps : IsFlag (one_of (codes "maps") rows) r.maps
   pub finals : IsFlag (one_of (codes "finals") rows) r.finals
 
 pub record IsStep (rows : List Row) (s : Step) : Type 0 where
@@ -131,6 +134,7 @@ pub record IsStep (rows : List Row) (s : Step) : Type 0 where
   pub capacity : IsCapacity rows s.capacity
   pub fine : IsFlag (one_of (codes "fine") rows) s.fine
   pub turns : s.turns.now ≡ text_in (codes "turns") rows
+  pub maps : IsFlag (one_of (codes "maps") rows) s.maps
 
 -- the form of a report that has this name
 abbrev pub format_named : Text → Option Format
@@ -144,9 +148,21 @@ format_named name =
 abbrev pub format_in : List Row → Option Format
 format_in rows = option_map_or format_named (first_of (codes "format") rows) (Some format.Text)
 
+-- the time of colours that has this name
+abbrev pub color_named : Text → Option Color
+color_named name =
+    if bytes_eq name (codes "auto") then Some color.Auto
+    else (if bytes_eq name (codes "always") then Some color.Always
+    else (if bytes_eq name (codes "never") then Some color.Never else None))
+
+-- the time that is asked for, which is told by the terminal where none is
+abbrev pub color_in : List Row → Option Color
+color_in rows = option_map_or color_named (first_of (codes "color") rows) (Some color.Auto)
+
 pub record IsExplain (rows : List Row) (e : Explain) : Type 0 where
   pub file : e.file.now ≡ text_in (codes "FILE") rows
   pub format : e.format ≡ format_in rows
+  pub color : e.color ≡ color_in rows
 
 -- the request of a command of that name with these entries
 abbrev pub Asks : Text → List Row → Request → Type 0

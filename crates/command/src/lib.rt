@@ -4,5 +4,5 @@
 mod request;
 mod words;
 
-pub use request::{Explain, Format, Request, Run, Step, Workers};
+pub use request::{Color, Explain, Format, Request, Run, Step, Workers};
 pub use words::parse;

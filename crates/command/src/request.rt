@@ -29,12 +29,23 @@ pub enum Format {
     Dot,
 }
 
+/// When a report has colours.
+#[derive(Clone, Copy, Debug, PartialEq, Eq)]
+pub enum Color {
+    /// Where it is printed in a terminal.
+    Auto,
+    Always,
+    Never,
+}
+
 /// Why a program is refused.
 #[derive(Clone, Copy)]
 pub struct Explain<'a> {
     pub file: &'a str,
     /// None where the words name a form that there is not.
     pub format: Option<Format>,
+    /// None where the words name no such time.
+    pub color: Option<Color>,
 }
 
 /// How many worker threads there are.
@@ -51,8 +62,9 @@ pub struct Run<'a> {
     pub file: &'a str,
     pub workers: Workers,
     pub capacity: u64,
-    /// Whether the log and the values of arrays are printed.
+    /// Whether the log, what the directives did on the tables of the devices, and the values of arrays are printed.
     pub log: bool,
+    pub maps: bool,
     pub finals: bool,
 }
 
@@ -66,4 +78,6 @@ pub struct Step<'a> {
     pub fine: bool,
     /// In which order the turns of a loop go whose turns may run in any order, where each load and store is an event.
     pub turns: &'a str,
+    /// Whether what the directives did on the tables of the devices is printed.
+    pub maps: bool,
 }

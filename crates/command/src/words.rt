@@ -4,9 +4,9 @@ ghost use Rattle.std.specs.Prelude.{◌≡◌, ◌≤◌, ℕ, [], ◌∷◌, �
 ghost use Rattle.clap.specs.Simple.{App, Shape, with_subcommand};
 ghost use Rattle.clap.specs.Walk.{Rule};
 ghost use Rattle.clap.specs.Words.{FailsBy, fault_of, found_of, one_of, rows_of, subcommand_of, subcommand_rows_of};
-ghost use Rattle.command.specs.CommandLine.{AreWorkers, AskedBy, Asks, IsArg, IsCommand, IsExplain, IsNamed, IsNumber, IsProgram, IsReadAs, IsRun, IsStep, capacity, check, command, explain, file, fix, flag, format_in, format_named, list, ompc, run, step, text_in, text_option, view, witness, workers};
+ghost use Rattle.command.specs.CommandLine.{AreWorkers, AskedBy, Asks, IsArg, IsCommand, IsExplain, IsNamed, IsNumber, IsProgram, IsReadAs, IsRun, IsStep, capacity, check, color_in, color_named, command, explain, file, fix, flag, format_in, format_named, list, ompc, run, step, text_in, text_option, view, witness, workers};
 
-use crate::request::{Explain, Format, Request, Run, Step, Workers};
+use crate::request::{Color, Explain, Format, Request, Run, Step, Workers};
 use clap::{Arg, ArgAction, ArgMatches, Command, Error, value_parser};
 use std::alloc::{AllocError, Global};
 
@@ -62,6 +62,17 @@ fn log_arg<'a>(alloc: Global) -> Arg<'a>
         .help("prints the events too")
 }
 
+fn maps_arg<'a>(alloc: Global) -> Arg<'a>
+    ensures { IsArg (flag (codes "maps")) result }
+{
+    Arg::new(alloc, "maps")
+        .long("maps")
+        .action(ArgAction::SetTrue)
+        .help(
+            "prints each creation, copy, removal and count of blocks on the devices too; not with --fine",
+        )
+}
+
 fn finals_arg<'a>(alloc: Global) -> Arg<'a>
     ensures { IsArg (flag (codes "finals")) result }
 {
@@ -113,6 +124,17 @@ fn format_arg<'a>(alloc: Global) -> Arg<'a>
         .help("text, json, sarif or dot; text where it is not given")
 }
 
+fn color_arg<'a>(alloc: Global) -> Arg<'a>
+    ensures { IsArg (text_option (codes "color")) result }
+{
+    Arg::new(alloc, "color")
+        .long("color")
+        .value_name("WHEN")
+        .help(
+            "whether text has colours: auto, always or never; auto, where it is not given: in a terminal, without NO_COLOR",
+        )
+}
+
 /// A command that takes the source.
 fn file_command<'a>(
     alloc: Global,
@@ -144,6 +166,7 @@ fn run_command<'a>(alloc: Global) -> Result<Command<'a>, AllocError>
     let command = with_arg(command, workers_arg(alloc));
     let command = with_arg(command, capacity_arg(alloc));
     let command = with_arg(command, log_arg(alloc));
+    let command = with_arg(command, maps_arg(alloc));
     with_arg(command, finals_arg(alloc))
 }
 
@@ -155,7 +178,8 @@ fn step_command<'a>(alloc: Global) -> Result<Command<'a>, AllocError>
     let command = with_arg(command, choices_arg(alloc));
     let command = with_arg(command, capacity_arg(alloc));
     let command = with_arg(command, fine_arg(alloc));
-    with_arg(command, turns_arg(alloc))
+    let command = with_arg(command, turns_arg(alloc));
+    with_arg(command, maps_arg(alloc))
 }
 
 fn check_command<'a>(alloc: Global) -> Result<Command<'a>, AllocError>
@@ -179,7 +203,8 @@ fn explain_command<'a>(alloc: Global) -> Result<Command<'a>, AllocError>
     ensures { IfOk result (IsCommand explain) }
 {
     let about = "says why a program is refused: the places in the source, and what happens there";
-    with_arg(file_command(alloc, "explain", about), format_arg(alloc))
+    let command = with_arg(file_command(alloc, "explain", about), format_arg(alloc));
+    with_arg(command, color_arg(alloc))
 }
 
 fn fix_command<'a>(alloc: Global) -> Result<Command<'a>, AllocError>
@@ -283,6 +308,7 @@ fn run_of<'a>(given: &ArgMatches<'a>) -> Run<'a>
         workers: workers_of(given),
         capacity: number_of(given, "capacity", DEFAULT_CAPACITY),
         log: given.get_flag("log"),
+        maps: given.get_flag("maps"),
         finals: given.get_flag("finals"),
     }
 }
@@ -296,6 +322,7 @@ fn step_of<'a>(given: &ArgMatches<'a>) -> Step<'a>
         capacity: number_of(given, "capacity", DEFAULT_CAPACITY),
         fine: given.get_flag("fine"),
         turns: text_of(given, "turns"),
+        maps: given.get_flag("maps"),
     }
 }
 
@@ -321,12 +348,34 @@ fn format_of(given: &ArgMatches<'_>) -> Option<Format>
     }
 }
 
+/// The time of that name.
+fn color_named(name: &str) -> Option<Color>
+    ensures { result ≡ color_named name.now }
+{
+    match name {
+        "auto" => Some(Color::Auto),
+        "always" => Some(Color::Always),
+        "never" => Some(Color::Never),
+        _ => None,
+    }
+}
+
+fn color_of(given: &ArgMatches<'_>) -> Option<Color>
+    ensures { result ≡ color_in (rows_of (found_of given.now)) }
+{
+    match given.get_str("color") {
+        Some(name) => color_named(name),
+        None => Some(Color::Auto),
+    }
+}
+
 fn explain_of<'a>(given: &ArgMatches<'a>) -> Explain<'a>
     ensures { IsExplain (rows_of (found_of given.now)) result }
 {
     Explain {
         file: text_of(given, "FILE"),
         format: format_of(given),
+        color: color_of(given),
     }
 }
 

@@ -23,6 +23,8 @@ pub by_wider : (P Q : SourceFault → Type 0) (e : Ending) → ((f : SourceFault
 by_wider P Q ending.BadChoices wider h = tt
 by_wider P Q ending.BadTurns wider h = tt
 by_wider P Q ending.BadFormat wider h = tt
+by_wider P Q ending.BadColor wider h = tt
+by_wider P Q ending.BadMaps wider h = tt
 by_wider P Q (ending.Unreadable name) wider h = tt
 by_wider P Q (ending.Source f) wider h = λ refuses. wider f (h refuses)
 by_wider P Q ending.Refused wider h = record { fault = h.fault; refuses = h.refuses; is = wider h.fault h.is }

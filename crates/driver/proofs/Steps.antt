@@ -25,25 +25,25 @@ checked_way fine choices turns (Checked (Workers workers)) is = absurd is
 checked_way fine choices turns (Fine list order) is = ap not (sym is.0)
 
 -- what that way has printed is printed by the machine that is asked for
-pub printed_way : (fine : Bool) (choices turns : List ℕ) (capacity : ℕ) (way : Way) (bytes : List ℕ) (known old new : Option (List ℕ))
-    → IsStepWay fine choices turns way → IsPrinted (answers_of way capacity) true false bytes known old new
-    → IsPrinted (stepped fine choices turns capacity) true false bytes known old new
-printed_way true choices turns capacity (Fine list order) bytes known old new is h =
-    subst (λ cs. IsPrinted (by_actions cs turns capacity) true false bytes known old new) is.1
-    (subst (λ ts. IsPrinted (by_actions list.now ts capacity) true false bytes known old new) is.2 h)
-printed_way false choices turns capacity (Fine list order) bytes known old new is h = absurd (true≢false (sym is.0))
-printed_way true choices turns capacity (Checked (Choices list)) bytes known old new is h = absurd (true≢false is.0)
-printed_way false choices turns capacity (Checked (Choices list)) bytes known old new is h =
-    subst (λ cs. IsPrinted (accepted_by (by_list cs capacity)) true false bytes known old new) is.1 h
-printed_way true choices turns capacity (Checked (Workers workers)) bytes known old new is h = absurd is
-printed_way false choices turns capacity (Checked (Workers workers)) bytes known old new is h = absurd is
+pub printed_way : (fine maps : Bool) (choices turns : List ℕ) (capacity : ℕ) (way : Way) (bytes : List ℕ) (known old new : Option (List ℕ))
+    → IsStepWay fine choices turns way → IsPrinted (answers_of way capacity) true maps false bytes known old new
+    → IsPrinted (stepped fine choices turns capacity) true maps false bytes known old new
+printed_way true maps choices turns capacity (Fine list order) bytes known old new is h =
+    subst (λ cs. IsPrinted (by_actions cs turns capacity) true maps false bytes known old new) is.1
+    (subst (λ ts. IsPrinted (by_actions list.now ts capacity) true maps false bytes known old new) is.2 h)
+printed_way false maps choices turns capacity (Fine list order) bytes known old new is h = absurd (true≢false (sym is.0))
+printed_way true maps choices turns capacity (Checked (Choices list)) bytes known old new is h = absurd (true≢false is.0)
+printed_way false maps choices turns capacity (Checked (Choices list)) bytes known old new is h =
+    subst (λ cs. IsPrinted (accepted_by (by_list cs capacity)) true maps false bytes known old new) is.1 h
+printed_way true maps choices turns capacity (Checked (Workers workers)) bytes known old new is h = absurd is
+printed_way false maps choices turns capacity (Checked (Workers workers)) bytes known old new is h = absurd is
 
 -- a step is done where its way has printed
-pub done_way : {E : Type 0} (r : Result ℕ E) (source : Option (List ℕ)) (fine : Bool) (text choices order turns : List ℕ) (capacity : ℕ) (way : Way) (known old new : Option (List ℕ))
+pub done_way : {E : Type 0} (r : Result ℕ E) (source : Option (List ℕ)) (fine maps : Bool) (text choices order turns : List ℕ) (capacity : ℕ) (way : Way) (known old new : Option (List ℕ))
     → choices_of text ≡ Some choices → choices_of order ≡ Some turns → IsStepWay fine choices turns way
-    → IfOk r (λ s. s ≡ 0 → OfSource source (λ bytes. IsPrinted (answers_of way capacity) true false bytes known old new))
-    → IfOk r (λ s. s ≡ 0 → OfSource source (λ bytes. IsStepped fine text order capacity bytes known old new))
-done_way (Ok s) source fine text choices order turns capacity way known old new spelled ordered is h = λ zero.
+    → IfOk r (λ s. s ≡ 0 → OfSource source (λ bytes. IsPrinted (answers_of way capacity) true maps false bytes known old new))
+    → IfOk r (λ s. s ≡ 0 → OfSource source (λ bytes. IsStepped fine maps text order capacity bytes known old new))
+done_way (Ok s) source fine maps text choices order turns capacity way known old new spelled ordered is h = λ zero.
     let found = h zero in
     record {
       bytes = found.bytes;
@@ -53,7 +53,7 @@ done_way (Ok s) source fine text choices order turns capacity way known old new 
         are_choices = spelled;
         turns = turns;
         are_turns = ordered;
-        printed = printed_way fine choices turns capacity way found.bytes known old new is found.holds;
+        printed = printed_way fine maps choices turns capacity way found.bytes known old new is found.holds;
       };
     }
-done_way (Err e) source fine text choices order turns capacity way known old new spelled ordered is h = tt
+done_way (Err e) source fine maps text choices order turns capacity way known old new spelled ordered is h = tt

@@ -12,6 +12,7 @@ use Rattle.pipeline.specs.Checking.{IsChecked}
 use Rattle.pipeline.specs.Listing.{IsListed}
 use Rattle.explain.specs.Explained.{SpellsAccepted}
 use Rattle.report.specs.Runs.{log_bytes, finals_bytes}
+use Rattle.maps.specs.Maps.{run_maps_bytes}
 use Rattle.numbers.specs.Numbers.{input_of, choices_of}
 use Rattle.command.specs.CommandLine.{AskedBy}
 use Rattle.command.specs.declared.request.Request.{Request}
@@ -63,20 +64,22 @@ pub record IsReadAnswer (is : List ℕ → Answers) (known : Option (List ℕ)) 
   pub is_input : IsInput known input
   pub answer : is input p a
 
--- the output, then the log and the values of arrays where they are asked for
-abbrev pub answer_bytes : Bool → Bool → Program → Answer → List ℕ
-answer_bytes log finals p a =
-    a.out.items ++ ((if log then log_bytes a.history.items else []) ++ (if finals then finals_bytes p a.finals.items else []))
+-- the output, then the log, what the directives did on the tables of the devices, and the values of arrays, where they
+-- are asked for
+abbrev pub answer_bytes : Bool → Bool → Bool → Program → Answer → List ℕ
+answer_bytes log maps finals p a =
+    a.out.items ++ ((if log then log_bytes a.history.items else [])
+    ++ ((if maps then run_maps_bytes p a.history.items else []) ++ (if finals then finals_bytes p a.finals.items else [])))
 
 -- that is appended, of the program that the bytes spell; where it is accepted, that is the answer of the program that they
 -- spell without directive lines
-pub record IsPrinted (is : List ℕ → Answers) (log finals : Bool) (bytes : List ℕ) (known old new : Option (List ℕ)) : Type 0 where
+pub record IsPrinted (is : List ℕ → Answers) (log maps finals : Bool) (bytes : List ℕ) (known old new : Option (List ℕ)) : Type 0 where
   pub program : Program
   pub spelled : Spells bytes program
   pub answer : Answer
   pub answered : IsReadAnswer is known program answer
   pub without : IsAccepted (plan program) → (q : Program) → Spells (erased_text bytes) q → IsPlainAnswer program q answered.input answer
-  pub written : Appends old new (answer_bytes log finals program answer)
+  pub written : Appends old new (answer_bytes log maps finals program answer)
 
 -- what is answered on an input by choices, on the machine that is asked for
 abbrev pub stepped : Bool → List ℕ → List ℕ → ℕ → List ℕ → Answers
@@ -84,12 +87,12 @@ stepped true choices turns capacity = by_actions choices turns capacity
 stepped false choices turns capacity = accepted_by (by_list choices capacity)
 
 -- a run by the choices of a text, with its log; the other text is the order of turns
-pub record IsStepped (fine : Bool) (text order : List ℕ) (capacity : ℕ) (bytes : List ℕ) (known old new : Option (List ℕ)) : Type 0 where
+pub record IsStepped (fine maps : Bool) (text order : List ℕ) (capacity : ℕ) (bytes : List ℕ) (known old new : Option (List ℕ)) : Type 0 where
   pub choices : List ℕ
   pub are_choices : choices_of text ≡ Some choices
   pub turns : List ℕ
   pub are_turns : choices_of order ≡ Some turns
-  pub printed : IsPrinted (stepped fine choices turns capacity) true false bytes known old new
+  pub printed : IsPrinted (stepped fine choices turns capacity) true maps false bytes known old new
 
 -- a text that spells an accepted program, and differs from the bytes in directives alone
 pub record IsFixed (bytes : List ℕ) (old new : Option (List ℕ)) : Type 0 where
@@ -109,8 +112,8 @@ pub record IsWitnessed (name bytes : List ℕ) (known old new : Option (List ℕ
 
 -- what a request prints of the bytes of a source
 abbrev pub IsDone : Request → List ℕ → Option (List ℕ) → Option (List ℕ) → Option (List ℕ) → Type 0
-IsDone (Run run) bytes known old new = IsPrinted (accepted_by (by_workers run.capacity)) run.log run.finals bytes known old new
-IsDone (Step step) bytes known old new = IsStepped step.fine step.choices.now step.turns.now step.capacity bytes known old new
+IsDone (Run run) bytes known old new = IsPrinted (accepted_by (by_workers run.capacity)) run.log run.maps run.finals bytes known old new
+IsDone (Step step) bytes known old new = IsStepped step.fine step.maps step.choices.now step.turns.now step.capacity bytes known old new
 IsDone (Check name) bytes known old new = IsChecked bytes old new
 IsDone (Items name) bytes known old new = IsListed bytes old new
 IsDone (Explain explain) bytes known old new = SpellsAccepted bytes

@@ -1,5 +1,5 @@
 -- The status of a command that prints nothing, and what it says.
-use Rattle.std.specs.Prelude.{ℕ, List, []}
+use Rattle.std.specs.Prelude.{ℕ, List, [], codes}
 use Rattle.base.specs.declared.fault.ReadFault.TheVariants as read
 use Rattle.base.specs.declared.fault.OutlineFault.TheVariants as outline
 use Rattle.base.specs.declared.fault.CheckFault.TheVariants as check
@@ -28,11 +28,14 @@ abbrev pub usage_status : ErrorKind → ℕ
 usage_status kind.OutOfMemory = 3
 usage_status _ = 2
 
--- choices, an order of turns, a format, a source and an input that cannot be read have 2 too
+-- choices, an order of turns, a format, a time of colours, a source and an input that cannot be read have 2 too, and so have tables that are
+-- asked for of the machine that does not tell them
 abbrev pub status_of : Ending → ℕ
 status_of ending.BadChoices = 2
 status_of ending.BadTurns = 2
 status_of ending.BadFormat = 2
+status_of ending.BadColor = 2
+status_of ending.BadMaps = 2
 status_of (ending.Unreadable name) = 2
 status_of (ending.Source f) = source_status f
 status_of ending.Refused = 1
@@ -52,6 +55,8 @@ abbrev pub ending_line : Ending → List ℕ
 ending_line ending.BadChoices = misuse_line misuse.Choices
 ending_line ending.BadTurns = misuse_line misuse.Turns
 ending_line ending.BadFormat = misuse_line misuse.Format
+ending_line ending.BadColor = codes "bad color\n"
+ending_line ending.BadMaps = codes "no maps with --fine\n"
 ending_line (ending.Unreadable name) = misuse_line (misuse.Source name)
 ending_line (ending.Source f) = fault_line f
 ending_line ending.Refused = []

@@ -22,6 +22,7 @@ use clap::error::ErrorKind;
 use command::{Request, Run, Step, Workers, parse};
 use erased_meaning::erased_text_runs;
 use mapcheck::{Accepted, check};
+use maps::run_maps_text;
 use mend::{MOST_CHECKS, seek_within};
 use numbers::{NumbersFault, choice_list, input_numbers};
 use outline::Outlined;
@@ -76,6 +77,9 @@ pub(crate) enum Ending<'a> {
     BadChoices,
     BadTurns,
     BadFormat,
+    BadColor,
+    /// What the directives did on the tables is asked for where each action on a table is an event.
+    BadMaps,
     Unreadable(&'a str),
     Source(SourceFault),
     /// The program is not accepted, and the line that says why is written.
@@ -97,6 +101,8 @@ impl Ending<'_> {
             Ending::BadChoices
             | Ending::BadTurns
             | Ending::BadFormat
+            | Ending::BadColor
+            | Ending::BadMaps
             | Ending::Unreadable(_)
             | Ending::BadInput => MISUSED,
             Ending::Source(fault) => status_of(*fault),
@@ -112,6 +118,8 @@ impl Ending<'_> {
             Ending::BadChoices => misuse_text(Misuse::Choices, err),
             Ending::BadTurns => misuse_text(Misuse::Turns, err),
             Ending::BadFormat => misuse_text(Misuse::Format, err),
+            Ending::BadColor => writeln!(err, "bad color"),
+            Ending::BadMaps => writeln!(err, "no maps with --fine"),
             Ending::Unreadable(name) => misuse_text(Misuse::Source(name), err),
             Ending::Source(fault) => fault_text(*fault, err),
             Ending::Refused => Ok(()),
@@ -217,6 +225,7 @@ struct Asked<'a, 'c> {
     way: Way<'c>,
     capacity: u64,
     log: bool,
+    maps: bool,
     finals: bool,
 }
 
@@ -225,6 +234,8 @@ struct Asked<'a, 'c> {
 struct Means<'r, T> {
     rt: &'r T,
     alloc: Global,
+    // Whether a terminal that takes colours shows what is printed.
+    terminal: bool,
 }
 
 fn run_by<T: Threads + Wait + Sync>(
@@ -313,16 +324,20 @@ fn answer<'a, T: Threads + Wait + Sync, R: Read, E: Write>(
 
 /// Prints the output, then what else is asked for.
 fn write_answer<W: Write>(
+    alloc: Global,
     program: &Program,
     answer: &Answer,
     asked: Asked<'_, '_>,
     out: &mut W,
 ) -> io::Result<()>
-    ensures { OnOk result (Appends (W.contents out.old) (W.contents out.new) (answer_bytes asked.entry.log asked.entry.finals program.now answer.now)) }
+    ensures { OnOk result (Appends (W.contents out.old) (W.contents out.new) (answer_bytes asked.entry.log asked.entry.maps asked.entry.finals program.now answer.now)) }
 {
     out.write_all(&answer.out)?;
     if asked.log {
         log_text(&answer.history, out)?;
+    }
+    if asked.maps {
+        run_maps_text(alloc, program, &answer.history, out)?;
     }
     if asked.finals {
         finals_text(program, &answer.finals, out)?;
@@ -343,16 +358,17 @@ fn run_file<'a, T: Threads + Wait + Sync, S: Sources, R: Read, W: Write, E: Writ
     ensures status { IfOk result (λ s. (s ≡ 0) ⊎ (s ≡ 3)) }
     ensures quiet { OnErr result (W.contents out.new ≡ W.contents out.old) }
     ensures refused { IfErr result (IsRefusalBy (IsRefusedOf (is_checked asked.entry.way) (S.known sources.old asked.entry.file.now))) }
-    ensures printed { IfOk result (λ s. s ≡ 0 → OfSource (S.known sources.old asked.entry.file.now) (λ bytes. IsPrinted (answers_of asked.entry.way asked.entry.capacity) asked.entry.log asked.entry.finals bytes (R.remaining input.old) (W.contents out.old) (W.contents out.new))) }
+    ensures printed { IfOk result (λ s. s ≡ 0 → OfSource (S.known sources.old asked.entry.file.now) (λ bytes. IsPrinted (answers_of asked.entry.way asked.entry.capacity) asked.entry.log asked.entry.maps asked.entry.finals bytes (R.remaining input.old) (W.contents out.old) (W.contents out.new))) }
 {
+    let alloc = on.alloc;
     let bytes = bytes_of(sources, asked.file)?;
-    let program = match read(on.alloc, &bytes) {
+    let program = match read(alloc, &bytes) {
         Ok(program) => program,
         Err(fault) => return Err(Ending::Source(fault)),
     };
     erased_text_runs();
     let answer = answer(on, &program, asked, input, err)?;
-    match write_answer(&program, &answer, asked, out) {
+    match write_answer(alloc, &program, &answer, asked, out) {
         Ok(()) => Ok(DONE),
         Err(_) => Ok(FAILED),
     }
@@ -377,6 +393,7 @@ fn do_run<'a, T: Threads + Wait + Sync, S: Sources, R: Read, W: Write, E: Write>
         way: Way::Checked(Next::Workers(run.workers)),
         capacity: run.capacity,
         log: run.log,
+        maps: run.maps,
         finals: run.finals,
     };
     run_file(on, asked, sources, input, out, err)
@@ -407,6 +424,9 @@ fn do_step<'a, T: Threads + Wait + Sync, S: Sources, R: Read, W: Write, E: Write
     ensures refused { IfErr result (IsRefusalBy (IsRefusedOf (not step.entry.fine) (S.known sources.old step.entry.file.now))) }
     ensures done { IfOk result (λ s. s ≡ 0 → OfSource (S.known sources.old step.entry.file.now) (λ bytes. IsDone (Request.Step step.entry) bytes (R.remaining input.old) (W.contents out.old) (W.contents out.new))) }
 {
+    if step.fine && step.maps {
+        return Err(Ending::BadMaps);
+    }
     let choices = match choice_list(on.alloc, step.choices) {
         Ok(choices) => choices,
         Err(NumbersFault::Malformed) => return Err(Ending::BadChoices),
@@ -422,6 +442,7 @@ fn do_step<'a, T: Threads + Wait + Sync, S: Sources, R: Read, W: Write, E: Write
         way: step_way(step.fine, &choices, &turns),
         capacity: step.capacity,
         log: true,
+        maps: step.maps,
         finals: false,
     };
     run_file(on, asked, sources, input, out, err)
@@ -582,7 +603,7 @@ fn do_request<'a, T: Threads + Wait + Sync, S: Sources, R: Read, W: Write, E: Wr
         Request::Step(step) => do_step(on, step, sources, input, out, err),
         Request::Check(name) => do_check(on.alloc, name, sources, out, err),
         Request::List(name) => do_list(on.alloc, name, sources, out, err),
-        Request::Explain(explain) => do_explain(on.alloc, explain, sources, out, err),
+        Request::Explain(explain) => do_explain(on.alloc, on.terminal, explain, sources, out, err),
         Request::Fix(name) => do_fix(on.alloc, name, sources, out, err),
         Request::Witness(name) => do_witness(on.alloc, name, sources, input, out, err),
         Request::View(name) => do_view(on.alloc, name, sources, out, err),
@@ -637,11 +658,12 @@ fn misused<E: Write>(error: &clap::Error, err: &mut E) -> u8
 /// end, where memory ran out, or where standard output cannot be written.
 ///
 /// What a command prints goes to `out` at its end, and only where it succeeds, but for `explain` and `view`, which print
-/// why a program is refused; the text of a fault goes to `err`. `rt`
-/// starts the worker threads of `run`; every other command waits for nobody.
+/// why a program is refused; the text of a fault goes to `err`. `terminal` says whether a terminal that takes colours
+/// shows `out`. `rt` starts the worker threads of `run`; every other command waits for nobody.
 pub fn drive<T: Threads + Wait + Sync, S: Sources, R: Read, W: Write, E: Write>(
     rt: &T,
     alloc: Global,
+    terminal: bool,
     words: &[&str],
     sources: &mut S,
     input: &mut R,
@@ -657,7 +679,14 @@ pub fn drive<T: Threads + Wait + Sync, S: Sources, R: Read, W: Write, E: Write>(
     ensures done { result ≡ 0 → IsCommandDone (map (λ w. w.now) words.now) (S.known sources.old) (R.remaining input.old) (W.contents out.old) (W.contents out.new) }
 {
     match parse(alloc, words) {
-        Ok(request) => perform(Means { rt, alloc }, request, sources, input, out, err),
+        Ok(request) => {
+            let on = Means {
+                rt,
+                alloc,
+                terminal,
+            };
+            perform(on, request, sources, input, out, err)
+        },
         Err(error) => misused(&error, err),
     }
 }

@@ -1,11 +1,14 @@
 //! The program `ompc`.
 #![tactic(auto)]
 
+use c_tokens::limits::MAX_SOURCE;
 use driver::{SourceError, Sources, drive};
 use std::alloc::Global;
-use std::io::{BufWriter, Write};
+use std::env::VarError;
+use std::fs::File;
+use std::io;
+use std::io::{BufWriter, IsTerminal, Read, Write};
 use std::process::ExitCode;
-use std::{fs, io};
 
 /// The files of the machine.
 #[derive(Drop)]
@@ -13,9 +16,29 @@ struct Disk<'a> {
     rt: &'a HostRuntime,
 }
 
+/// So many bytes are read at once.
+const PART: usize = 65_536;
+
+/// The bytes of a file; of one that is longer than a source may be, one byte too many and no more.
+fn read_source(rt: &HostRuntime, name: &str) -> io::Result<Vec<u8>> {
+    let mut file = File::open(rt, name)?;
+    let mut bytes = Vec::new(rt.alloc());
+    let mut part = Vec::from_elem(rt.alloc(), 0u8, PART)?;
+    for _ in 0..=MAX_SOURCE {
+        let left = MAX_SOURCE.saturating_add(1).saturating_sub(bytes.len());
+        let room = left.min(part.len());
+        let count = file.read(&mut part[..room])?;
+        if count == 0 {
+            return Ok(bytes);
+        }
+        bytes.extend_from_slice(part.get(..count).unwrap_or(&[]))?;
+    }
+    Ok(bytes)
+}
+
 impl Sources for Disk<'_> {
     fn source(&mut self, name: &str) -> Result<Vec<u8>, SourceError> {
-        fs::read(self.rt, name).map_err(|error| match error.kind() {
+        read_source(self.rt, name).map_err(|error| match error.kind() {
             io::ErrorKind::OutOfMemory => SourceError::OutOfMemory,
             _ => SourceError::Unreadable,
         })
@@ -71,6 +94,11 @@ fn flushed<W: Write>(status: u8, out: &mut W) -> u8 {
     }
 }
 
+/// Whether what is printed is shown by a terminal, and colours are not forbidden there (https://no-color.org).
+fn has_colours(rt: &HostRuntime) -> bool {
+    rt.stdout().is_terminal() && matches!(std::env::var(rt, "NO_COLOR"), Err(VarError::NotPresent))
+}
+
 fn main(rt: HostRuntime) -> ExitCode {
     keep_freed_memory(rt.alloc());
     let words = match words_of(&rt) {
@@ -88,6 +116,7 @@ fn main(rt: HostRuntime) -> ExitCode {
     let status = drive(
         &rt,
         rt.alloc(),
+        has_colours(&rt),
         words.as_slice(),
         &mut Disk { rt: &rt },
         &mut rt.reader(),

@@ -9,5 +9,6 @@ returns c = record {
   workers = c.workers_of.ensures;
   capacity = c.number_of.ensures 0 4294967296;
   log = flag_is (found_of c.args.given.now) (codes "log") c.get_flag.result c.get_flag.ensures.value c.get_flag.ensures.other;
-  finals = flag_is (found_of c.args.given.now) (codes "finals") c.get_flag-2.result c.get_flag-2.ensures.value c.get_flag-2.ensures.other;
+  maps = flag_is (found_of c.args.given.now) (codes "maps") c.get_flag-2.result c.get_flag-2.ensures.value c.get_flag-2.ensures.other;
+  finals = flag_is (found_of c.args.given.now) (codes "finals") c.get_flag-3.result c.get_flag-3.ensures.value c.get_flag-3.ensures.other;
 }

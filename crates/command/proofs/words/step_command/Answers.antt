@@ -9,5 +9,8 @@ returns c =
     let two = c.with_arg-command-2.ensures (command (codes "step") (file ∷ text_option (codes "choices") ∷ [])) capacity one c.capacity_arg.ensures in
     let three = c.with_arg-command-3.ensures (command (codes "step") (file ∷ text_option (codes "choices") ∷ capacity ∷ []))
     (flag (codes "fine")) two c.fine_arg.ensures in
-    c.with_arg.ensures (command (codes "step") (file ∷ text_option (codes "choices") ∷ capacity ∷ flag (codes "fine") ∷ []))
-    (text_option (codes "turns")) three c.turns_arg.ensures
+    let four = c.with_arg-command-4.ensures (command (codes "step") (file ∷ text_option (codes "choices") ∷ capacity ∷ flag (codes "fine") ∷ []))
+    (text_option (codes "turns")) three c.turns_arg.ensures in
+    c.with_arg.ensures (command (codes "step")
+    (file ∷ text_option (codes "choices") ∷ capacity ∷ flag (codes "fine") ∷ text_option (codes "turns") ∷ []))
+    (flag (codes "maps")) four c.maps_arg.ensures

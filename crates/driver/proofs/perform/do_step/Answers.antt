@@ -11,7 +11,7 @@ returns-clause-refused g c =
 
 pub returns-clause-done : goal.returns-clause-done
 returns-clause-done g c =
-    done_way c.run_file.result (g.S.Sources.known c.args.sources.now c.args.step.file.now) c.args.step.fine c.args.step.choices.now c.deref.result.now
+    done_way c.run_file.result (g.S.Sources.known c.args.sources.now c.args.step.file.now) c.args.step.fine c.args.step.maps c.args.step.choices.now c.deref.result.now
     c.args.step.turns.now c.deref-2.result.now c.args.step.capacity c.step_way.result (g.R.Read.remaining c.args.input.now) (g.W.Write.contents c.args.out.now)
     (g.W.Write.contents c.run_file.new.out) (c.in-Ok.ensures.choices ∙ ap (λ ns. Some ns) (sym c.deref.ensures.value))
     (c.in-Ok-choice_list.ensures.choices ∙ ap (λ ns. Some ns) (sym c.deref-2.ensures.value)) c.step_way.ensures

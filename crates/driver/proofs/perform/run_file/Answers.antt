@@ -21,7 +21,7 @@ returns-in_err-answer-clause-refused g c =
 pub returns-in-Ok-write_answer-clause-printed : goal.returns-in-Ok-write_answer-clause-printed
 returns-in-Ok-write_answer-clause-printed g c =
     λ _. of_source (g.S.Sources.known c.args.sources.now c.args.asked.file.now)
-    (λ bytes. IsPrinted (answers_of c.args.asked.way c.args.asked.capacity) c.args.asked.log c.args.asked.finals bytes (g.R.Read.remaining c.args.input.now)
+    (λ bytes. IsPrinted (answers_of c.args.asked.way c.args.asked.capacity) c.args.asked.log c.args.asked.maps c.args.asked.finals bytes (g.R.Read.remaining c.args.input.now)
     (g.W.Write.contents c.args.out.now) (g.W.Write.contents c.write_answer.new.out))
     c.in_ok-bytes.bytes.items c.deref.result.now c.in_ok-bytes.ensures.bytes c.deref.ensures.value (record {
       program = c.in-Ok.program;

@@ -1,0 +1,4 @@
+pub mod Devices
+pub mod Mapped
+pub mod Roles
+pub mod Turns
