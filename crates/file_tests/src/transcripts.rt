@@ -74,6 +74,7 @@ fn tell_outcome<R: Threads + Wait + Sync + Files + Alloc<A = Global>>(
     let status = drive(
         rt,
         alloc,
+        false,
         words,
         &mut Folder { rt },
         &mut reader,

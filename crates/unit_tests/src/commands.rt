@@ -75,6 +75,7 @@ fn status_of<R: Threads + Wait + Sync>(
     drive(
         rt,
         alloc,
+        false,
         &[command, "a.c"],
         &mut One { alloc, text },
         &mut input,

@@ -12,6 +12,8 @@ mod fine_tests;
 #[cfg(test)]
 mod footprint_tests;
 #[cfg(test)]
+mod graph_tests;
+#[cfg(test)]
 mod in_c_tests;
 #[cfg(test)]
 mod jobs;
@@ -31,6 +33,8 @@ mod report_tests;
 mod rooms;
 #[cfg(test)]
 mod rows;
+#[cfg(test)]
+mod shown_text_tests;
 #[cfg(test)]
 mod sources;
 #[cfg(test)]

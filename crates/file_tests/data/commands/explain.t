@@ -4,50 +4,50 @@
 # subscripts, sections and counts out of range
 $ ompc explain below_the_array.c
 below_the_array.c:3:39: error: the subscript of A is 18446744073709551615, and A has 4 cells (in the turn i = 0) [E301]
-    for (uint64_t i = 0; i < 4; i += 1) { A[i - 1] = i; }
-                                          ^
+    3 | for (uint64_t i = 0; i < 4; i += 1) { A[i - 1] = i; }
+      |                                       ^~~~~~~~
 below_the_array.c:1:10: note: A has the cells 0 to 3
-    uint64_t A[4];
-             ^
+    1 | uint64_t A[4];
+      |          ^~~~
 below_the_array.c:3:39: help: put it under an `if` that the values of the loops decide, or change the bounds of the loop
-    for (uint64_t i = 0; i < 4; i += 1) { A[i - 1] = i; }
-                                          ^
+    3 | for (uint64_t i = 0; i < 4; i += 1) { A[i - 1] = i; }
+      |                                       ^~~~~~~~
 ! E301 item 0 line 3 column 39
 [1]
 $ ompc explain too_far.c
 too_far.c:5:39: error: the subscript of A is 4, and A has 4 cells (in the turn i = 4) [E301]
-    for (uint64_t i = 0; i < 5; i += 1) { A[i] = A[i] * 2 + 1; }
-                                          ^
+    5 | for (uint64_t i = 0; i < 5; i += 1) { A[i] = A[i] * 2 + 1; }
+      |                                       ^~~~
 too_far.c:1:10: note: A has the cells 0 to 3
-    uint64_t A[4];
-             ^
+    1 | uint64_t A[4];
+      |          ^~~~
 too_far.c:5:39: help: put it under an `if` that the values of the loops decide, or change the bounds of the loop
-    for (uint64_t i = 0; i < 5; i += 1) { A[i] = A[i] * 2 + 1; }
-                                          ^
+    5 | for (uint64_t i = 0; i < 5; i += 1) { A[i] = A[i] * 2 + 1; }
+      |                                       ^~~~
 ! E301 item 1 line 5 column 39
 [1]
 $ ompc explain loops_without_braces.c
 loops_without_braces.c:4:81: error: the subscript of A is 8, and A has 8 cells (in the turn i = 3, j = 2) [E301]
-    for (size_t i = 0; i < 4; i++) if (i & 1) for (unsigned long j = 0; j < 4; ++j) A[i * 2 + j] += j; else A[i] = 0;
-                                                                                    ^
+    4 | ..size_t i = 0; i < 4; i++) if (i & 1) for (unsigned long j = 0; j < 4; ++j) A[i * 2 + j] += j; else A[i] = 0;
+      |                                                                              ^~~~~~~~~~~~
 loops_without_braces.c:1:10: note: A has the cells 0 to 7
-    uint64_t A[8];
-             ^
+    1 | uint64_t A[8];
+      |          ^~~~
 loops_without_braces.c:4:81: help: put it under an `if` that the values of the loops decide, or change the bounds of the loop
-    for (size_t i = 0; i < 4; i++) if (i & 1) for (unsigned long j = 0; j < 4; ++j) A[i * 2 + j] += j; else A[i] = 0;
-                                                                                    ^
+    4 | ..size_t i = 0; i < 4; i++) if (i & 1) for (unsigned long j = 0; j < 4; ++j) A[i * 2 + j] += j; else A[i] = 0;
+      |                                                                              ^~~~~~~~~~~~
 ! E301 item 0 line 4 column 81
 [1]
 $ ompc explain past_the_array.c
 past_the_array.c:3:39: error: the section A[1:4] has the cells 1 to 4, and A has 4 cells [E302]
-    #pragma omp target enter data map(to: A[1:4])
-                                          ^
+    3 | #pragma omp target enter data map(to: A[1:4])
+      |                                       ^~~~~~
 past_the_array.c:1:10: note: A has the cells 0 to 3
-    uint64_t A[4];
-             ^
+    1 | uint64_t A[4];
+      |          ^~~~
 past_the_array.c:3:39: help: a section is FIRST:LENGTH; A[1:3] is what fits at most
-    #pragma omp target enter data map(to: A[1:4])
-                                          ^
+    3 | #pragma omp target enter data map(to: A[1:4])
+      |                                       ^~~~~~
 past_the_array.c:3:1: help: this change is accepted
 --- past_the_array.c
 +++ past_the_array.c
@@ -58,27 +58,27 @@ past_the_array.c:3:1: help: this change is accepted
 [1]
 $ ompc explain empty_section.c
 empty_section.c:3:39: error: the section A[1:0] is empty [E302]
-    #pragma omp target enter data map(to: A[1:0])
-                                          ^
+    3 | #pragma omp target enter data map(to: A[1:0])
+      |                                       ^~~~~~
 empty_section.c:1:10: note: A has the cells 0 to 3
-    uint64_t A[4];
-             ^
+    1 | uint64_t A[4];
+      |          ^~~~
 empty_section.c:3:39: help: a section is FIRST:LENGTH; A[1:3] is what fits at most
-    #pragma omp target enter data map(to: A[1:0])
-                                          ^
+    3 | #pragma omp target enter data map(to: A[1:0])
+      |                                       ^~~~~~
 ! E302 item 0 line 3 column 39
 [1]
 $ ompc explain long_loop.c
 long_loop.c:2:1: error: the loops of this region have 1048577 turns together, and 1048576 is the most [E303]
-    for (uint64_t i = 0; i < 1048577; i += 1) { print(i); }
-    ^
+    2 | for (uint64_t i = 0; i < 1048577; i += 1) { print(i); }
+      | ^~~
 long_loop.c:2:1: help: split the region in two, by a directive between, or lower the counts of its loops
 ! E303 item 0 line 2 column 1
 [1]
 $ ompc explain one_item_more.c
 one_item_more.c:3:1: error: the program has 65537 items, and 65536 is the most [E401]
-    #pragma omp taskwait
-    ^
+    3 | #pragma omp taskwait
+      | ^~~~~~~~~~~~~~~~~~~~
 one_item_more.c:3:1: note: each turn of the loop over i has items of its own: a run of statements between directives is one, a directive is one, a `target data` two
 one_item_more.c:3:1: help: move the loop into a target, or lower its count
 ! E401
@@ -87,14 +87,14 @@ one_item_more.c:3:1: help: move the loop into a target, or lower its count
 # sections that are not where a directive needs them
 $ ompc explain mapped_in_part.c
 mapped_in_part.c:6:1: error: the implicit `map(tofrom: A[0:8])` overlaps A[0:4], which is on device 0, without lying inside it [E501]
-    for (uint64_t i = 0; i < 4; i += 1) { A[i] = i + 5; }
-    ^
+    6 | for (uint64_t i = 0; i < 4; i += 1) { A[i] = i + 5; }
+      | ^~~
 mapped_in_part.c:3:36: note: A[0:4] is on device 0 since item 0, which entered it here
-    #pragma omp target data map(alloc: A[0:4])
-                                       ^
+    3 | #pragma omp target data map(alloc: A[0:4])
+      |                                    ^~~~~~
 mapped_in_part.c:6:1: help: name A[0:4] here, or a section inside it; or enter all of A[0:8] there
-    for (uint64_t i = 0; i < 4; i += 1) { A[i] = i + 5; }
-    ^
+    6 | for (uint64_t i = 0; i < 4; i += 1) { A[i] = i + 5; }
+      | ^~~
 mapped_in_part.c:5:1: help: this change is accepted
 --- mapped_in_part.c
 +++ mapped_in_part.c
@@ -105,14 +105,14 @@ mapped_in_part.c:5:1: help: this change is accepted
 [1]
 $ ompc explain in_part_on_one_device.c
 in_part_on_one_device.c:4:39: error: `map(to: A[1:3])` overlaps A[0:3], which is on device 0, without lying inside it [E501]
-    #pragma omp target enter data map(to: A[1:3])
-                                          ^
+    4 | #pragma omp target enter data map(to: A[1:3])
+      |                                       ^~~~~~
 in_part_on_one_device.c:3:39: note: A[0:3] is on device 0 since item 0, which entered it here
-    #pragma omp target enter data map(to: A[0:3])
-                                          ^
+    3 | #pragma omp target enter data map(to: A[0:3])
+      |                                       ^~~~~~
 in_part_on_one_device.c:4:39: help: name A[0:3] here, or a section inside it; or enter all of A[1:3] there
-    #pragma omp target enter data map(to: A[1:3])
-                                          ^
+    4 | #pragma omp target enter data map(to: A[1:3])
+      |                                       ^~~~~~
 in_part_on_one_device.c:4:1: help: this change is accepted
 --- in_part_on_one_device.c
 +++ in_part_on_one_device.c
@@ -123,11 +123,11 @@ in_part_on_one_device.c:4:1: help: this change is accepted
 [1]
 $ ompc explain block_one_short.c
 block_one_short.c:5:32: error: `map(tofrom: A[0:8])` overlaps A[0:7], which is on device 0, without lying inside it [E501]
-    #pragma omp target map(tofrom: A)
-                                   ^
+    5 | #pragma omp target map(tofrom: A)
+      |                                ^
 block_one_short.c:3:37: note: A[0:7] is on device 0 since item 0, which entered it here
-    #pragma omp target data map(tofrom: A[0:7])
-                                        ^
+    3 | #pragma omp target data map(tofrom: A[0:7])
+      |                                     ^~~~~~
 block_one_short.c:3:37: help: enter all of A[0:8] here: the target touches A[0:8], and A[0:7] is not enough
 block_one_short.c:3:1: help: this change is accepted
 --- block_one_short.c
@@ -139,24 +139,24 @@ block_one_short.c:3:1: help: this change is accepted
 [1]
 $ ompc explain left_twice.c
 left_twice.c:3:33: error: the end of `target data` leaves A[0:2], which is not on device 0 [E502]
-    #pragma omp target data map(to: A)
-                                    ^
+    3 | #pragma omp target data map(to: A)
+      |                                 ^
 left_twice.c:5:42: note: item 1 removed A[0] from device 0 here
-    #pragma omp target exit data map(delete: A)
-                                             ^
+    5 | #pragma omp target exit data map(delete: A)
+      |                                          ^
 left_twice.c:5:42: help: take this line away: the block that ends at line 6 leaves A[0:2] there
 ! E502 item 2 A[0]
 [1]
 $ ompc explain left_already.c
 left_already.c:5:42: error: `target exit data` leaves A[0:4], which is not on device 0 [E502]
-    #pragma omp target exit data map(delete: A)
-                                             ^
+    5 | #pragma omp target exit data map(delete: A)
+      |                                          ^
 left_already.c:4:40: note: item 1 removed A[0] from device 0 here
-    #pragma omp target exit data map(from: A)
-                                           ^
+    4 | #pragma omp target exit data map(from: A)
+      |                                        ^
 left_already.c:5:42: help: item 1 left A[0:4] at line 4 already: take this line away
-    #pragma omp target exit data map(delete: A)
-                                             ^
+    5 | #pragma omp target exit data map(delete: A)
+      |                                          ^
 left_already.c:4:1: help: this change is accepted
 --- left_already.c
 +++ left_already.c
@@ -166,14 +166,14 @@ left_already.c:4:1: help: this change is accepted
 [1]
 $ ompc explain left_before_the_next_turn.c
 left_before_the_next_turn.c:7:40: error: `target exit data` leaves A[0:4], which is not on device 0 (in the turn t = 1) [E502]
-    #pragma omp target exit data map(from: A)
-                                           ^
+    7 | #pragma omp target exit data map(from: A)
+      |                                        ^
 left_before_the_next_turn.c:6:1: note: item 3 removed A[0] from device 0 here
-    for (uint64_t i = 0; i < 4; i += 1) { A[i] = A[i] + 1; }
-    ^
+    6 | for (uint64_t i = 0; i < 4; i += 1) { A[i] = A[i] + 1; }
+      | ^~~
 left_before_the_next_turn.c:7:40: help: this line left A[0:4] in an earlier turn: write it behind the loop, or enter A[0:4] in each turn
-    #pragma omp target exit data map(from: A)
-                                           ^
+    7 | #pragma omp target exit data map(from: A)
+      |                                        ^
 left_before_the_next_turn.c:7:1: help: this change is accepted
 --- left_before_the_next_turn.c
 +++ left_before_the_next_turn.c
@@ -183,12 +183,12 @@ left_before_the_next_turn.c:7:1: help: this change is accepted
 [1]
 $ ompc explain update_alone.c
 update_alone.c:3:30: error: `target update` copies A[0:4], which is not on device 0 [E503]
-    #pragma omp target update to(A)
-                                 ^
+    3 | #pragma omp target update to(A)
+      |                              ^
 update_alone.c:3:30: note: nothing before has entered A[0] on device 0
 update_alone.c:3:1: help: enter it before, as by `#pragma omp target enter data map(to: A[0:4])`
-    #pragma omp target update to(A)
-    ^
+    3 | #pragma omp target update to(A)
+      | ^~~~~~~~~~~~~~~~~~~~~~~~~~~~~~~
 update_alone.c:3:1: help: this change is accepted
 --- update_alone.c
 +++ update_alone.c
@@ -200,18 +200,18 @@ update_alone.c:3:1: help: this change is accepted
 [1]
 $ ompc explain updated_on_another_device.c
 updated_on_another_device.c:4:30: error: `target update` copies A[0:4], which is not on device 0 [E503]
-    #pragma omp target update to(A)
-                                 ^
+    4 | #pragma omp target update to(A)
+      |                              ^
 updated_on_another_device.c:4:30: note: nothing before has entered A[0] on device 0
 updated_on_another_device.c:3:39: note: A[0:4] is on device 2 since item 0, which entered it here
-    #pragma omp target enter data map(to: A) device(2)
-                                          ^
+    3 | #pragma omp target enter data map(to: A) device(2)
+      |                                       ^
 updated_on_another_device.c:4:30: help: write `device(2)` on this line: A[0:4] is present there
-    #pragma omp target update to(A)
-                                 ^
+    4 | #pragma omp target update to(A)
+      |                              ^
 updated_on_another_device.c:4:1: help: enter it before, as by `#pragma omp target enter data map(to: A[0:4])`
-    #pragma omp target update to(A)
-    ^
+    4 | #pragma omp target update to(A)
+      | ^~~~~~~~~~~~~~~~~~~~~~~~~~~~~~~
 updated_on_another_device.c:4:1: help: this change is accepted
 --- updated_on_another_device.c
 +++ updated_on_another_device.c
@@ -222,11 +222,11 @@ updated_on_another_device.c:4:1: help: this change is accepted
 [1]
 $ ompc explain not_mapped.c
 not_mapped.c:4:3: error: the target writes A[2], which no map item of it has [E504]
-    { A[2] = 1; }
-      ^
+    4 | { A[2] = 1; }
+      |   ^~~~
 not_mapped.c:3:32: note: `map(tofrom: A[0:2])` maps no more than A[0:2] to the device
-    #pragma omp target map(tofrom: A[0:2])
-                                   ^
+    3 | #pragma omp target map(tofrom: A[0:2])
+      |                                ^~~~~~
 not_mapped.c:3:32: help: widen the section here to A[0:3]
 not_mapped.c:3:1: help: this change is accepted
 --- not_mapped.c
@@ -238,26 +238,26 @@ not_mapped.c:3:1: help: this change is accepted
 [1]
 $ ompc explain both_one_short.c
 both_one_short.c:6:39: error: the target writes A[7], which no map item of it has (in the turn i = 7) [E504]
-    for (uint64_t i = 0; i < 8; i += 1) { A[i] = i; }
-                                          ^
+    6 | for (uint64_t i = 0; i < 8; i += 1) { A[i] = i; }
+      |                                       ^~~~
 both_one_short.c:5:32: note: `map(tofrom: A[0:7])` maps no more than A[0:7] to the device
-    #pragma omp target map(tofrom: A[0:7])
-                                   ^
+    5 | #pragma omp target map(tofrom: A[0:7])
+      |                                ^~~~~~
 both_one_short.c:5:32: help: widen the section here to A[0:8]
 both_one_short.c:3:37: note: A[0:7] is on device 0 since item 0, which entered it here
-    #pragma omp target data map(tofrom: A[0:7])
-                                        ^
+    3 | #pragma omp target data map(tofrom: A[0:7])
+      |                                     ^~~~~~
 both_one_short.c:3:37: help: widen the section here to A[0:8] too
 ! E504 item 1 A[7]
 [1]
 $ ompc explain present_alone.c
 present_alone.c:3:37: error: `map(present, to: A[0:4])` of the target says that A[0:4] is present, and it is not on device 0 [E509]
-    #pragma omp target map(present, to: A)
-                                        ^
+    3 | #pragma omp target map(present, to: A)
+      |                                     ^
 present_alone.c:3:37: note: nothing before has entered A[0] on device 0
 present_alone.c:3:1: help: enter it before, as by `#pragma omp target enter data map(to: A[0:4])`
-    #pragma omp target map(present, to: A)
-    ^
+    3 | #pragma omp target map(present, to: A)
+      | ^~~~~~~~~~~~~~~~~~~~~~~~~~~~~~~~~~~~~~
 present_alone.c:3:1: help: this change is accepted
 --- present_alone.c
 +++ present_alone.c
@@ -269,12 +269,12 @@ present_alone.c:3:1: help: this change is accepted
 [1]
 $ ompc explain present_update_alone.c
 present_update_alone.c:3:39: error: `to(present: A[0:4])` of `target update` says that A[0:4] is present, and it is not on device 0 [E509]
-    #pragma omp target update to(present: A)
-                                          ^
+    3 | #pragma omp target update to(present: A)
+      |                                       ^
 present_update_alone.c:3:39: note: nothing before has entered A[0] on device 0
 present_update_alone.c:3:1: help: enter it before, as by `#pragma omp target enter data map(to: A[0:4])`
-    #pragma omp target update to(present: A)
-    ^
+    3 | #pragma omp target update to(present: A)
+      | ^~~~~~~~~~~~~~~~~~~~~~~~~~~~~~~~~~~~~~~~
 present_update_alone.c:3:1: help: this change is accepted
 --- present_update_alone.c
 +++ present_update_alone.c
@@ -288,14 +288,14 @@ present_update_alone.c:3:1: help: this change is accepted
 # cells that are not current, with the last item that made them so
 $ ompc explain mapped_to_only.c
 mapped_to_only.c:6:45: error: the host reads A[0], whose last value is on device 0: nothing has copied it to the host since (in the turn i = 0) [E506]
-    for (uint64_t i = 0; i < 4; i += 1) { print(A[i]); }
-                                                ^
+    6 | for (uint64_t i = 0; i < 4; i += 1) { print(A[i]); }
+      |                                             ^~~~
 mapped_to_only.c:5:39: note: A[0] is written here, on device 0, by the target (item 1) (in the turn i = 0)
-    for (uint64_t i = 0; i < 4; i += 1) { A[i] = A[i] * 2 + 1; }
-                                          ^
+    5 | for (uint64_t i = 0; i < 4; i += 1) { A[i] = A[i] * 2 + 1; }
+      |                                       ^~~~
 mapped_to_only.c:4:28: note: `map(to: A[0:4])` of item 1 removes A[0] from device 0 here without copying it to the host
-    #pragma omp target map(to: A[0:4])
-                               ^
+    4 | #pragma omp target map(to: A[0:4])
+      |                            ^~~~~~
 mapped_to_only.c:4:28: help: write `tofrom` in place of `to` here, which copies it to the host
 mapped_to_only.c:4:1: help: this change is accepted
 --- mapped_to_only.c
@@ -307,17 +307,17 @@ mapped_to_only.c:4:1: help: this change is accepted
 [1]
 $ ompc explain stale_part.c
 stale_part.c:8:7: error: the host reads A[2], whose last value is on device 0: nothing has copied it to the host since [E506]
-    print(A[2]);
-          ^
+    8 | print(A[2]);
+      |       ^~~~
 stale_part.c:6:39: note: A[2] is written here, on device 0, by the target (item 1) (in the turn i = 2)
-    for (uint64_t i = 0; i < 4; i += 1) { A[i] = i + 5; }
-                                          ^
+    6 | for (uint64_t i = 0; i < 4; i += 1) { A[i] = i + 5; }
+      |                                       ^~~~
 stale_part.c:7:32: note: `from(A[0:2])` of item 2 does not have A[2]
-    #pragma omp target update from(A[0:2])
-                                   ^
+    7 | #pragma omp target update from(A[0:2])
+      |                                ^~~~~~
 stale_part.c:8:7: help: write `#pragma omp target update from(A[2:2])` before this
-    print(A[2]);
-          ^
+    8 | print(A[2]);
+      |       ^~~~
 stale_part.c:8:1: help: this change is accepted
 --- stale_part.c
 +++ stale_part.c
@@ -327,23 +327,23 @@ stale_part.c:8:1: help: this change is accepted
 [1]
 $ ompc explain stays_on_the_device.c
 stays_on_the_device.c:7:7: error: the host reads A[0], whose last value is on device 0: nothing has copied it to the host since [E506]
-    print(A[0]);
-          ^
+    7 | print(A[0]);
+      |       ^~~~
 stays_on_the_device.c:6:39: note: A[0] is written here, on device 0, by the target (item 1) (in the turn i = 0)
-    for (uint64_t i = 0; i < 4; i += 1) { A[i] = i; }
-                                          ^
+    6 | for (uint64_t i = 0; i < 4; i += 1) { A[i] = i; }
+      |                                       ^~~~
 stays_on_the_device.c:5:30: note: `map(from: A[0:4])` of item 1 copies nothing to the host here, since A[0:4] was on device 0 before
-    #pragma omp target map(from: A)
-                                 ^
+    5 | #pragma omp target map(from: A)
+      |                              ^
 stays_on_the_device.c:3:33: note: A[0:4] is on device 0 since item 0, which entered it here
-    #pragma omp target data map(to: A)
-                                    ^
+    3 | #pragma omp target data map(to: A)
+      |                                 ^
 stays_on_the_device.c:5:30: help: write `always, from` in place of `from` here, which copies it to the host each time
-    #pragma omp target map(from: A)
-                                 ^
+    5 | #pragma omp target map(from: A)
+      |                              ^
 stays_on_the_device.c:7:7: help: write `#pragma omp target update from(A)` before this
-    print(A[0]);
-          ^
+    7 | print(A[0]);
+      |       ^~~~
 stays_on_the_device.c:7:1: help: this change is accepted
 --- stays_on_the_device.c
 +++ stays_on_the_device.c
@@ -353,23 +353,23 @@ stays_on_the_device.c:7:1: help: this change is accepted
 [1]
 $ ompc explain entered_twice.c
 entered_twice.c:8:7: error: the host reads A[0], whose last value is on device 0: nothing has copied it to the host since [E506]
-    print(A[0]);
-          ^
+    8 | print(A[0]);
+      |       ^~~~
 entered_twice.c:6:39: note: A[0] is written here, on device 0, by the target (item 2) (in the turn i = 0)
-    for (uint64_t i = 0; i < 4; i += 1) { A[i] = i; }
-                                          ^
+    6 | for (uint64_t i = 0; i < 4; i += 1) { A[i] = i; }
+      |                                       ^~~~
 entered_twice.c:7:40: note: `map(from: A[0:4])` of item 3 copies nothing to the host here: A[0:4] was entered 2 times, and left once
-    #pragma omp target exit data map(from: A)
-                                           ^
+    7 | #pragma omp target exit data map(from: A)
+      |                                        ^
 entered_twice.c:3:39: note: A[0:4] is on device 0 since item 0, which entered it here
-    #pragma omp target enter data map(to: A)
-                                          ^
+    3 | #pragma omp target enter data map(to: A)
+      |                                       ^
 entered_twice.c:4:39: note: item 1 entered A[0:4] once more here
-    #pragma omp target enter data map(to: A)
-                                          ^
+    4 | #pragma omp target enter data map(to: A)
+      |                                       ^
 entered_twice.c:8:7: help: write `#pragma omp target update from(A)` before this
-    print(A[0]);
-          ^
+    8 | print(A[0]);
+      |       ^~~~
 entered_twice.c:8:1: help: this change is accepted
 --- entered_twice.c
 +++ entered_twice.c
@@ -379,18 +379,18 @@ entered_twice.c:8:1: help: this change is accepted
 [1]
 $ ompc explain written_or_not_and_read.c
 written_or_not_and_read.c:6:7: error: the host reads A[0], which was copied to the host from device 0, where it was not current itself [E506]
-    print(A[0]);
-          ^
+    6 | print(A[0]);
+      |       ^~~~
 written_or_not_and_read.c:4:30: note: `map(from: A[0:2])` of item 1 copies A[0] from device 0 to the host here, whatever it is there
-    #pragma omp target map(from: A)
-                                 ^
+    4 | #pragma omp target map(from: A)
+      |                              ^
 written_or_not_and_read.c:4:30: note: `map(from: A[0:2])` of item 1 creates A[0] on device 0 here, and copies nothing to it
 written_or_not_and_read.c:5:12: note: A[0] is written here, on device 0, by the target (item 1), only under a condition
-    { if (s) { A[0] = 1; A[1] = 2; } }
-               ^
+    5 | { if (s) { A[0] = 1; A[1] = 2; } }
+      |            ^~~~
 written_or_not_and_read.c:4:30: help: write `tofrom` in place of `from` here, which copies A[0] from the host, or write A[0] on the device before it is read
-    #pragma omp target map(from: A)
-                                 ^
+    4 | #pragma omp target map(from: A)
+      |                              ^
 written_or_not_and_read.c:4:1: help: this change is accepted
 --- written_or_not_and_read.c
 +++ written_or_not_and_read.c
@@ -401,18 +401,18 @@ written_or_not_and_read.c:4:1: help: this change is accepted
 [1]
 $ ompc explain written_at_some_cell.c
 written_at_some_cell.c:7:7: error: the host reads A[2], which was copied to the host from device 0, where it was not current itself [E506]
-    print(A[2]);
-          ^
+    7 | print(A[2]);
+      |       ^~~~
 written_at_some_cell.c:5:30: note: `map(from: A[0:4])` of item 1 copies A[2] from device 0 to the host here, whatever it is there
-    #pragma omp target map(from: A)
-                                 ^
+    5 | #pragma omp target map(from: A)
+      |                              ^
 written_at_some_cell.c:5:30: note: `map(from: A[0:4])` of item 1 creates A[2] on device 0 here, and copies nothing to it
 written_at_some_cell.c:6:3: note: A[2] is written here, on device 0, by the target (item 1), only where the subscript is that of this cell
-    { A[s & 3] = 1; }
-      ^
+    6 | { A[s & 3] = 1; }
+      |   ^~~~~~~~
 written_at_some_cell.c:5:30: help: write `tofrom` in place of `from` here, which copies A[2] from the host, or write A[2] on the device before it is read
-    #pragma omp target map(from: A)
-                                 ^
+    5 | #pragma omp target map(from: A)
+      |                              ^
 written_at_some_cell.c:5:1: help: this change is accepted
 --- written_at_some_cell.c
 +++ written_at_some_cell.c
@@ -423,20 +423,20 @@ written_at_some_cell.c:5:1: help: this change is accepted
 [1]
 $ ompc explain stale_on_the_device.c
 stale_on_the_device.c:7:46: error: the target reads A[0], whose last value is on the host: nothing has copied it to device 0 since (in the turn i = 0) [E507]
-    for (uint64_t i = 0; i < 2; i += 1) { B[i] = A[i] + 1; }
-                                                 ^
+    7 | for (uint64_t i = 0; i < 2; i += 1) { B[i] = A[i] + 1; }
+      |                                              ^~~~
 stale_on_the_device.c:5:1: note: A[0] is written here, on the host, by item 1
-    A[0] = 5;
-    ^
+    5 | A[0] = 5;
+      | ^~~~
 stale_on_the_device.c:6:28: note: `map(to: A[0:2])` copies nothing here, since A[0:2] is on device 0 already
-    #pragma omp target map(to: A) map(from: B)
-                               ^
+    6 | #pragma omp target map(to: A) map(from: B)
+      |                            ^
 stale_on_the_device.c:4:39: note: A[0:2] is on device 0 since item 0, which entered it here
-    #pragma omp target enter data map(to: A)
-                                          ^
+    4 | #pragma omp target enter data map(to: A)
+      |                                       ^
 stale_on_the_device.c:6:1: help: write `#pragma omp target update to(A[0:1])` before this, or `map(always, to: A[0:2])` in it
-    #pragma omp target map(to: A) map(from: B)
-    ^
+    6 | #pragma omp target map(to: A) map(from: B)
+      | ^~~~~~~~~~~~~~~~~~~~~~~~~~~~~~~~~~~~~~~~~~
 stale_on_the_device.c:6:1: help: this change is accepted
 --- stale_on_the_device.c
 +++ stale_on_the_device.c
@@ -446,20 +446,20 @@ stale_on_the_device.c:6:1: help: this change is accepted
 [1]
 $ ompc explain stale_on_another_device.c
 stale_on_another_device.c:8:10: error: the target reads A[0], whose last value is on device 0: nothing has copied it to device 1 since [E507]
-    { A[1] = A[0]; }
-             ^
+    8 | { A[1] = A[0]; }
+      |          ^~~~
 stale_on_another_device.c:6:3: note: A[0] is written here, on device 0, by the target (item 2)
-    { A[0] = 7; }
-      ^
+    6 | { A[0] = 7; }
+      |   ^~~~
 stale_on_another_device.c:8:1: note: the implicit `map(tofrom: A[0:2])` copies nothing here, since A[0:2] is on device 1 already
-    { A[1] = A[0]; }
-    ^
+    8 | { A[1] = A[0]; }
+      | ^
 stale_on_another_device.c:4:39: note: A[0:2] is on device 1 since item 1, which entered it here
-    #pragma omp target enter data map(to: A) device(1)
-                                          ^
+    4 | #pragma omp target enter data map(to: A) device(1)
+      |                                       ^
 stale_on_another_device.c:7:1: help: write `#pragma omp target update from(A[0:1])` before this
-    #pragma omp target device(1)
-    ^
+    7 | #pragma omp target device(1)
+      | ^~~~~~~~~~~~~~~~~~~~~~~~~~~~
 stale_on_another_device.c:7:1: help: then write `#pragma omp target update to(A[0:1]) device(1)` before this
 stale_on_another_device.c:7:1: help: this change is accepted
 --- stale_on_another_device.c
@@ -473,14 +473,14 @@ stale_on_another_device.c:7:1: help: this change is accepted
 # last values that were copied over, or may have been written over
 $ ompc explain updated_the_wrong_way.c
 updated_the_wrong_way.c:7:7: error: the host reads A[1], whose last value was on device 0, and `to(A[0:4])` of item 2 copied over it what the host had [E506]
-    print(A[1]);
-          ^
+    7 | print(A[1]);
+      |       ^~~~
 updated_the_wrong_way.c:5:39: note: A[1] is written here, on device 0, by the target (item 1) (in the turn i = 1)
-    for (uint64_t i = 0; i < 4; i += 1) { A[i] = i + 1; }
-                                          ^
+    5 | for (uint64_t i = 0; i < 4; i += 1) { A[i] = i + 1; }
+      |                                       ^~~~
 updated_the_wrong_way.c:6:30: note: `to(A[0:4])` of item 2 copies A[1] from the host to device 0 here, whatever it is there
-    #pragma omp target update to(A)
-                                 ^
+    6 | #pragma omp target update to(A)
+      |                              ^
 updated_the_wrong_way.c:6:30: help: write `from` in place of `to` here, which copies it to the host
 updated_the_wrong_way.c:6:1: help: this change is accepted
 --- updated_the_wrong_way.c
@@ -492,17 +492,17 @@ updated_the_wrong_way.c:6:1: help: this change is accepted
 [1]
 $ ompc explain host_write_not_sent.c
 host_write_not_sent.c:11:7: error: the host reads A[0], whose last value was on the host, and `map(tofrom: A[0:8])` of item 4 copied over it what device 0 had [E506]
-    print(A[0]);
-          ^
+   11 | print(A[0]);
+      |       ^~~~
 host_write_not_sent.c:3:37: note: `map(tofrom: A[0:8])` of item 4 copies A[0] from device 0 to the host at the end of its block, whatever it is there
-    #pragma omp target data map(tofrom: A)
-                                        ^
+    3 | #pragma omp target data map(tofrom: A)
+      |                                     ^
 host_write_not_sent.c:8:1: note: A[0] is written here, on the host, by item 3
-    A[0] = A[6];
-    ^
+    8 | A[0] = A[6];
+      | ^~~~
 host_write_not_sent.c:9:27: help: write `#pragma omp target update to(A[0:1])` after this, which copies it to device 0
-    if (A[0] > 3) { A[0] = 3; }
-                              ^
+    9 | if (A[0] > 3) { A[0] = 3; }
+      |                           ^
 host_write_not_sent.c:10:1: help: this change is accepted
 --- host_write_not_sent.c
 +++ host_write_not_sent.c
@@ -512,17 +512,17 @@ host_write_not_sent.c:10:1: help: this change is accepted
 [1]
 $ ompc explain copied_over_at_the_end.c
 copied_over_at_the_end.c:8:7: error: the host reads A[1], whose last value was on the host, and `map(from: A[0:4])` of item 2 copied over it what device 0 had [E506]
-    print(A[1]);
-          ^
+    8 | print(A[1]);
+      |       ^~~~
 copied_over_at_the_end.c:3:35: note: `map(from: A[0:4])` of item 2 copies A[1] from device 0 to the host at the end of its block, whatever it is there
-    #pragma omp target data map(from: A)
-                                      ^
+    3 | #pragma omp target data map(from: A)
+      |                                   ^
 copied_over_at_the_end.c:6:39: note: A[1] is written here, on device 1, by the target (item 1) (in the turn i = 1)
-    for (uint64_t i = 0; i < 4; i += 1) { A[i] = i + 1; }
-                                          ^
+    6 | for (uint64_t i = 0; i < 4; i += 1) { A[i] = i + 1; }
+      |                                       ^~~~
 copied_over_at_the_end.c:7:1: help: write `#pragma omp target update to(A)` before the end of this block, which copies it to device 0
-    }
-    ^
+    7 | }
+      | ^
 copied_over_at_the_end.c:3:1: help: this change is accepted
 --- copied_over_at_the_end.c
 +++ copied_over_at_the_end.c
@@ -533,20 +533,20 @@ copied_over_at_the_end.c:3:1: help: this change is accepted
 [1]
 $ ompc explain copied_over_and_entered_again.c
 copied_over_and_entered_again.c:8:46: error: the target reads A[1], which was copied to device 0 from the host, where it was not current itself (in the turn i = 1) [E507]
-    for (uint64_t i = 0; i < 4; i += 1) { B[i] = A[i]; }
-                                                 ^
+    8 | for (uint64_t i = 0; i < 4; i += 1) { B[i] = A[i]; }
+      |                                              ^~~~
 copied_over_and_entered_again.c:7:28: note: `map(to: A[0:4])` of item 3 copies A[1] from the host to device 0 here, whatever it is there
-    #pragma omp target map(to: A) map(from: B)
-                               ^
+    7 | #pragma omp target map(to: A) map(from: B)
+      |                            ^
 copied_over_and_entered_again.c:6:40: note: `map(from: A[0:4])` of item 2 copies A[1] from device 0 to the host here, whatever it is there
-    #pragma omp target exit data map(from: A)
-                                           ^
+    6 | #pragma omp target exit data map(from: A)
+      |                                        ^
 copied_over_and_entered_again.c:5:1: note: A[1] is written here, on the host, by item 1
-    A[1] = 5;
-    ^
+    5 | A[1] = 5;
+      | ^~~~
 copied_over_and_entered_again.c:5:9: help: write `#pragma omp target update to(A[1:1])` after this, which copies it to device 0
-    A[1] = 5;
-            ^
+    5 | A[1] = 5;
+      |         ^
 copied_over_and_entered_again.c:6:1: help: this change is accepted
 --- copied_over_and_entered_again.c
 +++ copied_over_and_entered_again.c
@@ -556,37 +556,37 @@ copied_over_and_entered_again.c:6:1: help: this change is accepted
 [1]
 $ ompc explain written_or_not_on_the_host.c
 written_or_not_on_the_host.c:10:7: error: the host reads A[1], whose last value was on device 0, and which item 3 may have written on the host since [E506]
-    print(A[1]);
-          ^
+   10 | print(A[1]);
+      |       ^~~~
 written_or_not_on_the_host.c:7:39: note: A[1] is written here, on device 0, by the target (item 2) (in the turn i = 1)
-    for (uint64_t i = 0; i < 4; i += 1) { A[i] = i; }
-                                          ^
+    7 | for (uint64_t i = 0; i < 4; i += 1) { A[i] = i; }
+      |                                       ^~~~
 written_or_not_on_the_host.c:8:10: note: A[1] is written here, on the host, by item 3, only under a condition
-    if (s) { A[1] = 7; }
-             ^
+    8 | if (s) { A[1] = 7; }
+      |          ^~~~
 written_or_not_on_the_host.c:8:1: help: write `#pragma omp target update from(A)` before this, which copies it to the host
-    if (s) { A[1] = 7; }
-    ^
+    8 | if (s) { A[1] = 7; }
+      | ^~
 ! E506 item 5 A[1]
 [1]
 
 # turns that may run in any order, of which one writes what another one reads or writes
 $ ompc explain next_cell.c
 next_cell.c:3:1: error: two turns of this loop, which may run in any order, meet on A[1] [E510]
-    #pragma omp target parallel for map(tofrom: A)
-    ^
+    3 | #pragma omp target parallel for map(tofrom: A)
+      | ^~~~~~~~~~~~~~~~~~~~~~~~~~~~~~~~~~~~~~~~~~~~~~
 next_cell.c:4:39: note: A[1] is written here (in the turn i = 0)
-    for (uint64_t i = 0; i < 3; i += 1) { A[i + 1] = A[i]; }
-                                          ^
+    4 | for (uint64_t i = 0; i < 3; i += 1) { A[i + 1] = A[i]; }
+      |                                       ^~~~~~~~
 next_cell.c:4:50: note: A[1] is read here (in the turn i = 1)
-    for (uint64_t i = 0; i < 3; i += 1) { A[i + 1] = A[i]; }
-                                                     ^
+    4 | for (uint64_t i = 0; i < 3; i += 1) { A[i + 1] = A[i]; }
+      |                                                  ^~~~
 next_cell.c:4:39: help: let this write to another array: then other turns read what A has before the loop
-    for (uint64_t i = 0; i < 3; i += 1) { A[i + 1] = A[i]; }
-                                          ^
+    4 | for (uint64_t i = 0; i < 3; i += 1) { A[i + 1] = A[i]; }
+      |                                       ^~~~~~~~
 next_cell.c:3:1: help: as a `target` alone it has its turns in order
-    #pragma omp target parallel for map(tofrom: A)
-    ^
+    3 | #pragma omp target parallel for map(tofrom: A)
+      | ^~~~~~~~~~~~~~~~~~~~~~~~~~~~~~~~~~~~~~~~~~~~~~
 next_cell.c:3:1: help: this change is accepted
 --- next_cell.c
 +++ next_cell.c
@@ -597,15 +597,15 @@ next_cell.c:3:1: help: this change is accepted
 [1]
 $ ompc explain one_cell_of_two_turns.c
 one_cell_of_two_turns.c:3:1: error: two turns of these loops, which may run in any order, meet on A[0] [E510]
-    #pragma omp target teams distribute parallel for simd collapse(2) num_teams(2) map(from: A) schedule(static)
-    ^
+    3 | #pragma omp target teams distribute parallel for simd collapse(2) num_teams(2) map(from: A) schedule(static)
+      | ^~~~~~~~~~~~~~~~~~~~~~~~~~~~~~~~~~~~~~~~~~~~~~~~~~~~~~~~~~~~~~~~~~~~~~~~~~~~~~~~~~~~~~~~~~~~~~~~~~~~~~~~~~~~
 one_cell_of_two_turns.c:5:41: note: A[0] is written here (in the turn i = 0, j = 0)
-      for (uint64_t j = 0; j < 2; j += 1) { A[i] = j; }
-                                            ^
+    5 |   for (uint64_t j = 0; j < 2; j += 1) { A[i] = j; }
+      |                                         ^~~~
 one_cell_of_two_turns.c:5:41: note: A[0] is written here (in the turn i = 0, j = 1)
 one_cell_of_two_turns.c:3:1: help: with a smaller `collapse`, or with none, fewer loops are in any order
-    #pragma omp target teams distribute parallel for simd collapse(2) num_teams(2) map(from: A) schedule(static)
-    ^
+    3 | #pragma omp target teams distribute parallel for simd collapse(2) num_teams(2) map(from: A) schedule(static)
+      | ^~~~~~~~~~~~~~~~~~~~~~~~~~~~~~~~~~~~~~~~~~~~~~~~~~~~~~~~~~~~~~~~~~~~~~~~~~~~~~~~~~~~~~~~~~~~~~~~~~~~~~~~~~~~
 one_cell_of_two_turns.c:3:1: help: as a `target` alone it has its turns in order
 one_cell_of_two_turns.c:3:1: help: this change is accepted
 --- one_cell_of_two_turns.c
@@ -619,14 +619,14 @@ one_cell_of_two_turns.c:3:1: help: this change is accepted
 # items with no order between them
 $ ompc explain depends_overlap.c
 depends_overlap.c:5:53: error: `depend(in: A[2:4])` overlaps `depend(out: A[0:4])` of item 0 in A[2], and is not the same section [E505]
-    #pragma omp target map(tofrom: A) nowait depend(in: A[2:4])
-                                                        ^
+    5 | #pragma omp target map(tofrom: A) nowait depend(in: A[2:4])
+      |                                                     ^~~~~~
 depends_overlap.c:3:54: note: `depend(out: A[0:4])` of item 0 stands here
-    #pragma omp target map(tofrom: A) nowait depend(out: A[0:4])
-                                                         ^
+    3 | #pragma omp target map(tofrom: A) nowait depend(out: A[0:4])
+      |                                                      ^~~~~~
 depends_overlap.c:5:53: help: name the same section in both, as A[0:6]: tasks are ordered by equal sections alone
-    #pragma omp target map(tofrom: A) nowait depend(in: A[2:4])
-                                                        ^
+    5 | #pragma omp target map(tofrom: A) nowait depend(in: A[2:4])
+      |                                                     ^~~~~~
 depends_overlap.c:3:1: help: this change is accepted
 --- depends_overlap.c
 +++ depends_overlap.c
@@ -640,17 +640,17 @@ depends_overlap.c:3:1: help: this change is accepted
 [1]
 $ ompc explain broken_chain.c
 broken_chain.c:10:3: error: the target (item 2) writes C[0] on device 0, and the target (item 0) writes C[0] on device 0, with no order between them [E508]
-    { C[0] = C[0] + 5; }
-      ^
+   10 | { C[0] = C[0] + 5; }
+      |   ^~~~
 broken_chain.c:6:3: note: the target (item 0) writes C[0] on device 0 here
-    { C[0] = 1; }
-      ^
+    6 | { C[0] = 1; }
+      |   ^~~~
 broken_chain.c:5:1: note: item 0 is deferred by `nowait`: what stands after it does not wait for it
-    #pragma omp target map(tofrom: C) nowait depend(out: A)
-    ^
+    5 | #pragma omp target map(tofrom: C) nowait depend(out: A)
+      | ^~~~~~~~~~~~~~~~~~~~~~~~~~~~~~~~~~~~~~~~~~~~~~~~~~~~~~~
 broken_chain.c:9:1: note: no `taskwait` between the two waits for it, and their `depend` clauses name no section in common
-    #pragma omp target map(tofrom: C) nowait depend(in: B)
-    ^
+    9 | #pragma omp target map(tofrom: C) nowait depend(in: B)
+      | ^~~~~~~~~~~~~~~~~~~~~~~~~~~~~~~~~~~~~~~~~~~~~~~~~~~~~~
 broken_chain.c:9:1: help: write `#pragma omp taskwait` before this, or `depend(inout: C)` on both
 broken_chain.c:5:1: help: this change is accepted
 --- broken_chain.c
@@ -665,17 +665,17 @@ broken_chain.c:5:1: help: this change is accepted
 [1]
 $ ompc explain readers_create_both.c
 readers_create_both.c:7:28: error: the target (item 1) copies A[0] from the host to device 0, and the target (item 0) reads A[0] on device 0, with no order between them [E508]
-    #pragma omp target map(to: A) map(from: C) nowait
-                               ^
+    7 | #pragma omp target map(to: A) map(from: C) nowait
+      |                            ^
 readers_create_both.c:6:46: note: the target (item 0) reads A[0] on device 0 here (in the turn i = 0)
-    for (uint64_t i = 0; i < 4; i += 1) { B[i] = A[i] + 1; }
-                                                 ^
+    6 | for (uint64_t i = 0; i < 4; i += 1) { B[i] = A[i] + 1; }
+      |                                              ^~~~
 readers_create_both.c:5:1: note: item 0 is deferred by `nowait`: what stands after it does not wait for it
-    #pragma omp target map(to: A) map(from: B) nowait
-    ^
+    5 | #pragma omp target map(to: A) map(from: B) nowait
+      | ^~~~~~~~~~~~~~~~~~~~~~~~~~~~~~~~~~~~~~~~~~~~~~~~~
 readers_create_both.c:7:1: note: no `taskwait` between the two waits for it, and neither has a `depend` clause
-    #pragma omp target map(to: A) map(from: C) nowait
-    ^
+    7 | #pragma omp target map(to: A) map(from: C) nowait
+      | ^~~~~~~~~~~~~~~~~~~~~~~~~~~~~~~~~~~~~~~~~~~~~~~~~
 readers_create_both.c:7:1: help: write `#pragma omp taskwait` before this, or `depend(inout: A)` on both
 readers_create_both.c:5:1: help: this change is accepted
 --- readers_create_both.c
@@ -690,17 +690,17 @@ readers_create_both.c:5:1: help: this change is accepted
 [1]
 $ ompc explain host_beside_a_copy_in.c
 host_beside_a_copy_in.c:5:24: error: item 2 writes A[5] on the host, and `target update` (item 1) copies A[5] from the host to device 0, with no order between them [E508]
-    A[1] = 1; print(A[6]); A[5] = 1;
-                           ^
+    5 | A[1] = 1; print(A[6]); A[5] = 1;
+      |                        ^~~~
 host_beside_a_copy_in.c:4:30: note: `target update` (item 1) copies A[5] from the host to device 0 here
-    #pragma omp target update to(A[4:4]) nowait
-                                 ^
+    4 | #pragma omp target update to(A[4:4]) nowait
+      |                              ^~~~~~
 host_beside_a_copy_in.c:4:1: note: item 1 is deferred by `nowait`: what stands after it does not wait for it
-    #pragma omp target update to(A[4:4]) nowait
-    ^
+    4 | #pragma omp target update to(A[4:4]) nowait
+      | ^~~~~~~~~~~~~~~~~~~~~~~~~~~~~~~~~~~~~~~~~~~
 host_beside_a_copy_in.c:5:1: note: no `taskwait` between the two waits for it
-    A[1] = 1; print(A[6]); A[5] = 1;
-    ^
+    5 | A[1] = 1; print(A[6]); A[5] = 1;
+      | ^~~~
 host_beside_a_copy_in.c:5:1: help: write `#pragma omp taskwait` before this
 host_beside_a_copy_in.c:5:1: help: this change is accepted
 --- host_beside_a_copy_in.c
@@ -711,27 +711,27 @@ host_beside_a_copy_in.c:5:1: help: this change is accepted
 [1]
 $ ompc explain exit_before_the_wait.c
 exit_before_the_wait.c:8:40: error: `target exit data` (item 3) copies A[0] from device 0 to the host, and the target (item 1) writes A[0] on device 0, with no order between them [E508]
-    #pragma omp target exit data map(from: A)
-                                           ^
+    8 | #pragma omp target exit data map(from: A)
+      |                                        ^
 exit_before_the_wait.c:5:39: note: the target (item 1) writes A[0] on device 0 here (in the turn i = 0)
-    for (uint64_t i = 0; i < 4; i += 1) { A[i] = i + 1; }
-                                          ^
+    5 | for (uint64_t i = 0; i < 4; i += 1) { A[i] = i + 1; }
+      |                                       ^~~~
 exit_before_the_wait.c:4:1: note: item 1 is deferred by `nowait`: what stands after it does not wait for it
-    #pragma omp target map(tofrom: A[0:4]) nowait
-    ^
+    4 | #pragma omp target map(tofrom: A[0:4]) nowait
+      | ^~~~~~~~~~~~~~~~~~~~~~~~~~~~~~~~~~~~~~~~~~~~~
 exit_before_the_wait.c:8:1: note: no `taskwait` between the two waits for it, and neither has a `depend` clause
-    #pragma omp target exit data map(from: A)
-    ^
+    8 | #pragma omp target exit data map(from: A)
+      | ^~~~~~~~~~~~~~~~~~~~~~~~~~~~~~~~~~~~~~~~~
 exit_before_the_wait.c:8:1: help: write `#pragma omp taskwait` before this, or `depend(inout: A)` on both
 exit_before_the_wait.c:10:32: error: `target update` copies A[0:8], which is not on device 0 [E503]
-    #pragma omp target update from(A)
-                                   ^
+   10 | #pragma omp target update from(A)
+      |                                ^
 exit_before_the_wait.c:8:40: note: item 3 removed A[0] from device 0 here
-    #pragma omp target exit data map(from: A)
-                                           ^
+    8 | #pragma omp target exit data map(from: A)
+      |                                        ^
 exit_before_the_wait.c:10:1: help: enter it before, as by `#pragma omp target enter data map(to: A[0:8])`
-    #pragma omp target update from(A)
-    ^
+   10 | #pragma omp target update from(A)
+      | ^~~~~~~~~~~~~~~~~~~~~~~~~~~~~~~~~
 exit_before_the_wait.c:4:1: help: this change is accepted
 --- exit_before_the_wait.c
 +++ exit_before_the_wait.c
@@ -745,17 +745,17 @@ exit_before_the_wait.c:4:1: help: this change is accepted
 [1]
 $ ompc explain several_cells.c
 several_cells.c:8:16: error: the target (item 2) writes A[5] on device 0, and the target (item 1) reads A[5] on device 0, with no order between them [E508]
-    { B[0] = A[7]; A[5] = 1; }
-                   ^
+    8 | { B[0] = A[7]; A[5] = 1; }
+      |                ^~~~
 several_cells.c:6:30: note: the target (item 1) reads A[5] on device 0 here
-    { B[0] = 1; A[7] = 1; B[1] = A[5]; }
-                                 ^
+    6 | { B[0] = 1; A[7] = 1; B[1] = A[5]; }
+      |                              ^~~~
 several_cells.c:5:1: note: item 1 is deferred by `nowait`: what stands after it does not wait for it
-    #pragma omp target nowait
-    ^
+    5 | #pragma omp target nowait
+      | ^~~~~~~~~~~~~~~~~~~~~~~~~
 several_cells.c:7:1: note: no `taskwait` between the two waits for it, and neither has a `depend` clause
-    #pragma omp target nowait
-    ^
+    7 | #pragma omp target nowait
+      | ^~~~~~~~~~~~~~~~~~~~~~~~~
 several_cells.c:7:1: help: write `#pragma omp taskwait` before this, or `depend(inout: A)` on both
 several_cells.c:5:1: help: this change is accepted
 --- several_cells.c
@@ -770,20 +770,20 @@ several_cells.c:5:1: help: this change is accepted
 [1]
 $ ompc explain waits_for_another_array.c
 waits_for_another_array.c:9:7: error: item 3 reads B[0] on the host, and the target (item 1) copies B[0] from device 0 to the host, with no order between them [E508]
-    print(B[0]);
-          ^
+    9 | print(B[0]);
+      |       ^~~~
 waits_for_another_array.c:6:30: note: the target (item 1) copies B[0] from device 0 to the host here
-    #pragma omp target map(from: B) nowait depend(out: B)
-                                 ^
+    6 | #pragma omp target map(from: B) nowait depend(out: B)
+      |                              ^
 waits_for_another_array.c:6:1: note: item 1 is deferred by `nowait`: what stands after it does not wait for it
-    #pragma omp target map(from: B) nowait depend(out: B)
-    ^
+    6 | #pragma omp target map(from: B) nowait depend(out: B)
+      | ^~~~~~~~~~~~~~~~~~~~~~~~~~~~~~~~~~~~~~~~~~~~~~~~~~~~~
 waits_for_another_array.c:8:1: note: this `taskwait` waits for `depend(in: A[0:4])` alone, and not for item 1
-    #pragma omp taskwait depend(in: A)
-    ^
+    8 | #pragma omp taskwait depend(in: A)
+      | ^~~~~~~~~~~~~~~~~~~~~~~~~~~~~~~~~~
 waits_for_another_array.c:9:1: help: write `#pragma omp taskwait` before this
-    print(B[0]);
-    ^
+    9 | print(B[0]);
+      | ^~~~~
 waits_for_another_array.c:9:1: help: this change is accepted
 --- waits_for_another_array.c
 +++ waits_for_another_array.c
@@ -793,17 +793,17 @@ waits_for_another_array.c:9:1: help: this change is accepted
 [1]
 $ ompc explain no_wait_before_the_end.c
 no_wait_before_the_end.c:3:37: error: the end of `target data` (item 2) copies A[0] from device 0 to the host, and the target (item 1) writes A[0] on device 0, with no order between them [E508]
-    #pragma omp target data map(tofrom: A)
-                                        ^
+    3 | #pragma omp target data map(tofrom: A)
+      |                                     ^
 no_wait_before_the_end.c:6:39: note: the target (item 1) writes A[0] on device 0 here (in the turn i = 0)
-    for (uint64_t i = 0; i < 4; i += 1) { A[i] = i + 1; }
-                                          ^
+    6 | for (uint64_t i = 0; i < 4; i += 1) { A[i] = i + 1; }
+      |                                       ^~~~
 no_wait_before_the_end.c:5:1: note: item 1 is deferred by `nowait`: what stands after it does not wait for it
-    #pragma omp target nowait
-    ^
+    5 | #pragma omp target nowait
+      | ^~~~~~~~~~~~~~~~~~~~~~~~~
 no_wait_before_the_end.c:7:1: note: no `taskwait` between the two waits for it
-    }
-    ^
+    7 | }
+      | ^
 no_wait_before_the_end.c:7:1: help: write `#pragma omp taskwait` before the end of this block
 no_wait_before_the_end.c:7:1: help: this change is accepted
 --- no_wait_before_the_end.c
@@ -814,17 +814,17 @@ no_wait_before_the_end.c:7:1: help: this change is accepted
 [1]
 $ ompc explain reader_without_depend.c
 reader_without_depend.c:9:46: error: the target (item 2) reads A[0] on device 0, and the target (item 1) writes A[0] on device 0, with no order between them (in the turn i = 0) [E508]
-    for (uint64_t i = 0; i < 2; i += 1) { B[i] = A[i]; }
-                                                 ^
+    9 | for (uint64_t i = 0; i < 2; i += 1) { B[i] = A[i]; }
+      |                                              ^~~~
 reader_without_depend.c:7:39: note: the target (item 1) writes A[0] on device 0 here (in the turn i = 0)
-    for (uint64_t i = 0; i < 2; i += 1) { A[i] = i; }
-                                          ^
+    7 | for (uint64_t i = 0; i < 2; i += 1) { A[i] = i; }
+      |                                       ^~~~
 reader_without_depend.c:6:1: note: item 1 is deferred by `nowait`: what stands after it does not wait for it
-    #pragma omp target nowait depend(out: A[0:2])
-    ^
+    6 | #pragma omp target nowait depend(out: A[0:2])
+      | ^~~~~~~~~~~~~~~~~~~~~~~~~~~~~~~~~~~~~~~~~~~~~
 reader_without_depend.c:8:1: note: no `taskwait` between the two waits for it, and item 2 has no `depend` clause
-    #pragma omp target nowait
-    ^
+    8 | #pragma omp target nowait
+      | ^~~~~~~~~~~~~~~~~~~~~~~~~
 reader_without_depend.c:8:1: help: write `#pragma omp taskwait` before this, or `depend(in: A[0:2])` on it
 reader_without_depend.c:8:1: help: this change is accepted
 --- reader_without_depend.c
@@ -836,17 +836,17 @@ reader_without_depend.c:8:1: help: this change is accepted
 [1]
 $ ompc explain other_half_named.c
 other_half_named.c:8:39: error: the target (item 2) writes A[2] on device 0, and the target (item 1) writes A[2] on device 0, with no order between them (in the turn i = 2) [E508]
-    for (uint64_t i = 2; i < 4; i += 1) { A[i] = A[i] * 5; }
-                                          ^
+    8 | for (uint64_t i = 2; i < 4; i += 1) { A[i] = A[i] * 5; }
+      |                                       ^~~~
 other_half_named.c:6:39: note: the target (item 1) writes A[2] on device 0 here (in the turn i = 2)
-    for (uint64_t i = 2; i < 4; i += 1) { A[i] = i; }
-                                          ^
+    6 | for (uint64_t i = 2; i < 4; i += 1) { A[i] = i; }
+      |                                       ^~~~
 other_half_named.c:5:1: note: item 1 is deferred by `nowait`: what stands after it does not wait for it
-    #pragma omp target nowait depend(out: A[2:2])
-    ^
+    5 | #pragma omp target nowait depend(out: A[2:2])
+      | ^~~~~~~~~~~~~~~~~~~~~~~~~~~~~~~~~~~~~~~~~~~~~
 other_half_named.c:7:1: note: no `taskwait` between the two waits for it, and their `depend` clauses name no section in common
-    #pragma omp target nowait depend(inout: A[0:2])
-    ^
+    7 | #pragma omp target nowait depend(inout: A[0:2])
+      | ^~~~~~~~~~~~~~~~~~~~~~~~~~~~~~~~~~~~~~~~~~~~~~~
 other_half_named.c:7:1: help: write `#pragma omp taskwait` before this, or `depend(inout: A[2:2])` on it
 other_half_named.c:7:1: help: this change is accepted
 --- other_half_named.c
@@ -860,62 +860,62 @@ other_half_named.c:7:1: help: this change is accepted
 # faults that do not follow from one before: of range, of depend items, conflicts and the item behind them that is refused by itself
 $ ompc explain four_faults_of_range.c
 four_faults_of_range.c:3:39: error: the subscript of A is 4, and A has 4 cells (in the turn i = 4) [E301]
-    for (uint64_t i = 0; i < 5; i += 1) { A[i] = i; }
-                                          ^
+    3 | for (uint64_t i = 0; i < 5; i += 1) { A[i] = i; }
+      |                                       ^~~~
 four_faults_of_range.c:1:10: note: A has the cells 0 to 3
-    uint64_t A[4];
-             ^
+    1 | uint64_t A[4];
+      |          ^~~~
 four_faults_of_range.c:3:39: help: put it under an `if` that the values of the loops decide, or change the bounds of the loop
-    for (uint64_t i = 0; i < 5; i += 1) { A[i] = i; }
-                                          ^
+    3 | for (uint64_t i = 0; i < 5; i += 1) { A[i] = i; }
+      |                                       ^~~~
 four_faults_of_range.c:5:3: error: the subscript of A is 4, and A has 4 cells [E301]
-    { A[4] = 1; }
-      ^
+    5 | { A[4] = 1; }
+      |   ^~~~
 four_faults_of_range.c:1:10: note: A has the cells 0 to 3
-    uint64_t A[4];
-             ^
+    1 | uint64_t A[4];
+      |          ^~~~
 four_faults_of_range.c:5:3: help: put it under an `if` that the values of the loops decide, or change the bounds of the loop
-    { A[4] = 1; }
-      ^
+    5 | { A[4] = 1; }
+      |   ^~~~
 four_faults_of_range.c:6:32: error: the section A[2:4] has the cells 2 to 5, and A has 4 cells [E302]
-    #pragma omp target map(tofrom: A[2:4])
-                                   ^
+    6 | #pragma omp target map(tofrom: A[2:4])
+      |                                ^~~~~~
 four_faults_of_range.c:1:10: note: A has the cells 0 to 3
-    uint64_t A[4];
-             ^
+    1 | uint64_t A[4];
+      |          ^~~~
 four_faults_of_range.c:6:32: help: a section is FIRST:LENGTH; A[2:2] is what fits at most
-    #pragma omp target map(tofrom: A[2:4])
-                                   ^
+    6 | #pragma omp target map(tofrom: A[2:4])
+      |                                ^~~~~~
 four_faults_of_range.c:10:3: error: the subscript of A is 4, and A has 4 cells (in the turn k = 4) [E301]
-    { A[k] = 1; }
-      ^
+   10 | { A[k] = 1; }
+      |   ^~~~
 four_faults_of_range.c:1:10: note: A has the cells 0 to 3
-    uint64_t A[4];
-             ^
+    1 | uint64_t A[4];
+      |          ^~~~
 four_faults_of_range.c:10:3: help: put it under an `if` that the values of the loops decide, or change the bounds of the loop
-    { A[k] = 1; }
-      ^
+   10 | { A[k] = 1; }
+      |   ^~~~
 ! E301 item 0 line 3 column 39
 [1]
 $ ompc explain two_overlaps.c
 two_overlaps.c:5:53: error: `depend(in: A[2:4])` overlaps `depend(out: A[0:4])` of item 0 in A[2], and is not the same section [E505]
-    #pragma omp target map(tofrom: A) nowait depend(in: A[2:4])
-                                                        ^
+    5 | #pragma omp target map(tofrom: A) nowait depend(in: A[2:4])
+      |                                                     ^~~~~~
 two_overlaps.c:3:54: note: `depend(out: A[0:4])` of item 0 stands here
-    #pragma omp target map(tofrom: A) nowait depend(out: A[0:4])
-                                                         ^
+    3 | #pragma omp target map(tofrom: A) nowait depend(out: A[0:4])
+      |                                                      ^~~~~~
 two_overlaps.c:5:53: help: name the same section in both, as A[0:6]: tasks are ordered by equal sections alone
-    #pragma omp target map(tofrom: A) nowait depend(in: A[2:4])
-                                                        ^
+    5 | #pragma omp target map(tofrom: A) nowait depend(in: A[2:4])
+      |                                                     ^~~~~~
 two_overlaps.c:7:53: error: `depend(in: A[3:4])` overlaps `depend(out: A[0:4])` of item 0 in A[3], and is not the same section [E505]
-    #pragma omp target map(tofrom: A) nowait depend(in: A[3:4])
-                                                        ^
+    7 | #pragma omp target map(tofrom: A) nowait depend(in: A[3:4])
+      |                                                     ^~~~~~
 two_overlaps.c:3:54: note: `depend(out: A[0:4])` of item 0 stands here
-    #pragma omp target map(tofrom: A) nowait depend(out: A[0:4])
-                                                         ^
+    3 | #pragma omp target map(tofrom: A) nowait depend(out: A[0:4])
+      |                                                      ^~~~~~
 two_overlaps.c:7:53: help: name the same section in both, as A[0:7]: tasks are ordered by equal sections alone
-    #pragma omp target map(tofrom: A) nowait depend(in: A[3:4])
-                                                        ^
+    7 | #pragma omp target map(tofrom: A) nowait depend(in: A[3:4])
+      |                                                     ^~~~~~
 two_overlaps.c:3:1: help: this change is accepted
 --- two_overlaps.c
 +++ two_overlaps.c
@@ -932,40 +932,40 @@ two_overlaps.c:3:1: help: this change is accepted
 [1]
 $ ompc explain three_faults.c
 three_faults.c:8:3: error: the target (item 1) writes A[0] on device 0, and the target (item 0) writes A[0] on device 0, with no order between them [E508]
-    { A[0] = A[0] + 1; }
-      ^
+    8 | { A[0] = A[0] + 1; }
+      |   ^~~~
 three_faults.c:6:3: note: the target (item 0) writes A[0] on device 0 here
-    { A[0] = A[0] + 1; }
-      ^
+    6 | { A[0] = A[0] + 1; }
+      |   ^~~~
 three_faults.c:5:1: note: item 0 is deferred by `nowait`: what stands after it does not wait for it
-    #pragma omp target map(tofrom: A) nowait
-    ^
+    5 | #pragma omp target map(tofrom: A) nowait
+      | ^~~~~~~~~~~~~~~~~~~~~~~~~~~~~~~~~~~~~~~~
 three_faults.c:7:1: note: no `taskwait` between the two waits for it, and neither has a `depend` clause
-    #pragma omp target map(tofrom: A) nowait
-    ^
+    7 | #pragma omp target map(tofrom: A) nowait
+      | ^~~~~~~~~~~~~~~~~~~~~~~~~~~~~~~~~~~~~~~~
 three_faults.c:7:1: help: write `#pragma omp taskwait` before this, or `depend(inout: A)` on both
 three_faults.c:10:3: error: the target (item 2) writes A[0] on device 0, and the target (item 0) writes A[0] on device 0, with no order between them [E508]
-    { A[0] = A[0] + 1; C[0] = 1; }
-      ^
+   10 | { A[0] = A[0] + 1; C[0] = 1; }
+      |   ^~~~
 three_faults.c:6:3: note: the target (item 0) writes A[0] on device 0 here
-    { A[0] = A[0] + 1; }
-      ^
+    6 | { A[0] = A[0] + 1; }
+      |   ^~~~
 three_faults.c:5:1: note: item 0 is deferred by `nowait`: what stands after it does not wait for it
-    #pragma omp target map(tofrom: A) nowait
-    ^
+    5 | #pragma omp target map(tofrom: A) nowait
+      | ^~~~~~~~~~~~~~~~~~~~~~~~~~~~~~~~~~~~~~~~
 three_faults.c:9:1: note: no `taskwait` between the two waits for it, and neither has a `depend` clause
-    #pragma omp target map(tofrom: A) map(to: C) nowait
-    ^
+    9 | #pragma omp target map(tofrom: A) map(to: C) nowait
+      | ^~~~~~~~~~~~~~~~~~~~~~~~~~~~~~~~~~~~~~~~~~~~~~~~~~~
 three_faults.c:9:1: help: write `#pragma omp taskwait` before this, or `depend(inout: A)` on both
 three_faults.c:12:7: error: the host reads C[0], whose last value is on device 0: nothing has copied it to the host since [E506]
-    print(C[0]);
-          ^
+   12 | print(C[0]);
+      |       ^~~~
 three_faults.c:10:20: note: C[0] is written here, on device 0, by the target (item 2)
-    { A[0] = A[0] + 1; C[0] = 1; }
-                       ^
+   10 | { A[0] = A[0] + 1; C[0] = 1; }
+      |                    ^~~~
 three_faults.c:9:43: note: `map(to: C[0:8])` of item 2 removes C[0] from device 0 here without copying it to the host
-    #pragma omp target map(tofrom: A) map(to: C) nowait
-                                              ^
+    9 | #pragma omp target map(tofrom: A) map(to: C) nowait
+      |                                           ^
 three_faults.c:9:43: help: write `tofrom` in place of `to` here, which copies it to the host
 three_faults.c:5:1: help: this change is accepted
 --- three_faults.c
@@ -983,77 +983,77 @@ three_faults.c:5:1: help: this change is accepted
 [1]
 $ ompc explain eleven_faults.c
 eleven_faults.c:4:3: error: the subscript of A is 4, and A has 4 cells [E301]
-    { A[4] = 1; }
-      ^
+    4 | { A[4] = 1; }
+      |   ^~~~
 eleven_faults.c:1:10: note: A has the cells 0 to 3
-    uint64_t A[4];
-             ^
+    1 | uint64_t A[4];
+      |          ^~~~
 eleven_faults.c:4:3: help: put it under an `if` that the values of the loops decide, or change the bounds of the loop
-    { A[4] = 1; }
-      ^
+    4 | { A[4] = 1; }
+      |   ^~~~
 eleven_faults.c:6:3: error: the subscript of A is 5, and A has 4 cells [E301]
-    { A[5] = 1; }
-      ^
+    6 | { A[5] = 1; }
+      |   ^~~~
 eleven_faults.c:1:10: note: A has the cells 0 to 3
-    uint64_t A[4];
-             ^
+    1 | uint64_t A[4];
+      |          ^~~~
 eleven_faults.c:6:3: help: put it under an `if` that the values of the loops decide, or change the bounds of the loop
-    { A[5] = 1; }
-      ^
+    6 | { A[5] = 1; }
+      |   ^~~~
 eleven_faults.c:8:3: error: the subscript of A is 6, and A has 4 cells [E301]
-    { A[6] = 1; }
-      ^
+    8 | { A[6] = 1; }
+      |   ^~~~
 eleven_faults.c:1:10: note: A has the cells 0 to 3
-    uint64_t A[4];
-             ^
+    1 | uint64_t A[4];
+      |          ^~~~
 eleven_faults.c:8:3: help: put it under an `if` that the values of the loops decide, or change the bounds of the loop
-    { A[6] = 1; }
-      ^
+    8 | { A[6] = 1; }
+      |   ^~~~
 eleven_faults.c:10:3: error: the subscript of A is 7, and A has 4 cells [E301]
-    { A[7] = 1; }
-      ^
+   10 | { A[7] = 1; }
+      |   ^~~~
 eleven_faults.c:1:10: note: A has the cells 0 to 3
-    uint64_t A[4];
-             ^
+    1 | uint64_t A[4];
+      |          ^~~~
 eleven_faults.c:10:3: help: put it under an `if` that the values of the loops decide, or change the bounds of the loop
-    { A[7] = 1; }
-      ^
+   10 | { A[7] = 1; }
+      |   ^~~~
 eleven_faults.c:12:3: error: the subscript of A is 8, and A has 4 cells [E301]
-    { A[8] = 1; }
-      ^
+   12 | { A[8] = 1; }
+      |   ^~~~
 eleven_faults.c:1:10: note: A has the cells 0 to 3
-    uint64_t A[4];
-             ^
+    1 | uint64_t A[4];
+      |          ^~~~
 eleven_faults.c:12:3: help: put it under an `if` that the values of the loops decide, or change the bounds of the loop
-    { A[8] = 1; }
-      ^
+   12 | { A[8] = 1; }
+      |   ^~~~
 eleven_faults.c:14:3: error: the subscript of A is 9, and A has 4 cells [E301]
-    { A[9] = 1; }
-      ^
+   14 | { A[9] = 1; }
+      |   ^~~~
 eleven_faults.c:1:10: note: A has the cells 0 to 3
-    uint64_t A[4];
-             ^
+    1 | uint64_t A[4];
+      |          ^~~~
 eleven_faults.c:14:3: help: put it under an `if` that the values of the loops decide, or change the bounds of the loop
-    { A[9] = 1; }
-      ^
+   14 | { A[9] = 1; }
+      |   ^~~~
 eleven_faults.c:16:3: error: the subscript of A is 10, and A has 4 cells [E301]
-    { A[10] = 1; }
-      ^
+   16 | { A[10] = 1; }
+      |   ^~~~~
 eleven_faults.c:1:10: note: A has the cells 0 to 3
-    uint64_t A[4];
-             ^
+    1 | uint64_t A[4];
+      |          ^~~~
 eleven_faults.c:16:3: help: put it under an `if` that the values of the loops decide, or change the bounds of the loop
-    { A[10] = 1; }
-      ^
+   16 | { A[10] = 1; }
+      |   ^~~~~
 eleven_faults.c:18:3: error: the subscript of A is 11, and A has 4 cells [E301]
-    { A[11] = 1; }
-      ^
+   18 | { A[11] = 1; }
+      |   ^~~~~
 eleven_faults.c:1:10: note: A has the cells 0 to 3
-    uint64_t A[4];
-             ^
+    1 | uint64_t A[4];
+      |          ^~~~
 eleven_faults.c:18:3: help: put it under an `if` that the values of the loops decide, or change the bounds of the loop
-    { A[11] = 1; }
-      ^
+   18 | { A[11] = 1; }
+      |   ^~~~~
 eleven_faults.c: 3 more faults were found
 ! E301 item 0 line 4 column 3
 [1]
@@ -1061,40 +1061,40 @@ eleven_faults.c: 3 more faults were found
 # a source whose check is dear: no change is looked for
 $ ompc explain dear_check.c
 dear_check.c:13:7: error: the host reads A[0], whose last value is on device 0: nothing has copied it to the host since [E506]
-    print(A[0]);
-          ^
+   13 | print(A[0]);
+      |       ^~~~
 dear_check.c:12:3: note: A[0] is written here, on device 0, by the target (item 8)
-    { A[0] = 1; }
-      ^
+   12 | { A[0] = 1; }
+      |   ^~~~
 dear_check.c:11:28: note: `map(to: A[0:4])` of item 8 removes A[0] from device 0 here without copying it to the host
-    #pragma omp target map(to: A)
-                               ^
+   11 | #pragma omp target map(to: A)
+      |                            ^
 dear_check.c:11:28: help: write `tofrom` in place of `to` here, which copies it to the host
 dear_check.c:13:7: help: run `ompc fix` to look for a change
-    print(A[0]);
-          ^
+   13 | print(A[0]);
+      |       ^~~~
 ! E506 item 9 A[0]
 [1]
 
 # faults of the text
 $ ompc explain cut_off.c
 cut_off.c:1:17: error: the end of the text cannot stand here [E102]
-    int main(void) {
-                    ^
+    1 | int main(void) {
+      |                 ^
 cut_off.c:1:17: help: write the token that is missing before it, or take it away
 ! E102 line 1 column 17
 [1]
 $ ompc explain undeclared.c
 undeclared.c:2:28: error: `B` is not declared here [E103]
-    #pragma omp target map(to: B)
-                               ^
+    2 | #pragma omp target map(to: B)
+      |                            ^
 undeclared.c:2:28: help: declare it before, or take it away
 ! E103 line 2 column 28
 [1]
 $ ompc explain large_number.c
 large_number.c:2:7: error: `18446744073709551616` is above 18446744073709551615 [E105]
-    print(18446744073709551616);
-          ^
+    2 | print(18446744073709551616);
+      |       ^~~~~~~~~~~~~~~~~~~~
 large_number.c:2:7: help: write a smaller number
 ! E105 line 2 column 7
 [1]
@@ -1121,6 +1121,8 @@ $ ompc explain mapped_to_only.c --format json
       "cell": 0,
       "code": "E506",
       "column": 45,
+      "end_column": 49,
+      "end_line": 6,
       "item": 2,
       "line": 6,
       "loops": [
@@ -1133,20 +1135,34 @@ $ ompc explain mapped_to_only.c --format json
       "notes": [
         {
           "column": 39,
+          "end_column": 43,
+          "end_line": 5,
           "kind": "note",
           "line": 5,
+          "loops": [
+            {
+              "name": "i",
+              "value": 0
+            }
+          ],
           "message": "A[0] is written here, on device 0, by the target (item 1) (in the turn i = 0)"
         },
         {
           "column": 28,
+          "end_column": 34,
+          "end_line": 4,
           "kind": "note",
           "line": 4,
+          "loops": [],
           "message": "`map(to: A[0:4])` of item 1 removes A[0] from device 0 here without copying it to the host"
         },
         {
           "column": 28,
+          "end_column": 34,
+          "end_line": 4,
           "kind": "help",
           "line": 4,
+          "loops": [],
           "message": "write `tofrom` in place of `to` here, which copies it to the host"
         }
       ],
@@ -1183,6 +1199,8 @@ $ ompc explain undeclared.c --format json
       "cell": null,
       "code": "E103",
       "column": 28,
+      "end_column": 29,
+      "end_line": 2,
       "item": null,
       "line": 2,
       "loops": [],
@@ -1190,8 +1208,11 @@ $ ompc explain undeclared.c --format json
       "notes": [
         {
           "column": 28,
+          "end_column": 29,
+          "end_line": 2,
           "kind": "help",
           "line": 2,
+          "loops": [],
           "message": "declare it before, or take it away"
         }
       ],
@@ -1211,6 +1232,7 @@ $ ompc explain halves.c --format sarif
   "$schema": "https://docs.oasis-open.org/sarif/sarif/v2.1.0/errata01/os/schemas/sarif-schema-2.1.0.json",
   "runs": [
     {
+      "columnKind": "unicodeCodePoints",
       "properties": {
         "more": 0
       },
@@ -1231,6 +1253,7 @@ $ ompc explain mapped_to_only.c --format sarif
   "$schema": "https://docs.oasis-open.org/sarif/sarif/v2.1.0/errata01/os/schemas/sarif-schema-2.1.0.json",
   "runs": [
     {
+      "columnKind": "unicodeCodePoints",
       "properties": {
         "more": 0
       },
@@ -1269,6 +1292,8 @@ $ ompc explain mapped_to_only.c --format sarif
                   "uri": "mapped_to_only.c"
                 },
                 "region": {
+                  "endColumn": 49,
+                  "endLine": 6,
                   "startColumn": 45,
                   "startLine": 6
                 }
@@ -1300,9 +1325,19 @@ $ ompc explain mapped_to_only.c --format sarif
                   "uri": "mapped_to_only.c"
                 },
                 "region": {
+                  "endColumn": 43,
+                  "endLine": 5,
                   "startColumn": 39,
                   "startLine": 5
                 }
+              },
+              "properties": {
+                "loops": [
+                  {
+                    "name": "i",
+                    "value": 0
+                  }
+                ]
               }
             },
             {
@@ -1315,9 +1350,14 @@ $ ompc explain mapped_to_only.c --format sarif
                   "uri": "mapped_to_only.c"
                 },
                 "region": {
+                  "endColumn": 34,
+                  "endLine": 4,
                   "startColumn": 28,
                   "startLine": 4
                 }
+              },
+              "properties": {
+                "loops": []
               }
             },
             {
@@ -1330,9 +1370,14 @@ $ ompc explain mapped_to_only.c --format sarif
                   "uri": "mapped_to_only.c"
                 },
                 "region": {
+                  "endColumn": 34,
+                  "endLine": 4,
                   "startColumn": 28,
                   "startLine": 4
                 }
+              },
+              "properties": {
+                "loops": []
               }
             }
           ],
@@ -1368,6 +1413,61 @@ $ ompc explain absent.c
 ! cannot read absent.c
 [2]
 
+# the colours of a terminal where they are asked for, and a time that there is not
+$ ompc explain halves.c --color always
+halves.c: accepted
+$ ompc explain stale_on_another_device.c --color always
+[1mstale_on_another_device.c:8:10: [1;31merror: [0mthe target reads A[0], whose last value is on device 0: nothing has copied it to device 1 since [E507]
+    8 | { A[1] = A[0]; }
+      | [1;32m         ^~~~[0m
+[1mstale_on_another_device.c:6:3: [1;36mnote: [0mA[0] is written here, on device 0, by the target (item 2)
+    6 | { A[0] = 7; }
+      | [1;32m  ^~~~[0m
+[1mstale_on_another_device.c:8:1: [1;36mnote: [0mthe implicit `map(tofrom: A[0:2])` copies nothing here, since A[0:2] is on device 1 already
+    8 | { A[1] = A[0]; }
+      | [1;32m^[0m
+[1mstale_on_another_device.c:4:39: [1;36mnote: [0mA[0:2] is on device 1 since item 1, which entered it here
+    4 | #pragma omp target enter data map(to: A) device(1)
+      | [1;32m                                      ^[0m
+[1mstale_on_another_device.c:7:1: [1;32mhelp: [0mwrite `#pragma omp target update from(A[0:1])` before this
+    7 | #pragma omp target device(1)
+      | [1;32m^~~~~~~~~~~~~~~~~~~~~~~~~~~~[0m
+[1mstale_on_another_device.c:7:1: [1;32mhelp: [0mthen write `#pragma omp target update to(A[0:1]) device(1)` before this
+[1mstale_on_another_device.c:7:1: [1;32mhelp: [0mthis change is accepted
+--- stale_on_another_device.c
++++ stale_on_another_device.c
+@@ -6,0 +7,2 @@
+[32m+#pragma omp target update from(A[0:1])
++#pragma omp target update to(A[0:1]) device(1)[0m
+! E507 item 3 A[0]
+[1]
+$ ompc explain halves.c --color sometimes
+! bad color
+[2]
+
+# a tabulator, wide characters, and such as would change the order of others, in a long line
+$ ompc explain other_scripts.c
+other_scripts.c:3:43: error: the subscript of A is 9, and A has 8 cells [E301]
+    3 |     /* 漢字 é <E2><80><AE> */ A[2] = 1; /* xxx */ A[9] = 3; /* yyyyyyyyyyyyyyyyyyyyyyyyyyyyyyyyyyyyyyyyyyyyy..
+      |                                                   ^~~~
+other_scripts.c:1:10: note: A has the cells 0 to 7
+    1 | uint64_t A[8];
+      |          ^~~~
+other_scripts.c:3:43: help: put it under an `if` that the values of the loops decide, or change the bounds of the loop
+    3 |     /* 漢字 é <E2><80><AE> */ A[2] = 1; /* xxx */ A[9] = 3; /* yyyyyyyyyyyyyyyyyyyyyyyyyyyyyyyyyyyyyyyyyyyyy..
+      |                                                   ^~~~
+! E301 item 0 line 3 column 43
+[1]
+
+# a byte that is no text
+$ ompc explain control_byte.c
+control_byte.c:3:22: error: this byte begins no token [E101]
+    3 |     /* <C3><A9><FF> */ A[7] = <1B> 1;
+      |                               ^~~~
+control_byte.c:3:22: help: take it away
+! E101 line 3 column 22
+[1]
+
 # lines that are inserted at one place are one edit
 $ ompc explain --format json stale_on_another_device.c
 {
@@ -1378,6 +1478,8 @@ $ ompc explain --format json stale_on_another_device.c
       "cell": 0,
       "code": "E507",
       "column": 10,
+      "end_column": 14,
+      "end_line": 8,
       "item": 3,
       "line": 8,
       "loops": [],
@@ -1385,32 +1487,47 @@ $ ompc explain --format json stale_on_another_device.c
       "notes": [
         {
           "column": 3,
+          "end_column": 7,
+          "end_line": 6,
           "kind": "note",
           "line": 6,
+          "loops": [],
           "message": "A[0] is written here, on device 0, by the target (item 2)"
         },
         {
           "column": 1,
+          "end_column": 2,
+          "end_line": 8,
           "kind": "note",
           "line": 8,
+          "loops": [],
           "message": "the implicit `map(tofrom: A[0:2])` copies nothing here, since A[0:2] is on device 1 already"
         },
         {
           "column": 39,
+          "end_column": 40,
+          "end_line": 4,
           "kind": "note",
           "line": 4,
+          "loops": [],
           "message": "A[0:2] is on device 1 since item 1, which entered it here"
         },
         {
           "column": 1,
+          "end_column": 29,
+          "end_line": 7,
           "kind": "help",
           "line": 7,
+          "loops": [],
           "message": "write `#pragma omp target update from(A[0:1])` before this"
         },
         {
           "column": 1,
+          "end_column": 29,
+          "end_line": 7,
           "kind": "help",
           "line": 7,
+          "loops": [],
           "message": "then write `#pragma omp target update to(A[0:1]) device(1)` before this"
         }
       ],

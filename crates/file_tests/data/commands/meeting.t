@@ -3,20 +3,20 @@
 # a sweep in place
 $ ompc explain sweep_in_place.c
 sweep_in_place.c:4:1: error: two turns of this loop, which may run in any order, meet on A[1] [E510]
-    #pragma omp target teams distribute parallel for map(tofrom: A)
-    ^
+    4 | #pragma omp target teams distribute parallel for map(tofrom: A)
+      | ^~~~~~~~~~~~~~~~~~~~~~~~~~~~~~~~~~~~~~~~~~~~~~~~~~~~~~~~~~~~~~~
 sweep_in_place.c:5:39: note: A[1] is written here (in the turn i = 1)
-    for (uint64_t i = 1; i < 5; i += 1) { A[i] = (A[i - 1] + A[i + 1]) / 2; }
-                                          ^
+    5 | for (uint64_t i = 1; i < 5; i += 1) { A[i] = (A[i - 1] + A[i + 1]) / 2; }
+      |                                       ^~~~
 sweep_in_place.c:5:47: note: A[1] is read here (in the turn i = 2)
-    for (uint64_t i = 1; i < 5; i += 1) { A[i] = (A[i - 1] + A[i + 1]) / 2; }
-                                                  ^
+    5 | for (uint64_t i = 1; i < 5; i += 1) { A[i] = (A[i - 1] + A[i + 1]) / 2; }
+      |                                               ^~~~~~~~
 sweep_in_place.c:5:39: help: let this write to another array: then other turns read what A has before the loop
-    for (uint64_t i = 1; i < 5; i += 1) { A[i] = (A[i - 1] + A[i + 1]) / 2; }
-                                          ^
+    5 | for (uint64_t i = 1; i < 5; i += 1) { A[i] = (A[i - 1] + A[i + 1]) / 2; }
+      |                                       ^~~~
 sweep_in_place.c:4:1: help: as a `target` alone it has its turns in order
-    #pragma omp target teams distribute parallel for map(tofrom: A)
-    ^
+    4 | #pragma omp target teams distribute parallel for map(tofrom: A)
+      | ^~~~~~~~~~~~~~~~~~~~~~~~~~~~~~~~~~~~~~~~~~~~~~~~~~~~~~~~~~~~~~~
 sweep_in_place.c:4:1: help: this change is accepted
 --- sweep_in_place.c
 +++ sweep_in_place.c
@@ -53,17 +53,17 @@ ompc step --fine sweep_in_place.c --turns 1
 # a sum in one cell
 $ ompc explain sum_in_one_cell.c
 sum_in_one_cell.c:5:1: error: two turns of this loop, which may run in any order, meet on S[0] [E510]
-    #pragma omp target teams distribute parallel for map(to: A) map(tofrom: S)
-    ^
+    5 | #pragma omp target teams distribute parallel for map(to: A) map(tofrom: S)
+      | ^~~~~~~~~~~~~~~~~~~~~~~~~~~~~~~~~~~~~~~~~~~~~~~~~~~~~~~~~~~~~~~~~~~~~~~~~~
 sum_in_one_cell.c:6:39: note: S[0] is written here (in the turn i = 0)
-    for (uint64_t i = 0; i < 4; i += 1) { S[0] = S[0] + A[i]; }
-                                          ^
+    6 | for (uint64_t i = 0; i < 4; i += 1) { S[0] = S[0] + A[i]; }
+      |                                       ^~~~
 sum_in_one_cell.c:6:46: note: S[0] is read here (in the turn i = 1)
-    for (uint64_t i = 0; i < 4; i += 1) { S[0] = S[0] + A[i]; }
-                                                 ^
+    6 | for (uint64_t i = 0; i < 4; i += 1) { S[0] = S[0] + A[i]; }
+      |                                              ^~~~
 sum_in_one_cell.c:5:1: help: as a `target` alone it has its turns in order
-    #pragma omp target teams distribute parallel for map(to: A) map(tofrom: S)
-    ^
+    5 | #pragma omp target teams distribute parallel for map(to: A) map(tofrom: S)
+      | ^~~~~~~~~~~~~~~~~~~~~~~~~~~~~~~~~~~~~~~~~~~~~~~~~~~~~~~~~~~~~~~~~~~~~~~~~~
 sum_in_one_cell.c:5:1: help: this change is accepted
 --- sum_in_one_cell.c
 +++ sum_in_one_cell.c
@@ -81,6 +81,8 @@ $ ompc explain sum_in_one_cell.c --format json
       "cell": 0,
       "code": "E510",
       "column": 1,
+      "end_column": 75,
+      "end_line": 5,
       "item": 1,
       "line": 5,
       "loops": [],
@@ -88,20 +90,39 @@ $ ompc explain sum_in_one_cell.c --format json
       "notes": [
         {
           "column": 39,
+          "end_column": 43,
+          "end_line": 6,
           "kind": "note",
           "line": 6,
+          "loops": [
+            {
+              "name": "i",
+              "value": 0
+            }
+          ],
           "message": "S[0] is written here (in the turn i = 0)"
         },
         {
           "column": 46,
+          "end_column": 50,
+          "end_line": 6,
           "kind": "note",
           "line": 6,
+          "loops": [
+            {
+              "name": "i",
+              "value": 1
+            }
+          ],
           "message": "S[0] is read here (in the turn i = 1)"
         },
         {
           "column": 1,
+          "end_column": 75,
+          "end_line": 5,
           "kind": "help",
           "line": 5,
+          "loops": [],
           "message": "as a `target` alone it has its turns in order"
         }
       ],
@@ -134,6 +155,7 @@ $ ompc explain sum_in_one_cell.c --format sarif
   "$schema": "https://docs.oasis-open.org/sarif/sarif/v2.1.0/errata01/os/schemas/sarif-schema-2.1.0.json",
   "runs": [
     {
+      "columnKind": "unicodeCodePoints",
       "properties": {
         "more": 0
       },
@@ -172,6 +194,8 @@ $ ompc explain sum_in_one_cell.c --format sarif
                   "uri": "sum_in_one_cell.c"
                 },
                 "region": {
+                  "endColumn": 75,
+                  "endLine": 5,
                   "startColumn": 1,
                   "startLine": 5
                 }
@@ -198,9 +222,19 @@ $ ompc explain sum_in_one_cell.c --format sarif
                   "uri": "sum_in_one_cell.c"
                 },
                 "region": {
+                  "endColumn": 43,
+                  "endLine": 6,
                   "startColumn": 39,
                   "startLine": 6
                 }
+              },
+              "properties": {
+                "loops": [
+                  {
+                    "name": "i",
+                    "value": 0
+                  }
+                ]
               }
             },
             {
@@ -213,9 +247,19 @@ $ ompc explain sum_in_one_cell.c --format sarif
                   "uri": "sum_in_one_cell.c"
                 },
                 "region": {
+                  "endColumn": 50,
+                  "endLine": 6,
                   "startColumn": 46,
                   "startLine": 6
                 }
+              },
+              "properties": {
+                "loops": [
+                  {
+                    "name": "i",
+                    "value": 1
+                  }
+                ]
               }
             },
             {
@@ -228,9 +272,14 @@ $ ompc explain sum_in_one_cell.c --format sarif
                   "uri": "sum_in_one_cell.c"
                 },
                 "region": {
+                  "endColumn": 75,
+                  "endLine": 5,
                   "startColumn": 1,
                   "startLine": 5
                 }
+              },
+              "properties": {
+                "loops": []
               }
             }
           ],
@@ -276,17 +325,17 @@ ompc step --fine sum_in_one_cell.c --turns 1
 # a product of a matrix and a vector: the turns of the outer loop alone are independent
 $ ompc explain product_collapsed.c
 product_collapsed.c:7:1: error: two turns of these loops, which may run in any order, meet on Y[0] [E510]
-    #pragma omp target teams distribute parallel for collapse(2) map(to: A, X) map(tofrom: Y)
-    ^
+    7 | #pragma omp target teams distribute parallel for collapse(2) map(to: A, X) map(tofrom: Y)
+      | ^~~~~~~~~~~~~~~~~~~~~~~~~~~~~~~~~~~~~~~~~~~~~~~~~~~~~~~~~~~~~~~~~~~~~~~~~~~~~~~~~~~~~~~~~
 product_collapsed.c:9:41: note: Y[0] is written here (in the turn i = 0, k = 0)
-      for (uint64_t k = 0; k < 3; k += 1) { Y[i] = Y[i] + A[3 * i + k] * X[k]; }
-                                            ^
+    9 |   for (uint64_t k = 0; k < 3; k += 1) { Y[i] = Y[i] + A[3 * i + k] * X[k]; }
+      |                                         ^~~~
 product_collapsed.c:9:48: note: Y[0] is read here (in the turn i = 0, k = 1)
-      for (uint64_t k = 0; k < 3; k += 1) { Y[i] = Y[i] + A[3 * i + k] * X[k]; }
-                                                   ^
+    9 |   for (uint64_t k = 0; k < 3; k += 1) { Y[i] = Y[i] + A[3 * i + k] * X[k]; }
+      |                                                ^~~~
 product_collapsed.c:7:1: help: with a smaller `collapse`, or with none, fewer loops are in any order
-    #pragma omp target teams distribute parallel for collapse(2) map(to: A, X) map(tofrom: Y)
-    ^
+    7 | #pragma omp target teams distribute parallel for collapse(2) map(to: A, X) map(tofrom: Y)
+      | ^~~~~~~~~~~~~~~~~~~~~~~~~~~~~~~~~~~~~~~~~~~~~~~~~~~~~~~~~~~~~~~~~~~~~~~~~~~~~~~~~~~~~~~~~
 product_collapsed.c:7:1: help: as a `target` alone it has its turns in order
 product_collapsed.c:7:1: help: this change is accepted
 --- product_collapsed.c
@@ -323,20 +372,20 @@ ompc step --fine product_collapsed.c --turns 1
 # the turns of the loop inside alone are
 $ ompc explain rows_one_after_another.c
 rows_one_after_another.c:4:1: error: two turns of this loop, which may run in any order, meet on A[4] [E510]
-    #pragma omp target teams distribute parallel for num_teams(2)
-    ^
+    4 | #pragma omp target teams distribute parallel for num_teams(2)
+      | ^~~~~~~~~~~~~~~~~~~~~~~~~~~~~~~~~~~~~~~~~~~~~~~~~~~~~~~~~~~~~
 rows_one_after_another.c:6:41: note: A[4] is written here (in the turn i = 1, j = 0)
-      for (uint64_t j = 0; j < 4; j += 1) { A[4 * i + j] = A[4 * i - 4 + j] + 1; }
-                                            ^
+    6 |   for (uint64_t j = 0; j < 4; j += 1) { A[4 * i + j] = A[4 * i - 4 + j] + 1; }
+      |                                         ^~~~~~~~~~~~
 rows_one_after_another.c:6:56: note: A[4] is read here (in the turn i = 2, j = 0)
-      for (uint64_t j = 0; j < 4; j += 1) { A[4 * i + j] = A[4 * i - 4 + j] + 1; }
-                                                           ^
+    6 |   for (uint64_t j = 0; j < 4; j += 1) { A[4 * i + j] = A[4 * i - 4 + j] + 1; }
+      |                                                        ^~~~~~~~~~~~~~~~
 rows_one_after_another.c:6:41: help: let this write to another array: then other turns read what A has before the loop
-      for (uint64_t j = 0; j < 4; j += 1) { A[4 * i + j] = A[4 * i - 4 + j] + 1; }
-                                            ^
+    6 |   for (uint64_t j = 0; j < 4; j += 1) { A[4 * i + j] = A[4 * i - 4 + j] + 1; }
+      |                                         ^~~~~~~~~~~~
 rows_one_after_another.c:4:1: help: as a `target` alone it has its turns in order
-    #pragma omp target teams distribute parallel for num_teams(2)
-    ^
+    4 | #pragma omp target teams distribute parallel for num_teams(2)
+      | ^~~~~~~~~~~~~~~~~~~~~~~~~~~~~~~~~~~~~~~~~~~~~~~~~~~~~~~~~~~~~
 rows_one_after_another.c:4:1: help: this change is accepted
 --- rows_one_after_another.c
 +++ rows_one_after_another.c

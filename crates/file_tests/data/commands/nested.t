@@ -16,11 +16,11 @@ $ ompc list nested_lines.c
 3 host
 $ ompc explain nested_stale.c
 nested_stale.c:15:59: error: the target reads x[0], which is undefined on device 0: it was created there, and nothing was copied to it (in the turn i = 0) [E507]
-        for (uint64_t i = 0; i < N; i++) y[i] = product(A[i], x[i]);
-                                                              ^
+   15 |     for (uint64_t i = 0; i < N; i++) y[i] = product(A[i], x[i]);
+      |                                                           ^~~~
 nested_stale.c:12:55: note: `map(alloc: x[0:8])` of item 1 creates x[0] on device 0 here, and copies nothing to it
-    #pragma omp target map(to: A) map(from: y) map(alloc: x)
-                                                          ^
+   12 | #pragma omp target map(to: A) map(from: y) map(alloc: x)
+      |                                                       ^
 nested_stale.c:12:55: help: write `to` in place of `alloc` here, which copies x[0] from the host, or write x[0] on the device before it is read
 nested_stale.c:12:1: help: this change is accepted
 --- nested_stale.c
@@ -32,19 +32,19 @@ nested_stale.c:12:1: help: this change is accepted
 [1]
 $ ompc explain nested_sweep.c
 nested_sweep.c:16:1: error: two turns of this loop, which may run in any order, meet on y[1] [E510]
-    #pragma omp target map(tofrom: y)
-    ^
+   16 | #pragma omp target map(tofrom: y)
+      | ^~~~~~~~~~~~~~~~~~~~~~~~~~~~~~~~~
 nested_sweep.c:19:46: note: y[1] is written here (in the turn i = 1)
-            for (uint64_t i = 0; i < N - 1; i++) y[i] = y[i + 1];
-                                                 ^
+   19 |         for (uint64_t i = 0; i < N - 1; i++) y[i] = y[i + 1];
+      |                                              ^~~~
 nested_sweep.c:19:53: note: y[1] is read here (in the turn i = 0)
-            for (uint64_t i = 0; i < N - 1; i++) y[i] = y[i + 1];
-                                                        ^
+   19 |         for (uint64_t i = 0; i < N - 1; i++) y[i] = y[i + 1];
+      |                                                     ^~~~~~~~
 nested_sweep.c:19:46: help: let this write to another array: then other turns read what y has before the loop
-            for (uint64_t i = 0; i < N - 1; i++) y[i] = y[i + 1];
-                                                 ^
+   19 |         for (uint64_t i = 0; i < N - 1; i++) y[i] = y[i + 1];
+      |                                              ^~~~
 nested_sweep.c:16:1: help: without the lines of constructs inside it this `target` has its turns in order
-    #pragma omp target map(tofrom: y)
-    ^
+   16 | #pragma omp target map(tofrom: y)
+      | ^~~~~~~~~~~~~~~~~~~~~~~~~~~~~~~~~
 ! E510 item 2 y[1]
 [1]

@@ -2,14 +2,14 @@
 
 $ ompc explain pointer_without_map.c
 pointer_without_map.c:5:13: error: the target uses `a`, a pointer in C, which it names in no `map` clause, and x[0:8] is not on device 0 [E509]
-    #pragma omp target teams distribute parallel for
-                ^
+    5 | #pragma omp target teams distribute parallel for
+      |             ^~~~~~
 pointer_without_map.c:6:38: note: `a` is used here: a target maps no pointer by itself
-        for (uint64_t i = 0; i < n; i++) a[i] *= 2;
-                                         ^
+    6 |     for (uint64_t i = 0; i < n; i++) a[i] *= 2;
+      |                                      ^~~~
 pointer_without_map.c:5:13: help: name it on this line, as by `map(tofrom: a[0:8])`, or enter it before
-    #pragma omp target teams distribute parallel for
-                ^
+    5 | #pragma omp target teams distribute parallel for
+      |             ^~~~~~
 pointer_without_map.c:5:1: help: this change is accepted
 --- pointer_without_map.c
 +++ pointer_without_map.c
@@ -37,14 +37,14 @@ int main(void) {
 # an array that main allocates is not known in the functions before it, so the change is made in main
 $ ompc explain pointer_read_too_early.c
 pointer_read_too_early.c:6:43: error: the host reads cells[0], whose last value is on device 0: nothing has copied it to the host since (in the turn i = 0) [E506]
-        for (uint64_t i = 0; i < n; i++) s += a[i];
-                                              ^
+    6 |     for (uint64_t i = 0; i < n; i++) s += a[i];
+      |                                           ^~~~
 pointer_read_too_early.c:13:38: note: cells[0] is written here, on device 0, by the target (item 2) (in the turn i = 0)
-        for (uint64_t i = 0; i < N; i++) cells[i] = i;
-                                         ^
+   13 |     for (uint64_t i = 0; i < N; i++) cells[i] = i;
+      |                                      ^~~~~~~~
 pointer_read_too_early.c:6:43: help: write `#pragma omp target update from(cells[0:4])` before this
-        for (uint64_t i = 0; i < n; i++) s += a[i];
-                                              ^
+    6 |     for (uint64_t i = 0; i < n; i++) s += a[i];
+      |                                           ^~~~
 pointer_read_too_early.c:14:1: help: this change is accepted
 --- pointer_read_too_early.c
 +++ pointer_read_too_early.c

@@ -61,6 +61,17 @@ box-shadow:0 0 0 1px var(--line)}
 .u{opacity:.4}
 .f u{position:absolute;top:0;height:1.16rem;border:2px solid var(--red);
 background:color-mix(in srgb,var(--red) 30%,transparent)}
+.f s{position:absolute;top:.22rem;height:.72rem;min-width:3px;border-radius:1px;background:var(--c)}
+.f .q{background:color-mix(in srgb,var(--c) 40%,transparent)}
+.f .z{background:repeating-linear-gradient(90deg,var(--c) 0 2px,transparent 2px 4px)}
+.tn{display:flex;flex-wrap:wrap;align-items:center;box-shadow:inset 3px 0 var(--line)}
+.tn .m{flex:0 0 100%}
+.tn input{margin:.1rem .12rem;width:.8rem;height:.8rem;accent-color:var(--mut)}
+.tn .m+input{margin-left:1rem}
+.tn .v{padding:0;accent-color:var(--red);outline:2px solid var(--red)}
+.tp{order:1;flex:0 0 100%}
+.tn input+.tp{display:none}
+.tn input:checked+.tp{display:grid}
 .k{display:inline-block;font:12px/1.3 var(--mono);color:var(--mut);margin-right:.15rem}
 .a{color:var(--fg);font-weight:600}
 .w{color:var(--c);font-weight:700}

@@ -2,7 +2,7 @@
 
 ghost use Rattle.std.specs.Prelude.{◌≤◌};
 
-use base::tree::{Bounds, Expr, Place, Region, Source, Stmt};
+use base::tree::{Bounds, CombineOp, Expr, Place, Region, Source, Stmt};
 use std::alloc::{AllocError, Global};
 
 fn copy_of(alloc: Global, e: &Expr) -> Result<Expr, AllocError> {
@@ -38,9 +38,42 @@ fn copy_of_source(alloc: Global, source: &Source) -> Result<Source, AllocError> 
     }
 }
 
-/// Adds a statement with its loops cut. A loop in it has no two values of its name that are `span` or more apart.
+/// How statements are cut: no loop has two values of its name that are `span` or more apart, and commuting updates by
+/// this operator are left out, but for what their operands touch.
+#[derive(Clone, Copy)]
+struct Cutting {
+    span: u64,
+    without: Option<CombineOp>,
+}
+
+pub(crate) fn is_same(one: CombineOp, other: CombineOp) -> bool {
+    one as u8 == other as u8
+}
+
+impl Cutting {
+    fn leaves_out(self, op: CombineOp) -> bool {
+        match self.without {
+            None => false,
+            Some(left) => is_same(left, op),
+        }
+    }
+}
+
+/// Adds what touches the same as an expression.
+fn add_operand(alloc: Global, e: &Expr, out: &mut Vec<Stmt>) -> Result<(), AllocError> {
+    let test = copy_of(alloc, e)?;
+    out.push(Stmt::If(test, Vec::new(alloc), Vec::new(alloc)))?;
+    Ok(())
+}
+
+/// Adds a statement that is cut.
 #[cycle(cut)]
-fn add_cut(alloc: Global, span: u64, stmt: &Stmt, out: &mut Vec<Stmt>) -> Result<(), AllocError> {
+fn add_cut(
+    alloc: Global,
+    how: Cutting,
+    stmt: &Stmt,
+    out: &mut Vec<Stmt>,
+) -> Result<(), AllocError> {
     let copy = match stmt {
         Stmt::Declare(id, source) => Stmt::Declare(*id, copy_of_source(alloc, source)?),
         Stmt::Assign(id, source) => Stmt::Assign(*id, copy_of_source(alloc, source)?),
@@ -48,17 +81,21 @@ fn add_cut(alloc: Global, span: u64, stmt: &Stmt, out: &mut Vec<Stmt>) -> Result
             let index = copy_of(alloc, index)?;
             Stmt::Store(*array, *place, index, copy_of_source(alloc, source)?)
         }
+        Stmt::Combine(op, _, _, index, value) if how.leaves_out(*op) => {
+            add_operand(alloc, index, out)?;
+            return add_operand(alloc, value, out);
+        }
         Stmt::Combine(op, array, place, index, value) => {
             let index = copy_of(alloc, index)?;
             Stmt::Combine(*op, *array, *place, index, copy_of(alloc, value)?)
         }
         Stmt::Print(e) => Stmt::Print(copy_of(alloc, e)?),
-        Stmt::Block(inner) => Stmt::Block(all_cut(alloc, span, inner)?),
-        Stmt::Loop(bounds, inner) => return add_loops(alloc, span, *bounds, inner, out),
+        Stmt::Block(inner) => Stmt::Block(all_cut(alloc, how, inner)?),
+        Stmt::Loop(bounds, inner) => return add_loops(alloc, how, *bounds, inner, out),
         Stmt::If(test, first, second) => {
             let test = copy_of(alloc, test)?;
-            let first = all_cut(alloc, span, first)?;
-            Stmt::If(test, first, all_cut(alloc, span, second)?)
+            let first = all_cut(alloc, how, first)?;
+            Stmt::If(test, first, all_cut(alloc, how, second)?)
         }
     };
     out.push(copy)?;
@@ -77,30 +114,30 @@ fn ahead(span: u64, step: u64) -> u64
 #[cycle(cut)]
 fn add_loops(
     alloc: Global,
-    span: u64,
+    how: Cutting,
     bounds: Bounds,
     inner: &[Stmt],
     out: &mut Vec<Stmt>,
 ) -> Result<(), AllocError> {
-    let ahead = ahead(span, bounds.step);
+    let ahead = ahead(how.span, bounds.step);
     let mut first = bounds.first;
     for _ in 0..bounds.end.saturating_sub(first).div_ceil(ahead) {
         let short = Bounds {
             first,
-            end: bounds.end.min(first.saturating_add(span)),
+            end: bounds.end.min(first.saturating_add(how.span)),
             step: bounds.step,
         };
-        out.push(Stmt::Loop(short, all_cut(alloc, span, inner)?))?;
+        out.push(Stmt::Loop(short, all_cut(alloc, how, inner)?))?;
         first = first.saturating_add(ahead);
     }
     Ok(())
 }
 
 #[cycle(cut)]
-fn all_cut(alloc: Global, span: u64, all: &[Stmt]) -> Result<Vec<Stmt>, AllocError> {
+fn all_cut(alloc: Global, how: Cutting, all: &[Stmt]) -> Result<Vec<Stmt>, AllocError> {
     let mut out = Vec::new(alloc);
     for stmt in all {
-        add_cut(alloc, span, stmt, &mut out)?;
+        add_cut(alloc, how, stmt, &mut out)?;
     }
     Ok(out)
 }
@@ -108,18 +145,31 @@ fn all_cut(alloc: Global, span: u64, all: &[Stmt]) -> Result<Vec<Stmt>, AllocErr
 /// A region with the same turns. No loop in it has two values of its name that are `span` or more apart, which is at
 /// least 1.
 pub(crate) fn cut(alloc: Global, span: u64, region: &Region) -> Result<Region, AllocError> {
+    let how = Cutting {
+        span,
+        without: None,
+    };
     Ok(Region {
         place: region.place,
-        body: all_cut(alloc, span, &region.body)?,
+        body: all_cut(alloc, how, &region.body)?,
         depth: 0,
     })
 }
 
-/// A region of these statements, in order.
-pub(crate) fn in_order(alloc: Global, place: Place, body: &[Stmt]) -> Result<Region, AllocError> {
+/// A region of these statements, in order, without the commuting updates by an operator.
+pub(crate) fn in_order(
+    alloc: Global,
+    place: Place,
+    body: &[Stmt],
+    without: Option<CombineOp>,
+) -> Result<Region, AllocError> {
+    let how = Cutting {
+        span: u64::MAX,
+        without,
+    };
     Ok(Region {
         place,
-        body: all_cut(alloc, u64::MAX, body)?,
+        body: all_cut(alloc, how, body)?,
         depth: 0,
     })
 }

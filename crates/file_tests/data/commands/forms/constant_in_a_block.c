@@ -1,0 +1,3 @@
+int main(void) {
+{ const uint64_t N = 4; }
+}

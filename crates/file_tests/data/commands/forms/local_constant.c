@@ -1,3 +1,0 @@
-int main(void) {
-const uint64_t N = 4;
-}
