@@ -3,6 +3,7 @@
 in the file, and that the first fix, done by hand as the standard says (section 3.55), gives what `ompc fix` prints. The argument is the built program."""
 import json
 import pathlib
+import re
 import subprocess
 import sys
 
@@ -14,16 +15,17 @@ def is_text(value):
 
 
 def check_region(region, lines):
-    """A region that begins at a line and column of the file, or just past its end."""
-    line, column = region["startLine"], region.get("startColumn", 1)
+    """A region that begins at a line and column of the file, or just past its end, and ends in that line."""
+    line, column = region["startLine"], region["startColumn"]
     assert 1 <= line <= len(lines) + 1 and column >= 1, region
+    assert region["endLine"] == line and region["endColumn"] >= column, region
     if line <= len(lines):
-        assert column <= len(lines[line - 1]) + 1, region
+        assert region["endColumn"] <= len(lines[line - 1]) + 1, region
 
 
 def check_location(location, lines):
     place = location["physicalLocation"]
-    assert is_text(place["artifactLocation"]["uri"]), place
+    assert re.fullmatch(r"([A-Za-z0-9._~/!$&'()*+,;=@-]|%[0-9A-F]{2})+", place["artifactLocation"]["uri"]), place
     check_region(place["region"], lines)
 
 
@@ -59,6 +61,7 @@ def check_log(log, lines):
     """The results of a log."""
     assert log["version"] == "2.1.0", log["version"]
     (run,) = log["runs"]
+    assert run["columnKind"] == "unicodeCodePoints", run["columnKind"]
     driver = run["tool"]["driver"]
     assert is_text(driver["name"]), driver
     rules = {rule["id"] for rule in driver.get("rules", [])}
@@ -76,12 +79,12 @@ def main(program):
     fixes = 0
     sources = sorted(folder.glob("*.c")) + sorted(folder.glob("refused/*.c"))
     for source in sources:
-        text = source.read_bytes().decode("latin-1")
+        text = source.read_bytes().decode("utf-8")
         lines = text.removesuffix("\n").split("\n")
         results = check_log(json.loads(output(program, "explain", source, "--format", "sarif").stdout), lines)
         for result in results[:1]:
             for fix in result.get("fixes", []):
-                wanted = output(program, "fix", source).stdout.decode("latin-1").removesuffix("\n").split("\n")
+                wanted = output(program, "fix", source).stdout.decode("utf-8").removesuffix("\n").split("\n")
                 assert fixed(lines, fix["artifactChanges"][0]) == wanted, (source, fixed(lines, fix["artifactChanges"][0]), wanted)
                 fixes += 1
     print(f"{len(sources)} logs have what the schema requires, and {fixes} fixes give what `fix` prints")

@@ -2,41 +2,45 @@
 #include <inttypes.h>
 #include <stdio.h>
 #define N 32
-const uint64_t SWEEPS = 100;
+const int SWEEPS = 100;
 
-uint64_t T[N * N], Tn[N * N];
+uint64_t T[N][N], Tn[N][N];
 uint64_t err[1];
 
+void sweep(uint64_t to[N][N], uint64_t from[N][N]) {
+  #pragma omp target teams distribute parallel for collapse(2) map(present, alloc: to[0:N][0:N], from[0:N][0:N])
+  for (int i = 1; i < N - 1; i++)
+    for (int j = 1; j < N - 1; j++)
+      to[i][j] = (from[i][j - 1] + from[i][j + 1] + from[i - 1][j] + from[i + 1][j]) / 4;
+}
+
 int main() {
-  for (size_t i = 0; i < N; i++) {
-    T[i] = 1000000;
-    T[N * i] = 500000;
+  for (int i = 0; i < N; i++) {
+    T[0][i] = 1000000;
+    T[i][0] = 500000;
   }
   #pragma omp target data map(tofrom: T), map(to: Tn), map(from: err)
   {
-    for (size_t iter = 0; iter < SWEEPS; iter++) {
-      #pragma omp target teams distribute parallel for collapse(2)
-      for (size_t i = 1; i < N - 1; i++)
-        for (size_t j = 1; j < N - 1; j++)
-          Tn[N * i + j] = (T[N * i + j - 1] + T[N * i + j + 1] + T[N * i + j - N] + T[N * i + j + N]) / 4;
+    for (int iter = 0; iter < SWEEPS; iter++) {
+      sweep(Tn, T);
       #pragma omp target
       {
         err[0] = 0;
-        for (size_t i = 1; i < N - 1; i++)
-          for (size_t j = 1; j < N - 1; j++) {
-            uint64_t d = Tn[N * i + j] - T[N * i + j];
-            if (Tn[N * i + j] < T[N * i + j]) d = T[N * i + j] - Tn[N * i + j];
+        for (int i = 1; i < N - 1; i++)
+          for (int j = 1; j < N - 1; j++) {
+            uint64_t d = Tn[i][j] - T[i][j];
+            if (Tn[i][j] < T[i][j]) d = T[i][j] - Tn[i][j];
             if (d > err[0]) err[0] = d;
           }
       }
       #pragma omp target teams distribute parallel for collapse(2)
-      for (size_t i = 1; i < N - 1; i++)
-        for (size_t j = 1; j < N - 1; j++)
-          T[N * i + j] = Tn[N * i + j];
+      for (int i = 1; i < N - 1; i++)
+        for (int j = 1; j < N - 1; j++)
+          T[i][j] = Tn[i][j];
     }
   }
   printf("%" PRIu64 "\n", err[0]);
-  printf("%" PRIu64 "\n", T[N + 1]);
-  printf("%" PRIu64 "\n", T[N * 16 + 16]);
+  printf("%" PRIu64 "\n", T[1][1]);
+  printf("%" PRIu64 "\n", T[16][16]);
   return 0;
 }

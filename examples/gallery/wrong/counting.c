@@ -1,0 +1,27 @@
+#include "ompc.h"
+#include <stdlib.h>
+// How often each value stands in the data: two turns count into one cell, and nothing says that they may.
+#define N 4096
+#define BINS 16
+
+uint64_t sum[1];
+
+void count(const uint64_t *data, uint64_t *bins) {
+#pragma omp target teams distribute parallel for map(to: data[0:N]) map(tofrom: bins[0:BINS]) reduction(+: sum)
+    for (int i = 0; i < N; i++) {
+        sum[0] += data[i];
+        bins[data[i] % BINS]++;
+    }
+}
+
+int main(void) {
+    uint64_t *data = malloc(N * sizeof(uint64_t));
+    uint64_t *bins = calloc(BINS, sizeof(uint64_t));
+    for (uint64_t i = 0; i < N; i++) data[i] = i * i % 37;
+    count(data, bins);
+    for (int b = 0; b < BINS; b++) printf("%lu\n", bins[b]);
+    printf("%lu\n", sum[0]);
+    free(bins);
+    free(data);
+    return 0;
+}
