@@ -14,6 +14,16 @@ long() {
     printf '#pragma omp target map(to: A)\n{ A[1] = 7; }\nprint(A[1]);\n}\n'
 }
 
+# as many statements, and two targets at the end that write the same with no order between them: each of the runs that `witness` tries prints the same
+equal() {
+    printf 'uint64_t A[64];\nuint64_t B[64];\nint main(void) {\n#pragma omp target enter data map(to: A) map(to: B)\n'
+    for ((k = 0; k < $1 / 3; k += 1)); do
+        printf '#pragma omp target map(alloc: A)\n{ A[%d] = A[%d] + 1; }\nB[0] = B[0] + %d;\n' $((k % 64)) $(((k + 1) % 64)) "$k"
+    done
+    printf '#pragma omp target nowait map(alloc: B)\n{ B[1] = 7; }\n#pragma omp target nowait map(alloc: B)\n{ B[1] = 7; }\n'
+    printf '#pragma omp taskwait\n#pragma omp target update from(A)\nprint(A[1]);\n}\n'
+}
+
 # seconds of a command, the least of three runs
 seconds() {
     local TIMEFORMAT='%3R' least=999999 taken
@@ -33,3 +43,6 @@ for statements in 1024 4096 16000; do
     done
     printf '\n'
 done
+
+equal 800 > "$folder/equal.c"
+printf '800 statements, no run differs: check %s witness %s\n' "$(seconds "$ompc" check "$folder/equal.c")" "$(seconds "$ompc" witness "$folder/equal.c")"
