@@ -7,7 +7,7 @@ mod copies;
 mod document;
 mod escape;
 mod faults;
-mod kernel;
+mod kernel_turns;
 mod page;
 mod rows;
 mod scene;

@@ -1,7 +1,7 @@
 // The turns of kernels that may run in any order, one at a time.
 
 use crate::chips::add_section;
-use crate::kernel::{Kernel, KernelTurn};
+use crate::kernel_turns::{Kernel, KernelTurn};
 use crate::page::Page;
 use crate::rows::{Shown, add_marker};
 use crate::scene::{Scene, is_of};

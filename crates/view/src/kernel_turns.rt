@@ -85,7 +85,8 @@ fn number_of(bounds: &[Bounds], values: &[u64]) -> u64 {
 fn numbers_of(alloc: Global, count: u64, meeting: &[u64]) -> Result<Vec<u64>, AllocError> {
     let mut numbers = Vec::new(alloc);
     'shown: for at in 0..MOST_TURNS.min(count) {
-        let between = count.saturating_sub(1).saturating_mul(at) / MOST_TURNS.saturating_sub(1).max(1);
+        let between = count.saturating_sub(1).saturating_mul(at)
+            / MOST_TURNS.saturating_sub(1).max(1);
         let number = if at < FIRST_TURNS || count <= MOST_TURNS {
             at
         } else {
