@@ -142,10 +142,12 @@ class Program:
 
 
 def with_type(line, column, found):
-    """Another type before the colon of the clause around a column."""
-    first = max(line.rfind("(", 0, column), 0)
-    at = line.find(found[2], first)
-    return None if at < 0 else replaced(line, at, at + len(found[2]), found[1])
+    """Another type or direction in the clause around a column: the last word of that name up to the item, else the first one behind it."""
+    words = [it.start() for it in re.finditer(rf"\b{re.escape(found[2])}\b", line)]
+    if not words:
+        return None
+    at = max([it for it in words if it <= column], default=words[0])
+    return replaced(line, at, at + len(found[2]), found[1])
 
 
 def with_section(line, column, found):
@@ -154,24 +156,13 @@ def with_section(line, column, found):
     return replaced(line, item.start(), item.end(), found[1]) if item else None
 
 
-def with_cell(line, column, found):
-    """A section that has a cell more."""
-    item = re.compile(r"(\w+)\[(\d+):(\d+)\]").match(line, column)
-    if not item:
-        return None
-    cell, first, length = int(found[2]), int(item[2]), int(item[3])
-    least, end = min(first, cell), max(first + length, cell + 1)
-    return replaced(line, item.start(), item.end(), f"{item[1]}[{least}:{end - least}]")
-
-
 def with_clause(line, column, found):
     return f"{line} {found[1]}" if "#pragma" in line else None
 
 
 ON_THE_LINE = [
     (re.compile(r"write `([^`]+)` in place of `([^`]+)` here"), with_type),
-    (re.compile(r"widen the section here so that it has (\w+)\[(\d+)\]"), with_cell),
-    (re.compile(r"name `?(\w+\[[^\]]*\]|\w+)`? here"), with_section),
+    (re.compile(r"(?:name|widen the section here to|enter all of) `?(\w+\[[^\]]*\]|\w+)`?"), with_section),
     (re.compile(r"(?:write|add) `((?:map|depend|device)\([^`]*)`"), with_clause),
 ]
 
