@@ -179,8 +179,8 @@ impl Excerpt {
     }
 }
 
-/// A line, of which the bytes from one on up to another are marked. Tabulators are shown as blanks, and what is no text as
-/// the numbers of its bytes. A line that takes more than 108 columns is cut around the first that is marked.
+/// A line, of which the bytes from one on up to another are marked. Tabulators are shown as blanks, and what is no text
+/// as the numbers of its bytes. A line that takes more than 108 columns is cut around the first that is marked.
 pub fn excerpt_of(
     alloc: Global,
     line: &[u8],

@@ -60,8 +60,8 @@ fn is_plain(byte: u8) -> bool {
     byte > b' ' && byte != b'"' && byte != b'\\' && byte != 127
 }
 
-// A name as the program `patch` reads it: one with blanks ends with a tabulator, and one with quotation marks, backslashes
-// or control characters is quoted.
+// A name as the program `patch` reads it: one with blanks ends with a tabulator, and one with quotation marks,
+// backslashes or control characters is quoted.
 fn name_in_diff(alloc: Global, file: &str) -> Result<String, AllocError> {
     let mut name = String::new(alloc);
     let is_quoted = file.bytes().any(|byte| byte != b' ' && !is_plain(byte));
@@ -231,8 +231,8 @@ impl Page<'_> {
     }
 }
 
-/// What is told of a file whose bytes these are, in the colours of a terminal or in none; where it has no faults, that its
-/// program is accepted.
+/// What is told of a file whose bytes these are, in the colours of a terminal or in none; where it has no faults, that
+/// its program is accepted.
 pub fn as_text(
     alloc: Global,
     file: &str,
