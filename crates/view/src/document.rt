@@ -13,7 +13,7 @@ use rendering::Told;
 use std::alloc::{AllocError, Global};
 use timeline::{Line, Row, lines_of};
 
-// Nothing is loaded, and no script runs.
+// Nothing is loaded, and no script runs. Bars are placed by style attributes, which the second part lets through.
 const POLICY: &str =
     "<meta http-equiv=Content-Security-Policy content=\"default-src 'none';style-src 'unsafe-inline'\">\n";
 

@@ -7,8 +7,8 @@ use reasons::{Diagnosis, Note, Weight};
 use rendering::{Remedy, Told};
 use std::alloc::AllocError;
 
-// The code of two turns that meet.
-const MEETING: &str = "E510";
+/// The code of two turns that meet.
+pub const MEETING: &str = "E510";
 
 // A place, which leads to its line.
 fn add_place(page: &mut Page, place: Place) -> Result<(), AllocError> {

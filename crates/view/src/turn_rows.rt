@@ -1,6 +1,7 @@
 // The turns of kernels that may run in any order, one at a time.
 
 use crate::chips::add_section;
+use crate::faults::MEETING;
 use crate::kernel_turns::{Kernel, KernelTurn};
 use crate::page::Page;
 use crate::rows::{Shown, add_marker};
@@ -256,7 +257,7 @@ pub struct Kernels {
 // What is told of the two turns that meet, where an item is refused for them.
 fn notes_of<'a>(scene: &Scene<'a>, number: usize) -> &'a [Note] {
     'told: for diagnosis in &scene.told.diagnoses {
-        if is_of(diagnosis, number) && diagnosis.code == "E510" {
+        if is_of(diagnosis, number) && diagnosis.code == MEETING {
             return &diagnosis.notes;
         }
     }
