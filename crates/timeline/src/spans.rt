@@ -198,3 +198,23 @@ pub fn combined(
     }
     Ok(spans)
 }
+
+#[cfg(test)]
+mod tests {
+    use super::*;
+    use std::test::Fail;
+
+    // the cells 0 to 3 and 6 to 8, without 2 to 6
+    #[test]
+    fn cuts_runs(rt: HostRuntime) -> Result<(), Fail> {
+        let first = [Span { first: 0, end: 4 }, Span { first: 6, end: 9 }];
+        let second = [Span { first: 2, end: 7 }];
+        let left = combined(rt.alloc(), &first, &second, Keep::InFirstAlone)?;
+        assert_eq!(rt; left.len(), 2);
+        assert_eq!(rt; left.first().copied(), Some(Span { first: 0, end: 2 }));
+        assert_eq!(rt; left.last().copied(), Some(Span { first: 7, end: 9 }));
+        let all = combined(rt.alloc(), &first, &second, Keep::InEither)?;
+        assert_eq!(rt; all.len(), 1);
+        Ok(())
+    }
+}
