@@ -1,6 +1,6 @@
 -- Expanding functions keeps all names ASCII.
 use Rattle.std.proofs.Common.{◌≡◌, ℕ, zero, suc, ◌+◌, ◌<◌, Bool, true, false, cond, List, [], ◌∷◌, ◌++◌, length, take, drop, Option, Some, None, refl, subst, arith}
-use Rattle.std.specs.Prelude.{◌&&◌, ◌||◌, ◌==◌, not, nat_lt, codes}
+use Rattle.std.specs.Prelude.{◌&&◌, ◌||◌, ◌==◌, ◌^◌, not, nat_lt, codes}
 use Rattle.std.specs.List.{list_all}
 use Rattle.std.specs.Str.{IsAscii, bytes_eq}
 use Rattle.std.proofs.lemmas.Bool.Decides.{nat_tests}
@@ -12,7 +12,7 @@ use Rattle.c_grammar.specs.Blocks.{Items, is_directive, bare}
 use Rattle.c_grammar.specs.Changes.{is_mark, is_boundary}
 use Rattle.c_grammar.specs.Constants.{Names, is_among, is_name, worked}
 use Rattle.c_grammar.specs.AsciiNames.{IsAsciiTerminal}
-use Rattle.c_grammar.specs.Functions.{array_names, Arguments, Declared, Expanded, Function, Functions, Headed, Known, Others, Passed, Parameter, Put, Called, Counts, Puts, Returned, Where, Outside, InHead, InBody, added, argument_closed, argument_on, arguments, assigned_call, block_of, both, call, called, closed, closes, constant_in, declaration, declared_call, defined, digits, ends_here, expanded, expanded_at, expanded_by, expanded_of, expanded_with, expansion, first_some, function_of, function_with, given, has_function, has_value, head_at, headed_or, in_body, in_head, in_room, is_main, is_none, is_specifier, is_static, known_names, later, left_len, line_in, local, may_be_added, most_lines, names_in, other_name, nothing_known, opens, out_of_body, outside, parameters_from, passed, passed_to, passes, passes_array, passes_name, passes_one, passes_one_array, passes_value, put_all, put_for, put_terminal, puts_from, raw_in, returned, returned_by, specifies, statement_on, stays, terminal_for, token_in, unknown, unspelled, value_at, with_function, with_name}
+use Rattle.c_grammar.specs.Functions.{array_names, Arguments, Declared, Expanded, Function, Functions, Headed, Known, Others, Passed, Parameter, Put, Scalar, Array, Small, Sort, stands_for, stands_small, passes_as, passes_small, Called, Counts, Puts, Returned, Where, Outside, InHead, InBody, added, argument_closed, argument_on, arguments, assigned_call, block_of, both, call, called, closed, closes, constant_in, declaration, declared_call, defined, digits, ends_here, expanded, expanded_at, expanded_by, expanded_of, expanded_with, expansion, first_some, function_of, function_with, given, has_function, has_value, head_at, headed_or, in_body, in_head, in_room, is_main, is_none, is_specifier, is_static, known_names, later, left_len, line_in, local, may_be_added, most_lines, names_in, other_name, nothing_known, opens, out_of_body, outside, parameters_from, passed, passed_to, passes, passes_array, passes_name, passes_one, passes_one_array, passes_value, put_all, put_for, put_terminal, puts_from, raw_in, returned, returned_by, specifies, statement_on, stays, terminal_for, token_in, unknown, unspelled, value_at, with_function, with_name}
 use Rattle.c_grammar.specs.Presence.{guarded}
 use Rattle.c_grammar.proofs.AsciiPresence.{guarded_text}
 use Rattle.c_grammar.proofs.AsciiTokens.{AreItemsText, chosen_text, both_text, bare_text}
@@ -210,11 +210,20 @@ abbrev AreParametersText : List Parameter → Type 0
 AreParametersText [] = Unit {0}
 AreParametersText (p ∷ ps) = IsAscii p.name × AreParametersText ps
 
+small_text : (x : List ℕ) (o : Option ℕ) → IsPassedText (stands_small x o)
+small_text x None = tt
+small_text x (Some n) = one_passed (nat_lt n (2 ^ 31)) _ None (tt, (tt, tt)) tt
+
+as_text : (s : Sort) (globals : Names) (p : Parameter) (is : Items) → IsAscii p.name → AreItemsText is
+    → IsPassedText (passes_as s globals p is)
+as_text Scalar globals p is a h =
+    one_passed p.assigned _ _ (local_text p.name is a h) (value_text globals p.name is (constant_in is) a h)
+as_text Array globals p is a h = array_text p.name is h
+as_text Small globals p is a h = one_passed p.assigned None _ tt (small_text p.name (constant_in is))
+
 passes_text : (globals : Names) (p : Parameter) (is : Items) → IsAscii p.name → AreItemsText is
     → IsPassedText (passes globals p is)
-passes_text globals p is a h =
-    one_passed p.array _ _ (array_text p.name is h)
-    (one_passed p.assigned _ _ (local_text p.name is a h) (value_text globals p.name is (constant_in is) a h))
+passes_text globals p is a h = as_text p.sort globals p is a h
 
 both_passed : (o p : Option Passed) → IsPassedText o → IsPassedText p → IsPassedText (both o p)
 both_passed None p h k = tt

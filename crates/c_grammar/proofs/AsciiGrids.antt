@@ -1,5 +1,5 @@
 -- Where arrays of two dimensions are written out, no name changes.
-use Rattle.std.proofs.Common.{◌≡◌, ℕ, zero, suc, ◌+◌, ◌*◌, Bool, true, false, cond, List, [], ◌∷◌, ◌++◌, take, drop, Option, Some, None}
+use Rattle.std.proofs.Common.{ℕ, zero, suc, ◌*◌, Bool, true, false, cond, [], ◌∷◌, take, drop, Option, Some, None}
 use Rattle.std.specs.Prelude.{◌&&◌}
 use Rattle.c_tokens.specs.declared.kind.Sign.TheVariants as sign
 use Rattle.c_grammar.specs.Lexeme.{Uint64}

@@ -33,19 +33,24 @@ use Rattle.c_grammar.specs.Constants.{with_tokens, line_tokens, put_item, Defini
 use Rattle.c_grammar.specs.Initial as globals
 use Rattle.c_grammar.specs.Initial.{Globals, Initial, initialized, no_globals}
 use Rattle.c_grammar.specs.Allocations.{allocated}
+use Rattle.c_grammar.specs.Boxes.{boxed}
 use Rattle.c_grammar.specs.Source.{text_of, word_or_name, kind_terminal, on_line, item_of, end_of, written_out, items_of}
 use Rattle.c_grammar.specs.AsciiNames.{IsAsciiTerminal, AreAscii, terminals_of}
 use Rattle.c_grammar.specs.Functions.{expanded}
 use Rattle.c_grammar.specs.Grids.{flat}
+use Rattle.c_grammar.specs.Counters.{counted}
+use Rattle.c_grammar.specs.Unset.{zeroed}
 use Rattle.c_grammar.specs.Declarations.{Other, settled}
 use Rattle.c_grammar.specs.Updates.{Outside, commuting}
 use Rattle.c_grammar.proofs.AsciiTokens.{AreItemsText, chosen_text, both_text, bare_text}
 use Rattle.c_grammar.proofs.AsciiNesting.{nested_text}
 use Rattle.c_grammar.proofs.AsciiGrids.{flat_text}
+use Rattle.c_grammar.proofs.AsciiCounters.{counted_text, zeroed_text}
 use Rattle.c_grammar.proofs.AsciiDeclarations.{settled_text}
 use Rattle.c_grammar.proofs.AsciiUpdates.{commuting_text}
 use Rattle.c_grammar.proofs.AsciiFunctions.{expanded_text}
 use Rattle.c_grammar.proofs.AsciiAllocations.{allocated_text}
+use Rattle.c_grammar.proofs.AsciiBoxes.{announced_text, boxed_text}
 
 low : (b : ℕ) → is_name_part b ≡ true → b < 128
 low b e = grind (arith, nat_tests)
@@ -608,19 +613,22 @@ written_text is h =
     let calls : Items = printed 0 (nested is) in
     let types : Items = typed 0 calls in
     let whole : Items = in_blocks nothing_read (undeclared false types) in
-    let known : Items = settled Other whole in
+    let loops : Items = counted whole in
+    let known : Items = settled Other (zeroed loops) in
     let numbered : Items = worked [] [] 0 known in
     let plain : Items = undefined [] 0 0 (expanded numbered) in
     let flattened : Items = flat [] [] [] 0 plain in
-    let cells : Items = commuting Outside flattened in
-    full_text (initialized no_globals 0 (allocated cells)) changes.begin 0 tt
+    let boxes : Items = boxed flattened in
+    let cells : Items = commuting Outside boxes in
+    announced_text (changes.in_full changes.begin 0 (initialized no_globals 0 (allocated cells)))
+    (full_text (initialized no_globals 0 (allocated cells)) changes.begin 0 tt
     (initialized_text (allocated cells) no_globals 0 (tt, tt)
-    (allocated_text cells (commuting_text flattened Outside (flat_text plain [] [] [] 0
+    (allocated_text cells (commuting_text boxes Outside (boxed_text flattened (flat_text plain [] [] [] 0
     (undefined_text (expanded numbered) [] 0 0
     (expanded_text (λ is h. worked_text is [] [] 0 h) numbered
-    (worked_text known [] [] 0 (settled_text whole Other
+    (worked_text known [] [] 0 (settled_text (zeroed loops) Other (zeroed_text loops (counted_text whole
     (blocks_text (undeclared false types) nothing_read (undeclared_text types false
-    (typed_text calls 0 (printed_text (nested is) 0 (nested_text is h)))))))))))))
+    (typed_text calls 0 (printed_text (nested is) 0 (nested_text is h)))))))))))))))))
 
 all_but : (is : Items) (e : Item Terminal) → AreItemsText (is ++ e ∷ []) → AreItemsText is
 all_but [] e h = tt

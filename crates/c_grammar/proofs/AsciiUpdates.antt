@@ -1,10 +1,10 @@
 -- Where lines say of updates that they commute, no name is put outside of a line.
-use Rattle.std.proofs.Common.{Bool, true, false, List, [], ◌∷◌}
+use Rattle.std.proofs.Common.{List, [], ◌∷◌}
 use Rattle.std.specs.Prelude.{◌&&◌}
 use Rattle.c_grammar.specs.Lexeme.{Lexeme}
 use Rattle.c_grammar.specs.Terminal.{Terminal, Fixed, Mark, Name, Num, Line, Unknown, Unworked, End}
 use Rattle.c_grammar.specs.Texts.{Item}
-use Rattle.c_grammar.specs.Blocks.{Items, bare, is_directive}
+use Rattle.c_grammar.specs.Blocks.{Items, is_directive}
 use Rattle.c_grammar.specs.Updates.{Region, Outside, Inside, OnRegion, behind, commuting, directive_on, is_atomic, is_combined, is_named, line_on, marked}
 use Rattle.c_grammar.specs.AsciiNames.{IsAsciiTerminal}
 use Rattle.c_grammar.proofs.AsciiTokens.{AreItemsText, chosen_text}

@@ -3,7 +3,7 @@ use Rattle.std.proofs.Common.{◌≡◌, ℕ, List, [], ◌∷◌, ◌++◌, Opt
 use Rattle.std.specs.Prelude.{codes}
 use Rattle.base.specs.declared.fault.TextFault.{TextFault}
 use Rattle.base.specs.declared.fault.ReadCode.{ReadCode as Code}
-use Rattle.base.specs.declared.fault.ReadCode.TheVariants.{Unexpected, Undeclared, UnknownClause, NoBody}
+use Rattle.base.specs.declared.fault.ReadCode.TheVariants.{Undeclared, UnknownClause, OuterAssigned, NoBody}
 use Rattle.c_tokens.specs.Piece.{number_of, hex_number_of, number_piece, sign_one, sign_two, sign_three, changing_sign, sign_at, format_at, piece_at, comment_end_from, is_include}
 use Rattle.c_tokens.specs.Text.{after, tokens_from}
 use Rattle.c_grammar.specs.Lexeme.{word_of, piece_on_line, lexemes_from}
@@ -52,9 +52,17 @@ under_an_if_of_a_target : fault (codes "#pragma omp target" ∷ codes "{ if (A[0
 unfolding index_len number_of hex_number_of number_piece sign_one sign_two sign_three changing_sign sign_at format_at piece_at comment_end_from is_include after tokens_from word_of is_omp expression line_from clauses_from worked in_blocks typed printed undefined all_read initialized in_full run enter breaks wrong sort_of advance place_code first_broken first_wrong kind_of holds is_atomic is_target depth_of collapse_from uses_of uses_from line_fault line_breaks line_wrong line_enter line_advance line_place line_first_broken line_first_wrong piece_on_line lexemes_from
 under_an_if_of_a_target = refl
 
-of_a_scalar : fault (codes "#pragma omp atomic update" ∷ codes "x = x + (2);" ∷ []) ≡ at UnknownClause 2 26
+of_a_scalar : fault (codes "#pragma omp atomic update" ∷ codes "x = x + (2);" ∷ []) ≡ None
 unfolding index_len number_of hex_number_of number_piece sign_one sign_two sign_three changing_sign sign_at format_at piece_at comment_end_from is_include after tokens_from word_of is_omp expression line_from clauses_from worked in_blocks typed printed undefined all_read initialized in_full run enter breaks wrong sort_of advance place_code first_broken first_wrong kind_of holds is_atomic is_target depth_of collapse_from uses_of uses_from line_fault line_breaks line_wrong line_enter line_advance line_place line_first_broken line_first_wrong piece_on_line lexemes_from
 of_a_scalar = refl
+
+of_what_a_scalar_is_set_to : fault (codes "#pragma omp atomic update" ∷ codes "x = A[0] + (2);" ∷ []) ≡ at UnknownClause 2 26
+unfolding index_len number_of hex_number_of number_piece sign_one sign_two sign_three changing_sign sign_at format_at piece_at comment_end_from is_include after tokens_from word_of is_omp expression line_from clauses_from worked in_blocks typed printed undefined all_read initialized in_full run enter breaks wrong sort_of advance place_code first_broken first_wrong kind_of holds is_atomic is_target depth_of collapse_from uses_of uses_from line_fault line_breaks line_wrong line_enter line_advance line_place line_first_broken line_first_wrong piece_on_line lexemes_from
+of_what_a_scalar_is_set_to = refl
+
+of_an_outer_scalar : fault (codes "#pragma omp target" ∷ codes "{" ∷ codes "#pragma omp atomic update" ∷ codes "x = x + (2); }" ∷ []) ≡ at OuterAssigned 5 1
+unfolding index_len number_of hex_number_of number_piece sign_one sign_two sign_three changing_sign sign_at format_at piece_at comment_end_from is_include after tokens_from word_of is_omp expression line_from clauses_from worked in_blocks typed printed undefined all_read initialized in_full run enter breaks wrong sort_of advance place_code first_broken first_wrong kind_of holds is_atomic is_target depth_of collapse_from uses_of uses_from line_fault line_breaks line_wrong line_enter line_advance line_place line_first_broken line_first_wrong piece_on_line lexemes_from
+of_an_outer_scalar = refl
 
 of_no_array : fault (codes "#pragma omp atomic update" ∷ codes "x[1] += 2;" ∷ []) ≡ at Undeclared 3 1
 unfolding index_len number_of hex_number_of number_piece sign_one sign_two sign_three changing_sign sign_at format_at piece_at comment_end_from is_include after tokens_from word_of is_omp expression line_from clauses_from worked in_blocks typed printed undefined all_read initialized in_full run enter breaks wrong sort_of advance place_code first_broken first_wrong kind_of holds is_atomic is_target depth_of collapse_from uses_of uses_from line_fault line_breaks line_wrong line_enter line_advance line_place line_first_broken line_first_wrong piece_on_line lexemes_from

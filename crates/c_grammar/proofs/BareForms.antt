@@ -11,6 +11,8 @@ use Rattle.c_grammar.specs.Blocks as blocks
 use Rattle.c_grammar.specs.Blocks.{Items, is_directive, bare, at, type_at, type_on, longs, typed, Around, Reading, nothing_read, with_open, begins_body, begins_update, is_atomic_line, line_in_block, is_else, is_name, Ends, ends, left, is_end, noted, read_in, braces_at, closed, parted, in_block, in_blocks}
 use Rattle.c_grammar.specs.Nesting.{nested}
 use Rattle.c_grammar.specs.DeclaredFunctions.{undeclared}
+use Rattle.c_grammar.specs.Counters.{counted}
+use Rattle.c_grammar.specs.Unset.{zeroed}
 use Rattle.c_grammar.specs.Declarations.{Other, settled}
 use Rattle.c_grammar.specs.Prints.{is_text, text_len, alone, print_at, print_on, printed}
 use Rattle.c_grammar.specs.Expressions.{Values, value_of, number_for, Worked, Number, Fault}
@@ -23,11 +25,14 @@ use Rattle.c_grammar.specs.Functions.{expanded}
 use Rattle.c_grammar.specs.Grids.{flat}
 use Rattle.c_grammar.specs.Updates.{Outside, commuting}
 use Rattle.c_grammar.specs.Allocations.{allocated}
+use Rattle.c_grammar.specs.Boxes.{announced, boxed}
 use Rattle.c_grammar.specs.Source.{written_out}
 use Rattle.c_grammar.proofs.BareAllocations.{allocated_bare}
+use Rattle.c_grammar.proofs.BareBoxes.{announced_bare, boxed_bare}
 use Rattle.c_grammar.proofs.BareNesting.{nested_bare}
 use Rattle.c_grammar.proofs.BareDeclaredFunctions.{undeclared_bare}
 use Rattle.c_grammar.proofs.BareFunctions.{expanded_bare}
+use Rattle.c_grammar.proofs.BareCounters.{counted_bare, zeroed_bare}
 use Rattle.c_grammar.proofs.BareDeclarations.{settled_bare}
 use Rattle.c_grammar.proofs.BareGrids.{flat_bare}
 use Rattle.c_grammar.proofs.BareUpdates.{commuting_bare}
@@ -555,12 +560,14 @@ initialized_bare (i ∷ is) g k l = step (initialized_bare is) (is_directive i.t
 
 -- what follows the constants
 later_bare : (is : Items)
-    → IsBare (changes.in_full changes.begin 0 (initialized no_globals 0 (allocated (bare is))))
-    (changes.in_full changes.begin 0 (initialized no_globals 0 (allocated is)))
+    → IsBare (announced (changes.in_full changes.begin 0 (initialized no_globals 0 (allocated (bare is)))))
+    (announced (changes.in_full changes.begin 0 (initialized no_globals 0 (allocated is))))
 later_bare is =
-    ap (λ (js : Items). changes.in_full changes.begin 0 (initialized no_globals 0 js)) (allocated_bare is)
-    ∙ ap (λ (js : Items). changes.in_full changes.begin 0 js) (initialized_bare (allocated is) no_globals 0 tt)
-    ∙ full_bare (initialized no_globals 0 (allocated is)) changes.begin 0 tt
+    let full : Items → Items = λ js. announced (changes.in_full changes.begin 0 js) in
+    ap (λ (js : Items). full (initialized no_globals 0 js)) (allocated_bare is)
+    ∙ ap full (initialized_bare (allocated is) no_globals 0 tt)
+    ∙ ap announced (full_bare (initialized no_globals 0 (allocated is)) changes.begin 0 tt)
+    ∙ announced_bare (changes.in_full changes.begin 0 (initialized no_globals 0 (allocated is)))
 
 pub written_bare : (is : Items) → written_out (bare is) ≡ bare (written_out is)
 written_bare is =
@@ -569,25 +576,31 @@ written_bare is =
     let a : Items = typed 0 p in
     let u : Items = undeclared false a in
     let b : Items = in_blocks nothing_read u in
-    let d : Items = settled Other b in
+    let l : Items = counted b in
+    let d : Items = settled Other (zeroed l) in
     let c : Items = worked [] [] 0 d in
     let x : Items = expanded c in
     let g : Items = flat [] [] [] 0 (undefined [] 0 0 x) in
-    let later : Items → Items = λ js. changes.in_full changes.begin 0 (initialized no_globals 0 (allocated js)) in
+    let later : Items → Items = λ js. announced (changes.in_full changes.begin 0 (initialized no_globals 0 (allocated js))) in
     let since_updates : Items → Items = λ js. later (commuting Outside js) in
-    let since_grids : Items → Items = λ js. since_updates (flat [] [] [] 0 js) in
+    let since_boxes : Items → Items = λ js. since_updates (boxed js) in
+    let since_grids : Items → Items = λ js. since_boxes (flat [] [] [] 0 js) in
     let since_defined : Items → Items = λ js. since_grids (undefined [] 0 0 js) in
     let since_declared : Items → Items = λ js. since_defined (expanded (worked [] [] 0 js)) in
-    let since_blocks : Items → Items = λ js. since_declared (settled Other js) in
+    let since_zeroed : Items → Items = λ js. since_declared (settled Other js) in
+    let since_blocks : Items → Items = λ js. since_zeroed (zeroed (counted js)) in
     let since_typed : Items → Items = λ js. since_blocks (in_blocks nothing_read (undeclared false js)) in
     ap (λ (js : Items). since_typed (typed 0 (printed 0 js))) (nested_bare is)
     ∙ ap (λ (js : Items). since_typed (typed 0 js)) (printed_bare n 0)
     ∙ ap since_typed (typed_bare p 0)
     ∙ ap (λ (js : Items). since_blocks (in_blocks nothing_read js)) (undeclared_bare a false)
     ∙ ap since_blocks (blocks_bare u nothing_read)
-    ∙ ap since_declared (settled_bare b Other)
+    ∙ ap (λ (js : Items). since_zeroed (zeroed js)) (counted_bare b)
+    ∙ ap since_zeroed (zeroed_bare l)
+    ∙ ap since_declared (settled_bare (zeroed l) Other)
     ∙ ap (λ (js : Items). since_defined (expanded js)) (worked_bare d [] [] 0)
     ∙ ap since_defined (expanded_bare (λ js. worked_bare js [] [] 0) c)
     ∙ ap since_grids (undefined_bare x [] 0 0)
-    ∙ ap since_updates (flat_bare (undefined [] 0 0 x) [] [] [] 0)
-    ∙ ap later (commuting_bare g) ∙ later_bare (commuting Outside g)
+    ∙ ap since_boxes (flat_bare (undefined [] 0 0 x) [] [] [] 0)
+    ∙ ap since_updates (boxed_bare g)
+    ∙ ap later (commuting_bare (boxed g)) ∙ later_bare (commuting Outside (boxed g))

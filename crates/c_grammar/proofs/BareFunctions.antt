@@ -1,6 +1,6 @@
 -- Expanding functions and leaving the directive lines away can be done in any order.
 use Rattle.std.proofs.Common.{◌≡◌, ℕ, zero, suc, ◌+◌, ◌-◌, Bool, true, false, cond, List, [], ◌∷◌, ◌++◌, length, map, take, drop, Option, Some, None, refl, sym, ap, ap₂, ◌∙◌}
-use Rattle.std.specs.Prelude.{◌&&◌, ◌||◌, ◌==◌, not, nat_lt, codes}
+use Rattle.std.specs.Prelude.{◌&&◌, ◌||◌, ◌==◌, ◌^◌, not, nat_lt, codes}
 use Rattle.std.specs.Option.{option_map}
 use Rattle.std.specs.Str.{bytes_eq}
 use Rattle.std.proofs.lemmas.List.{append-nil}
@@ -13,7 +13,7 @@ use Rattle.c_grammar.specs.Texts.{Item}
 use Rattle.c_grammar.specs.Blocks.{Items, is_directive, bare, at}
 use Rattle.c_grammar.specs.Changes.{is_mark, is_boundary}
 use Rattle.c_grammar.specs.Constants.{Names, is_among, is_name, with_terminal, worked}
-use Rattle.c_grammar.specs.Functions.{Arguments, Expanded, Function, Functions, Headed, Known, Others, Passed, Parameter, Put, Called, Counts, Puts, Returned, Where, Outside, InHead, InBody, added, argument_closed, argument_on, arguments, array_names, assigned_call, block_of, both, call, called, closed, closes, constant_in, declaration, declared_call, declared_in, defined, ends_here, expanded, expanded_at, expanded_by, expanded_of, expanded_with, expansion, first_some, function_of, function_with, given, has_function, has_value, head_at, headed_or, in_body, in_head, in_room, is_main, is_none, is_specifier, is_static, known_names, later, left_len, line_in, local, may_be_added, most_known, most_lines, most_names, names_in, other_name, nothing_known, opens, out_of_body, outside, parameters_from, passed, passed_to, passes, passes_array, passes_name, passes_one, passes_one_array, passes_value, plain, put_all, put_for, put_line, put_terminal, puts_from, raw_in, returned, returned_by, specifies, statement_on, stays, terminal_for, token_in, value_at, value_ended, with_function, with_name}
+use Rattle.c_grammar.specs.Functions.{Arguments, Expanded, Function, Functions, Headed, Known, Others, Passed, Parameter, Put, Scalar, Array, Small, Sort, stands_for, stands_small, passes_as, passes_small, Called, Counts, Puts, Returned, Where, Outside, InHead, InBody, added, argument_closed, argument_on, arguments, array_names, assigned_call, block_of, both, call, called, closed, closes, constant_in, declaration, declared_call, declared_in, defined, ends_here, expanded, expanded_at, expanded_by, expanded_of, expanded_with, expansion, first_some, function_of, function_with, given, has_function, has_value, head_at, headed_or, in_body, in_head, in_room, is_main, is_none, is_specifier, is_static, known_names, later, left_len, line_in, local, may_be_added, most_known, most_lines, most_names, names_in, other_name, nothing_known, opens, out_of_body, outside, parameters_from, passed, passed_to, passes, passes_array, passes_name, passes_one, passes_one_array, passes_value, plain, put_all, put_for, put_line, put_terminal, puts_from, raw_in, returned, returned_by, specifies, statement_on, stays, terminal_for, token_in, value_at, value_ended, with_function, with_name}
 use Rattle.c_grammar.specs.Presence.{guarded}
 use Rattle.c_grammar.proofs.BarePresence.{guarded_bare}
 use Rattle.c_grammar.proofs.BareTokens.{IsPlain, ArePlain, IsBare, either, one, some, plain_bare, same_bare, both_plain, bare_both, plain_kept}
@@ -164,10 +164,18 @@ one_plain : (b : Bool) (o p : Option Passed) → PassedPlain o → PassedPlain p
 one_plain true o p h k = h
 one_plain false o p h k = k
 
+small_plain : (x : List ℕ) (o : Option ℕ) → PassedPlain (stands_small x o)
+small_plain x None = tt
+small_plain x (Some n) = one_plain (nat_lt n (2 ^ 31)) (stands_for x (Counts n)) None tt tt
+
+as_plain : (s : Sort) (globals : Names) (p : Parameter) (is : Items) → ArePlain is → PassedPlain (passes_as s globals p is)
+as_plain Scalar globals p is h =
+    one_plain p.assigned _ _ (local_plain p.name is h) (value_plain globals p.name is (constant_in is) h)
+as_plain Array globals p is h = array_plain p.name is
+as_plain Small globals p is h = one_plain p.assigned None _ tt (small_plain p.name (constant_in is))
+
 passes_plain : (globals : Names) (p : Parameter) (is : Items) → ArePlain is → PassedPlain (passes globals p is)
-passes_plain globals p is h =
-    one_plain p.array _ _ (array_plain p.name is)
-    (one_plain p.assigned _ _ (local_plain p.name is h) (value_plain globals p.name is (constant_in is) h))
+passes_plain globals p is h = as_plain p.sort globals p is h
 
 both_passed : (o p : Option Passed) → PassedPlain o → PassedPlain p → PassedPlain (both o p)
 both_passed None p h k = tt

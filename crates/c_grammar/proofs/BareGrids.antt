@@ -1,16 +1,15 @@
 -- Arrays of two dimensions are written out without a look at directive lines.
-use Rattle.std.proofs.Common.{◌≡◌, ◌∙◌, ℕ, zero, suc, ◌+◌, ◌*◌, Bool, true, false, cond, List, [], ◌∷◌, ◌++◌, take, drop, Option, Some, None, refl, ap}
+use Rattle.std.proofs.Common.{◌≡◌, ◌∙◌, ℕ, zero, suc, ◌*◌, Bool, true, false, [], ◌∷◌, ◌++◌, take, drop, Option, Some, None, refl, ap}
 use Rattle.std.specs.Prelude.{◌&&◌}
 use Rattle.c_tokens.specs.declared.kind.Sign.TheVariants as sign
 use Rattle.c_grammar.specs.Lexeme.{Uint64}
 use Rattle.c_grammar.specs.Terminal.{Terminal, Fixed, Mark, Name, Num, Line, Unknown, Unworked, End, same}
 use Rattle.c_grammar.specs.Texts.{Item}
-use Rattle.c_grammar.specs.Blocks.{Items, at, bare, is_directive}
+use Rattle.c_grammar.specs.Blocks.{Items, bare, is_directive}
 use Rattle.c_grammar.specs.Changes.{is_mark}
-use Rattle.c_grammar.specs.Constants.{with_terminal}
 use Rattle.c_grammar.specs.Expressions.{placed_of, value_of}
 use Rattle.c_grammar.specs.Functions.{index_len}
-use Rattle.c_grammar.specs.Grids.{Declared, Elsewhere, Grids, Onward, Open, Ranges, added_on, closing_on, declared, declared_on, flat, flat_declaration, flat_line, flat_on, grid_on, has_second, in_rows, is_row, named_on, row_begins, row_ends, second_len, token_on, with_range}
+use Rattle.c_grammar.specs.Grids.{Declared, Elsewhere, Grids, Onward, Open, Ranges, added_on, closing_on, declared, declared_on, flat, flat_declaration, flat_line, flat_on, grid_on, has_second, in_rows, is_row, named_on, row_begins, row_ends, second_len, token_on}
 use Rattle.c_grammar.proofs.BarePresence.{omp_stays}
 use Rattle.c_grammar.proofs.BareFunctions.{drop_plain, take_plain}
 use Rattle.c_grammar.proofs.BareTokens.{ArePlain, IsBare, IsPlain, both_plain, either, one, plain_bare, same_bare, some}

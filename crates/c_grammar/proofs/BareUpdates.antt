@@ -1,14 +1,14 @@
 -- Lines that say of updates that they commute are directive lines, and nothing else changes.
-use Rattle.std.proofs.Common.{◌≡◌, ◌∙◌, ℕ, Bool, true, false, cond, List, [], ◌∷◌, refl, sym, ap}
+use Rattle.std.proofs.Common.{◌≡◌, ◌∙◌, Bool, true, false, cond, List, [], ◌∷◌, refl, sym, ap}
 use Rattle.std.specs.Prelude.{◌&&◌}
 use Rattle.c_grammar.specs.Lexeme.{Lexeme, Placed}
 use Rattle.c_grammar.specs.Terminal.{Terminal, Fixed, Mark, Name, Num, Line, Unknown, Unworked, End}
 use Rattle.c_grammar.specs.Texts.{Item}
 use Rattle.c_grammar.specs.Blocks.{Items, bare, is_directive}
-use Rattle.c_grammar.specs.Constants.{Names, with_tokens}
+use Rattle.c_grammar.specs.Constants.{with_tokens}
 use Rattle.c_grammar.specs.Expressions.{placed_of}
 use Rattle.c_grammar.specs.Lines.{is_omp}
-use Rattle.c_grammar.specs.Updates.{Region, Outside, Inside, OnRegion, atomic_tokens, behind, commuting, directive_on, has_update, is_atomic, is_combined, is_named, line_on, mark_at, mark_words, marked, reduced, summed}
+use Rattle.c_grammar.specs.Updates.{Region, Outside, Inside, OnRegion, atomic_tokens, behind, commuting, directive_on, has_update, is_atomic, is_combined, is_named, line_on, mark_at, marked, reduced, summed}
 use Rattle.c_grammar.proofs.BarePresence.{omp_stays}
 
 mark_is_line : (i : Item Terminal) → is_directive (mark_at i).terminal ≡ true

@@ -1,10 +1,10 @@
 -- The end of a source stands only behind a whole text.
-use Rattle.std.proofs.Common.{◌≡◌, ℕ, false, List, [], ◌∷◌, ◌++◌, refl, sym, ap, subst, ◌∙◌, append_assoc}
+use Rattle.std.proofs.Common.{◌≡◌, ℕ, false, List, [], ◌∷◌, ◌++◌, Option, Some, None, refl, sym, ap, subst, ◌∙◌, append_assoc}
 use Rattle.c_tokens.specs.declared.kind.Sign.TheVariants as sign
-use Rattle.c_grammar.specs.Lexeme.{Else, Int, Main, Void}
+use Rattle.c_grammar.specs.Lexeme.{Lexeme, Else, Int, Main, Void}
 use Rattle.c_grammar.specs.Terminal.{Terminal, Fixed, Mark, End, same}
 use Rattle.c_grammar.specs.Lines.{depth_of}
-use Rattle.c_grammar.specs.Grammar.{Plain, MakesScalar, Otherwise, Slot, Slots, for, mark, word, inner, closing, Term, Literal, Named, Element, Group, Prefixed, Both, By, operator_sign, fraction_sign, value_of, term, Source, Input, Value, source, Head, Stmt, Declare, Assign, Store, Repeat, Choose, ChooseElse, Show, Block, Directive, Atomic, OverBlock, OverLoop, Stmts, Done, Then, head_slots, body_opening, body_closing, end_mark, deeper, stmt_in, stmts_in, stmts, Global, Scalar, Array, global, globals, Text, slots}
+use Rattle.c_grammar.specs.Grammar.{Plain, MakesScalar, Otherwise, Slot, Slots, for, mark, word, inner, closing, Term, Literal, Named, Element, Group, Prefixed, Both, By, operator_sign, fraction_sign, value_of, term, Source, Input, Value, source, Head, Stmt, Declare, Assign, Store, Repeat, Choose, ChooseElse, Show, Block, Directive, Atomic, AtomicAssign, OverBlock, OverLoop, Stmts, Done, Then, head_slots, body_opening, body_closing, end_mark, deeper, stmt_in, stmts_in, stmts, Global, Scalar, Array, boxes_slots, global, globals, Text, slots}
 
 abbrev NoEnd : Slots → Type 0
 NoEnd [] = Unit {0}
@@ -76,6 +76,7 @@ mutual
   in_stmt (Block b) d = (refl, in_body (stmts b) (in_stmts b 0))
   in_stmt (Directive l) d = (refl, tt)
   in_stmt (Atomic l x i v) d = (refl, (refl, (refl, in_cell i v)))
+  in_stmt (AtomicAssign l x v) d = (refl, (refl, (refl, both (source v) (end_mark ∷ []) (in_source v) (refl, tt))))
   in_stmt (OverBlock l b) d = (refl, (refl, in_body (stmts b) (in_stmts b 0)))
   in_stmt (OverLoop l h b) d = (
     refl,
@@ -98,16 +99,21 @@ in_globals : (gs : List Global) → NoEnd (globals gs)
 in_globals [] = tt
 in_globals (g ∷ gs) = both (global g) (globals gs) (in_global g) (in_globals gs)
 
+in_boxes : (o : Option (List Lexeme)) → NoEnd (boxes_slots o)
+in_boxes None = tt
+in_boxes (Some l) = (refl, tt)
+
 -- a text without its end
 abbrev unended : Text → Slots
 unended t =
-    globals t.globals ++ (word Int ∷ word Main ∷ mark sign.OpenParen ∷ word Void ∷ mark sign.CloseParen ∷ body_opening
-    ∷ (stmts t.body ++ body_closing ∷ []))
+    globals t.globals ++ (boxes_slots t.boxes ++ (word Int ∷ word Main ∷ mark sign.OpenParen ∷ word Void
+    ∷ mark sign.CloseParen ∷ body_opening ∷ (stmts t.body ++ body_closing ∷ [])))
 
 in_unended : (t : Text) → NoEnd (unended t)
 in_unended t =
     both (globals t.globals) _ (in_globals t.globals)
-    (refl, (refl, (refl, (refl, (refl, (refl, in_body (stmts t.body) (in_stmts t.body 0)))))))
+    (both (boxes_slots t.boxes) _ (in_boxes t.boxes)
+    (refl, (refl, (refl, (refl, (refl, (refl, in_body (stmts t.body) (in_stmts t.body 0))))))))
 
 abbrev the_end : Slot
 the_end = (End, for Plain)
@@ -117,9 +123,10 @@ ended t =
     let head : Slots =
     word Int ∷ word Main ∷ mark sign.OpenParen ∷ word Void ∷ mark sign.CloseParen ∷ body_opening ∷ [] in
     let main : Slots = head ++ (stmts t.body ++ body_closing ∷ []) in
-    ap (λ (u : Slots). globals t.globals ++ (head ++ u))
+    ap (λ (u : Slots). globals t.globals ++ (boxes_slots t.boxes ++ (head ++ u)))
     (sym (append_assoc (stmts t.body) (body_closing ∷ []) (the_end ∷ [])))
-    ∙ sym (append_assoc (globals t.globals) main (the_end ∷ []))
+    ∙ ap (λ (u : Slots). globals t.globals ++ u) (sym (append_assoc (boxes_slots t.boxes) main (the_end ∷ [])))
+    ∙ sym (append_assoc (globals t.globals) (boxes_slots t.boxes ++ main) (the_end ∷ []))
 
 is_last : (init : Slots) → NoEnd init → (front : Slots) (x : Slot) (more : Slots) → x.0 ≡ End
     → init ++ the_end ∷ [] ≡ front ++ (x ∷ more) → more ≡ []

@@ -5,9 +5,9 @@ use Rattle.c_tokens.specs.declared.kind.Sign.TheVariants as sign
 use Rattle.base.specs.declared.fault.ReadCode.TheVariants.{NoBody}
 use Rattle.c_grammar.specs.Lexeme.{Lexeme, Uint64, Int, Main, Void, For, If, Else, Print}
 use Rattle.c_grammar.specs.Terminal.{Terminal, Fixed, Mark, Name, Num, Line, Unknown, Unworked, End, same}
-use Rattle.c_grammar.specs.Lines.{is_omp, holds, is_atomic, depth_of}
-use Rattle.c_grammar.specs.Grammar.{Plain, DeclaresGlobal, MakesArray, MakesScalar, Length, Starts, StartsIf, Prints, Assigned, StartsBlock, Otherwise, Opens, Closes, Alone, Over, Marks, Slots, for, mark, word, Directive, stmt, IsStmt, Head, deeper, Stmts, Done, Then, stmts, AreStmts, body_opening, body_closing, end_mark, Global, Scalar, Array, Text, slots, IsText}
-use Rattle.c_grammar.specs.Program.{Want, WantName, WantNum, Globals, AfterGlobal, Body, OrElse, Under, Nested, Turn, AfterName, Value, Atom, Behind, Tail, Fractional, Stack, m, expr, body, loop, other_step, stmt_step, under_step, nested_step, main_rest, globals_step, after_global, advance, start}
+use Rattle.c_grammar.specs.Lines.{is_boxing, is_omp, holds, is_atomic, depth_of}
+use Rattle.c_grammar.specs.Grammar.{Plain, DeclaresGlobal, MakesArray, MakesScalar, Length, Starts, StartsIf, Prints, Assigned, StartsBlock, Otherwise, Opens, Closes, Alone, Over, Marks, Boxes, Slots, for, mark, word, Directive, stmt, IsStmt, Head, deeper, Stmts, Done, Then, stmts, AreStmts, body_opening, body_closing, end_mark, Global, Scalar, Array, Text, main_part, slots, IsText}
+use Rattle.c_grammar.specs.Program.{Want, WantName, WantNum, Globals, AfterGlobal, Body, OrElse, Under, Nested, Turn, AfterName, Value, Atom, Behind, Tail, Fractional, Stack, m, body, loop, other_step, stmt_step, under_step, nested_step, main_rest, boxes_step, globals_step, after_global, advance, start}
 use Rattle.c_grammar.proofs.Ways.{some_of}
 use Rattle.c_grammar.proofs.Lexemes.{chosen, some_is}
 use Rattle.c_grammar.proofs.Terminals.{tested}
@@ -45,9 +45,9 @@ back_held l s q h n e =
           (λ ws f. (Directive l, (h, k.0, n), ws, refl, f))
     ]
 
--- what follows the line of an atomic store, with what follows that
+-- what follows the line of an atomic update, with what follows that
 abbrev stored : Stack → Stack
-stored s = WantName Assigned ∷ m sign.OpenBracket ∷ expr (m sign.CloseBracket ∷ m sign.Equal ∷ Value ∷ m sign.Semicolon ∷ s)
+stored s = WantName Assigned ∷ AfterName ∷ s
 
 back_omp : (l : List Lexeme) (s : Stack) (q : Taken) → is_omp l ≡ true
     → cond (is_atomic l) (some_of (for Marks, stored s))
@@ -178,8 +178,12 @@ back_after_global s t q e =
     (λ e. tested (Mark sign.Semicolon) t (for MakesScalar, s) q None (Back AfterGlobal s)
     (λ ws f. (None, ws, refl, f)) (none AfterGlobal s t q) e) e
 
-main_fits : (s : Stack) (ws : Slots) → Fits (main_rest s) ws → Fits (Globals ∷ s) (word Int ∷ ws)
-main_fits s ws f =
+-- main and what follows it
+abbrev HasMain : Stack → Slots → Type 0
+HasMain s ws = (b : Stmts) × AreStmts b × (v : Slots) × (ws ≡ main_part b ++ v) × Fits s v
+
+main_has : (s : Stack) (ws : Slots) → Fits (main_rest s) ws → HasMain s (word Int ∷ ws)
+main_has s ws f =
     let a1 = f.2 in let a2 = a1.2 in let a3 = a2.2 in let a4 = a3.2 in
     let b = a4.2 in
     let c = b.4 in
@@ -193,15 +197,27 @@ main_fits s ws f =
     let e6 : b.2 ≡ (End, for Plain) ∷ c.0 = c.1 in
     let g : (stmts b.0 ++ last) ++ c.0 ≡ stmts b.0 ++ (body_closing ∷ (End, for Plain) ∷ c.0) =
     append_assoc (stmts b.0) last c.0 in
-    let t : Text = record { globals = []; body = b.0 } in
-    (t, b.1, c.0, cc, c.2)
+    (b.0, b.1, c.0, cc, c.2)
+
+main_fits : (s : Stack) (ws : Slots) → Fits (main_rest s) ws → Fits (Globals ∷ s) (word Int ∷ ws)
+main_fits s ws f =
+    let has = main_has s ws f in
+    let t : Text = record { globals = []; boxes = None; body = has.0 } in
+    (t, (tt, has.1), has.2, has.3, has.4)
+
+boxes_fits : (l : List Lexeme) → is_boxing l ≡ true → (s : Stack) (ws : Slots)
+    → Fits (Want (Fixed Int) (for Plain) ∷ main_rest s) ws → Fits (Globals ∷ s) ((Line l, for Boxes) ∷ ws)
+boxes_fits l h s ws f =
+    let has = main_has s f.0 f.2 in
+    let t : Text = record { globals = []; boxes = Some l; body = has.0 } in
+    (t, (h, has.1), has.2, ap (λ (v : Slots). (Line l, for Boxes) ∷ v) (f.1 ∙ has.3), has.4)
 
 global_of : List ℕ → Option (Option ℕ) → Global
 global_of x None = Scalar x
 global_of x (Some n) = Array x n
 
 abbrev with_global : Global → Text → Text
-with_global g t = record { globals = g ∷ t.globals; body = t.body }
+with_global g t = record { globals = g ∷ t.globals; boxes = t.boxes; body = t.body }
 
 global_slots : (x : List ℕ) (n : Option (Option ℕ)) (t : Text) (v : Slots)
     → word Uint64 ∷ (Name x, for DeclaresGlobal) ∷ (made n ++ (slots t ++ v)) ≡ slots (with_global (global_of x n) t) ++ v
@@ -225,11 +241,27 @@ global_fits s ws f =
       rest.4,
     )
 
+back_boxes : (s : Stack) (t : Terminal) (q : Taken) → boxes_step s t ≡ some_of q → Back Globals s t q
+back_boxes s (Line l) q e =
+    elim (chosen (is_boxing l) (some_of (for Boxes, Want (Fixed Int) (for Plain) ∷ main_rest s)) None (some_of q) e) [
+      | inl h ↦ some_is (for Boxes, Want (Fixed Int) (for Plain) ∷ main_rest s) q (λ p. Back Globals s (Line l) p) h.1
+          (boxes_fits l h.0 s)
+      | inr h ↦ absurd cc
+    ]
+back_boxes s (Name x) q e = absurd cc
+back_boxes s (Num a) q e = absurd cc
+back_boxes s (Fixed a) q e = absurd cc
+back_boxes s (Mark a) q e = absurd cc
+back_boxes s Unknown q e = absurd cc
+back_boxes s Unworked q e = absurd cc
+back_boxes s End q e = absurd cc
+
 back_globals : (s : Stack) (t : Terminal) (q : Taken) → globals_step s t ≡ some_of q → Back Globals s t q
 back_globals s t q e =
     tested (Fixed Uint64) t (for Plain, WantName DeclaresGlobal ∷ AfterGlobal ∷ Globals ∷ s) q _ (Back Globals s)
     (global_fits s)
-    (λ e. tested (Fixed Int) t (for Plain, main_rest s) q None (Back Globals s) (main_fits s) (none Globals s t q) e) e
+    (λ e. tested (Fixed Int) t (for Plain, main_rest s) q (boxes_step s t) (Back Globals s) (main_fits s)
+    (back_boxes s t q) e) e
 
 back : (s : Stack) (t : Terminal) (q : Taken) → advance s t ≡ some_of q → (ws : Slots) → Fits q.1 ws
     → Fits s ((t, q.0) ∷ ws)

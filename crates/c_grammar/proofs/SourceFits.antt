@@ -73,10 +73,10 @@ default (Want t r ∷ s) = (let d = default s in ((t, r) ∷ d.0, (d.0, refl, d.
 default (WantName act ∷ s) = (let d = default s in ((Name [], for act) ∷ d.0, ([], d.0, refl, d.1)))
 default (WantNum act ∷ s) = (let d = default s in ((Num None, for act) ∷ d.0, (None, d.0, refl, d.1)))
 default (Globals ∷ s) =
-    (let d = default s in let t : Text = record { globals = []; body = Done } in (
+    (let d = default s in let t : Text = record { globals = []; boxes = None; body = Done } in (
       slots t
           ++ d.0,
-      (t, tt, d.0, refl, d.1),
+      (t, (tt, tt), d.0, refl, d.1),
     ))
 default (AfterGlobal ∷ s) = (let d = default s in (made None ++ d.0, (None, d.0, refl, d.1)))
 default (Body ∷ s) = (let d = default s in (body_closing ∷ d.0, (Done, tt, d.0, refl, d.1)))

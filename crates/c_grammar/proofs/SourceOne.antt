@@ -4,15 +4,15 @@ use Rattle.std.proofs.lemmas.List.{append-nil}
 use Rattle.c_grammar.specs.Lexeme.{Lexeme}
 use Rattle.c_grammar.specs.Lines.{depth_of}
 use Rattle.c_grammar.specs.Terminal.{End}
-use Rattle.c_grammar.specs.Grammar.{Plain, Slots, for, Stmt, Declare, Assign, Store, Repeat, Choose, ChooseElse, Show, Block, Directive, Atomic, OverBlock, OverLoop, Stmts, Done, Then, body_closing, deeper, stmt_in, stmts_in, stmt, stmts, IsNest, IsLoopNest, IsStmt, AreStmts, Text, main_part, slots, IsText}
+use Rattle.c_grammar.specs.Grammar.{Plain, Slots, for, Stmt, Declare, Assign, Store, Repeat, Choose, ChooseElse, Show, Block, Directive, Atomic, AtomicAssign, OverBlock, OverLoop, Stmts, Done, Then, body_closing, deeper, stmt_in, stmts_in, stmt, stmts, IsNest, IsLoopNest, IsStmt, AreStmts, Text, main_part, slots, IsText}
 use Rattle.c_grammar.specs.Texts.{kinds}
 use Rattle.c_grammar.specs.Rules.{source_grammar}
 use Rattle.c_grammar.specs.Program.{start, source_machine}
 use Rattle.c_grammar.specs.SourceClaims.{OneText}
 use Rattle.c_grammar.proofs.Ways.{same_way}
 use Rattle.c_grammar.proofs.GoesOn.{NoElse, no_else, passes_text}
-use Rattle.c_grammar.proofs.Views.{one_declare, one_assign, one_store, one_show, one_globals, text_is}
-use Rattle.c_grammar.proofs.SourceViews.{apart, scalar_or_cell, block_or_loop, no_stmt, one_choose, one_choose_else, choose_clash, one_repeat, one_block, one_directive, one_atomic, one_over_block, one_nested, same_line, one_over_loop}
+use Rattle.c_grammar.proofs.Views.{one_declare, one_assign, one_store, one_show, one_boxes, one_globals, text_is}
+use Rattle.c_grammar.proofs.SourceViews.{apart, scalar_or_cell, block_or_loop, no_stmt, one_choose, one_choose_else, choose_clash, one_repeat, one_block, one_directive, one_atomic, one_atomic_assign, atomic_scalar_or_cell, one_over_block, one_nested, same_line, one_over_loop}
 
 swapped : (b a : Stmts) (us vs : Slots) → (a ≡ b) × (vs ≡ us) → (b ≡ a) × (us ≡ vs)
 swapped b a us vs h = (sym h.0, sym h.1)
@@ -38,6 +38,12 @@ mutual
   one_stmt (Directive l) (Directive m) p q xs ys n k e = one_directive l m xs ys e
   one_stmt (Atomic l x i v) (Atomic m y j w) p q xs ys n k e =
       one_atomic l m x y i j v w p.2 q.2 p.3 q.3 xs ys e
+  one_stmt (AtomicAssign l x v) (AtomicAssign m y w) p q xs ys n k e =
+      one_atomic_assign l m x y v w p.2 q.2 xs ys e
+  one_stmt (AtomicAssign l x v) (Atomic m y j w) p q xs ys n k e =
+      absurd (atomic_scalar_or_cell l m x y v w j xs ys e)
+  one_stmt (Atomic l x i v) (AtomicAssign m y w) p q xs ys n k e =
+      absurd (atomic_scalar_or_cell m l y x w v i ys xs (sym e))
   one_stmt (OverBlock l b) (OverBlock m c) p q xs ys n k e = one_over_block l m b c (one_stmts b c p.2 q.2 0 tt tt) xs ys e
   one_stmt (OverBlock l b) (OverLoop m h c) p q xs ys n k e = absurd (block_or_loop l m b c h xs ys e)
   one_stmt (OverLoop l h b) (OverBlock m c) p q xs ys n k e = absurd (block_or_loop m l c b h ys xs (sym e))
@@ -91,6 +97,7 @@ mutual
   one_loop (Repeat h b) (Block c) p q d n k xs ys e = absurd k
   one_loop (Repeat h b) (Directive l) p q d n k xs ys e = absurd k
   one_loop (Repeat h b) (Atomic l x i v) p q d n k xs ys e = absurd k
+  one_loop (Repeat h b) (AtomicAssign l x v) p q d n k xs ys e = absurd k
   one_loop (Repeat h b) (OverBlock l c) p q d n k xs ys e = absurd k
   one_loop (Repeat h b) (OverLoop l a c) p q d n k xs ys e = absurd k
   one_loop (Declare x v) u p q d n k xs ys e = absurd n
@@ -102,6 +109,7 @@ mutual
   one_loop (Block c) u p q d n k xs ys e = absurd n
   one_loop (Directive l) u p q d n k xs ys e = absurd n
   one_loop (Atomic l x i v) u p q d n k xs ys e = absurd n
+  one_loop (AtomicAssign l x v) u p q d n k xs ys e = absurd n
   one_loop (OverBlock l c) u p q d n k xs ys e = absurd n
   one_loop (OverLoop l a c) u p q d n k xs ys e = absurd n
 
@@ -117,8 +125,10 @@ one_main b c p q e =
 
 same_slots : (t u : Text) → IsText t → IsText u → slots t ≡ slots u → t ≡ u
 same_slots t u p q e =
-    let first = one_globals t.globals u.globals t.body u.body e in
-    text_is t.globals u.globals t.body u.body first.0 (one_main t.body u.body p q first.1)
+    let first = one_globals t.globals u.globals t.boxes u.boxes t.body u.body e in
+    let second = one_boxes t.boxes u.boxes t.body u.body first.1 in
+    text_is t.globals u.globals t.boxes u.boxes t.body u.body first.0 second.0
+    (one_main t.body u.body p.1 q.1 second.1)
 
 pub same_text : (t u : Text) → IsText t → IsText u
     → kinds source_grammar (slots t) ≡ kinds source_grammar (slots u) → t ≡ u

@@ -6,7 +6,7 @@ use Rattle.c_tokens.specs.declared.kind.Sign.TheVariants as sign
 use Rattle.c_grammar.specs.Lexeme.{Lexeme, Uint64, For, If, Print}
 use Rattle.c_grammar.specs.Terminal.{Terminal, Fixed, Mark, Name, Num, Line, Unknown, Unworked, End}
 use Rattle.c_grammar.specs.Lines.{is_omp, is_atomic}
-use Rattle.c_grammar.specs.Grammar.{Plain, DeclaresLocal, DeclaresLoop, MakesScalar, Limit, Step, Starts, StartsIf, Prints, Assigned, StartsBlock, Marks, Slots, for, mark, word, Term, term, IsRanked, Source, source, IsRankedSource, Stmt, Declare, Assign, Store, Atomic, Repeat, Choose, ChooseElse, Show, Block, stmt_in, stmts_in, stmt, IsStmt, IsNest, Done, Then, nest_slots, Head, head_rest, Stmts, stmts, AreStmts, body_opening, body_closing, end_mark}
+use Rattle.c_grammar.specs.Grammar.{Plain, DeclaresLocal, DeclaresLoop, MakesScalar, Limit, Step, Starts, StartsIf, Prints, Assigned, StartsBlock, Marks, Slots, for, mark, word, Term, term, IsRanked, Source, source, IsRankedSource, Stmt, Declare, Assign, Store, Atomic, AtomicAssign, Repeat, Choose, ChooseElse, Show, Block, stmt_in, stmts_in, stmt, IsStmt, IsNest, Done, Then, nest_slots, Head, head_rest, Stmts, stmts, AreStmts, body_opening, body_closing, end_mark}
 use Rattle.c_grammar.specs.Program.{Want, WantName, Body, OrElse, Nested, Turn, AfterName, Value, Stack, m, expr, body, inner_body, loop_body, head_of, turn_step, loop, after_name}
 use Rattle.c_grammar.proofs.Ways.{some_of}
 use Rattle.c_grammar.proofs.Lexemes.{some_is}
@@ -84,23 +84,27 @@ cell_fits : (s : Stack) (ws : Slots)
     → Fits (AfterName ∷ s) (mark sign.OpenBracket ∷ ws)
 cell_fits s ws f = (let c = has_cell s ws f in (Some c.0, c.1, c.2, c.3, c.4, c.5, c.6))
 
--- an atomic store behind its line
+-- an atomic store or assignment behind its line
 pub atomic_fits : (l : List Lexeme) (s : Stack) → is_omp l ≡ true → is_atomic l ≡ true
-    → StmtBack s (Line l) (
-      for Marks,
-      WantName Assigned ∷ m sign.OpenBracket ∷ expr (m sign.CloseBracket ∷ m sign.Equal ∷ Value ∷ m sign.Semicolon ∷ s),
-    )
+    → StmtBack s (Line l) (for Marks, WantName Assigned ∷ AfterName ∷ s)
 atomic_fits l s h k ws f =
-    let bracket = f.3 in
-    let c = has_cell s bracket.0 bracket.2 in
-    let behind : f.1 ≡ assigned (Some c.0) c.2 ++ c.4 = bracket.1 ∙ c.5 in (
-      Atomic l f.0 c.0 c.2,
-      (h, k, c.1, c.3),
-      c.4,
-      ap (λ (v : Slots). (Line l, for Marks) ∷ v)
-          (f.2 ∙ ap (λ (v : Slots). (Name f.0, for Assigned) ∷ v) behind),
-      c.6,
-    )
+    let a = f.3 in
+    elim a.0 as (λ o. IsIndex o → f.1 ≡ assigned o a.2 ++ a.4 → HasStmt s ((Line l, for Marks) ∷ ws)) [
+      | None ↦ λ r e. (
+        AtomicAssign l f.0 a.2,
+        (h, k, a.3),
+        a.4,
+        ap (λ (v : Slots). (Line l, for Marks) ∷ v) (f.2 ∙ ap (λ (v : Slots). (Name f.0, for Assigned) ∷ v) e),
+        a.6,
+      )
+      | Some i ↦ λ r e. (
+        Atomic l f.0 i a.2,
+        (h, k, r, a.3),
+        a.4,
+        ap (λ (v : Slots). (Line l, for Marks) ∷ v) (f.2 ∙ ap (λ (v : Slots). (Name f.0, for Assigned) ∷ v) e),
+        a.6,
+      )
+    ] a.1 a.5
 
 pub back_after_name : (s : Stack) (t : Terminal) (q : Taken) → after_name s t ≡ some_of q → Back AfterName s t q
 back_after_name s t q e =

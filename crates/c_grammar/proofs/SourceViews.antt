@@ -5,10 +5,10 @@ use Rattle.c_tokens.specs.declared.kind.Sign.TheVariants as sign
 use Rattle.c_grammar.specs.Lexeme.{Lexeme, For, If, Else}
 use Rattle.c_grammar.specs.Terminal.{Terminal, Fixed, same}
 use Rattle.c_grammar.specs.Lines.{depth_of}
-use Rattle.c_grammar.specs.Grammar.{Act, Starts, StartsIf, Prints, Assigned, StartsBlock, Otherwise, Alone, Over, Marks, Slots, for, mark, Term, term, IsRanked, Source, IsRankedSource, Head, Stmt, Declare, Assign, Store, Repeat, Choose, ChooseElse, Show, Block, Directive, Atomic, OverBlock, OverLoop, Stmts, body_opening, body_closing, deeper, stmt_in, stmt, stmts, nest_slots, loop_slots}
+use Rattle.c_grammar.specs.Grammar.{Act, Starts, StartsIf, Prints, Assigned, StartsBlock, Otherwise, Alone, Over, Marks, Slots, for, mark, Term, term, IsRanked, Source, IsRankedSource, Head, Stmt, Declare, Assign, Store, Repeat, Choose, ChooseElse, Show, Block, Directive, Atomic, AtomicAssign, OverBlock, OverLoop, Stmts, body_opening, body_closing, deeper, stmt_in, stmt, stmts, nest_slots, loop_slots}
 use Rattle.c_grammar.proofs.GoesOn.{NoElse}
 use Rattle.c_grammar.proofs.TermReader.{one_term}
-use Rattle.c_grammar.proofs.Views.{tokens_too, one_store, OneNest, OneBody, one_body, one_turns}
+use Rattle.c_grammar.proofs.Views.{tokens_too, one_assign, one_store, OneNest, OneBody, one_body, one_turns}
 
 -- ---- how a statement begins
 
@@ -42,6 +42,7 @@ number_of (Show e) = 5
 number_of (Block b) = 6
 number_of (Directive l) = 7
 number_of (Atomic l x i v) = 9
+number_of (AtomicAssign l x v) = 9
 number_of (OverBlock l b) = 8
 number_of (OverLoop l h b) = 8
 
@@ -56,6 +57,7 @@ begins (Show e) xs = refl
 begins (Block b) xs = refl
 begins (Directive l) xs = refl
 begins (Atomic l x i v) xs = refl
+begins (AtomicAssign l x v) xs = refl
 begins (OverBlock l b) xs = refl
 begins (OverLoop l h b) xs = refl
 
@@ -69,6 +71,10 @@ apart s u xs ys h e = eqb-false (number_of s) (number_of u) h (same_number s u x
 pub scalar_or_cell : (x y : List ℕ) (v w : Source) (i : Term) (xs ys : Slots)
     → stmt (Assign x v) ++ xs ≡ stmt (Store y i w) ++ ys → ⊥
 scalar_or_cell x y v w i xs ys e = (let all = tokens_too _ _ e in cc)
+
+pub atomic_scalar_or_cell : (l m : List Lexeme) (x y : List ℕ) (v w : Source) (i : Term) (xs ys : Slots)
+    → stmt (AtomicAssign l x v) ++ xs ≡ stmt (Atomic m y i w) ++ ys → ⊥
+atomic_scalar_or_cell l m x y v w i xs ys e = (let all = tokens_too _ _ e in cc)
 
 pub block_or_loop : (l m : List Lexeme) (b c : Stmts) (h : Head) (xs ys : Slots)
     → stmt (OverBlock l b) ++ xs ≡ stmt (OverLoop m h c) ++ ys → ⊥
@@ -85,6 +91,7 @@ numbered (Show e) h = absurd cc
 numbered (Block b) h = absurd cc
 numbered (Directive l) h = absurd cc
 numbered (Atomic l x i v) h = absurd cc
+numbered (AtomicAssign l x v) h = absurd cc
 numbered (OverBlock l b) h = absurd cc
 numbered (OverLoop l h b) e = absurd cc
 
@@ -181,6 +188,17 @@ one_atomic l k x y i j v w hi hj hv hw xs ys e =
     let tail : stmt (Store x i v) ++ xs ≡ stmt (Store y j w) ++ ys = cc in
     let rest = one_store x y i j v w hi hj hv hw xs ys tail in
     let stores : Store x i v ≡ Store y j w = rest.0 in
+    (cc, rest.1)
+
+pub one_atomic_assign : (l k : List Lexeme) (x y : List ℕ) (v w : Source) → IsRankedSource v → IsRankedSource w
+    → (xs ys : Slots) → stmt (AtomicAssign l x v) ++ xs ≡ stmt (AtomicAssign k y w) ++ ys
+    → (AtomicAssign l x v ≡ AtomicAssign k y w) × (xs ≡ ys)
+one_atomic_assign l k x y v w hv hw xs ys e =
+    let all = tokens_too _ _ e in
+    let lines : l ≡ k = cc in
+    let tail : stmt (Assign x v) ++ xs ≡ stmt (Assign y w) ++ ys = cc in
+    let rest = one_assign x y v w hv hw xs ys tail in
+    let assigns : Assign x v ≡ Assign y w = rest.0 in
     (cc, rest.1)
 
 pub one_over_block : (l k : List Lexeme) (b c : Stmts) → OneBody b c → (xs ys : Slots)

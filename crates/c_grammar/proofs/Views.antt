@@ -1,9 +1,9 @@
 -- The parts of a text are known from its tokens: heads of loops, right sides, simple statements, globals.
-use Rattle.std.proofs.Common.{◌≡◌, ℕ, false, List, [], ◌∷◌, ◌++◌, Option, refl, sym, ap, subst, ◌∙◌, append_assoc}
+use Rattle.std.proofs.Common.{◌≡◌, ℕ, false, List, [], ◌∷◌, ◌++◌, Option, Some, None, refl, sym, ap, subst, ◌∙◌, append_assoc}
 use Rattle.c_tokens.specs.declared.kind.Sign.TheVariants as sign
-use Rattle.c_grammar.specs.Lexeme.{Read}
+use Rattle.c_grammar.specs.Lexeme.{Lexeme, Read, Uint64}
 use Rattle.c_grammar.specs.Terminal.{Fixed, Mark, same}
-use Rattle.c_grammar.specs.Grammar.{MakesScalar, Slot, Slots, for, mark, Term, term, IsRanked, Source, Input, Value, source, IsRankedSource, Head, Declare, Assign, Store, Show, Stmts, head_slots, body_opening, body_closing, end_mark, stmt, stmts_in, Global, Scalar, Array, globals, Text, main_part, nest_slots}
+use Rattle.c_grammar.specs.Grammar.{MakesScalar, Slot, Slots, for, mark, word, Term, term, IsRanked, Source, Input, Value, source, IsRankedSource, Head, Declare, Assign, Store, Show, Stmts, head_slots, body_opening, body_closing, end_mark, stmt, stmts_in, Global, Scalar, Array, boxes_slots, globals, Text, main_part, nest_slots}
 use Rattle.c_grammar.specs.Rules.{source_grammar}
 use Rattle.c_grammar.specs.Texts.{kinds}
 use Rattle.c_grammar.proofs.GoesOn.{NoRead, term_no_read}
@@ -136,34 +136,55 @@ one_turns d h k b c one xs ys e =
 
 -- ---- globals
 
-pub one_globals : (gs hs : List Global) (b c : Stmts) → globals gs ++ main_part b ≡ globals hs ++ main_part c
-    → (gs ≡ hs) × (main_part b ≡ main_part c)
-one_globals [] [] b c e = (refl, e)
-one_globals (Scalar x ∷ gs) (Scalar y ∷ hs) b c e =
+-- the line of the boxed scalars and main
+abbrev pub rest_of : Option (List Lexeme) → Stmts → Slots
+rest_of o b = boxes_slots o ++ main_part b
+
+no_global : (o : Option (List Lexeme)) (b : Stmts) (xs : Slots) → rest_of o b ≡ word Uint64 ∷ xs → ⊥
+no_global None b xs e = (let all = tokens_too _ _ e in cc)
+no_global (Some l) b xs e = (let all = tokens_too _ _ e in cc)
+
+pub one_globals : (gs hs : List Global) (o p : Option (List Lexeme)) (b c : Stmts)
+    → globals gs ++ rest_of o b ≡ globals hs ++ rest_of p c → (gs ≡ hs) × (rest_of o b ≡ rest_of p c)
+one_globals [] [] o p b c e = (refl, e)
+one_globals (Scalar x ∷ gs) (Scalar y ∷ hs) o p b c e =
     let all = tokens_too _ _ e in
     let names : x ≡ y = cc in
-    let tail : globals gs ++ main_part b ≡ globals hs ++ main_part c = cc in
-    let rest = one_globals gs hs b c tail in
+    let tail : globals gs ++ rest_of o b ≡ globals hs ++ rest_of p c = cc in
+    let rest = one_globals gs hs o p b c tail in
     (ap (λ (u : List ℕ). Scalar u ∷ gs) names ∙ ap (λ (us : List Global). Scalar y ∷ us) rest.0, rest.1)
-one_globals (Array x n ∷ gs) (Array y m ∷ hs) b c e =
+one_globals (Array x n ∷ gs) (Array y m ∷ hs) o p b c e =
     let all = tokens_too _ _ e in
     let names : x ≡ y = cc in
     let lengths : n ≡ m = cc in
-    let tail : globals gs ++ main_part b ≡ globals hs ++ main_part c = cc in
-    let rest = one_globals gs hs b c tail in (
+    let tail : globals gs ++ rest_of o b ≡ globals hs ++ rest_of p c = cc in
+    let rest = one_globals gs hs o p b c tail in (
       ap (λ (u : List ℕ). Array u n ∷ gs) names ∙ ap (λ (u : Option ℕ). Array y u ∷ gs) lengths
           ∙ ap (λ (us : List Global). Array y m ∷ us) rest.0,
       rest.1,
     )
-one_globals (Scalar x ∷ gs) (Array y m ∷ hs) b c e = (let all = tokens_too _ _ e in absurd cc)
-one_globals (Array x n ∷ gs) (Scalar y ∷ hs) b c e = (let all = tokens_too _ _ e in absurd cc)
-one_globals [] (Scalar y ∷ hs) b c e = (let all = tokens_too _ _ e in absurd cc)
-one_globals [] (Array y m ∷ hs) b c e = (let all = tokens_too _ _ e in absurd cc)
-one_globals (Scalar x ∷ gs) [] b c e = (let all = tokens_too _ _ e in absurd cc)
-one_globals (Array x n ∷ gs) [] b c e = (let all = tokens_too _ _ e in absurd cc)
+one_globals (Scalar x ∷ gs) (Array y m ∷ hs) o p b c e = (let all = tokens_too _ _ e in absurd cc)
+one_globals (Array x n ∷ gs) (Scalar y ∷ hs) o p b c e = (let all = tokens_too _ _ e in absurd cc)
+one_globals [] (Scalar y ∷ hs) o p b c e = absurd (no_global o b _ e)
+one_globals [] (Array y m ∷ hs) o p b c e = absurd (no_global o b _ e)
+one_globals (Scalar x ∷ gs) [] o p b c e = absurd (no_global p c _ (sym e))
+one_globals (Array x n ∷ gs) [] o p b c e = absurd (no_global p c _ (sym e))
 
-abbrev text : List Global → Stmts → Text
-text gs b = record { globals = gs; body = b }
+pub one_boxes : (o p : Option (List Lexeme)) (b c : Stmts) → rest_of o b ≡ rest_of p c
+    → (o ≡ p) × (main_part b ≡ main_part c)
+one_boxes None None b c e = (refl, e)
+one_boxes (Some l) (Some k) b c e =
+    let all = tokens_too _ _ e in
+    let lines : l ≡ k = cc in
+    (ap (λ (u : List Lexeme). Some u) lines, cc)
+one_boxes None (Some k) b c e = (let all = tokens_too _ _ e in absurd cc)
+one_boxes (Some l) None b c e = (let all = tokens_too _ _ e in absurd cc)
 
-pub text_is : (gs hs : List Global) (b c : Stmts) → gs ≡ hs → b ≡ c → text gs b ≡ text hs c
-text_is gs hs b c p q = ap (λ (u : List Global). text u b) p ∙ ap (λ (u : Stmts). text hs u) q
+abbrev text : List Global → Option (List Lexeme) → Stmts → Text
+text gs o b = record { globals = gs; boxes = o; body = b }
+
+pub text_is : (gs hs : List Global) (o p : Option (List Lexeme)) (b c : Stmts) → gs ≡ hs → o ≡ p → b ≡ c
+    → text gs o b ≡ text hs p c
+text_is gs hs o p b c e f g =
+    ap (λ (u : List Global). text u o b) e ∙ ap (λ (u : Option (List Lexeme)). text hs u b) f
+    ∙ ap (λ (u : Stmts). text hs p u) g

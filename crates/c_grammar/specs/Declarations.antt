@@ -1,6 +1,6 @@
 -- The type int of a loop's name, and of a constant, is uint64_t. Where an expression that is made of them has another value in
 -- C, that is told elsewhere.
-use Rattle.std.specs.Prelude.{Bool, true, false, ◌&&◌, if◌then◌else◌, List, [], ◌∷◌, codes}
+use Rattle.std.specs.Prelude.{Bool, true, false, ◌&&◌, if◌then◌else◌, [], ◌∷◌, codes}
 use Rattle.c_tokens.specs.declared.kind.Sign.TheVariants as sign
 use Rattle.c_grammar.specs.Lexeme.{Uint64, Int, For}
 use Rattle.c_grammar.specs.Terminal.{Terminal, Fixed, Name, same}

@@ -1,6 +1,6 @@
 -- Functions that stand before main: a call is the body of the function in a block of its own, with what was passed for its
 -- parameters. Where a function is defined it is left out.
-use Rattle.std.specs.Prelude.{ℕ, zero, suc, ◌+◌, ◌-◌, Bool, true, false, not, ◌&&◌, ◌||◌, ◌==◌, nat_lt, if◌then◌else◌, List, [], ◌∷◌, ◌++◌, length, take, drop, map, Option, Some, None, codes, is_some}
+use Rattle.std.specs.Prelude.{ℕ, zero, suc, ◌+◌, ◌-◌, ◌^◌, Bool, true, false, not, ◌&&◌, ◌||◌, ◌==◌, nat_lt, if◌then◌else◌, List, [], ◌∷◌, ◌++◌, length, take, drop, map, Option, Some, None, codes, is_some}
 use Rattle.std.specs.Str.{bytes_eq}
 use Rattle.c_tokens.specs.declared.kind.Sign.TheVariants as sign
 use Rattle.c_grammar.specs.Lexeme.{Lexeme, Worded, Numbered, Uint64, Int, Main, Void}
@@ -37,14 +37,26 @@ unknown = unspelled 0
 
 -- ---- the head of a function
 
+-- what a parameter is: a number of 64 bits, an array, a number of the type int
+pub data Sort : Type 0 where
+  Scalar Array Small : Sort
+
+abbrev pub is_array : Sort → Bool
+is_array Array = true
+is_array s = false
+
+abbrev pub is_scalar : Sort → Bool
+is_scalar Scalar = true
+is_scalar s = false
+
 pub record Declared : Type 0 where
   pub name : List ℕ
-  pub array : Bool
+  pub sort : Sort
 
 -- what has been read of a parameter
 pub data Head : Type 0 where
-  Begins Typed Starred : Head
-  Named : (x : List ℕ) (array : Bool) → Head
+  Begins Typed IntTyped Starred : Head
+  Named : (x : List ℕ) (sort : Sort) → Head
   Opened Sized : (x : List ℕ) → Head
   -- behind the first brackets; in second ones, before their number and behind it
   Rows Second Wide : (x : List ℕ) → Head
@@ -52,7 +64,7 @@ pub data Head : Type 0 where
 -- the parameter goes on, another one follows, it was the last one, or it is none
 pub data Step : Type 0 where
   Goes : (h : Head) → Step
-  Adds Closes : (x : List ℕ) (array : Bool) → Step
+  Adds Closes : (x : List ℕ) (sort : Sort) → Step
   Stops : Step
 
 abbrev pub is_qualifier : Terminal → Bool
@@ -60,48 +72,50 @@ is_qualifier t =
     same (Name (codes "const")) t || same (Name (codes "restrict")) t || same (Name (codes "__restrict__")) t ||
     same (Name (codes "__restrict")) t
 
-abbrev pub named : Terminal → Bool → Step
-named (Name x) array = Goes (Named x array)
-named t array = Stops
+abbrev pub named : Terminal → Sort → Step
+named (Name x) sort = Goes (Named x sort)
+named t sort = Stops
 
-abbrev pub behind_name : List ℕ → Bool → Terminal → Step
-behind_name x array t =
-    if same (Mark sign.Comma) t then Adds x array
-    else (if same (Mark sign.CloseParen) t then Closes x array
-    else (if same (Mark sign.OpenBracket) t && not array then Goes (Opened x) else Stops))
+abbrev pub behind_name : List ℕ → Sort → Terminal → Step
+behind_name x sort t =
+    if same (Mark sign.Comma) t then Adds x sort
+    else (if same (Mark sign.CloseParen) t then Closes x sort
+    else (if same (Mark sign.OpenBracket) t && is_scalar sort then Goes (Opened x) else Stops))
 
 abbrev pub closing : List ℕ → Terminal → Step
 closing x t = if same (Mark sign.CloseBracket) t then Goes (Rows x) else Stops
 
 abbrev pub behind_rows : List ℕ → Terminal → Step
-behind_rows x t = if same (Mark sign.OpenBracket) t then Goes (Second x) else behind_name x true t
+behind_rows x t = if same (Mark sign.OpenBracket) t then Goes (Second x) else behind_name x Array t
 
 abbrev pub columns : List ℕ → Terminal → Step
 columns x t = if is_number t then Goes (Wide x) else Stops
 
 abbrev pub behind : Head → Terminal → Step
 behind Begins t =
-    if is_qualifier t then Goes Begins else (if same (Fixed Uint64) t then Goes Typed else Stops)
+    if is_qualifier t then Goes Begins
+    else (if same (Fixed Uint64) t then Goes Typed else (if same (Fixed Int) t then Goes IntTyped else Stops))
 behind Typed t =
-    if is_qualifier t then Goes Typed else (if same (Mark sign.Star) t then Goes Starred else named t false)
-behind Starred t = if is_qualifier t then Goes Starred else named t true
-behind (Named x array) t = behind_name x array t
+    if is_qualifier t then Goes Typed else (if same (Mark sign.Star) t then Goes Starred else named t Scalar)
+behind IntTyped t = if is_qualifier t then Goes IntTyped else named t Small
+behind Starred t = if is_qualifier t then Goes Starred else named t Array
+behind (Named x sort) t = behind_name x sort t
 behind (Opened x) t = if is_number t then Goes (Sized x) else closing x t
 behind (Sized x) t = closing x t
 behind (Rows x) t = behind_rows x t
 behind (Second x) t = columns x t
-behind (Wide x) t = if same (Mark sign.CloseBracket) t then Goes (Named x true) else Stops
+behind (Wide x) t = if same (Mark sign.CloseBracket) t then Goes (Named x Array) else Stops
 
 abbrev pub Parameters : Type 0
 Parameters = Option (List Declared × ℕ)
 
-abbrev pub declares : List ℕ → Bool → Declared
-declares x array = record { name = x; array = array }
+abbrev pub declares : List ℕ → Sort → Declared
+declares x sort = record { name = x; sort = sort }
 
 abbrev pub parameter_on : Step → List Declared → ℕ → (Head → List Declared → Parameters) → Parameters
 parameter_on (Goes h) ps k go = go h ps
-parameter_on (Adds x array) ps k go = go Begins (ps ++ declares x array ∷ [])
-parameter_on (Closes x array) ps k go = Some (ps ++ declares x array ∷ [], k)
+parameter_on (Adds x sort) ps k go = go Begins (ps ++ declares x sort ∷ [])
+parameter_on (Closes x sort) ps k go = Some (ps ++ declares x sort ∷ [], k)
 parameter_on Stops ps k go = None
 
 -- the parameters up to the closing bracket, and how many tokens that is
@@ -166,7 +180,7 @@ head_at t is =
 -- a parameter: the name that it has in the body, and whether the body assigns it
 pub record Parameter : Type 0 where
   pub name : List ℕ
-  pub array : Bool
+  pub sort : Sort
   pub assigned : Bool
 
 pub record Function : Type 0 where
@@ -384,8 +398,21 @@ passes_array x is = None
 abbrev pub passes_scalar : Names → Parameter → Items → Option Passed
 passes_scalar globals p is = if p.assigned then local p.name is else passes_value globals p.name is (constant_in is)
 
+-- a number of the type int stands for its parameter, which the function does not assign
+abbrev pub stands_small : List ℕ → Option ℕ → Option Passed
+stands_small x None = None
+stands_small x (Some n) = if nat_lt n (2 ^ 31) then stands_for x (Counts n) else None
+
+abbrev pub passes_small : Parameter → Items → Option Passed
+passes_small p is = if p.assigned then None else stands_small p.name (constant_in is)
+
+abbrev pub passes_as : Sort → Names → Parameter → Items → Option Passed
+passes_as Scalar globals p is = passes_scalar globals p is
+passes_as Array globals p is = passes_array p.name is
+passes_as Small globals p is = passes_small p is
+
 abbrev pub passes : Names → Parameter → Items → Option Passed
-passes globals p is = if p.array then passes_array p.name is else passes_scalar globals p is
+passes globals p is = passes_as p.sort globals p is
 
 abbrev pub both : Option Passed → Option Passed → Option Passed
 both (Some a) (Some b) = Some (record { before = a.before ++ b.before; puts = a.puts ++ b.puts })
@@ -597,12 +624,12 @@ returned_by false body = Some (record { front = body; value = [] })
 abbrev pub parameters_from : ℕ → Items → List Declared → List Parameter
 parameters_from k body [] = []
 parameters_from k body (d ∷ ds) =
-    record { name = unspelled k; array = d.array; assigned = is_assigned d.name body } ∷ parameters_from (k + 1) body ds
+    record { name = unspelled k; sort = d.sort; assigned = is_assigned d.name body } ∷ parameters_from (k + 1) body ds
 
 -- the names of parameters that are arrays
 abbrev pub array_names : ℕ → List Declared → Names
 array_names k [] = []
-array_names k (d ∷ ds) = (if d.array then unspelled k ∷ [] else []) ++ array_names (k + 1) ds
+array_names k (d ∷ ds) = (if is_array d.sort then unspelled k ∷ [] else []) ++ array_names (k + 1) ds
 
 abbrev pub names_in : Headed → Items → Names
 names_in h body = map (λ d. d.name) h.declared ++ declared_in (bare body)

@@ -16,7 +16,7 @@ use Rattle.c_grammar.specs.LineForms.{all_at, is_sign}
 use Rattle.c_grammar.specs.Nesting.{name_len}
 use Rattle.c_grammar.specs.Presence.{goes_on, is_mapped, is_target, is_word, opens_part}
 
--- ---- updates of a cell
+-- ---- updates of a cell or a scalar
 
 -- the operators of updates that commute
 abbrev pub commutes : Sign → Bool
@@ -64,13 +64,21 @@ abbrev pub changed : List ℕ → Items → Items → Option Sign
 changed x index [] = None
 changed x index (i ∷ is) = if is_mark sign.Equal i then again x index is else changing (kind_of i.terminal) is
 
+abbrev pub begins_index : Items → Bool
+begins_index [] = false
+begins_index (i ∷ is) = is_mark sign.OpenBracket i
+
+-- how many tokens the index of a cell has, and none where a scalar stands
+abbrev pub place_len : Items → Option ℕ
+place_len is = if begins_index is then index_len 0 0 is else Some 0
+
 abbrev pub changed_behind : List ℕ → Items → Option ℕ → Option Sign
 changed_behind x is None = None
 changed_behind x is (Some k) = changed x (take k is) (drop k is)
 
--- by which operator a cell of x is changed, where these tokens stand behind the name: the statement is an update
+-- by which operator x or a cell of it is changed, where these tokens stand behind the name: the statement is an update
 abbrev pub update : List ℕ → Items → Option Sign
-update x is = changed_behind x is (index_len 0 0 is)
+update x is = changed_behind x is (place_len is)
 
 -- ---- what stands in a region
 
@@ -95,7 +103,7 @@ Onward = ℕ → Bool → ℕ → Bool
 abbrev pub mention : List ℕ → Sign → ℕ → Bool → ℕ → Items → Onward → Bool
 mention x op d starts (suc zero) is go = go d false 0
 mention x op d starts n is go =
-    starts && is_by op (update x is) && go d false (again_at (index_len 0 0 is) is)
+    starts && is_by op (update x is) && go d false (again_at (place_len is) is)
 
 abbrev pub other : ℕ → ℕ → Item Terminal → Items → Onward → Bool
 other d n i is go =
