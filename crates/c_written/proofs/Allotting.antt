@@ -6,12 +6,12 @@ use Rattle.c_grammar.specs.Terminal.{Terminal}
 use Rattle.c_grammar.specs.Texts.{Item}
 use Rattle.c_grammar.specs.Blocks.{Items}
 use Rattle.c_grammar.specs.Allocations.{Reading, all_read, joined, next, nothing_read}
-use Rattle.c_written.specs.declared.token.Token.{Token}
+use Rattle.c_terminals.specs.declared.token.Token.{Token}
 use Rattle.c_written.specs.declared.allocated.Allocations.{Allocations}
 use Rattle.c_written.specs.Allocations.{reading_of, with_allocations}
-use Rattle.c_written.specs.Seen.{seen, seen_all}
+use Rattle.c_terminals.specs.Seen.{seen, seen_all}
 use Rattle.c_written.proofs.Blocking.{on_ok}
-use Rattle.c_written.proofs.Lists.{seen_more}
+use Rattle.c_terminals.proofs.Lists.{seen_more}
 
 pub same_reading : (q r : Reading) → q.before ≡ r.before → q.arrays ≡ r.arrays → q.done ≡ r.done → q.inside ≡ r.inside →
     q.depth ≡ r.depth → q.starts ≡ r.starts → q.out ≡ r.out → q.names ≡ r.names → q ≡ r

@@ -6,9 +6,9 @@ use Rattle.c_grammar.specs.Texts.{Item}
 use Rattle.c_grammar.specs.Blocks.{Items}
 use Rattle.c_grammar.specs.Constants.{Names}
 use Rattle.c_grammar.specs.Functions.{Expanded, Functions, assigned_call, call, later}
-use Rattle.c_written.specs.declared.token.Token.{Token}
-use Rattle.c_written.specs.Seen.{seen, seen_all}
-use Rattle.c_written.proofs.Lists.{seen_more}
+use Rattle.c_terminals.specs.declared.token.Token.{Token}
+use Rattle.c_terminals.specs.Seen.{seen, seen_all}
+use Rattle.c_terminals.proofs.Lists.{seen_more}
 
 -- what follows is one token, and others
 pub record Splits (is ks : Items) (n : ℕ) (i : Item Terminal) : Type 0 where

@@ -6,9 +6,9 @@ use Rattle.c_grammar.specs.Blocks.{Items}
 use Rattle.c_grammar.specs.Functions as functions
 use Rattle.c_grammar.specs.Functions.{function_of}
 use Rattle.c_written.specs.declared.calls.Function.{Function}
-use Rattle.c_written.specs.declared.token.Token.{Token}
+use Rattle.c_terminals.specs.declared.token.Token.{Token}
 use Rattle.c_written.specs.Functions.{seen_function}
-use Rattle.c_written.specs.Seen.{seen_all}
+use Rattle.c_terminals.specs.Seen.{seen_all}
 
 abbrev pub lists_of : List (Vec Token Global) → List Items
 lists_of vs = map (λ v. seen_all v.items) vs

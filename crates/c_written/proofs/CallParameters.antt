@@ -7,12 +7,12 @@ use Rattle.c_grammar.specs.Blocks.{Items}
 use Rattle.c_grammar.specs.Constants.{Names}
 use Rattle.c_grammar.specs.Functions.{Parameter, Passed, Puts, both, passed, passed_to, passes, stands_for}
 use Rattle.c_written.specs.declared.calls.Parameter.{Parameter as Given}
-use Rattle.c_written.specs.declared.held.Written.{Written}
+use Rattle.c_terminals.specs.declared.held.Written.{Written}
 use Rattle.c_written.specs.declared.puts.Put.{Put}
-use Rattle.c_written.specs.declared.token.Token.{Token}
+use Rattle.c_terminals.specs.declared.token.Token.{Token}
 use Rattle.c_written.specs.Functions.{all_parameters, seen_parameter, seen_put}
-use Rattle.c_written.specs.Held.{written_all}
-use Rattle.c_written.specs.Seen.{seen_all}
+use Rattle.c_terminals.specs.Held.{written_all}
+use Rattle.c_terminals.specs.Seen.{seen_all}
 use Rattle.c_written.proofs.CallLists.{lists_of}
 use Rattle.c_written.proofs.CallPasses.{passed_of, passed_step, passed_unlike}
 use Rattle.c_written.proofs.Putting.{all_puts}

@@ -4,12 +4,12 @@ use Rattle.std.proofs.lemmas.List.{append-nil, map-append, take_all, take_more}
 use Rattle.c_grammar.specs.Terminal.{Terminal}
 use Rattle.c_grammar.specs.Texts.{Item}
 use Rattle.c_grammar.specs.Blocks.{Items, at}
-use Rattle.c_written.specs.declared.token.Token.{Token}
-use Rattle.c_written.specs.declared.held.Written.{Written}
-use Rattle.c_written.specs.Seen.{seen, seen_all}
-use Rattle.c_written.specs.Held.{columns_held, seen_written, written_all}
-use Rattle.c_written.proofs.Lists.{seen_more}
-use Rattle.c_written.proofs.Owning.{held_more}
+use Rattle.c_terminals.specs.declared.token.Token.{Token}
+use Rattle.c_terminals.specs.declared.held.Written.{Written}
+use Rattle.c_terminals.specs.Seen.{seen, seen_all}
+use Rattle.c_terminals.specs.Held.{columns_held, seen_written, written_all}
+use Rattle.c_terminals.proofs.Lists.{seen_more}
+use Rattle.c_terminals.proofs.Owning.{held_more}
 
 abbrev item_of : Terminal → ℕ → ℕ → List ℕ → Item Terminal
 item_of t l c cs = record { terminal = t; line = l; column = c; columns = cs }

@@ -7,11 +7,11 @@ use Rattle.c_grammar.specs.Blocks.{Items, bare, is_directive}
 use Rattle.c_grammar.specs.Changes.{is_boundary}
 use Rattle.c_grammar.specs.Constants.{Names}
 use Rattle.c_grammar.specs.Functions.{Expanded, Functions, called}
-use Rattle.c_written.specs.declared.token.Token.{Token}
-use Rattle.c_written.specs.declared.held.Written.{Written}
+use Rattle.c_terminals.specs.declared.token.Token.{Token}
+use Rattle.c_terminals.specs.declared.held.Written.{Written}
 use Rattle.c_written.specs.Functions.{statement_at}
-use Rattle.c_written.specs.Held.{seen_written, written_all}
-use Rattle.c_written.specs.Seen.{seen, seen_all}
+use Rattle.c_terminals.specs.Held.{seen_written, written_all}
+use Rattle.c_terminals.specs.Seen.{seen, seen_all}
 use Rattle.c_written.proofs.CallSteps.{called_end, called_expands, called_left, called_line, called_stays}
 use Rattle.c_written.proofs.CallTexts.{put_all_front, put_front}
 

@@ -6,9 +6,9 @@ use Rattle.c_grammar.specs.Terminal.{Terminal}
 use Rattle.c_grammar.specs.Texts.{Item}
 use Rattle.c_grammar.specs.Blocks.{Items}
 use Rattle.c_grammar.specs.Changes.{State, Onward, in_state, reversed}
-use Rattle.c_written.specs.declared.token.Token.{Token}
+use Rattle.c_terminals.specs.declared.token.Token.{Token}
 use Rattle.c_written.specs.declared.changes.Changes.{Changes}
-use Rattle.c_written.specs.Seen.{seen_all}
+use Rattle.c_terminals.specs.Seen.{seen_all}
 use Rattle.c_written.specs.Changes.{IsGone, IsSameState, seen_where, state_of}
 use Rattle.c_written.proofs.Blocking.{on_ok}
 

@@ -16,10 +16,10 @@ use Rattle.c_grammar.specs.Updates.{Inside, OnRegion, Reduction, Region, atomic_
 use Rattle.directives.specs.declared.line_tokens.LineTokens.{LineTokens}
 use Rattle.directives.specs.Ahead.{seen_line}
 use Rattle.directives.specs.Spells.{columns_of, kinds_of}
-use Rattle.c_written.specs.declared.token.Terminal.{Terminal as Given}
-use Rattle.c_written.specs.declared.token.Terminal.TheVariants as given
-use Rattle.c_written.specs.declared.token.Token.{Token}
-use Rattle.c_written.specs.Seen.{seen, seen_terminal}
+use Rattle.c_terminals.specs.declared.token.Terminal.{Terminal as Given}
+use Rattle.c_terminals.specs.declared.token.Terminal.TheVariants as given
+use Rattle.c_terminals.specs.declared.token.Token.{Token}
+use Rattle.c_terminals.specs.Seen.{seen, seen_terminal}
 use Rattle.c_written.specs.Updates.{line_changed, line_put, line_region}
 use Rattle.c_written.proofs.Defining.{placed_again}
 use Rattle.c_written.proofs.Guarding.{first_true, item_at, line_item, second_true}

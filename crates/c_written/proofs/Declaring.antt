@@ -8,7 +8,7 @@ use Rattle.c_grammar.specs.Blocks.{Items, bare, is_directive}
 use Rattle.c_grammar.specs.Constants.{is_mark}
 use Rattle.c_grammar.specs.Initial.{Globals as State, Onward, begun, declared, initial, initialized, outside, set_late}
 use Rattle.c_written.specs.declared.globals.Globals.{Globals}
-use Rattle.c_written.specs.Seen.{seen_all}
+use Rattle.c_terminals.specs.Seen.{seen_all}
 use Rattle.c_written.specs.Globals.{IsGone, state_of, with_globals}
 use Rattle.c_written.proofs.Blocking.{on_ok}
 

@@ -14,16 +14,16 @@ use Rattle.c_grammar.specs.Functions.{index_len}
 use Rattle.c_grammar.specs.Grids.{Grids, Ranges, Open, Onward, declared_as, flat, flat_line, grid_on, has_second, is_row, named_on, row_begins, token_on}
 use Rattle.directives.specs.Ahead.{seen_line}
 use Rattle.directives.specs.Spells.{kinds_of}
-use Rattle.c_written.specs.declared.token.Terminal.{Terminal as Given}
-use Rattle.c_written.specs.declared.token.Terminal.TheVariants as given
-use Rattle.c_written.specs.declared.token.Token.{Token}
+use Rattle.c_terminals.specs.declared.token.Terminal.{Terminal as Given}
+use Rattle.c_terminals.specs.declared.token.Terminal.TheVariants as given
+use Rattle.c_terminals.specs.declared.token.Token.{Token}
 use Rattle.c_written.specs.declared.grids.Grids.{Grids as GivenGrids}
 use Rattle.c_written.specs.Grids.{GoesOn, HasPut, Row, columns_of, once_or_twice, open_of, row_at, row_of, row_on, twice_at, twice_of, with_grids}
-use Rattle.c_written.specs.Held.{written_all}
+use Rattle.c_terminals.specs.Held.{written_all}
 use Rattle.c_written.specs.Indices.{ranges_of}
 use Rattle.c_written.specs.Stack.{held}
 use Rattle.c_written.specs.Values.{seen_values}
-use Rattle.c_written.specs.Seen.{columns_in, seen_all, seen_terminal}
+use Rattle.c_terminals.specs.Seen.{columns_in, seen_all, seen_terminal}
 
 pub take_next : (k : ℕ) (is js : Items) (i : Item Terminal) → is ≡ i ∷ js → 0 < k → take k is ≡ i ∷ take (k - 1) js
 take_next zero is js i e h = absurd (omega arith)

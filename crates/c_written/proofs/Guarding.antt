@@ -15,11 +15,11 @@ use Rattle.directives.specs.Seen.{all_end_well, ends_well, is_whole, seen_placed
 use Rattle.directives.specs.declared.line_tokens.LineTokens.{LineTokens}
 use Rattle.directives.specs.Ahead.{seen_line}
 use Rattle.directives.specs.Spells.{columns_of, kinds_of}
-use Rattle.c_written.specs.declared.token.Terminal.{Terminal as Given}
-use Rattle.c_written.specs.declared.token.Terminal.TheVariants as given
-use Rattle.c_written.specs.declared.token.Token.{Token}
+use Rattle.c_terminals.specs.declared.token.Terminal.{Terminal as Given}
+use Rattle.c_terminals.specs.declared.token.Terminal.TheVariants as given
+use Rattle.c_terminals.specs.declared.token.Token.{Token}
 use Rattle.c_written.specs.Forms.{all_placed}
-use Rattle.c_written.specs.Seen.{columns_in, seen, seen_terminal}
+use Rattle.c_terminals.specs.Seen.{columns_in, seen, seen_terminal}
 use Rattle.c_written.proofs.Defining.{placed_again}
 
 -- tokens that end well before others

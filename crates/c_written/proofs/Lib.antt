@@ -1,7 +1,6 @@
 pub mod Among
 pub mod Enumerating
 pub mod Undefining
-pub mod Lists
 pub mod Printing
 pub mod Typing
 pub mod Stacks
@@ -9,7 +8,6 @@ pub mod Naming
 pub mod Popped
 pub mod Blocking
 pub mod Reducing
-pub mod Owning
 pub mod Behind
 pub mod LinePast
 pub mod Unending
@@ -32,6 +30,7 @@ pub mod Working
 pub mod Declaring
 pub mod Setting
 pub mod Counting
+pub mod Recounting
 pub mod Allotting
 pub mod ClauseSteps
 pub mod WholeClauses
@@ -48,6 +47,7 @@ pub mod SourceSteps
 pub mod CallLefts
 pub mod CallWalk
 pub mod Guarding
+pub mod Boxing
 pub mod Joining
 pub mod Fitting
 pub mod DeclaringFunctions

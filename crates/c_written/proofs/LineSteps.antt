@@ -7,9 +7,9 @@ use Rattle.c_grammar.specs.Lexeme.{Lexeme, Numbered, Placed}
 use Rattle.c_grammar.specs.Expressions.{Values, Number, as_items}
 use Rattle.c_grammar.specs.LineForms.{is_separator, bound_at, onto, all_at, line_from}
 use Rattle.directives.specs.declared.lexeme.PlacedLexeme.{PlacedLexeme}
-use Rattle.c_written.specs.declared.token.Token.{Token}
+use Rattle.c_terminals.specs.declared.token.Token.{Token}
 use Rattle.c_written.specs.declared.line_forms.Forms.{Forms}
-use Rattle.c_written.specs.Seen.{seen_all}
+use Rattle.c_terminals.specs.Seen.{seen_all}
 use Rattle.c_written.specs.Lines.{unended}
 use Rattle.c_written.specs.Values.{seen_values}
 use Rattle.c_written.specs.Forms.{all_placed, line_past, in_full, seen_bound, IsSameForm, with_line}

@@ -8,10 +8,10 @@ use Rattle.c_grammar.specs.Terminal.{Terminal, Mark}
 use Rattle.c_grammar.specs.Texts.{Item}
 use Rattle.c_grammar.specs.Blocks.{Items, at}
 use Rattle.c_grammar.specs.Changes.{InHead, Outside, Onward, State, Where, assigned, behind_front, closes_head, first_of, in_state, is_mark, is_name_closed, limit_token, limited, one_at}
-use Rattle.c_written.specs.declared.token.Terminal.{Terminal as Given}
-use Rattle.c_written.specs.declared.token.Terminal.TheVariants as given
-use Rattle.c_written.specs.declared.token.Token.{Token}
-use Rattle.c_written.specs.Seen.{columns_in, item_at, seen, seen_terminal}
+use Rattle.c_terminals.specs.declared.token.Terminal.{Terminal as Given}
+use Rattle.c_terminals.specs.declared.token.Terminal.TheVariants as given
+use Rattle.c_terminals.specs.declared.token.Token.{Token}
+use Rattle.c_terminals.specs.Seen.{columns_in, item_at, seen, seen_terminal}
 use Rattle.c_written.specs.Changes.{passed, stepped}
 use Rattle.c_written.proofs.Changing.{reversed_again}
 

@@ -6,8 +6,8 @@ use Rattle.c_grammar.specs.Terminal.{Terminal, Fixed, Mark, Name, Num, Line, Unk
 use Rattle.c_grammar.specs.Expressions.{Values}
 use Rattle.c_grammar.specs.Constants as constants
 use Rattle.c_grammar.specs.Constants.{array_length, bound, declared, ended_constant, ends_with, lengths, with_length}
-use Rattle.c_written.specs.declared.token.Terminal.{Terminal as Given}
-use Rattle.c_written.specs.Seen.{seen_terminal}
+use Rattle.c_terminals.specs.declared.token.Terminal.{Terminal as Given}
+use Rattle.c_terminals.specs.Seen.{seen_terminal}
 use Rattle.c_written.specs.Stack.{item_at}
 use Rattle.c_written.specs.Names.{declared_last, is_uint64, with_name}
 use Rattle.c_written.specs.Constants.{constant_ended, ends_by, ends_constant, length_ended, with_constant}

@@ -6,7 +6,7 @@ use Rattle.c_grammar.specs.Texts.{Item}
 use Rattle.c_grammar.specs.Blocks.{Items, bare, is_directive}
 use Rattle.c_grammar.specs.Changes.{Onward, State, in_full, token}
 use Rattle.c_written.specs.declared.changes.Changes.{Changes}
-use Rattle.c_written.specs.Seen.{seen_all}
+use Rattle.c_terminals.specs.Seen.{seen_all}
 use Rattle.c_written.specs.Changes.{IsGone, state_of, with_changes}
 use Rattle.c_written.proofs.Blocking.{on_ok}
 

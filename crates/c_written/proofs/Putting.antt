@@ -12,10 +12,10 @@ use Rattle.directives.specs.Seen.{all_end_well, ends_well, is_empty, is_whole}
 use Rattle.directives.specs.Spells.{columns_of, kinds_of}
 use Rattle.c_written.specs.declared.puts.Put.{Put}
 use Rattle.c_written.specs.Forms.{all_placed}
-use Rattle.c_written.specs.declared.token.Terminal.{Terminal as Given}
-use Rattle.c_written.specs.declared.token.Terminal.TheVariants as given
+use Rattle.c_terminals.specs.declared.token.Terminal.{Terminal as Given}
+use Rattle.c_terminals.specs.declared.token.Terminal.TheVariants as given
 use Rattle.c_written.specs.Functions.{seen_put}
-use Rattle.c_written.specs.Seen.{seen_terminal}
+use Rattle.c_terminals.specs.Seen.{seen_terminal}
 use Rattle.c_written.specs.Spots.{all_kinds}
 
 abbrev pub all_names : List (Bor (List ℕ)) → Names

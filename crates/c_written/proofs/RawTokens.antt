@@ -6,10 +6,10 @@ use Rattle.c_grammar.specs.Terminal.{Terminal}
 use Rattle.c_grammar.specs.Texts.{Item}
 use Rattle.c_grammar.specs.Blocks.{Items}
 use Rattle.c_grammar.specs.Source.{item_of}
-use Rattle.c_written.specs.declared.held.Written.{Written}
-use Rattle.c_written.specs.declared.held.WrittenTerminal.{WrittenTerminal}
-use Rattle.c_written.specs.Held.{columns_held, seen_held, seen_written, written_all}
-use Rattle.c_written.proofs.Owning.{held_more}
+use Rattle.c_terminals.specs.declared.held.Written.{Written}
+use Rattle.c_terminals.specs.declared.held.WrittenTerminal.{WrittenTerminal}
+use Rattle.c_terminals.specs.Held.{columns_held, seen_held, seen_written, written_all}
+use Rattle.c_terminals.proofs.Owning.{held_more}
 
 -- a token is one of the source, if its terminal is
 pub raw_item : (v : WrittenTerminal) (bytes : List ℕ) (t : Token) → seen_held v ≡ (item_of bytes t).terminal →

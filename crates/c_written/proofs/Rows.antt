@@ -16,11 +16,11 @@ use Rattle.directives.specs.declared.line_tokens.LineTokens.{LineTokens}
 use Rattle.directives.specs.Ahead.{seen_line}
 use Rattle.directives.specs.Seen.{all_end_well, ends_well, is_empty, is_whole}
 use Rattle.directives.specs.Spells.{columns_of, kinds_of}
-use Rattle.c_written.specs.declared.token.Terminal.{Terminal as Given}
-use Rattle.c_written.specs.declared.token.Terminal.TheVariants as given
-use Rattle.c_written.specs.declared.token.Token.{Token}
+use Rattle.c_terminals.specs.declared.token.Terminal.{Terminal as Given}
+use Rattle.c_terminals.specs.declared.token.Terminal.TheVariants as given
+use Rattle.c_terminals.specs.declared.token.Token.{Token}
 use Rattle.c_written.specs.RowSections.{next_at, put_at}
-use Rattle.c_written.specs.Seen.{seen, seen_terminal}
+use Rattle.c_terminals.specs.Seen.{seen, seen_terminal}
 use Rattle.c_written.proofs.Defining.{placed_again}
 use Rattle.c_written.proofs.Guarding.{first_true, item_at, line_item, second_true, whole_more}
 use Rattle.c_written.proofs.Putting.{all_well, well_kinds}

@@ -10,10 +10,10 @@ use Rattle.c_written.specs.declared.functions.Place.{Place}
 use Rattle.c_written.specs.declared.functions.Place.TheVariants as places
 use Rattle.c_written.specs.declared.functions.Source.{Source}
 use Rattle.c_written.specs.declared.heads.Headed.{Headed}
-use Rattle.c_written.specs.declared.token.Token.{Token}
+use Rattle.c_terminals.specs.declared.token.Token.{Token}
 use Rattle.c_written.specs.Functions.{functions_of, globals_of, is_outside, known_in, place_in, seen_headed, with_source}
-use Rattle.c_written.specs.Held.{written_all}
-use Rattle.c_written.specs.Seen.{seen_all}
+use Rattle.c_terminals.specs.Held.{written_all}
+use Rattle.c_terminals.specs.Seen.{seen_all}
 use Rattle.c_written.proofs.Sourcing.{defined_end, defined_line, defined_main, defined_token, head_on, head_over, main_at}
 
 -- from one source with its place to another one, by what a token does

@@ -8,12 +8,11 @@ use Rattle.c_grammar.specs.Terminal.{Terminal, Name, same}
 use Rattle.c_grammar.specs.Texts.{Item}
 use Rattle.c_grammar.specs.Blocks.{Items, bare, is_directive}
 use Rattle.c_grammar.specs.Changes.{is_boundary, is_mark}
-use Rattle.c_grammar.specs.Functions.{index_len}
 use Rattle.c_grammar.specs.Presence.{goes_on, opens_part}
-use Rattle.c_grammar.specs.Updates.{Onward, again_at, is_by, is_summed, mention, other, update}
-use Rattle.c_written.specs.declared.token.Token.{Token}
+use Rattle.c_grammar.specs.Updates.{Onward, again_at, is_by, is_summed, mention, other, place_len, update}
+use Rattle.c_terminals.specs.declared.token.Token.{Token}
 use Rattle.c_written.specs.Regions.{mentioned, place_behind}
-use Rattle.c_written.specs.Seen.{seen, seen_all}
+use Rattle.c_terminals.specs.Seen.{seen, seen_all}
 use Rattle.c_written.proofs.CallWalk.{begins_with, behind}
 use Rattle.c_written.proofs.Targeting.{few_bare}
 
@@ -39,10 +38,10 @@ chosen false n go = refl
 mention_is : (x : List ℕ) (op : Sign) (d : ℕ) (s : Bool) (n : ℕ) (is : Items) (go : Onward) →
     mention x op d s n is go ≡ mentions (mentioned x op s n is) (λ k. go d false k)
 mention_is x op d s zero is go =
-    chosen (s && is_by op (update x is)) (again_at (index_len 0 0 is) is) (λ k. go d false k)
+    chosen (s && is_by op (update x is)) (again_at (place_len is) is) (λ k. go d false k)
 mention_is x op d s (suc zero) is go = refl
 mention_is x op d s (suc (suc n)) is go =
-    chosen (s && is_by op (update x is)) (again_at (index_len 0 0 is) is) (λ k. go d false k)
+    chosen (s && is_by op (update x is)) (again_at (place_len is) is) (λ k. go d false k)
 
 summed_name : (x : List ℕ) (op : Sign) (d : ℕ) (s : Bool) (n : ℕ) (ts : List Token) (t : Token) (o : Option ℕ) → 1 ≤ length ts →
     t ≡ get_or ts 0 t → is_directive (seen t).terminal ≡ false → same (Name x) (seen t).terminal ≡ true →

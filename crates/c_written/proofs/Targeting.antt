@@ -8,8 +8,8 @@ use Rattle.c_grammar.specs.Texts.{Item}
 use Rattle.c_grammar.specs.Blocks.{Items, bare, is_directive}
 use Rattle.c_grammar.specs.Constants.{is_name as is_a_name}
 use Rattle.c_grammar.specs.Changes.{is_cell, is_mark, is_name, is_target}
-use Rattle.c_written.specs.declared.token.Token.{Token}
-use Rattle.c_written.specs.Seen.{seen, seen_all}
+use Rattle.c_terminals.specs.declared.token.Token.{Token}
+use Rattle.c_terminals.specs.Seen.{seen, seen_all}
 
 pub same_name : (t : Terminal) → is_a_name t ≡ is_name t
 same_name (Fixed w) = refl

@@ -10,11 +10,11 @@ use Rattle.c_grammar.specs.Expressions.{Values, Read, Nothing, Value, Waiting, W
 use Rattle.c_grammar.specs.LineForms.{begins_bound, begins_number, bound_at, several, worth}
 use Rattle.directives.specs.declared.lexeme.PlacedLexeme.{PlacedLexeme}
 use Rattle.directives.specs.Seen.{seen_placed}
-use Rattle.c_written.specs.declared.token.Token.{Token}
-use Rattle.c_written.specs.Seen.{seen, seen_all}
+use Rattle.c_terminals.specs.declared.token.Token.{Token}
+use Rattle.c_terminals.specs.Seen.{seen, seen_all}
 use Rattle.c_written.specs.Lines.{no_end, unended}
 use Rattle.c_written.specs.Forms.{all_placed}
-use Rattle.c_written.proofs.Lists.{seen_more}
+use Rattle.c_terminals.proofs.Lists.{seen_more}
 
 -- a token of a line
 abbrev pub unended_item : ℕ → Placed → Item Terminal

@@ -13,18 +13,18 @@ use Rattle.c_grammar.specs.Constants.{Defines, Misdefines, Onward, at_wanted, be
 use Rattle.directives.specs.declared.line_tokens.LineTokens.{LineTokens}
 use Rattle.directives.specs.Ahead.{seen_line}
 use Rattle.directives.specs.Spells.{kinds_of, columns_of}
-use Rattle.c_written.specs.declared.token.Terminal.{Terminal as Given}
-use Rattle.c_written.specs.declared.token.Terminal.TheVariants as given
-use Rattle.c_written.specs.declared.token.Token.{Token}
-use Rattle.c_written.specs.declared.held.Written.{Written}
+use Rattle.c_terminals.specs.declared.token.Terminal.{Terminal as Given}
+use Rattle.c_terminals.specs.declared.token.Terminal.TheVariants as given
+use Rattle.c_terminals.specs.declared.token.Token.{Token}
+use Rattle.c_terminals.specs.declared.held.Written.{Written}
 use Rattle.c_written.specs.declared.constants.Constants.{Constants}
-use Rattle.c_written.specs.Seen.{columns_in, item_at, seen, seen_all, seen_terminal}
-use Rattle.c_written.specs.Held.{seen_written, written_all}
+use Rattle.c_terminals.specs.Seen.{columns_in, item_at, seen, seen_all, seen_terminal}
+use Rattle.c_terminals.specs.Held.{seen_written, written_all}
 use Rattle.c_written.specs.Values.{seen_values}
 use Rattle.c_written.specs.Past.{past_of}
 use Rattle.c_written.specs.Constants.{behind, with_constants}
 use Rattle.c_written.proofs.Defining.{placed_again}
-use Rattle.c_written.proofs.Owning.{held_more}
+use Rattle.c_terminals.proofs.Owning.{held_more}
 
 pub worked_end : (vs : Values) (past : List Terminal) (k : ℕ) → worked vs past k [] ≡ []
 unfolding worked

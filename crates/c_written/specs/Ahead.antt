@@ -1,9 +1,9 @@
 -- What follows, without directive lines.
 use Rattle.std.specs.Prelude.{[], ◌∷◌, Option, Some, None}
 use Rattle.c_grammar.specs.Blocks.{Items, bare}
-use Rattle.c_written.specs.Seen.{seen, seen_all}
+use Rattle.c_terminals.specs.Seen.{seen, seen_all}
 use Rattle.c_written.specs.declared.ahead.Ahead.{Ahead}
-use Rattle.c_written.specs.declared.token.Token.{Token}
+use Rattle.c_terminals.specs.declared.token.Token.{Token}
 
 abbrev pub ahead : Ahead → Items
 ahead a = bare (seen_all a.rest.now)

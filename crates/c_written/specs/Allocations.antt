@@ -6,7 +6,7 @@ use Rattle.c_grammar.specs.Allocations.{Cells, Allocation, Reading, all_read}
 use Rattle.c_written.specs.declared.allocations.Cells.{Cells as GivenCells}
 use Rattle.c_written.specs.declared.allocations.Array.{Array}
 use Rattle.c_written.specs.declared.allocated.Allocations.{Allocations}
-use Rattle.c_written.specs.Seen.{seen, seen_all}
+use Rattle.c_terminals.specs.Seen.{seen, seen_all}
 
 abbrev pub seen_cells : GivenCells → Cells
 seen_cells c = record { place = seen c.place; number = c.number }

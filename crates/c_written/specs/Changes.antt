@@ -10,7 +10,7 @@ use Rattle.c_written.specs.declared.operators.Change.TheVariants as change
 use Rattle.c_written.specs.declared.changes.Where.{Where as GivenWhere}
 use Rattle.c_written.specs.declared.changes.Where.TheVariants as given
 use Rattle.c_written.specs.declared.changes.Changes.{Changes}
-use Rattle.c_written.specs.Seen.{seen_all}
+use Rattle.c_terminals.specs.Seen.{seen_all}
 
 abbrev pub seen_change : Change → Kind
 seen_change (change.With s) = With s

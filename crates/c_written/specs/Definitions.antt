@@ -3,7 +3,7 @@ use Rattle.std.specs.Prelude.{◌++◌, map, reverse}
 use Rattle.c_grammar.specs.Blocks.{Items}
 use Rattle.c_grammar.specs.Constants.{Names, undefined}
 use Rattle.c_written.specs.declared.definitions.Definitions.{Definitions}
-use Rattle.c_written.specs.Seen.{seen_all}
+use Rattle.c_terminals.specs.Seen.{seen_all}
 
 -- the names of the globals so far, the last one first
 abbrev pub names_of : Definitions → Names

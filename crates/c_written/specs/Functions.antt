@@ -14,6 +14,8 @@ use Rattle.c_written.specs.declared.heads.Declared.{Declared}
 use Rattle.c_written.specs.declared.heads.Head.{Head}
 use Rattle.c_written.specs.declared.heads.Head.TheVariants as heads
 use Rattle.c_written.specs.declared.heads.Headed.{Headed}
+use Rattle.c_written.specs.declared.heads.Sort.{Sort}
+use Rattle.c_written.specs.declared.heads.Sort.TheVariants as sorts
 use Rattle.c_written.specs.declared.heads.Step.{Step}
 use Rattle.c_written.specs.declared.heads.Step.TheVariants as steps
 use Rattle.c_written.specs.declared.puts.Other.{Other}
@@ -25,19 +27,25 @@ use Rattle.c_written.specs.declared.functions.Place.{Place}
 use Rattle.c_written.specs.declared.functions.Place.TheVariants as places
 use Rattle.c_written.specs.declared.functions.Returned.{Returned}
 use Rattle.c_written.specs.declared.functions.Source.{Source}
-use Rattle.c_written.specs.Held.{written_all}
-use Rattle.c_written.specs.Seen.{seen_all}
+use Rattle.c_terminals.specs.Held.{written_all}
+use Rattle.c_terminals.specs.Seen.{seen_all}
 
 -- ---- heads
 
+abbrev pub seen_sort : Sort → functions.Sort
+seen_sort sorts.Scalar = functions.Scalar
+seen_sort sorts.Array = functions.Array
+seen_sort sorts.Small = functions.Small
+
 abbrev pub seen_declared : Declared → functions.Declared
-seen_declared d = record { name = d.name.now; array = d.array }
+seen_declared d = record { name = d.name.now; sort = seen_sort d.sort }
 
 abbrev pub seen_head : Head → functions.Head
 seen_head heads.Begins = functions.Begins
 seen_head heads.Typed = functions.Typed
+seen_head heads.IntTyped = functions.IntTyped
 seen_head heads.Starred = functions.Starred
-seen_head (heads.Named d) = functions.Named d.name.now d.array
+seen_head (heads.Named d) = functions.Named d.name.now (seen_sort d.sort)
 seen_head (heads.Opened x) = functions.Opened x.now
 seen_head (heads.Sized x) = functions.Sized x.now
 seen_head (heads.Rows x) = functions.Rows x.now
@@ -46,8 +54,8 @@ seen_head (heads.Wide x) = functions.Wide x.now
 
 abbrev pub seen_step : Step → functions.Step
 seen_step (steps.Goes h) = functions.Goes (seen_head h)
-seen_step (steps.Adds d) = functions.Adds d.name.now d.array
-seen_step (steps.Closes d) = functions.Closes d.name.now d.array
+seen_step (steps.Adds d) = functions.Adds d.name.now (seen_sort d.sort)
+seen_step (steps.Closes d) = functions.Closes d.name.now (seen_sort d.sort)
 seen_step steps.Stops = functions.Stops
 
 abbrev pub all_declared : List Declared → List functions.Declared
@@ -72,7 +80,7 @@ others_of (others.Known known) = other_name (map (λ x. x.now) known.now)
 -- ---- calls
 
 abbrev pub seen_parameter : Parameter → functions.Parameter
-seen_parameter p = record { name = p.name.now; array = p.array; assigned = p.assigned }
+seen_parameter p = record { name = p.name.now; sort = seen_sort p.sort; assigned = p.assigned }
 
 abbrev pub all_parameters : List Parameter → List functions.Parameter
 all_parameters ps = map seen_parameter ps

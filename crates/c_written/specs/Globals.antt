@@ -4,7 +4,7 @@ use Rattle.c_grammar.specs.Blocks.{Items}
 use Rattle.c_grammar.specs.Initial.{Initial, Globals as State, Onward, initialized}
 use Rattle.c_written.specs.declared.initial.Initializer.{Initializer as Given}
 use Rattle.c_written.specs.declared.globals.Globals.{Globals}
-use Rattle.c_written.specs.Seen.{seen_all}
+use Rattle.c_terminals.specs.Seen.{seen_all}
 
 abbrev pub seen_initial : Given → Initial
 seen_initial f = record { len = f.len; sets = seen_all f.sets.items }

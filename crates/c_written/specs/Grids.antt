@@ -11,9 +11,9 @@ use Rattle.c_grammar.specs.Grids.{Declared, Grids, Ranges, Open, Onward, flat, h
 use Rattle.c_written.specs.declared.grids.Array.{Array}
 use Rattle.c_written.specs.declared.grids.Grids.{Grids as Given}
 use Rattle.c_written.specs.declared.grids.Row.{Row as GivenRow}
-use Rattle.c_written.specs.Held.{written_all}
+use Rattle.c_terminals.specs.Held.{written_all}
 use Rattle.c_written.specs.Indices.{ranges_of}
-use Rattle.c_written.specs.Seen.{seen}
+use Rattle.c_terminals.specs.Seen.{seen}
 use Rattle.c_written.specs.Stack.{held}
 use Rattle.c_written.specs.Values.{seen_values}
 

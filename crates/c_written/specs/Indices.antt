@@ -10,7 +10,7 @@ use Rattle.c_written.specs.declared.indices.Index.{Index as GivenIndex}
 use Rattle.c_written.specs.declared.indices.Seven.{Seven}
 use Rattle.c_written.specs.declared.indices.Sums.{Sums}
 use Rattle.c_written.specs.Ranges.{seen_range}
-use Rattle.c_written.specs.Seen.{seen}
+use Rattle.c_terminals.specs.Seen.{seen}
 
 abbrev pub seen_named : Named → List ℕ × Range
 seen_named n = (n.name.now, seen_range n.range)

@@ -1,4 +1,3 @@
-pub mod Seen
 pub mod Ahead
 pub mod Values
 pub mod Work
@@ -6,7 +5,6 @@ pub mod Passes
 pub mod Stack
 pub mod Past
 pub mod Reader
-pub mod Held
 pub mod Lines
 pub mod Forms
 pub mod Opens
@@ -16,6 +14,7 @@ pub mod CellUpdates
 pub mod Declarations
 pub mod Definitions
 pub mod Constants
+pub mod Counters
 pub mod Globals
 pub mod Functions
 pub mod Allocations
@@ -29,3 +28,4 @@ pub mod Updates
 pub mod Reductions
 pub mod Regions
 pub mod RowSections
+pub mod Boxes

@@ -2,7 +2,7 @@
 use Rattle.std.specs.Prelude.{◌≡◌, ◌++◌, List, map}
 use Rattle.c_grammar.specs.Blocks.{Items, Open, Head, Block, First, Around, Reading, typed, in_blocks}
 use Rattle.c_grammar.specs.Prints.{printed}
-use Rattle.c_written.specs.Seen.{seen_all}
+use Rattle.c_terminals.specs.Seen.{seen_all}
 use Rattle.c_written.specs.declared.stack.Stack.{Stack}
 use Rattle.c_written.specs.Stack.{held}
 use Rattle.c_written.specs.declared.prints.Prints.{Prints}

@@ -3,12 +3,12 @@ use Rattle.std.specs.Prelude.{List, map}
 use Rattle.c_grammar.specs.Terminal.{Terminal, Mark, Fixed}
 use Rattle.c_grammar.specs.Constants.{Shape, Is, AnyName, AnyNumber, const_word, enum_word, malloc_word, calloc_word, sizeof_word}
 use Rattle.directives.specs.Seen.{seen_word}
-use Rattle.c_written.specs.declared.token.Terminal.{Terminal as Given}
+use Rattle.c_terminals.specs.declared.token.Terminal.{Terminal as Given}
 use Rattle.c_written.specs.declared.stack.Stack.{Stack}
 use Rattle.c_written.specs.Stack.{held}
 use Rattle.c_written.specs.declared.shapes.Shape.{Shape as GivenShape}
 use Rattle.c_written.specs.declared.shapes.Shape.TheVariants as given
-use Rattle.c_written.specs.Seen.{seen_terminal}
+use Rattle.c_terminals.specs.Seen.{seen_terminal}
 
 -- the last one first
 abbrev pub past_of : Stack Given → List Terminal

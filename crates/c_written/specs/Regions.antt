@@ -6,9 +6,8 @@ use Rattle.c_grammar.specs.Terminal.{Terminal}
 use Rattle.c_grammar.specs.Texts.{Item}
 use Rattle.c_grammar.specs.Blocks.{Items}
 use Rattle.c_grammar.specs.Changes.{is_boundary, is_mark}
-use Rattle.c_grammar.specs.Functions.{index_len}
 use Rattle.c_grammar.specs.Presence.{goes_on, opens_part}
-use Rattle.c_grammar.specs.Updates.{again_at, is_by, update}
+use Rattle.c_grammar.specs.Updates.{again_at, is_by, place_len, update}
 use Rattle.c_written.specs.declared.regions.Place.{Place}
 
 abbrev pub seen_place : Place → ℕ × Bool
@@ -26,4 +25,4 @@ place_behind d i is =
 abbrev pub mentioned : List ℕ → Sign → Bool → ℕ → Items → Option ℕ
 mentioned x op starts (suc zero) is = Some 0
 mentioned x op starts n is =
-    if starts && is_by op (update x is) then Some (again_at (index_len 0 0 is) is) else None
+    if starts && is_by op (update x is) then Some (again_at (place_len is) is) else None

@@ -9,7 +9,7 @@ use Rattle.c_grammar.specs.Expressions.{placed_of}
 use Rattle.c_grammar.specs.Updates.{Region, Outside, Inside, atomic_tokens, behind, commuting, has_update, is_atomic, is_combined, is_named, reduced, summed}
 use Rattle.c_written.specs.declared.regions.Place.{Place}
 use Rattle.c_written.specs.declared.updates.Updates.{Updates}
-use Rattle.c_written.specs.Held.{written_all}
+use Rattle.c_terminals.specs.Held.{written_all}
 
 abbrev pub region_at : Names → Option Place → Region
 region_at xs None = Outside

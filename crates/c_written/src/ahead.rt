@@ -2,7 +2,7 @@
 
 ghost use Rattle.std.specs.Prelude.{◌≡◌};
 
-use crate::token::Token;
+use c_terminals::Token;
 
 /// What follows. Directive lines are seen through.
 #[derive(Clone, Copy)]
@@ -13,7 +13,7 @@ pub struct Ahead<'a, 'l, 's> {
 impl<'a, 'l, 's> Ahead<'a, 'l, 's> {
     ghost use Rattle.std.specs.Prelude.{◌≡◌, ◌∷◌, [], MatchOption};
     ghost use Rattle.c_grammar.specs.Blocks.{bare};
-    ghost use Rattle.c_written.specs.Seen.{seen, seen_all};
+    ghost use Rattle.c_terminals.specs.Seen.{seen, seen_all};
     ghost use Rattle.c_written.specs.Ahead.{ahead};
 
     pub fn new(rest: &'s [Token<'a, 'l>]) -> Ahead<'a, 'l, 's>

@@ -4,15 +4,14 @@ ghost use Rattle.std.specs.Prelude.{◌≡◌, ◌++◌, map, reverse, IfOk, OnO
 ghost use Rattle.c_grammar.specs.Blocks.{bare};
 ghost use Rattle.c_grammar.specs.Allocations.{all_read, allocated, begins_main, declaration, depth_behind, is_boundary, joined, nothing_read};
 ghost use Rattle.c_written.specs.Allocations.{seen_allocation};
-ghost use Rattle.c_written.specs.Held.{written_all};
-ghost use Rattle.c_written.specs.Seen.{seen, seen_all, seen_terminal};
+ghost use Rattle.c_terminals.specs.Held.{written_all};
+ghost use Rattle.c_terminals.specs.Seen.{seen, seen_all, seen_terminal};
 
 use crate::ahead::Ahead;
 use crate::allocations::{Array, allocation, is_named};
-use crate::held::Written;
 use crate::presence::guarded;
 use crate::targets::is_sign;
-use crate::token::{Terminal, Token};
+use c_terminals::{Terminal, Token, Written};
 use c_tokens::Sign;
 use directives::Word;
 use std::alloc::{AllocError, Global};
@@ -64,7 +63,7 @@ fn depth_behind(terminal: Terminal<'_, '_>, depth: usize) -> Result<usize, Alloc
 }
 
 /// Whether the token is `int`, with `main` behind it.
-fn begins_main(token: Token<'_, '_>, rest: &[Token<'_, '_>]) -> bool
+pub fn begins_main(token: Token<'_, '_>, rest: &[Token<'_, '_>]) -> bool
     ensures { result ≡ begins_main (seen token.entry) (bare (seen_all rest.now)) }
 {
     match Ahead::new(rest).next() {
@@ -98,7 +97,7 @@ impl<'a, 'l> Allocations<'a, 'l> {
     ghost use Rattle.c_grammar.specs.Constants.{is_among};
     ghost use Rattle.c_grammar.specs.Allocations.{allocation, allotted, at_statement, by_allocation, closed, entered, given_up, is_allowed, is_freed, kept, next, opened, passed};
     ghost use Rattle.c_written.specs.Allocations.{names_of, reading_of, seen_allocation, with_allocations};
-    ghost use Rattle.c_written.specs.Seen.{seen, seen_all};
+    ghost use Rattle.c_terminals.specs.Seen.{seen, seen_all};
 
     fn is_array(&self, name: &[u8]) -> bool
         ensures { result ≡ is_among (names_of self.now) name.now }

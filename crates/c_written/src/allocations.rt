@@ -8,13 +8,13 @@ ghost use Rattle.c_grammar.specs.Allocations.{allocates, allocation, behind_size
 ghost use Rattle.c_grammar.specs.Initial.{value_of};
 ghost use Rattle.c_written.specs.Ahead.{ahead};
 ghost use Rattle.c_written.specs.Allocations.{seen_allocation, seen_cells};
-ghost use Rattle.c_written.specs.Seen.{seen, seen_all, seen_terminal};
+ghost use Rattle.c_terminals.specs.Seen.{seen, seen_all, seen_terminal};
 
 use crate::ahead::Ahead;
 use crate::initial::value_of;
 use crate::targets::is_sign;
-use crate::token::{Terminal, Token};
 use crate::work::Work;
+use c_terminals::{Terminal, Token};
 use c_tokens::Sign;
 use directives::Word;
 

@@ -6,13 +6,12 @@ ghost use Rattle.directives.specs.Ahead.{seen_line};
 ghost use Rattle.directives.specs.Spells.{kinds_of};
 ghost use Rattle.c_written.specs.Atomics.{ends_atomic};
 ghost use Rattle.c_written.specs.Forms.{all_placed};
-ghost use Rattle.c_written.specs.Held.{seen_written};
-ghost use Rattle.c_written.specs.Seen.{seen};
+ghost use Rattle.c_terminals.specs.Held.{seen_written};
+ghost use Rattle.c_terminals.specs.Seen.{seen};
 ghost use Rattle.c_written.specs.Spots.{all_kinds};
 
-use crate::held::{Written, WrittenTerminal};
 use crate::line_forms::is_name;
-use crate::token::Token;
+use c_terminals::{Token, Written, WrittenTerminal};
 use directives::{Lexeme, LineTokens, PlacedLexeme, same_lexeme};
 use std::alloc::{AllocError, Global};
 

@@ -9,27 +9,29 @@ ghost use Rattle.c_grammar.specs.Changes.{is_mark};
 ghost use Rattle.c_tokens.specs.declared.kind.Sign.TheVariants as signs;
 ghost use Rattle.c_written.specs.Ahead.{ahead};
 ghost use Rattle.c_written.specs.Functions.{all_parameters, functions_of, globals_of, puts_of, seen_given, seen_passed};
-ghost use Rattle.c_written.specs.Held.{columns_held, seen_held, seen_written, written_all};
+ghost use Rattle.c_terminals.specs.Held.{columns_held, seen_held, seen_written, written_all};
 ghost use Rattle.c_written.specs.Names.{name_alone, text_in};
-ghost use Rattle.c_written.specs.Seen.{seen, seen_all};
+ghost use Rattle.c_terminals.specs.Seen.{seen, seen_all};
 
 use crate::ahead::Ahead;
 use crate::changes::is_boundary;
 use crate::expressions::{Worked, expression};
-use crate::heads::passed;
-use crate::held::{Written, WrittenTerminal};
+use crate::heads::{Sort, passed};
 use crate::puts::{Other, Put, Puts, is_among};
-use crate::token::{Terminal, Token};
 use crate::values::Values;
+use c_terminals::{Terminal, Token, Written, WrittenTerminal};
 use c_tokens::Sign;
 use directives::Word;
 use std::alloc::{AllocError, Global};
+
+/// The largest `int`.
+const MAX_INT: u64 = 2_147_483_647;
 
 /// A parameter: the name that it has in the body, and whether the body assigns it.
 #[derive(Clone, Copy)]
 pub struct Parameter {
     pub name: &'static [u8],
-    pub array: bool,
+    pub sort: Sort,
     pub assigned: bool,
 }
 
@@ -222,9 +224,9 @@ fn name_alone<'a>(tokens: &[Token<'a, '_>]) -> Option<&'a [u8]>
 
 impl<'a> Passed<'a> {
     ghost use Rattle.std.specs.Prelude.{◌≡◌, map, Some, IfOk};
-    ghost use Rattle.c_grammar.specs.Functions.{both, local, passes, passes_scalar, stands_for};
+    ghost use Rattle.c_grammar.specs.Functions.{both, local, passes, passes_scalar, passes_small, stands_for};
     ghost use Rattle.c_written.specs.Functions.{passed_so_far, seen_parameter, seen_passed, seen_put};
-    ghost use Rattle.c_written.specs.Seen.{seen_all};
+    ghost use Rattle.c_terminals.specs.Seen.{seen_all};
 
     // A local of the block with the value.
     fn local(
@@ -280,6 +282,24 @@ impl<'a> Passed<'a> {
         self.stands(parameter.name, Put::Name(name))
     }
 
+    // A number of the type `int` stands for its parameter, which the function does not assign.
+    fn small(
+        &mut self,
+        alloc: Global,
+        parameter: &Parameter,
+        value: &[Token<'a, '_>],
+    ) -> Result<bool, AllocError>
+        ensures { IfOk result (λ b. passed_so_far b self.new ≡ both (Some (seen_passed self.old)) (passes_small (seen_parameter parameter.now) (seen_all value.now))) }
+    {
+        if parameter.assigned {
+            return Ok(false);
+        }
+        match constant_in(alloc, value)? {
+            Some(n) if n <= MAX_INT => self.stands(parameter.name, Put::Number(n)),
+            _ => Ok(false),
+        }
+    }
+
     // False where what is passed is nothing that the parameter may be.
     fn pass(
         &mut self,
@@ -290,12 +310,13 @@ impl<'a> Passed<'a> {
     ) -> Result<bool, AllocError>
         ensures { IfOk result (λ b. passed_so_far b self.new ≡ both (Some (seen_passed self.old)) (passes (map (λ x. x.now) globals.now) (seen_parameter parameter.now) (seen_all value.now))) }
     {
-        if !parameter.array {
-            return self.value(alloc, globals, parameter, value);
-        }
-        match name_alone(value) {
-            Some(name) => self.stands(parameter.name, Put::Name(name)),
-            None => Ok(false),
+        match parameter.sort {
+            Sort::Scalar => self.value(alloc, globals, parameter, value),
+            Sort::Array => match name_alone(value) {
+                Some(name) => self.stands(parameter.name, Put::Name(name)),
+                None => Ok(false),
+            },
+            Sort::Small => self.small(alloc, parameter, value),
         }
     }
 }
@@ -348,8 +369,8 @@ impl<'a> Function<'a> {
     ghost use Rattle.std.specs.Prelude.{◌≡◌, ◌++◌, IfOk, OnOk};
     ghost use Rattle.c_grammar.specs.Functions.{block_of, given, put_all, stays};
     ghost use Rattle.c_written.specs.Functions.{puts_of, seen_function, seen_passed};
-    ghost use Rattle.c_written.specs.Held.{written_all};
-    ghost use Rattle.c_written.specs.Seen.{seen, seen_all};
+    ghost use Rattle.c_terminals.specs.Held.{written_all};
+    ghost use Rattle.c_terminals.specs.Seen.{seen, seen_all};
 
     // What the value is given to, and the value, behind others.
     fn put_given(
@@ -400,7 +421,7 @@ impl<'a> Scope<'a> {
     ghost use Rattle.c_written.specs.Ahead.{ahead};
     ghost use Rattle.c_grammar.specs.Blocks.{bare};
     ghost use Rattle.c_written.specs.Functions.{functions_of, globals_of, seen_expanded, seen_function, statement_at};
-    ghost use Rattle.c_written.specs.Seen.{seen_all};
+    ghost use Rattle.c_terminals.specs.Seen.{seen_all};
 
     fn function(&self, name: &[u8]) -> Option<&Function<'a>>
         ensures { option_map (λ f. seen_function f.now) result ≡ function_of (functions_of self.now) name.now }

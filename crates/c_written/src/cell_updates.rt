@@ -2,18 +2,17 @@
 
 ghost use Rattle.std.specs.Prelude.{◌≡◌, ◌<◌, ◌^◌, length, take};
 ghost use Rattle.std.specs.Option.{option_map};
-ghost use Rattle.c_grammar.specs.Functions.{index_len};
-ghost use Rattle.c_grammar.specs.Updates.{again, again_at, changing, commutes, equal, has_update, is_assigned, is_by, sign_at, sign_of, update};
+ghost use Rattle.c_grammar.specs.Updates.{again, again_at, changing, commutes, equal, has_update, is_assigned, is_by, place_len, sign_at, sign_of, update};
 ghost use Rattle.c_written.specs.Ahead.{ahead};
 ghost use Rattle.c_written.specs.CellUpdates.{rest_behind};
 ghost use Rattle.c_written.specs.Changes.{seen_change};
-ghost use Rattle.c_written.specs.Seen.{seen_terminal};
+ghost use Rattle.c_terminals.specs.Seen.{seen_terminal};
 
 use crate::ahead::Ahead;
 use crate::calls::index_len;
 use crate::heads::passed;
 use crate::operators::Change;
-use crate::token::Terminal;
+use c_terminals::Terminal;
 use c_tokens::Sign;
 
 /// Whether updates by the operator commute.
@@ -119,12 +118,24 @@ fn again<'a, 'l, 's>(
     }
 }
 
-/// By which operator a cell of the name is changed, where these tokens stand behind the name.
+// How many tokens the index of a cell has, and none where a scalar stands.
+fn place_len(start: Ahead<'_, '_, '_>) -> Option<usize>
+    requires { length (ahead start) < 2 ^ 63 }
+    ensures { result ≡ place_len (ahead start.entry) }
+{
+    let mut ahead = start;
+    match ahead.next() {
+        Some(next) if next.terminal.is_sign(Sign::OpenBracket) => index_len(start),
+        _ => Some(0),
+    }
+}
+
+/// By which operator the name, or a cell of it, is changed, where these tokens stand behind the name.
 pub fn update(name: &[u8], start: Ahead<'_, '_, '_>) -> Option<Sign>
     requires { length (ahead start) < 2 ^ 63 }
     ensures { result ≡ update name.now (ahead start.entry) }
 {
-    let len = index_len(start)?;
+    let len = place_len(start)?;
     let mut behind = passed(start, len);
     let first = behind.next()?;
     if first.terminal.is_sign(Sign::Equal) {
@@ -157,9 +168,9 @@ fn is_assigned(rest: Ahead<'_, '_, '_>) -> bool
 /// none elsewhere.
 pub fn again_at(start: Ahead<'_, '_, '_>) -> usize
     requires { length (ahead start) < 2 ^ 63 }
-    ensures { result ≡ again_at (index_len 0 0 (ahead start.entry)) (ahead start.entry) }
+    ensures { result ≡ again_at (place_len (ahead start.entry)) (ahead start.entry) }
 {
-    match index_len(start) {
+    match place_len(start) {
         Some(len) => {
             if is_assigned(passed(start, len)) {
                 len + 2

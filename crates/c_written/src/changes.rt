@@ -4,13 +4,13 @@ ghost use Rattle.std.specs.Prelude.{◌≡◌, IfOk};
 ghost use Rattle.std.specs.Option.{option_map};
 ghost use Rattle.c_grammar.specs.Blocks.{bare};
 ghost use Rattle.c_grammar.specs.Changes.{begin, first_of, in_full, is_boundary, is_last_return, is_name_closed, is_number_ended, limit_behind, limit_token};
-ghost use Rattle.c_written.specs.Seen.{seen, seen_all, seen_terminal};
+ghost use Rattle.c_terminals.specs.Seen.{seen, seen_all, seen_terminal};
 ghost use Rattle.c_written.specs.Changes.{head_behind, seen_where};
 
 use crate::ahead::Ahead;
 use crate::operators::Change;
 use crate::targets::{is_sign, is_target, is_target_ended};
-use crate::token::{Terminal, Token};
+use c_terminals::{Terminal, Token};
 use c_tokens::Sign;
 use directives::Word;
 use std::alloc::{AllocError, Global};
@@ -136,7 +136,7 @@ impl<'a, 'l> Changes<'a, 'l> {
     ghost use Rattle.c_grammar.specs.Blocks.{at, bare};
     ghost use Rattle.c_grammar.specs.Changes.{ByNumber, ByOne, InHead, assigned, at_front, behind_front, by_kind, changed, grouped, in_group, in_head, in_state, is_empty, is_last_return, is_main, is_target, kept, kind_of, limit_behind, limited, one_at, outside};
     ghost use Rattle.c_grammar.specs.Terminal.{Mark, Name, same};
-    ghost use Rattle.c_written.specs.Seen.{seen, seen_all, seen_terminal};
+    ghost use Rattle.c_terminals.specs.Seen.{seen, seen_all, seen_terminal};
     ghost use Rattle.c_written.specs.Changes.{IsGone, IsSameState, group_ended, passed, seen_change, seen_where, state_of, stepped, with_changes};
 
     fn push(&mut self, token: Token<'a, 'l>) -> Result<(), AllocError>

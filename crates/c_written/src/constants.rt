@@ -4,23 +4,22 @@ ghost use Rattle.std.specs.Prelude.{◌≡◌, [], IfOk, MatchOption, None, OnOk
 ghost use Rattle.std.specs.Option.{option_map};
 ghost use Rattle.c_grammar.specs.Constants.{worked};
 ghost use Rattle.c_written.specs.Constants.{constant_ended, ends_by, ends_constant, length_ended, name_in, named_number, number_in, with_constant};
-ghost use Rattle.c_written.specs.Seen.{seen_all, seen_terminal};
+ghost use Rattle.c_terminals.specs.Seen.{seen_all, seen_terminal};
 ghost use Rattle.c_written.specs.Past.{past_of};
-ghost use Rattle.c_written.specs.Held.{written_all};
+ghost use Rattle.c_terminals.specs.Held.{written_all};
 ghost use Rattle.c_written.specs.Values.{seen_constant, seen_values};
 ghost use Rattle.c_written.specs.Names.{declared_last, is_uint64, name_at, seen_names, text_in, with_name};
 
 use crate::clauses::clauses_in_full;
 use crate::definition::{Definition, what_defines};
 use crate::expressions::{Worked, expression};
-use crate::held::{Written, WrittenTerminal};
 use crate::line_forms::line_in_full;
 use crate::names::Names;
 use crate::shapes::{at_array_length, at_constant_value, at_enumerated_value, wanted};
 use crate::stack::Stack;
-use crate::token::{Terminal, Token};
 use crate::values::{Constant, Values};
 use crate::work::Operator;
+use c_terminals::{Terminal, Token, Written, WrittenTerminal};
 use c_tokens::Sign;
 use directives::Word;
 use std::alloc::{AllocError, Global};
@@ -171,8 +170,8 @@ impl<'a, 'l> Constants<'a, 'l> {
     ghost use Rattle.c_grammar.specs.Expressions.{put};
     ghost use Rattle.c_grammar.specs.Constants.{at_wanted, ended_constant, expressed, goes_on, put_item, wanted, with_terminal};
     ghost use Rattle.c_written.specs.Constants.{HasNotes, behind, with_constants};
-    ghost use Rattle.c_written.specs.Seen.{columns_in, seen, seen_all, seen_terminal};
-    ghost use Rattle.c_written.specs.Held.{written_all};
+    ghost use Rattle.c_terminals.specs.Seen.{columns_in, seen, seen_all, seen_terminal};
+    ghost use Rattle.c_terminals.specs.Held.{written_all};
     ghost use Rattle.c_written.specs.Past.{past_of};
     ghost use Rattle.c_written.specs.Values.{seen_values};
     ghost use Rattle.c_written.specs.Work.{seen_operator, seen_worked};

@@ -4,10 +4,10 @@ ghost use Rattle.std.specs.Prelude.{◌≡◌, IfOk};
 ghost use Rattle.c_grammar.specs.Declarations.{Other, behind_other, is_given, settled};
 ghost use Rattle.c_written.specs.Ahead.{ahead};
 ghost use Rattle.c_written.specs.Declarations.{seen_before};
-ghost use Rattle.c_written.specs.Seen.{seen, seen_all};
+ghost use Rattle.c_terminals.specs.Seen.{seen, seen_all};
 
 use crate::ahead::Ahead;
-use crate::token::{Terminal, Token};
+use c_terminals::{Terminal, Token};
 use c_tokens::Sign;
 use directives::Word;
 use std::alloc::{AllocError, Global};
@@ -53,7 +53,7 @@ impl Before {
     ghost use Rattle.c_grammar.specs.Declarations.{behind, is_int};
     ghost use Rattle.c_written.specs.Ahead.{ahead};
     ghost use Rattle.c_written.specs.Declarations.{seen_before};
-    ghost use Rattle.c_written.specs.Seen.{seen};
+    ghost use Rattle.c_terminals.specs.Seen.{seen};
 
     /// Whether the token is the word `int` that may stand there.
     fn is_int(self, token: Token<'_, '_>, start: Ahead<'_, '_, '_>) -> bool

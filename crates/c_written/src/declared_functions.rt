@@ -2,12 +2,12 @@
 
 ghost use Rattle.std.specs.Prelude.{◌≡◌, false, IfOk};
 ghost use Rattle.c_grammar.specs.DeclaredFunctions.{begins_lexemes, begins_part, closes_part, ends_lexemes, ends_part, has_functions, is_called, is_declaration, undeclared};
-ghost use Rattle.c_written.specs.Seen.{seen, seen_all, seen_terminal};
+ghost use Rattle.c_terminals.specs.Seen.{seen, seen_all, seen_terminal};
 ghost use Rattle.c_written.specs.Spots.{all_kinds};
 
 use crate::line_forms::is_name;
 use crate::presence::opens_part;
-use crate::token::{Terminal, Token};
+use c_terminals::{Terminal, Token};
 use c_tokens::Sign;
 use directives::{Lexeme, PlacedLexeme, Word, same_lexeme};
 use std::alloc::{AllocError, Global};

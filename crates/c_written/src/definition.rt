@@ -9,15 +9,15 @@ ghost use Rattle.c_grammar.specs.Constants.{defined, definition, definition_in, 
 ghost use Rattle.directives.specs.Seen.{seen_lexeme, seen_placed};
 ghost use Rattle.c_written.specs.Forms.{all_placed};
 ghost use Rattle.c_written.specs.Work.{seen_worked};
-ghost use Rattle.c_written.specs.Seen.{seen, seen_terminal};
+ghost use Rattle.c_terminals.specs.Seen.{seen, seen_terminal};
 ghost use Rattle.c_written.specs.Lines.{item_of, named, seen_definition};
 ghost use Rattle.c_written.specs.Values.{seen_values};
 
 use crate::expressions::{Worked, expression};
 use crate::line_forms::as_tokens;
-use crate::token::{Terminal, Token};
 use crate::values::{Constant, Values};
 use crate::work::Operator;
+use c_terminals::{Terminal, Token};
 use c_tokens::Sign;
 use directives::{Lexeme, PlacedLexeme, same_lexeme};
 use std::alloc::{AllocError, Global};

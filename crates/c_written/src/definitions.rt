@@ -4,11 +4,11 @@ ghost use Rattle.std.specs.Prelude.{◌≡◌, ◌≤◌, ◌^◌, [], false, le
 ghost use Rattle.c_grammar.specs.Constants.{is_number, is_unworked, undefined};
 ghost use Rattle.c_grammar.specs.Lexeme.{Uint64};
 ghost use Rattle.c_grammar.specs.Terminal.{Fixed, same};
-ghost use Rattle.c_written.specs.Seen.{seen, seen_all};
+ghost use Rattle.c_terminals.specs.Seen.{seen, seen_all};
 
 use crate::ahead::Ahead;
 use crate::targets::is_sign;
-use crate::token::{Terminal, Token};
+use c_terminals::{Terminal, Token};
 use c_tokens::Sign;
 use directives::Word;
 use std::alloc::{AllocError, Global};
@@ -61,7 +61,7 @@ impl<'a, 'l> Definitions<'a, 'l> {
     ghost use Rattle.c_grammar.specs.Constants.{const_len, definition_len, depth_behind, enum_len, enumerators_len, is_among, is_free, with_global};
     ghost use Rattle.c_written.specs.Ahead.{ahead};
     ghost use Rattle.c_written.specs.Definitions.{names_of, with_definitions};
-    ghost use Rattle.c_written.specs.Seen.{seen, seen_all, seen_terminal};
+    ghost use Rattle.c_terminals.specs.Seen.{seen, seen_all, seen_terminal};
 
     fn is_global(&self, name: &[u8]) -> bool
         ensures { result ≡ is_among (names_of self.now) name.now }

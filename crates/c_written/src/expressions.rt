@@ -4,15 +4,15 @@ ghost use Rattle.std.specs.Prelude.{◌≡◌, [], IfOk};
 ghost use Rattle.std.specs.Option.{option_map};
 ghost use Rattle.c_grammar.specs.Blocks.{bare};
 ghost use Rattle.c_grammar.specs.Expressions.{Nothing, expression};
-ghost use Rattle.c_written.specs.Seen.{seen_all};
+ghost use Rattle.c_terminals.specs.Seen.{seen_all};
 ghost use Rattle.c_written.specs.Values.{seen_values};
 ghost use Rattle.c_written.specs.Work.{seen_worked};
 
 use crate::ahead::Ahead;
 use crate::stack::Stack;
-use crate::token::{Terminal, Token};
 use crate::values::Values;
 use crate::work::{Operator, Work};
+use c_terminals::{Terminal, Token};
 use c_tokens::Sign;
 use std::alloc::{AllocError, Global};
 
@@ -61,7 +61,7 @@ impl<'v, 'a> Reader<'v, 'a> {
     ghost use Rattle.std.specs.Option.{option_map};
     ghost use Rattle.c_grammar.specs.Blocks.{Items};
     ghost use Rattle.c_grammar.specs.Expressions.{Read, Waiting as SpecWaiting, Worked as SpecWorked, Number, reduce, tightness, work_of, is_over, at_end, with_close, with_operator, behind_value, at_operand, put};
-    ghost use Rattle.c_written.specs.Seen.{seen, seen_terminal};
+    ghost use Rattle.c_terminals.specs.Seen.{seen, seen_terminal};
     ghost use Rattle.c_written.specs.Values.{seen_values};
     ghost use Rattle.c_written.specs.Work.{seen_work, seen_operator, seen_worked, waiting_of, read_of};
     ghost use Rattle.c_written.specs.Reader.{reduced, IsKept, Goes, GoesOn, rest_of, stepped};

@@ -8,19 +8,18 @@ ghost use Rattle.c_grammar.specs.Terminal.{Fixed, same};
 ghost use Rattle.c_grammar.specs.Functions.{Outside, begins_function, declared_in, defined, expanded, has_function, has_value, is_assigned, is_assigning, is_main, is_specifier, is_static, is_step, is_type, main_follows, name_in, nothing_known, returned, specifies, value_at};
 ghost use Rattle.c_written.specs.Ahead.{ahead};
 ghost use Rattle.c_written.specs.Functions.{is_outside, seen_returned};
-ghost use Rattle.c_written.specs.Held.{written_all};
-ghost use Rattle.c_written.specs.Seen.{seen, seen_all, seen_terminal};
+ghost use Rattle.c_terminals.specs.Held.{written_all};
+ghost use Rattle.c_terminals.specs.Seen.{seen, seen_all, seen_terminal};
 
 use crate::ahead::Ahead;
 use crate::calls::{Function, Parameter, Scope, bare_len, called, put_tokens};
 use crate::changes::is_boundary;
 use crate::constants::worked;
 use crate::heads::{Declared, Headed, head_at};
-use crate::held::{Written, borrowed, owned};
 use crate::operators::Change;
 use crate::presence::guarded;
 use crate::puts::{Other, Put, Puts, is_among, unspelled};
-use crate::token::{Terminal, Token};
+use c_terminals::{Terminal, Token, Written, borrowed, owned};
 use c_tokens::Sign;
 use directives::Word;
 use std::alloc::{AllocError, Global};
@@ -194,8 +193,8 @@ impl<'a, 'l> Source<'a, 'l> {
     ghost use Rattle.c_grammar.specs.Functions.{InBody, Onward, Outside, added, array_names, called, closed, function_with, in_body, is_main, known_names, line_in, most_known, most_names, names_in, outside, parameters_from, puts_from, raw_in, returned_by};
     ghost use Rattle.c_written.specs.Ahead.{ahead};
     ghost use Rattle.c_written.specs.Functions.{all_declared, all_parameters, functions_of, globals_of, known_in, place_in, puts_of, seen_function, seen_headed, seen_returned, with_source};
-    ghost use Rattle.c_written.specs.Held.{written_all};
-    ghost use Rattle.c_written.specs.Seen.{seen, seen_all};
+    ghost use Rattle.c_terminals.specs.Held.{written_all};
+    ghost use Rattle.c_terminals.specs.Seen.{seen, seen_all};
 
     // The names that a function may know.
     fn names(&self, alloc: Global) -> Result<Vec<&'a [u8]>, AllocError>
@@ -223,7 +222,7 @@ impl<'a, 'l> Source<'a, 'l> {
             let number = self.next + parameters.len();
             parameters.push(Parameter {
                 name: unspelled(number),
-                array: one.array,
+                sort: one.sort,
                 assigned: is_assigned(one.name, front),
             })?;
         }
@@ -238,7 +237,7 @@ impl<'a, 'l> Source<'a, 'l> {
         let mut arrays = Vec::new(alloc);
         let mut number = self.next;
         'declared: for one in declared {
-            if one.array {
+            if one.sort.is_array() {
                 arrays.push(unspelled(number))?;
             }
             number = number.saturating_add(1);

@@ -2,10 +2,10 @@
 
 ghost use Rattle.std.specs.Prelude.{◌≡◌, IfOk};
 ghost use Rattle.c_grammar.specs.Initial.{initialized, no_globals};
-ghost use Rattle.c_written.specs.Seen.{seen_all};
+ghost use Rattle.c_terminals.specs.Seen.{seen_all};
 
 use crate::initial::initial;
-use crate::token::Token;
+use c_terminals::Token;
 use c_tokens::Sign;
 use std::alloc::{AllocError, Global};
 
@@ -28,7 +28,7 @@ impl<'a, 'l> Globals<'a, 'l> {
     ghost use Rattle.c_grammar.specs.Blocks.{bare};
     ghost use Rattle.c_grammar.specs.Initial.{begun, declared, initial, set_late};
     ghost use Rattle.c_written.specs.Globals.{IsGone, seen_initial, state_of, with_globals};
-    ghost use Rattle.c_written.specs.Seen.{seen, seen_all};
+    ghost use Rattle.c_terminals.specs.Seen.{seen, seen_all};
 
     /// A token of a declaration.
     fn declare(&mut self, token: Token<'a, 'l>) -> Result<(), AllocError>

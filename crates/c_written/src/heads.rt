@@ -4,20 +4,30 @@ ghost use Rattle.std.specs.Prelude.{◌≡◌, ◌≤◌, ◌<◌, ◌+◌, ◌^
 ghost use Rattle.std.specs.Option.{option_map};
 ghost use Rattle.c_grammar.specs.Functions.{Begins, Wide, behind, behind_name, behind_rows, closing, columns, head_at, headed, is_qualifier, named, no_parameters, parameters, parameters_in};
 ghost use Rattle.c_written.specs.Ahead.{ahead};
-ghost use Rattle.c_written.specs.Functions.{all_declared, seen_headed, seen_step};
-ghost use Rattle.c_written.specs.Seen.{seen, seen_terminal};
+ghost use Rattle.c_written.specs.Functions.{all_declared, seen_headed, seen_sort, seen_step};
+ghost use Rattle.c_terminals.specs.Seen.{seen, seen_terminal};
 
 use crate::ahead::Ahead;
-use crate::token::{Terminal, Token};
+use c_terminals::{Terminal, Token};
 use c_tokens::Sign;
 use directives::Word;
 use std::alloc::{AllocError, Global};
+
+/// What a parameter is.
+#[derive(Clone, Copy)]
+pub enum Sort {
+    /// A number of 64 bits.
+    Scalar,
+    Array,
+    /// A number of the type `int`.
+    Small,
+}
 
 /// A parameter as it is declared.
 #[derive(Clone, Copy)]
 pub struct Declared<'a> {
     pub name: &'a [u8],
-    pub array: bool,
+    pub sort: Sort,
 }
 
 /// The head of a function that is defined.
@@ -35,6 +45,8 @@ pub struct Headed<'a> {
 enum Head<'a> {
     Begins,
     Typed,
+    /// Behind the type `int`.
+    IntTyped,
     Starred,
     Named(Declared<'a>),
     Opened(&'a [u8]),
@@ -64,17 +76,17 @@ fn is_qualifier(terminal: Terminal<'_, '_>) -> bool
         || terminal.is_named(b"__restrict")
 }
 
-fn named<'a>(terminal: Terminal<'a, '_>, array: bool) -> Step<'a>
-    ensures { seen_step result ≡ named (seen_terminal terminal.entry) array }
+fn named<'a>(terminal: Terminal<'a, '_>, sort: Sort) -> Step<'a>
+    ensures { seen_step result ≡ named (seen_terminal terminal.entry) (seen_sort sort) }
 {
     match terminal {
-        Terminal::Name(name) => Step::Goes(Head::Named(Declared { name, array })),
+        Terminal::Name(name) => Step::Goes(Head::Named(Declared { name, sort })),
         _ => Step::Stops,
     }
 }
 
 fn behind_name<'a>(declared: Declared<'a>, terminal: Terminal<'a, '_>) -> Step<'a>
-    ensures { seen_step result ≡ behind_name declared.entry.name.now declared.entry.array (seen_terminal terminal.entry) }
+    ensures { seen_step result ≡ behind_name declared.entry.name.now (seen_sort declared.entry.sort) (seen_terminal terminal.entry) }
 {
     if terminal.is_sign(Sign::Comma) {
         return Step::Adds(declared);
@@ -82,7 +94,7 @@ fn behind_name<'a>(declared: Declared<'a>, terminal: Terminal<'a, '_>) -> Step<'
     if terminal.is_sign(Sign::CloseParen) {
         return Step::Closes(declared);
     }
-    if terminal.is_sign(Sign::OpenBracket) && !declared.array {
+    if terminal.is_sign(Sign::OpenBracket) && declared.sort.is_scalar() {
         return Step::Goes(Head::Opened(declared.name));
     }
     Step::Stops
@@ -103,7 +115,8 @@ fn behind_rows<'a>(name: &'a [u8], terminal: Terminal<'a, '_>) -> Step<'a>
     if terminal.is_sign(Sign::OpenBracket) {
         return Step::Goes(Head::Second(name));
     }
-    behind_name(Declared { name, array: true }, terminal)
+    let sort = Sort::Array;
+    behind_name(Declared { name, sort }, terminal)
 }
 
 fn columns<'a>(name: &'a [u8], terminal: Terminal<'a, '_>) -> Step<'a>
@@ -119,16 +132,41 @@ fn closing_second<'a>(name: &'a [u8], terminal: Terminal<'a, '_>) -> Step<'a>
     ensures { seen_step result ≡ behind (Wide name.now) (seen_terminal terminal.entry) }
 {
     if terminal.is_sign(Sign::CloseBracket) {
-        return Step::Goes(Head::Named(Declared { name, array: true }));
+        let sort = Sort::Array;
+        return Step::Goes(Head::Named(Declared { name, sort }));
     }
     Step::Stops
+}
+
+impl Sort {
+    ghost use Rattle.std.specs.Prelude.{◌≡◌};
+    ghost use Rattle.c_grammar.specs.Functions.{is_array, is_scalar};
+    ghost use Rattle.c_written.specs.Functions.{seen_sort};
+
+    pub fn is_array(self) -> bool
+        ensures { result ≡ is_array (seen_sort self) }
+    {
+        match self {
+            Sort::Array => true,
+            _ => false,
+        }
+    }
+
+    fn is_scalar(self) -> bool
+        ensures { result ≡ is_scalar (seen_sort self) }
+    {
+        match self {
+            Sort::Scalar => true,
+            _ => false,
+        }
+    }
 }
 
 impl<'a> Head<'a> {
     ghost use Rattle.std.specs.Prelude.{◌≡◌};
     ghost use Rattle.c_grammar.specs.Functions.{behind};
     ghost use Rattle.c_written.specs.Functions.{seen_head, seen_step};
-    ghost use Rattle.c_written.specs.Seen.{seen_terminal};
+    ghost use Rattle.c_terminals.specs.Seen.{seen_terminal};
 
     fn behind(self, terminal: Terminal<'a, '_>) -> Step<'a>
         ensures { seen_step result ≡ behind (seen_head self.entry) (seen_terminal terminal.entry) }
@@ -139,6 +177,8 @@ impl<'a> Head<'a> {
                     Step::Goes(Head::Begins)
                 } else if terminal.is_word(Word::Uint64) {
                     Step::Goes(Head::Typed)
+                } else if terminal.is_word(Word::Int) {
+                    Step::Goes(Head::IntTyped)
                 } else {
                     Step::Stops
                 }
@@ -149,14 +189,21 @@ impl<'a> Head<'a> {
                 } else if terminal.is_sign(Sign::Star) {
                     Step::Goes(Head::Starred)
                 } else {
-                    named(terminal, false)
+                    named(terminal, Sort::Scalar)
+                }
+            }
+            Head::IntTyped => {
+                if is_qualifier(terminal) {
+                    Step::Goes(Head::IntTyped)
+                } else {
+                    named(terminal, Sort::Small)
                 }
             }
             Head::Starred => {
                 if is_qualifier(terminal) {
                     Step::Goes(Head::Starred)
                 } else {
-                    named(terminal, true)
+                    named(terminal, Sort::Array)
                 }
             }
             Head::Named(declared) => behind_name(declared, terminal),

@@ -8,13 +8,13 @@ ghost use Rattle.c_grammar.specs.Grids.{has_second, index_in, loop_range, second
 ghost use Rattle.c_written.specs.Ahead.{ahead};
 ghost use Rattle.c_written.specs.Indices.{BeginsWith, bounds, ranges_of, seen_index};
 ghost use Rattle.c_written.specs.Ranges.{seen_range};
-ghost use Rattle.c_written.specs.Seen.{seen, seen_all, seen_terminal};
+ghost use Rattle.c_terminals.specs.Seen.{seen, seen_all, seen_terminal};
 
 use crate::ahead::Ahead;
 use crate::calls::index_len;
 use crate::heads::passed;
 use crate::range::Range;
-use crate::token::{Terminal, Token};
+use c_terminals::{Terminal, Token};
 use c_tokens::Sign;
 use std::alloc::{AllocError, Global};
 
@@ -36,7 +36,7 @@ impl<'a> Ranges<'a> {
     ghost use Rattle.c_grammar.specs.Grids.{operand, range_of};
     ghost use Rattle.c_written.specs.Indices.{ranges_of};
     ghost use Rattle.c_written.specs.Ranges.{seen_range};
-    ghost use Rattle.c_written.specs.Seen.{seen_terminal};
+    ghost use Rattle.c_terminals.specs.Seen.{seen_terminal};
 
     pub fn new(alloc: Global) -> Ranges<'a>
         ensures { ranges_of result ≡ [] }
@@ -92,7 +92,7 @@ impl Sums {
     ghost use Rattle.c_grammar.specs.Grids.{OnOperand, operator_on, with_product};
     ghost use Rattle.c_written.specs.Indices.{on_sums, ranges_of};
     ghost use Rattle.c_written.specs.Ranges.{seen_range};
-    ghost use Rattle.c_written.specs.Seen.{seen};
+    ghost use Rattle.c_terminals.specs.Seen.{seen};
 
     fn total(self) -> Range
         ensures { seen_range result ≡ with_product self.minus (seen_range self.before) (seen_range self.product) }

@@ -8,15 +8,15 @@ ghost use Rattle.c_grammar.specs.LineForms.{begins_bound, begins_number, clause_
 ghost use Rattle.directives.specs.Ahead.{seen_line};
 ghost use Rattle.directives.specs.Seen.{is_whole, seen_lexeme, seen_placed};
 ghost use Rattle.c_written.specs.Forms.{all_placed, begins_rest, ends_bound, is_more, line_past, name_in, number_in, seen_bound, text_of};
-ghost use Rattle.c_written.specs.Seen.{columns_in, seen_all, seen_terminal};
+ghost use Rattle.c_terminals.specs.Seen.{columns_in, seen_all, seen_terminal};
 ghost use Rattle.c_written.specs.Lines.{no_end, unended};
 ghost use Rattle.c_written.specs.Values.{seen_values};
 ghost use Rattle.c_written.specs.Work.{seen_worked};
 
 use crate::expressions::{Worked, expression};
 use crate::stack::Stack;
-use crate::token::{Terminal, Token};
 use crate::values::Values;
+use c_terminals::{Terminal, Token};
 use c_tokens::Sign;
 use directives::{Lexeme, LineTokens, PlacedLexeme, same_lexeme};
 use std::alloc::{AllocError, Global};
@@ -314,7 +314,7 @@ impl<'v, 'a> Forms<'v, 'a> {
     ghost use Rattle.c_grammar.specs.LineForms.{all_at, bound_at, cells_from, is_separator, left_out, onto, put_word, rest_of};
     ghost use Rattle.directives.specs.Seen.{seen_lexeme, seen_placed};
     ghost use Rattle.c_written.specs.Forms.{IsSameForm, all_placed, in_full, line_past, numbers, seen_bound, with_line};
-    ghost use Rattle.c_written.specs.Seen.{seen_all};
+    ghost use Rattle.c_terminals.specs.Seen.{seen_all};
     ghost use Rattle.c_written.specs.Lines.{unended};
     ghost use Rattle.c_written.specs.Values.{seen_values};
 

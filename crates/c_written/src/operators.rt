@@ -2,7 +2,7 @@
 
 ghost use Rattle.std.specs.Prelude.{◌≡◌};
 
-use crate::token::Terminal;
+use c_terminals::Terminal;
 use c_tokens::Sign;
 
 /// The operator of a sign that changes what it stands behind.
@@ -20,7 +20,7 @@ impl Change {
     ghost use Rattle.std.specs.Prelude.{◌≡◌};
     ghost use Rattle.std.specs.Option.{option_map};
     ghost use Rattle.c_grammar.specs.Changes.{kind_at, kind_of};
-    ghost use Rattle.c_written.specs.Seen.{seen_terminal};
+    ghost use Rattle.c_terminals.specs.Seen.{seen_terminal};
     ghost use Rattle.c_written.specs.Changes.{seen_change};
 
     /// The change that a terminal makes.

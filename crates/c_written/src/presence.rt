@@ -6,14 +6,13 @@ ghost use Rattle.directives.specs.Ahead.{seen_line};
 ghost use Rattle.directives.specs.Seen.{seen_lexeme, seen_placed};
 ghost use Rattle.directives.specs.Spells.{kinds_of};
 ghost use Rattle.c_written.specs.Forms.{all_placed};
-ghost use Rattle.c_written.specs.Held.{seen_written, written_all};
-ghost use Rattle.c_written.specs.Seen.{seen, seen_all};
+ghost use Rattle.c_terminals.specs.Held.{seen_written, written_all};
+ghost use Rattle.c_terminals.specs.Seen.{seen, seen_all};
 ghost use Rattle.c_written.specs.Spots.{all_kinds};
 
-use crate::held::{Written, WrittenTerminal};
 use crate::line_forms::is_name;
 use crate::spots::{closes_list, opens_list};
-use crate::token::{Terminal, Token};
+use c_terminals::{Terminal, Token, Written, WrittenTerminal};
 use c_tokens::Sign;
 use directives::{Lexeme, LineTokens, PlacedLexeme, Word};
 use std::alloc::{AllocError, Global};

@@ -4,11 +4,11 @@ ghost use Rattle.std.specs.Prelude.{◌≡◌, IfOk, MatchOption, false, codes, 
 ghost use Rattle.c_grammar.specs.Terminal.{Name, same};
 ghost use Rattle.c_grammar.specs.Blocks.{bare};
 ghost use Rattle.c_grammar.specs.Prints.{alone, begins_with, is_text, joined_text, one_text, printed, text_len};
-ghost use Rattle.c_written.specs.Seen.{seen, seen_all, seen_terminal};
+ghost use Rattle.c_terminals.specs.Seen.{seen, seen_all, seen_terminal};
 
 use crate::ahead::Ahead;
 use crate::targets::is_sign;
-use crate::token::{Terminal, Token};
+use c_terminals::{Terminal, Token};
 use c_tokens::Sign;
 use directives::Word;
 use std::alloc::{AllocError, Global};
@@ -87,7 +87,7 @@ struct Prints<'a, 'l> {
 
 impl<'a, 'l> Prints<'a, 'l> {
     ghost use Rattle.std.specs.Prelude.{◌≡◌, ◌∷◌, OnOk};
-    ghost use Rattle.c_written.specs.Seen.{seen, seen_all};
+    ghost use Rattle.c_terminals.specs.Seen.{seen, seen_all};
     ghost use Rattle.c_written.specs.Passes.{with_prints};
 
     /// The next token, before others.

@@ -4,9 +4,8 @@ ghost use Rattle.std.specs.Prelude.{◌≡◌, drop, map, take};
 ghost use Rattle.c_grammar.specs.Constants.{is_among};
 ghost use Rattle.c_grammar.specs.Functions.{unspelled};
 
-use crate::held::{Written, WrittenTerminal};
 use crate::spots::Spot;
-use crate::token::{Terminal, Token};
+use c_terminals::{Terminal, Token, Written, WrittenTerminal};
 use directives::{Lexeme, LineTokens, PlacedLexeme};
 use std::alloc::{AllocError, Global};
 
@@ -98,8 +97,8 @@ impl<'a> Puts<'a> {
     ghost use Rattle.directives.specs.Seen.{seen_lexeme};
     ghost use Rattle.directives.specs.Spells.{kinds_of, columns_of};
     ghost use Rattle.c_written.specs.Functions.{others_of, puts_of, seen_put};
-    ghost use Rattle.c_written.specs.Held.{columns_held, seen_held, written_all};
-    ghost use Rattle.c_written.specs.Seen.{columns_in, seen_all, seen_terminal};
+    ghost use Rattle.c_terminals.specs.Held.{columns_held, seen_held, written_all};
+    ghost use Rattle.c_terminals.specs.Seen.{columns_in, seen_all, seen_terminal};
     ghost use Rattle.c_written.specs.Spots.{seen_spot};
 
     pub fn new(alloc: Global) -> Puts<'a>

@@ -13,7 +13,7 @@ use crate::line_forms::{is_name, is_sign};
 use crate::nesting::name_len;
 use crate::presence::{is_mapped, is_target};
 use crate::regions::are_summed;
-use crate::token::Token;
+use c_terminals::Token;
 use c_tokens::Sign;
 use directives::{Lexeme, PlacedLexeme};
 use std::alloc::{AllocError, Global};
@@ -218,7 +218,7 @@ impl<'a, 'l, 's> Construct<'a, 'l, 's> {
     ghost use Rattle.c_grammar.specs.Updates.{is_taken, reduced, summed, taken_at};
     ghost use Rattle.c_written.specs.Forms.{all_placed};
     ghost use Rattle.c_written.specs.Reductions.{seen_reduction};
-    ghost use Rattle.c_written.specs.Seen.{seen_all};
+    ghost use Rattle.c_terminals.specs.Seen.{seen_all};
     ghost use Rattle.c_written.specs.Spots.{all_kinds};
 
     // Whether the arrays stand in updates by the operator alone, and all of them are mapped by the line, or none.

@@ -4,13 +4,13 @@ ghost use Rattle.std.specs.Prelude.{◌≡◌, false, map};
 ghost use Rattle.c_grammar.specs.Blocks.{bare};
 ghost use Rattle.c_grammar.specs.Updates.{are_summed, is_summed};
 ghost use Rattle.c_written.specs.Regions.{mentioned};
-ghost use Rattle.c_written.specs.Seen.{seen_all};
+ghost use Rattle.c_terminals.specs.Seen.{seen_all};
 
 use crate::ahead::Ahead;
 use crate::cell_updates::{again_at, is_by, update};
 use crate::changes::is_boundary;
 use crate::presence::{goes_on, opens_part};
-use crate::token::Token;
+use c_terminals::Token;
 use c_tokens::Sign;
 
 /// A place in a region: how many parts are open, and whether a statement begins.
@@ -24,7 +24,7 @@ impl Place {
     ghost use Rattle.std.specs.Prelude.{◌≡◌, ◌≤◌, ◌<◌, ◌+◌, ◌^◌, IfSome};
     ghost use Rattle.std.specs.Option.{option_map};
     ghost use Rattle.c_written.specs.Regions.{place_behind, seen_place};
-    ghost use Rattle.c_written.specs.Seen.{seen, seen_all};
+    ghost use Rattle.c_terminals.specs.Seen.{seen, seen_all};
 
     /// Behind a token, before others. There is none where the region ends.
     pub fn behind(self, token: Token<'_, '_>, rest: &[Token<'_, '_>]) -> Option<Place>

@@ -4,10 +4,10 @@ ghost use Rattle.std.specs.Prelude.{◌≡◌, ◌+◌, ◌<◌, ◌^◌, ◌∷
 ghost use Rattle.c_grammar.specs.Terminal.{Terminal as SpecTerminal};
 ghost use Rattle.c_grammar.specs.Constants.{ends_with, constant_value, array_length, row_length, loop_first, loop_limit, loop_step, in_enumeration, enumerated_value, behind_divider, behind_changing, behind_cell_size, behind_open_size, behind_type_size, cell_count, first_factor, in_factors, wants_expression, wants_factor, wanted};
 ghost use Rattle.c_written.specs.Past.{past_of, seen_shape};
-ghost use Rattle.c_written.specs.Seen.{seen_terminal};
+ghost use Rattle.c_terminals.specs.Seen.{seen_terminal};
 
 use crate::stack::Stack;
-use crate::token::Terminal;
+use c_terminals::Terminal;
 use c_tokens::Sign;
 use directives::Word;
 
@@ -33,7 +33,7 @@ enum Shape {
 impl Shape {
     ghost use Rattle.std.specs.Prelude.{◌≡◌};
     ghost use Rattle.c_grammar.specs.Constants.{has_shape};
-    ghost use Rattle.c_written.specs.Seen.{seen_terminal};
+    ghost use Rattle.c_terminals.specs.Seen.{seen_terminal};
     ghost use Rattle.c_written.specs.Past.{seen_shape};
 
     fn fits(self, terminal: Terminal<'_, '_>) -> bool

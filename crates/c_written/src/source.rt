@@ -4,8 +4,10 @@ ghost use Rattle.std.specs.Prelude.{◌≡◌, ◌≤◌, ◌^◌, IfOk, [], fal
 ghost use Rattle.c_tokens.specs.Text.{tokens_of};
 ghost use Rattle.c_grammar.specs.Allocations.{allocated};
 ghost use Rattle.c_grammar.specs.Blocks.{in_blocks, nothing_read, typed};
+ghost use Rattle.c_grammar.specs.Boxes.{announced, boxed};
 ghost use Rattle.c_grammar.specs.Changes.{begin, in_full};
 ghost use Rattle.c_grammar.specs.Constants.{undefined, worked};
+ghost use Rattle.c_grammar.specs.Counters.{counted};
 ghost use Rattle.c_grammar.specs.Declarations.{Other, settled};
 ghost use Rattle.c_grammar.specs.DeclaredFunctions.{undeclared};
 ghost use Rattle.c_grammar.specs.Functions.{expanded};
@@ -14,24 +16,29 @@ ghost use Rattle.c_grammar.specs.Initial.{initialized, no_globals};
 ghost use Rattle.c_grammar.specs.Nesting.{nested};
 ghost use Rattle.c_grammar.specs.Prints.{printed};
 ghost use Rattle.c_grammar.specs.Source.{item_of, text_of, written_out};
+ghost use Rattle.c_grammar.specs.Unset.{zeroed};
 ghost use Rattle.c_grammar.specs.Updates.{Outside, commuting};
-ghost use Rattle.c_written.specs.Held.{columns_held, seen_held, written_all};
+ghost use Rattle.c_terminals.specs.Held.{columns_held, seen_held, written_all};
 
 use crate::allocated::allocated;
+use crate::announced::announced;
 use crate::blocks::in_blocks;
+use crate::boxed::boxed;
 use crate::changes::in_full;
 use crate::constants::worked;
+use crate::counted::counted;
 use crate::declarations::settled;
 use crate::declared_functions::undeclared;
 use crate::definitions::undefined;
 use crate::functions::expanded;
 use crate::globals::initialized;
 use crate::grids::flat;
-use crate::held::{Written, WrittenTerminal, borrowed, owned};
 use crate::nesting::nested;
 use crate::prints::printed;
 use crate::types::typed;
+use crate::unset::zeroed;
 use crate::updates::commuting;
+use c_terminals::{Written, WrittenTerminal, borrowed};
 use c_tokens::{Kind, Token, tokens};
 use directives::{LineTokens, word_of};
 use std::alloc::{AllocError, Global};
@@ -87,11 +94,11 @@ fn raw<'a>(alloc: Global, bytes: &'a [u8]) -> Result<Vec<Written<'a>>, AllocErro
     Ok(written)
 }
 
-/// The tokens with their combined constructs, calls of `printf`, types, blocks, declarations and constants, and without
-/// the lines that declare functions.
+/// The tokens with their combined constructs, calls of `printf`, types, blocks, declarations, names of loops and
+/// constants, and without the lines that declare functions.
 fn with_constants<'a>(alloc: Global, raw: &[Written<'a>]) -> Result<Vec<Written<'a>>, AllocError>
     ensures { IfOk result (λ v. written_all v.items ≡
-        worked [] [] 0 (settled Other (in_blocks nothing_read (undeclared false (typed 0 (printed 0 (nested (written_all raw.now)))))))) }
+        worked [] [] 0 (settled Other (zeroed (counted (in_blocks nothing_read (undeclared false (typed 0 (printed 0 (nested (written_all raw.now)))))))))) }
 {
     let tokens = borrowed(alloc, raw)?;
     let tokens = nested(alloc, &tokens)?;
@@ -100,20 +107,24 @@ fn with_constants<'a>(alloc: Global, raw: &[Written<'a>]) -> Result<Vec<Written<
     let tokens = typed(alloc, &tokens)?;
     let tokens = undeclared(alloc, &tokens)?;
     let tokens = in_blocks(alloc, &tokens)?;
+    let tokens = counted(alloc, &tokens)?;
+    let tokens = zeroed(alloc, &tokens)?;
     let tokens = settled(alloc, &tokens)?;
     worked(alloc, &tokens)
 }
 
-/// The tokens without definitions, arrays of two dimensions, allocations and initializers, with the updates that commute,
-/// and with their changes in full.
+/// The tokens without definitions, arrays of two dimensions, allocations and initializers, with the boxed scalars, the
+/// updates that commute, and with their changes in full.
 fn with_changes<'a>(alloc: Global, worked: &[Written<'a>]) -> Result<Vec<Written<'a>>, AllocError>
     ensures { IfOk result (λ v. written_all v.items ≡
-        in_full begin 0 (initialized no_globals 0
-        (allocated (commuting Outside (flat [] [] [] 0 (undefined [] 0 0 (written_all worked.now))))))) }
+        announced (in_full begin 0 (initialized no_globals 0
+        (allocated (commuting Outside (boxed (flat [] [] [] 0 (undefined [] 0 0 (written_all worked.now))))))))) }
 {
     let tokens = borrowed(alloc, worked)?;
     let tokens = undefined(alloc, &tokens)?;
     let tokens = flat(alloc, &tokens)?;
+    let tokens = borrowed(alloc, &tokens)?;
+    let tokens = boxed(alloc, &tokens)?;
     let tokens = borrowed(alloc, &tokens)?;
     let tokens = commuting(alloc, &tokens)?;
     let tokens = borrowed(alloc, &tokens)?;
@@ -121,7 +132,7 @@ fn with_changes<'a>(alloc: Global, worked: &[Written<'a>]) -> Result<Vec<Written
     let tokens = borrowed(alloc, &tokens)?;
     let tokens = initialized(alloc, &tokens)?;
     let tokens = in_full(alloc, &tokens)?;
-    owned(alloc, &tokens)
+    announced(alloc, &tokens)
 }
 
 /// The tokens with functions expanded.

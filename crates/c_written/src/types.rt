@@ -3,10 +3,10 @@
 ghost use Rattle.std.specs.Prelude.{◌≡◌, ◌≤◌, IfOk, MatchOption, false, codes, if◌then◌else◌};
 ghost use Rattle.c_grammar.specs.Terminal.{Name, same};
 ghost use Rattle.c_grammar.specs.Blocks.{bare, is_long, longs, typed};
-ghost use Rattle.c_written.specs.Seen.{seen, seen_all, seen_terminal};
+ghost use Rattle.c_terminals.specs.Seen.{seen, seen_all, seen_terminal};
 
 use crate::ahead::Ahead;
-use crate::token::{Terminal, Token};
+use c_terminals::{Terminal, Token};
 use directives::Word;
 use std::alloc::{AllocError, Global};
 
@@ -50,7 +50,7 @@ struct Types<'a, 'l> {
 
 impl<'a, 'l> Types<'a, 'l> {
     ghost use Rattle.std.specs.Prelude.{◌≡◌, ◌∷◌, OnOk};
-    ghost use Rattle.c_written.specs.Seen.{seen, seen_all};
+    ghost use Rattle.c_terminals.specs.Seen.{seen, seen_all};
     ghost use Rattle.c_written.specs.Passes.{with_types};
 
     /// The next token, before others.

@@ -5,18 +5,17 @@ ghost use Rattle.c_grammar.specs.Blocks.{is_directive};
 ghost use Rattle.c_grammar.specs.Updates.{Outside, commuting, reduced};
 ghost use Rattle.directives.specs.Ahead.{seen_line};
 ghost use Rattle.directives.specs.Spells.{kinds_of};
-ghost use Rattle.c_written.specs.Held.{seen_written, written_all};
-ghost use Rattle.c_written.specs.Seen.{seen, seen_all, seen_terminal};
+ghost use Rattle.c_terminals.specs.Held.{seen_written, written_all};
+ghost use Rattle.c_terminals.specs.Seen.{seen, seen_all, seen_terminal};
 ghost use Rattle.c_written.specs.Updates.{line_put};
 
 use crate::ahead::Ahead;
 use crate::atomics::{atomic_line, is_atomic, mark_at};
 use crate::cell_updates::has_update;
-use crate::held::{Written, WrittenTerminal};
 use crate::puts::is_among;
 use crate::reductions::{Construct, is_combined};
 use crate::regions::Place;
-use crate::token::{Terminal, Token};
+use c_terminals::{Terminal, Token, Written, WrittenTerminal};
 use directives::LineTokens;
 use std::alloc::{AllocError, Global};
 
@@ -80,8 +79,8 @@ impl<'a> Updates<'a> {
     ghost use Rattle.std.specs.Prelude.{◌≡◌, ◌≤◌, ◌<◌, ◌+◌, ◌^◌, ◌∷◌, ◌++◌, [], false, true, OnOk};
     ghost use Rattle.c_grammar.specs.Blocks.{is_directive};
     ghost use Rattle.c_grammar.specs.Updates.{mark_at};
-    ghost use Rattle.c_written.specs.Held.{written_all};
-    ghost use Rattle.c_written.specs.Seen.{seen, seen_all, seen_terminal};
+    ghost use Rattle.c_terminals.specs.Held.{written_all};
+    ghost use Rattle.c_terminals.specs.Seen.{seen, seen_all, seen_terminal};
     ghost use Rattle.c_written.specs.Updates.{depth_of, is_marked, line_region, region_behind, region_of, with_updates};
 
     /// The region of the construct on a line begins.

@@ -3,7 +3,7 @@
 ghost use Rattle.std.specs.Prelude.{◌≡◌};
 ghost use Rattle.c_grammar.specs.Expressions.{Left, Right, result as value_of_work};
 
-use crate::token::{Terminal, Token};
+use c_terminals::{Terminal, Token};
 use c_tokens::Sign;
 
 #[derive(Clone, Copy)]
@@ -29,7 +29,7 @@ impl Work {
     ghost use Rattle.std.specs.Prelude.{◌≡◌};
     ghost use Rattle.std.specs.Option.{option_map};
     ghost use Rattle.c_grammar.specs.Expressions.{tightness, work_of, result as value_of_work};
-    ghost use Rattle.c_written.specs.Seen.{seen_terminal};
+    ghost use Rattle.c_terminals.specs.Seen.{seen_terminal};
     ghost use Rattle.c_written.specs.Work.{seen_work};
 
     pub fn tightness(self) -> u8
@@ -96,7 +96,7 @@ impl Operator {
     ghost use Rattle.std.specs.Prelude.{◌≡◌, IfSome};
     ghost use Rattle.std.specs.Option.{option_map};
     ghost use Rattle.c_grammar.specs.Expressions.{work_of};
-    ghost use Rattle.c_written.specs.Seen.{seen, seen_terminal};
+    ghost use Rattle.c_terminals.specs.Seen.{seen, seen_terminal};
     ghost use Rattle.c_written.specs.Work.{seen_work, seen_operator};
 
     /// The operator that is a token.

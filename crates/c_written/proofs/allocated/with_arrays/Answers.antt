@@ -1,6 +1,6 @@
 use Rattle.std.proofs.Common.{◌∙◌, ◌++◌, List, ap}
-use Rattle.c_written.specs.declared.token.Token.{Token}
-use Rattle.c_written.specs.Seen.{seen_all}
+use Rattle.c_terminals.specs.declared.token.Token.{Token}
+use Rattle.c_terminals.specs.Seen.{seen_all}
 use Rattle.c_written.proofs.Allotting.{all_joined, all_named}
 use Rattle.c_written.proofs.allocated.with_arrays.Goals as goal
 

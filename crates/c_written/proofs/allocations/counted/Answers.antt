@@ -3,7 +3,7 @@ use Rattle.std.specs.Prelude.{◌&&◌}
 use Rattle.c_grammar.specs.Allocations.{behind_size, is_ended}
 use Rattle.c_grammar.specs.Constants.{is_mark}
 use Rattle.c_written.specs.Ahead.{ahead}
-use Rattle.c_written.specs.Seen.{seen}
+use Rattle.c_terminals.specs.Seen.{seen}
 use Rattle.c_written.proofs.Counting.{counted_more, first_not, second_not}
 use Rattle.c_written.proofs.allocations.counted.Goals as goal
 use Rattle.c_written.proofs.allocations.counted.Goals.{else-is_sign-via-then-is_sign+else-ends_with_size, else-is_sign-via-else-is_sign}

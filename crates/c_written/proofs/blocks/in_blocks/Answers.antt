@@ -1,6 +1,6 @@
 use Rattle.c_grammar.specs.Blocks.{in_blocks}
 use Rattle.c_written.specs.Passes.{reading}
-use Rattle.c_written.proofs.Lists.{written_all}
+use Rattle.c_terminals.proofs.Lists.{written_all}
 use Rattle.c_written.proofs.Blocking.{blocks_end}
 use Rattle.c_written.proofs.blocks.in_blocks.Goals as goal
 

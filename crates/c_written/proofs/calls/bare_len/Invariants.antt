@@ -1,6 +1,6 @@
 use Rattle.std.proofs.Common.{◌≡◌, ◌+◌, ◌≤◌, drop, length}
 use Rattle.c_grammar.specs.Blocks.{bare}
-use Rattle.c_written.specs.Held.{written_all}
+use Rattle.c_terminals.specs.Held.{written_all}
 use Rattle.c_written.proofs.calls.bare_len.Given as goal
 
 abbrev pub invariant-tokens : goal.invariant-tokens

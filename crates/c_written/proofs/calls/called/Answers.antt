@@ -2,8 +2,8 @@ use Rattle.std.proofs.Common.{◌≡◌, ◌∙◌, ◌-◌, ◌++◌, Bool, len
 use Rattle.c_grammar.specs.Blocks.{bare}
 use Rattle.c_grammar.specs.Functions.{called}
 use Rattle.c_written.specs.Functions.{functions_of, globals_of, seen_expanded, statement_at}
-use Rattle.c_written.specs.Held.{written_all}
-use Rattle.c_written.specs.Seen.{seen_all}
+use Rattle.c_terminals.specs.Held.{written_all}
+use Rattle.c_terminals.specs.Seen.{seen_all}
 use Rattle.c_written.proofs.CallTexts.{put_last}
 use Rattle.c_written.proofs.CallWalk.{behind, called_none, expands_walk, left_walk, line_walk, stays_walk}
 use Rattle.c_written.proofs.calls.called.Goals as goal

@@ -1,8 +1,8 @@
 use Rattle.std.proofs.Common.{◌≡◌, ◌++◌, length}
 use Rattle.c_grammar.specs.Functions.{called}
 use Rattle.c_written.specs.Functions.{functions_of, globals_of}
-use Rattle.c_written.specs.Seen.{seen_all}
-use Rattle.c_written.specs.Held.{written_all}
+use Rattle.c_terminals.specs.Seen.{seen_all}
+use Rattle.c_terminals.specs.Held.{written_all}
 use Rattle.c_written.proofs.calls.called.Given as goal
 
 abbrev pub invariant-tokens : goal.invariant-tokens

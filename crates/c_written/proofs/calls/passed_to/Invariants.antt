@@ -1,7 +1,7 @@
 use Rattle.std.proofs.Common.{◌≡◌, Some, drop, map}
 use Rattle.c_grammar.specs.Functions.{both, passed}
 use Rattle.c_written.specs.Functions.{all_parameters, seen_passed}
-use Rattle.c_written.specs.Seen.{seen_all}
+use Rattle.c_terminals.specs.Seen.{seen_all}
 use Rattle.c_written.proofs.calls.passed_to.Given as goal
 
 abbrev pub invariant-parameters : goal.invariant-parameters

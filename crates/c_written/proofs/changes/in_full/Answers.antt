@@ -1,6 +1,6 @@
 use Rattle.c_grammar.specs.Changes.{in_full}
 use Rattle.c_written.specs.Changes.{state_of}
-use Rattle.c_written.proofs.Lists.{written_all}
+use Rattle.c_terminals.proofs.Lists.{written_all}
 use Rattle.c_written.proofs.Passing.{changes_end}
 use Rattle.c_written.proofs.changes.in_full.Goals as goal
 

@@ -1,6 +1,6 @@
 use Rattle.std.proofs.Common.{◌≡◌, [], length}
 use Rattle.c_grammar.specs.Constants.{worked}
-use Rattle.c_written.specs.Seen.{seen_all}
+use Rattle.c_terminals.specs.Seen.{seen_all}
 use Rattle.c_written.specs.Constants.{HasNotes, with_constants}
 use Rattle.c_written.proofs.constants.worked.Given as goal
 

@@ -1,7 +1,7 @@
 use Rattle.std.proofs.Common.{◌≡◌, ◌++◌, length}
 use Rattle.c_grammar.specs.Declarations.{Other, settled}
 use Rattle.c_written.specs.Declarations.{seen_before}
-use Rattle.c_written.specs.Seen.{seen_all}
+use Rattle.c_terminals.specs.Seen.{seen_all}
 use Rattle.c_written.proofs.declarations.settled.Given as goal
 
 abbrev pub invariant-tokens : goal.invariant-tokens

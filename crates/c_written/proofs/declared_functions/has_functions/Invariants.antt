@@ -1,6 +1,6 @@
 use Rattle.std.proofs.Common.{◌≡◌, ◌+◌, ◌≤◌, length}
 use Rattle.c_grammar.specs.DeclaredFunctions.{has_functions}
-use Rattle.c_written.specs.Seen.{seen_all}
+use Rattle.c_terminals.specs.Seen.{seen_all}
 use Rattle.c_written.proofs.declared_functions.has_functions.Given as goal
 
 abbrev pub invariant-tokens : goal.invariant-tokens

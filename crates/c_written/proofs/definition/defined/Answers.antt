@@ -1,7 +1,7 @@
 use Rattle.std.proofs.Common.{◌∙◌, sym, ap, true}
 use Rattle.c_grammar.specs.Expressions.{as_items}
 use Rattle.c_grammar.specs.Constants.{defined, new_only}
-use Rattle.c_written.specs.Seen.{seen_all}
+use Rattle.c_terminals.specs.Seen.{seen_all}
 use Rattle.c_written.specs.Forms.{all_placed}
 use Rattle.c_written.specs.Values.{seen_values}
 use Rattle.c_written.proofs.Defining.{defined_anywhere}

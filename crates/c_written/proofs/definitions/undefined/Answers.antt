@@ -1,6 +1,6 @@
 use Rattle.c_grammar.specs.Constants.{undefined}
 use Rattle.c_written.specs.Definitions.{names_of}
-use Rattle.c_written.proofs.Lists.{written_all}
+use Rattle.c_terminals.proofs.Lists.{written_all}
 use Rattle.c_written.proofs.Undefining.{undefined_end}
 use Rattle.c_written.proofs.definitions.undefined.Goals as goal
 

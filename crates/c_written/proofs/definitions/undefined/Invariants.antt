@@ -1,6 +1,6 @@
 use Rattle.std.proofs.Common.{◌≡◌, [], length}
 use Rattle.c_grammar.specs.Constants.{undefined}
-use Rattle.c_written.specs.Seen.{seen_all}
+use Rattle.c_terminals.specs.Seen.{seen_all}
 use Rattle.c_written.specs.Definitions.{with_definitions}
 use Rattle.c_written.proofs.definitions.undefined.Given as goal
 

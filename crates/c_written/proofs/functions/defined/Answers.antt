@@ -1,8 +1,8 @@
 use Rattle.std.proofs.Common.{◌∙◌, sym, ap}
 use Rattle.std.proofs.lemmas.Result.{IfOk-weaker}
 use Rattle.c_written.specs.Functions.{with_source}
-use Rattle.c_written.specs.Held.{written_all}
-use Rattle.c_written.specs.Seen.{seen, seen_all}
+use Rattle.c_terminals.specs.Held.{written_all}
+use Rattle.c_terminals.specs.Seen.{seen, seen_all}
 use Rattle.c_written.proofs.CallWalk.{begins_with, behind}
 use Rattle.c_written.proofs.SourceSteps.{end_to, line_to, main_to, none_left}
 use Rattle.c_written.proofs.functions.defined.Goals as goal

@@ -1,6 +1,6 @@
 use Rattle.std.proofs.Common.{◌≡◌, [], length}
 use Rattle.c_grammar.specs.Functions.{value_at}
-use Rattle.c_written.specs.Seen.{seen_all}
+use Rattle.c_terminals.specs.Seen.{seen_all}
 use Rattle.c_written.proofs.functions.value_at.Given as goal
 
 abbrev pub invariant-tokens : goal.invariant-tokens

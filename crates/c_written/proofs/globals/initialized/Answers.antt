@@ -1,7 +1,7 @@
 use Rattle.c_grammar.specs.Initial.{initialized}
 use Rattle.c_written.specs.Globals.{state_of}
 use Rattle.c_written.proofs.Declaring.{globals_end}
-use Rattle.c_written.proofs.Lists.{written_all}
+use Rattle.c_terminals.proofs.Lists.{written_all}
 use Rattle.c_written.proofs.globals.initialized.Goals as goal
 
 pub returns : goal.returns

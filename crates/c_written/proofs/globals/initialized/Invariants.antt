@@ -1,7 +1,7 @@
 use Rattle.std.proofs.Common.{◌≡◌, length}
 use Rattle.c_grammar.specs.Initial.{initialized, no_globals}
 use Rattle.c_written.specs.Globals.{with_globals}
-use Rattle.c_written.specs.Seen.{seen_all}
+use Rattle.c_terminals.specs.Seen.{seen_all}
 use Rattle.c_written.proofs.globals.initialized.Given as goal
 
 abbrev pub invariant-tokens : goal.invariant-tokens

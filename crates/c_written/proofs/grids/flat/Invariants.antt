@@ -1,7 +1,7 @@
 use Rattle.std.proofs.Common.{◌≡◌, [], length}
 use Rattle.c_grammar.specs.Grids.{flat}
 use Rattle.c_written.specs.Grids.{with_grids}
-use Rattle.c_written.specs.Seen.{seen_all}
+use Rattle.c_terminals.specs.Seen.{seen_all}
 use Rattle.c_written.proofs.grids.flat.Given as goal
 
 abbrev pub invariant-tokens : goal.invariant-tokens

@@ -1,8 +1,8 @@
 use Rattle.std.proofs.Common.{◌∙◌, ◌++◌, ◌-◌, ap, sym, take}
 use Rattle.c_grammar.specs.Blocks.{Items}
 use Rattle.c_written.specs.Ahead.{ahead}
-use Rattle.c_written.specs.Held.{written_all}
-use Rattle.c_written.specs.Seen.{seen}
+use Rattle.c_terminals.specs.Held.{written_all}
+use Rattle.c_terminals.specs.Seen.{seen}
 use Rattle.c_written.proofs.Flattening.{take_next}
 use Rattle.c_written.proofs.Working.{written_more}
 use Rattle.c_written.proofs.grids.put_next.Goals as goal

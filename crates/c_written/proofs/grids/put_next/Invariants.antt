@@ -1,6 +1,6 @@
 use Rattle.std.proofs.Common.{◌≡◌, ◌++◌, take}
 use Rattle.c_written.specs.Ahead.{ahead}
-use Rattle.c_written.specs.Held.{written_all}
+use Rattle.c_terminals.specs.Held.{written_all}
 use Rattle.c_written.proofs.grids.put_next.Given as goal
 
 abbrev pub invariant-tokens : goal.invariant-tokens

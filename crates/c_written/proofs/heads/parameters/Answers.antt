@@ -2,8 +2,8 @@ use Rattle.std.proofs.Common.{◌∙◌, ◌+◌, List, length, Some, ap, sym, a
 use Rattle.c_grammar.specs.Blocks.{Items}
 use Rattle.c_grammar.specs.Functions.{Adds, Begins, Closes, Declared, Goes, Stops, parameters}
 use Rattle.c_written.specs.Ahead.{ahead}
-use Rattle.c_written.specs.Functions.{all_declared, seen_head}
-use Rattle.c_written.specs.Seen.{seen}
+use Rattle.c_written.specs.Functions.{all_declared, seen_head, seen_sort}
+use Rattle.c_terminals.specs.Seen.{seen}
 use Rattle.c_written.proofs.Heading.{declared_more, parameters_end, parameters_step}
 use Rattle.c_written.proofs.heads.parameters.Goals as goal
 
@@ -27,7 +27,7 @@ tokens-preserved c =
           (declared_more c.tokens.declared.items c.push.new.self.items c.in-Adds.one c.in_ok-push-in-Adds.ensures.items)
           ∙ sym (parameters_step (seen_head c.tokens.head) (all_declared c.tokens.declared.items) c.tokens.len
           (ahead c.tokens.ahead) (ahead c.next.new.self) (seen c.in-Some.token)
-          (Adds c.in-Adds.one.name.now c.in-Adds.one.array) c.in-Some.ensures c.in-Adds.ensures)
+          (Adds c.in-Adds.one.name.now (seen_sort c.in-Adds.one.sort)) c.in-Some.ensures c.in-Adds.ensures)
           ∙ c.tokens.invariant.same;
       few = omega (arith, more, c.tokens.invariant.few);
     }
@@ -38,7 +38,7 @@ returns-in-Closes-clause-parameters c =
     (declared_more c.tokens.declared.items c.push-in-Closes.new.self.items c.in-Closes.one c.in_ok-push-in-Closes.ensures.items)
     ∙ sym (parameters_step (seen_head c.tokens.head) (all_declared c.tokens.declared.items) c.tokens.len
     (ahead c.tokens.ahead) (ahead c.next.new.self) (seen c.in-Some.token)
-    (Closes c.in-Closes.one.name.now c.in-Closes.one.array) c.in-Some.ensures c.in-Closes.ensures)
+    (Closes c.in-Closes.one.name.now (seen_sort c.in-Closes.one.sort)) c.in-Some.ensures c.in-Closes.ensures)
     ∙ c.tokens.invariant.same
 
 pub returns-in-Stops-clause-parameters : goal.returns-in-Stops-clause-parameters

@@ -5,7 +5,7 @@ use Rattle.c_grammar.specs.Blocks.{Items}
 use Rattle.c_grammar.specs.Grids.{Range, OnOperand, index, index_from}
 use Rattle.c_written.specs.Ahead.{ahead}
 use Rattle.c_written.specs.Indices.{ranges_of, seen_index}
-use Rattle.c_written.specs.Seen.{seen, seen_all}
+use Rattle.c_terminals.specs.Seen.{seen, seen_all}
 use Rattle.c_written.proofs.Subscripts.{index_closed, index_end, index_goes, index_short}
 use Rattle.c_written.proofs.Targeting.{few_bare}
 use Rattle.c_written.proofs.indices.index_in.Goals as goal

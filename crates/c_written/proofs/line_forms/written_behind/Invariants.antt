@@ -1,7 +1,7 @@
 use Rattle.std.proofs.Common.{◌≡◌, ◌++◌, [], length}
 use Rattle.c_grammar.specs.Expressions.{as_items}
 use Rattle.c_grammar.specs.LineForms.{line_from}
-use Rattle.c_written.specs.Seen.{seen_all}
+use Rattle.c_terminals.specs.Seen.{seen_all}
 use Rattle.c_written.specs.Lines.{unended}
 use Rattle.c_written.specs.Values.{seen_values}
 use Rattle.c_written.specs.Forms.{all_placed, with_line}

@@ -1,7 +1,7 @@
 use Rattle.std.proofs.Common.{◌≡◌, ◌++◌, length}
 use Rattle.c_grammar.specs.Nesting.{nested, nested_on}
-use Rattle.c_written.specs.Held.{seen_written, written_all}
-use Rattle.c_written.specs.Seen.{seen_all}
+use Rattle.c_terminals.specs.Held.{seen_written, written_all}
+use Rattle.c_terminals.specs.Seen.{seen_all}
 use Rattle.c_written.proofs.nesting.nested.Given as goal
 
 abbrev pub invariant-tokens : goal.invariant-tokens

@@ -1,7 +1,7 @@
 use Rattle.std.proofs.Common.{◌≡◌, ◌++◌, length, map}
 use Rattle.c_grammar.specs.Presence.{guarded}
-use Rattle.c_written.specs.Held.{written_all}
-use Rattle.c_written.specs.Seen.{seen_all}
+use Rattle.c_terminals.specs.Held.{written_all}
+use Rattle.c_terminals.specs.Seen.{seen_all}
 use Rattle.c_written.proofs.presence.guarded.Given as goal
 
 abbrev pub invariant-tokens : goal.invariant-tokens

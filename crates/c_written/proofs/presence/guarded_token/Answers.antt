@@ -1,7 +1,7 @@
 use Rattle.std.proofs.Common.{◌∙◌, sym, ap}
 use Rattle.c_grammar.specs.Presence.{is_target}
 use Rattle.directives.specs.Spells.{kinds_of}
-use Rattle.c_written.specs.Seen.{seen_all}
+use Rattle.c_terminals.specs.Seen.{seen_all}
 use Rattle.c_written.proofs.Guarding.{guarded_put}
 use Rattle.c_written.proofs.Putting.{all_names}
 use Rattle.c_written.proofs.presence.guarded_token.Goals as goal

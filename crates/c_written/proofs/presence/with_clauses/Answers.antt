@@ -5,7 +5,7 @@ use Rattle.directives.specs.Ahead.{seen_line}
 use Rattle.directives.specs.Seen.{is_whole}
 use Rattle.directives.specs.Spells.{kinds_of}
 use Rattle.c_written.specs.Forms.{all_placed}
-use Rattle.c_written.specs.Seen.{seen_all}
+use Rattle.c_terminals.specs.Seen.{seen_all}
 use Rattle.c_written.specs.Spots.{all_kinds}
 use Rattle.c_written.proofs.Guarding.{clauses_whole, put_parts}
 use Rattle.c_written.proofs.Putting.{all_names}

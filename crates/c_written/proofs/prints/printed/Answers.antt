@@ -1,5 +1,5 @@
 use Rattle.c_grammar.specs.Prints.{printed}
-use Rattle.c_written.proofs.Lists.{written_all}
+use Rattle.c_terminals.proofs.Lists.{written_all}
 use Rattle.c_written.proofs.Printing.{printed_end}
 use Rattle.c_written.proofs.prints.printed.Goals as goal
 

@@ -1,6 +1,6 @@
 use Rattle.std.proofs.Common.{◌≡◌, drop, map}
 use Rattle.c_grammar.specs.Updates.{are_summed}
-use Rattle.c_written.specs.Seen.{seen_all}
+use Rattle.c_terminals.specs.Seen.{seen_all}
 use Rattle.c_written.proofs.regions.are_summed.Given as goal
 
 abbrev pub invariant-names : goal.invariant-names

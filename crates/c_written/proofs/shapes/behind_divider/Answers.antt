@@ -2,7 +2,7 @@ use Rattle.std.proofs.Common.{◌∙◌, sym, ap, drop, List}
 use Rattle.c_grammar.specs.Terminal.{Terminal}
 use Rattle.c_grammar.specs.Constants.{behind_divider}
 use Rattle.c_written.specs.Past.{past_of}
-use Rattle.c_written.specs.Seen.{seen_terminal}
+use Rattle.c_terminals.specs.Seen.{seen_terminal}
 use Rattle.c_written.specs.Stack.{held}
 use Rattle.c_written.proofs.Shaping.{drop_at, drop_none}
 use Rattle.c_written.proofs.shapes.behind_divider.Goals as goal

@@ -1,5 +1,5 @@
 use Rattle.std.proofs.Common.{◌∙◌, sym, arith}
-use Rattle.c_written.specs.Seen.{seen_terminal}
+use Rattle.c_terminals.specs.Seen.{seen_terminal}
 use Rattle.c_written.specs.Stack.{held}
 use Rattle.c_written.proofs.Shaping.{drop_at, drop_none, peek_within, shapes_less, shapes_more, shapes_none, shapes_not}
 use Rattle.c_written.proofs.shapes.ends_with.Goals as goal

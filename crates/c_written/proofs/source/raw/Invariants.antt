@@ -2,7 +2,7 @@ use Rattle.std.proofs.Common.{◌≡◌, ◌++◌, length, map}
 use Rattle.c_tokens.specs.Ahead.{ahead}
 use Rattle.c_tokens.specs.Text.{tokens_of}
 use Rattle.c_grammar.specs.Source.{item_of}
-use Rattle.c_written.specs.Held.{written_all}
+use Rattle.c_terminals.specs.Held.{written_all}
 use Rattle.c_written.proofs.source.raw.Given as goal
 
 abbrev pub invariant-tokens : goal.invariant-tokens

@@ -3,7 +3,7 @@ use Rattle.std.specs.Prelude.{◌&&◌}
 use Rattle.c_tokens.specs.declared.kind.Sign.TheVariants as sign
 use Rattle.c_grammar.specs.Constants.{is_name}
 use Rattle.c_grammar.specs.Changes.{is_mark}
-use Rattle.c_written.specs.Seen.{seen}
+use Rattle.c_terminals.specs.Seen.{seen}
 use Rattle.c_written.proofs.Targeting.{both, target_cell}
 use Rattle.c_written.proofs.targets.is_target.Goals as goal
 use Rattle.c_written.proofs.targets.is_target.Goals.{then-is_name, else-is_name}

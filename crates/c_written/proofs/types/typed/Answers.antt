@@ -1,5 +1,5 @@
 use Rattle.c_grammar.specs.Blocks.{typed}
-use Rattle.c_written.proofs.Lists.{written_all}
+use Rattle.c_terminals.proofs.Lists.{written_all}
 use Rattle.c_written.proofs.Typing.{typed_end}
 use Rattle.c_written.proofs.types.typed.Goals as goal
 

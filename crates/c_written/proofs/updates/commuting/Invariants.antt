@@ -1,6 +1,6 @@
 use Rattle.std.proofs.Common.{◌≡◌, ◌+◌, ◌≤◌, length}
 use Rattle.c_grammar.specs.Updates.{Outside, commuting}
-use Rattle.c_written.specs.Seen.{seen_all}
+use Rattle.c_terminals.specs.Seen.{seen_all}
 use Rattle.c_written.specs.Updates.{depth_of, with_updates}
 use Rattle.c_written.proofs.updates.commuting.Given as goal
 

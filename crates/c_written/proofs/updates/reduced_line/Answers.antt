@@ -1,7 +1,7 @@
 use Rattle.std.proofs.Common.{◌∙◌, ap, refl}
 use Rattle.directives.specs.Seen.{is_whole}
 use Rattle.c_written.specs.Forms.{all_placed}
-use Rattle.c_written.specs.Seen.{seen_all}
+use Rattle.c_terminals.specs.Seen.{seen_all}
 use Rattle.c_written.specs.Spots.{all_kinds}
 use Rattle.c_written.proofs.ReducedLines.{reduced_whole}
 use Rattle.c_written.proofs.updates.reduced_line.Goals as goal

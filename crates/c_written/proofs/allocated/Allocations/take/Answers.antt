@@ -1,4 +1,4 @@
-use Rattle.c_written.specs.Seen.{seen, seen_all}
+use Rattle.c_terminals.specs.Seen.{seen, seen_all}
 use Rattle.c_written.proofs.Allotting.{allocations_taken}
 use Rattle.c_written.proofs.allocated.Allocations.take.Goals as goal
 

@@ -2,7 +2,7 @@ use Rattle.std.proofs.Common.{◌≡◌, ◌∙◌, ◌++◌, sym, ap, None, fal
 use Rattle.std.proofs.lemmas.List.{append-nil}
 use Rattle.c_grammar.specs.Blocks.{Ends, braces_at}
 use Rattle.c_written.specs.Opens.{stays}
-use Rattle.c_written.specs.Seen.{seen, seen_all}
+use Rattle.c_terminals.specs.Seen.{seen, seen_all}
 use Rattle.c_written.specs.Stack.{held, item_at}
 use Rattle.c_written.proofs.Blocking.{ends_stay, ends_none, ends_go, ends_levels}
 use Rattle.c_written.proofs.Popped.{popped}

@@ -1,6 +1,6 @@
 use Rattle.std.proofs.Common.{◌≡◌, ◌++◌, length}
 use Rattle.c_grammar.specs.Blocks.{braces_at, ends}
-use Rattle.c_written.specs.Seen.{seen, seen_all}
+use Rattle.c_terminals.specs.Seen.{seen, seen_all}
 use Rattle.c_written.specs.Stack.{held}
 use Rattle.c_written.specs.Passes.{IsRead, levels_of}
 use Rattle.c_written.proofs.blocks.Blocks.end_statement.Given as goal

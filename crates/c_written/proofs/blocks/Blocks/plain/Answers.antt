@@ -1,6 +1,6 @@
 use Rattle.std.proofs.Common.{◌∙◌, ap, sym}
-use Rattle.c_written.specs.Seen.{seen, seen_all}
-use Rattle.c_written.proofs.Lists.{seen_more}
+use Rattle.c_terminals.specs.Seen.{seen, seen_all}
+use Rattle.c_terminals.proofs.Lists.{seen_more}
 use Rattle.c_written.proofs.Blocking.{gone_end, gone_read, on_ok}
 use Rattle.c_written.proofs.blocks.Blocks.plain.Goals as goal
 

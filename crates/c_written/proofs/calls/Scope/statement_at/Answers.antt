@@ -1,7 +1,7 @@
 use Rattle.std.proofs.Common.{◌<◌, ◌^◌, length, ap, rules, arith}
 use Rattle.std.proofs.lemmas.List.{length-map}
 use Rattle.c_grammar.specs.Blocks.{Items}
-use Rattle.c_written.specs.Seen.{seen, seen_all}
+use Rattle.c_terminals.specs.Seen.{seen, seen_all}
 use Rattle.c_written.proofs.Targeting.{few_bare}
 use Rattle.c_written.proofs.calls.Scope.statement_at.Goals as goal
 

@@ -1,6 +1,6 @@
 use Rattle.std.proofs.Common.{◌∙◌, ◌∷◌, ◌++◌, [], sym}
 use Rattle.c_grammar.specs.Changes.{Onward, Outside, assigned, behind_front, one_at}
-use Rattle.c_written.specs.Seen.{seen, seen_all}
+use Rattle.c_terminals.specs.Seen.{seen, seen_all}
 use Rattle.c_written.specs.Changes.{passed, seen_where, state_of}
 use Rattle.c_written.proofs.Changing.{gone_behind, gone_ok}
 use Rattle.c_written.proofs.LoopHeads.{front_ended}

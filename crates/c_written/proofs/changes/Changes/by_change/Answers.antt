@@ -1,7 +1,7 @@
 use Rattle.std.proofs.Common.{◌∙◌, Some, sym}
 use Rattle.c_grammar.specs.Blocks.{bare}
 use Rattle.c_grammar.specs.Changes.{at_front, by_kind, changed, kept}
-use Rattle.c_written.specs.Seen.{seen, seen_all}
+use Rattle.c_terminals.specs.Seen.{seen, seen_all}
 use Rattle.c_written.specs.Changes.{seen_change, seen_where, state_of}
 use Rattle.c_written.proofs.Assigning.{kind_front, kind_kept, kind_target}
 use Rattle.c_written.proofs.Changing.{gone_ok}

@@ -1,6 +1,6 @@
 use Rattle.std.proofs.Common.{◌∙◌, ◌∷◌, [], refl, sym}
 use Rattle.c_grammar.specs.Changes.{in_group}
-use Rattle.c_written.specs.Seen.{seen}
+use Rattle.c_terminals.specs.Seen.{seen}
 use Rattle.c_written.specs.Changes.{state_of}
 use Rattle.c_written.proofs.Assigning.{group_plain}
 use Rattle.c_written.proofs.Changing.{gone_same}

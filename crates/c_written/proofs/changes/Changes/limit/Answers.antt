@@ -3,7 +3,7 @@ use Rattle.c_tokens.specs.declared.kind.Sign.TheVariants as sign
 use Rattle.c_grammar.specs.Terminal.{Mark}
 use Rattle.c_grammar.specs.Blocks.{Items, at, bare}
 use Rattle.c_grammar.specs.Changes.{InHead, in_state}
-use Rattle.c_written.specs.Seen.{item_at, seen, seen_all}
+use Rattle.c_terminals.specs.Seen.{item_at, seen, seen_all}
 use Rattle.c_written.specs.Changes.{state_of}
 use Rattle.c_written.proofs.Changing.{gone_by, two_pushed}
 use Rattle.c_written.proofs.LoopHeads.{limited_some}

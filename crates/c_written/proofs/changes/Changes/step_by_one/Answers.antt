@@ -3,7 +3,7 @@ use Rattle.c_tokens.specs.declared.kind.Sign.TheVariants as sign
 use Rattle.c_grammar.specs.Terminal.{Mark}
 use Rattle.c_grammar.specs.Blocks.{at, bare}
 use Rattle.c_grammar.specs.Changes.{Onward, one_at}
-use Rattle.c_written.specs.Seen.{seen, seen_all}
+use Rattle.c_terminals.specs.Seen.{seen, seen_all}
 use Rattle.c_written.specs.Changes.{state_of, stepped}
 use Rattle.c_written.proofs.Changing.{gone_behind, gone_ok, gone_same, same_state}
 use Rattle.c_written.proofs.LoopHeads.{closes_is, stepped_closed, stepped_named}

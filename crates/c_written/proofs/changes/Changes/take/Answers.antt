@@ -2,7 +2,7 @@ use Rattle.std.proofs.Common.{◌∙◌, ◌∷◌, ◌++◌, [], ap, refl, sym,
 use Rattle.c_grammar.specs.Blocks.{Items, bare}
 use Rattle.c_grammar.specs.Changes.{Onward, behind_front, in_full, in_group, in_head, outside, token}
 use Rattle.c_written.specs.declared.changes.Where.{Where}
-use Rattle.c_written.specs.Seen.{seen, seen_all}
+use Rattle.c_terminals.specs.Seen.{seen, seen_all}
 use Rattle.c_written.specs.Changes.{seen_where, state_of}
 use Rattle.c_written.proofs.Changing.{gone_same}
 use Rattle.c_written.proofs.Passing.{changes_left, changes_line, changes_other, taken}

@@ -2,8 +2,8 @@ use Rattle.std.proofs.Common.{◌≡◌, ◌∙◌, ◌++◌, Some, None, sym, a
 use Rattle.c_grammar.specs.Blocks.{Items, bare}
 use Rattle.c_grammar.specs.Expressions.{Values}
 use Rattle.c_grammar.specs.Constants.{Defines, Misdefines, at_wanted, definition, expressed, wanted, worked}
-use Rattle.c_written.specs.Seen.{seen, seen_all, seen_terminal}
-use Rattle.c_written.specs.Held.{written_all}
+use Rattle.c_terminals.specs.Seen.{seen, seen_all, seen_terminal}
+use Rattle.c_terminals.specs.Held.{written_all}
 use Rattle.c_written.specs.Past.{past_of}
 use Rattle.c_written.specs.Values.{seen_values}
 use Rattle.c_written.specs.Work.{seen_operator}

@@ -2,8 +2,8 @@ use Rattle.std.proofs.Common.{◌≡◌, ◌∙◌, ◌++◌, Some, ap, rules}
 use Rattle.c_grammar.specs.Blocks.{Items, bare}
 use Rattle.c_grammar.specs.Expressions.{Number}
 use Rattle.c_grammar.specs.Constants.{at_wanted, wanted}
-use Rattle.c_written.specs.Seen.{seen, seen_all}
-use Rattle.c_written.specs.Held.{written_all}
+use Rattle.c_terminals.specs.Seen.{seen, seen_all}
+use Rattle.c_terminals.specs.Held.{written_all}
 use Rattle.c_written.specs.Past.{past_of}
 use Rattle.c_written.specs.Values.{seen_values}
 use Rattle.c_written.specs.Constants.{behind}

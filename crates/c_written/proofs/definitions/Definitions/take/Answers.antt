@@ -2,8 +2,8 @@ use Rattle.std.proofs.Common.{◌≡◌, ◌∙◌, ◌++◌, ◌∷◌, [], ap,
 use Rattle.c_grammar.specs.Blocks.{bare}
 use Rattle.c_grammar.specs.Constants.{depth_behind, undefined, with_global}
 use Rattle.c_written.specs.Definitions.{names_of}
-use Rattle.c_written.specs.Seen.{seen, seen_all}
-use Rattle.c_written.proofs.Lists.{written_one}
+use Rattle.c_terminals.specs.Seen.{seen, seen_all}
+use Rattle.c_terminals.proofs.Lists.{written_one}
 use Rattle.c_written.proofs.Undefining.{all_four, undefined_definition, undefined_inside, undefined_left, undefined_line, undefined_none}
 use Rattle.c_written.proofs.definitions.Definitions.take.Goals as goal
 use Rattle.c_written.proofs.definitions.Definitions.take.Goals.{then-self-le1+in_default, else-self-le1}

@@ -2,7 +2,7 @@ use Rattle.std.proofs.Common.{◌≡◌, ◌+◌, ◌++◌, drop, length}
 use Rattle.c_grammar.specs.Blocks.{bare}
 use Rattle.c_grammar.specs.Functions.{parameters_from}
 use Rattle.c_written.specs.Functions.{all_declared, all_parameters}
-use Rattle.c_written.specs.Seen.{seen_all}
+use Rattle.c_terminals.specs.Seen.{seen_all}
 use Rattle.c_written.proofs.functions.Source.parameters.Given as goal
 
 abbrev pub invariant-declared : goal.invariant-declared

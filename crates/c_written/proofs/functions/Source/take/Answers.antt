@@ -1,7 +1,7 @@
 use Rattle.std.proofs.Common.{◌∙◌, ap}
 use Rattle.std.proofs.lemmas.Result.{IfOk-weaker}
-use Rattle.c_written.specs.Seen.{seen, seen_all}
-use Rattle.c_written.proofs.Lists.{seen_more}
+use Rattle.c_terminals.specs.Seen.{seen, seen_all}
+use Rattle.c_terminals.proofs.Lists.{seen_more}
 use Rattle.c_written.proofs.SourceSteps.{body_to, head_to, head_to_body, outside_to}
 use Rattle.c_written.proofs.functions.Source.take.Goals as goal
 

@@ -2,9 +2,9 @@ use Rattle.std.proofs.Common.{◌∙◌, ◌++◌, ap, sym, arith}
 use Rattle.c_grammar.specs.Blocks.{Items, bare}
 use Rattle.c_grammar.specs.Initial.{Onward, begun, declared, initial, initialized, set_late}
 use Rattle.c_written.specs.Globals.{state_of}
-use Rattle.c_written.specs.Seen.{seen, seen_all}
+use Rattle.c_terminals.specs.Seen.{seen, seen_all}
 use Rattle.c_written.proofs.Declaring.{global_taken, globals_inside, globals_left, globals_line, globals_outside, outside_begun, outside_declared, outside_set}
-use Rattle.c_written.proofs.Lists.{written_one}
+use Rattle.c_terminals.proofs.Lists.{written_one}
 use Rattle.c_written.proofs.globals.Globals.take.Goals as goal
 
 pub returns-then-is_directive : goal.returns-then-is_directive

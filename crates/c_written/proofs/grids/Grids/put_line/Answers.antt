@@ -3,8 +3,8 @@ use Rattle.c_grammar.specs.Terminal.{Terminal}
 use Rattle.c_grammar.specs.Texts.{Item}
 use Rattle.directives.specs.Ahead.{seen_line}
 use Rattle.c_written.specs.Grids.{columns_of}
-use Rattle.c_written.specs.Held.{written_all}
-use Rattle.c_written.proofs.Owning.{held_more}
+use Rattle.c_terminals.specs.Held.{written_all}
+use Rattle.c_terminals.proofs.Owning.{held_more}
 use Rattle.c_written.proofs.Rows.{line_put}
 use Rattle.c_written.proofs.grids.Grids.put_line.Goals as goal
 

@@ -4,9 +4,9 @@ use Rattle.std.proofs.lemmas.Result.{on_ok_weaker}
 use Rattle.c_grammar.specs.Blocks.{Items}
 use Rattle.c_grammar.specs.Grids.{Onward, flat, flat_line, token_on}
 use Rattle.c_written.specs.Grids.{columns_of, open_of}
-use Rattle.c_written.specs.Held.{written_all}
+use Rattle.c_terminals.specs.Held.{written_all}
 use Rattle.c_written.specs.Indices.{ranges_of}
-use Rattle.c_written.specs.Seen.{seen, seen_all}
+use Rattle.c_terminals.specs.Seen.{seen, seen_all}
 use Rattle.c_written.proofs.Flattening.{flat_directive, flat_left, flat_token, put_goes}
 use Rattle.c_written.proofs.Targeting.{few_bare}
 use Rattle.c_written.proofs.grids.Grids.take.Goals as goal

@@ -5,7 +5,7 @@ use Rattle.c_grammar.specs.Changes.{is_mark}
 use Rattle.c_grammar.specs.Grids.{Range, product}
 use Rattle.c_written.specs.Indices.{ranges_of}
 use Rattle.c_written.specs.Ranges.{seen_range}
-use Rattle.c_written.specs.Seen.{seen}
+use Rattle.c_terminals.specs.Seen.{seen}
 use Rattle.c_written.proofs.Subscripts.{product_goes, sum_goes}
 use Rattle.c_written.proofs.indices.Sums.next.Goals as goal
 use Rattle.c_written.proofs.indices.Sums.next.Goals.{else-not-plus-via-then-not-plus+else-not-is_sign, else-not-plus-via-else-not-plus}

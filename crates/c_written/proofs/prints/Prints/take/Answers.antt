@@ -2,8 +2,8 @@ use Rattle.std.proofs.Common.{◌∙◌, ◌++◌, ◌∷◌, ap, sym, arith}
 use Rattle.c_grammar.specs.Terminal.{Terminal}
 use Rattle.c_grammar.specs.Texts.{Item}
 use Rattle.c_grammar.specs.Prints.{printed}
-use Rattle.c_written.specs.Seen.{seen_all}
-use Rattle.c_written.proofs.Lists.{written_one}
+use Rattle.c_terminals.specs.Seen.{seen_all}
+use Rattle.c_terminals.proofs.Lists.{written_one}
 use Rattle.c_written.proofs.Printing.{printed_line, printed_bracket, printed_left, printed_one, printed_more}
 use Rattle.c_written.proofs.prints.Prints.take.Goals as goal
 

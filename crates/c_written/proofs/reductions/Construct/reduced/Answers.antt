@@ -4,7 +4,7 @@ use Rattle.c_grammar.specs.Updates.{all_mapped, taken_at}
 use Rattle.std.proofs.Common.{List}
 use Rattle.c_written.specs.Forms.{all_placed}
 use Rattle.c_written.specs.Reductions.{seen_reduction}
-use Rattle.c_written.specs.Seen.{seen_all}
+use Rattle.c_terminals.specs.Seen.{seen_all}
 use Rattle.c_written.specs.Spots.{all_kinds}
 use Rattle.c_written.proofs.TakenClauses.{left_out}
 use Rattle.c_written.proofs.reductions.Construct.reduced.Goals as goal

@@ -1,7 +1,7 @@
 use Rattle.std.proofs.Common.{◌≡◌, ◌++◌, length}
 use Rattle.c_grammar.specs.Updates.{reduced}
 use Rattle.c_written.specs.Forms.{all_placed}
-use Rattle.c_written.specs.Seen.{seen_all}
+use Rattle.c_terminals.specs.Seen.{seen_all}
 use Rattle.c_written.specs.Spots.{all_kinds}
 use Rattle.c_written.proofs.reductions.Construct.reduced.Given as goal
 

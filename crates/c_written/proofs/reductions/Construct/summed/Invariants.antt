@@ -1,6 +1,6 @@
 use Rattle.std.proofs.Common.{◌≡◌, ◌++◌, length, map}
 use Rattle.c_grammar.specs.Updates.{summed}
-use Rattle.c_written.specs.Seen.{seen_all}
+use Rattle.c_terminals.specs.Seen.{seen_all}
 use Rattle.c_written.specs.Spots.{all_kinds}
 use Rattle.c_written.proofs.reductions.Construct.summed.Given as goal
 

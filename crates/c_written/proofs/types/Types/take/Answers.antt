@@ -2,8 +2,8 @@ use Rattle.std.proofs.Common.{◌∙◌, ◌++◌, ◌∷◌, ap, sym, arith}
 use Rattle.c_grammar.specs.Terminal.{Terminal}
 use Rattle.c_grammar.specs.Texts.{Item}
 use Rattle.c_grammar.specs.Blocks.{typed}
-use Rattle.c_written.specs.Seen.{seen_all}
-use Rattle.c_written.proofs.Lists.{written_one}
+use Rattle.c_terminals.specs.Seen.{seen_all}
+use Rattle.c_terminals.proofs.Lists.{written_one}
 use Rattle.c_written.proofs.Typing.{typed_line, typed_left, typed_one, typed_more}
 use Rattle.c_written.proofs.types.Types.take.Goals as goal
 

@@ -1,7 +1,7 @@
 use Rattle.std.proofs.Common.{◌∙◌, ◌++◌, ◌∷◌, List, ap, sym}
 use Rattle.c_grammar.specs.Updates.{Region, commuting}
-use Rattle.c_written.specs.Held.{written_all}
-use Rattle.c_written.specs.Seen.{seen, seen_all}
+use Rattle.c_terminals.specs.Held.{written_all}
+use Rattle.c_terminals.specs.Seen.{seen, seen_all}
 use Rattle.c_written.specs.Updates.{line_put, region_of}
 use Rattle.c_written.proofs.CallTexts.{put_front}
 use Rattle.c_written.proofs.CommutingLines.{line_goes}

@@ -1,7 +1,0 @@
-use Rattle.std.proofs.Common.{◌≡◌, take}
-use Rattle.c_written.specs.Seen.{seen_all}
-use Rattle.c_written.specs.Held.{written_all}
-use Rattle.c_written.proofs.held.owned.Given as goal
-
-abbrev pub invariant-tokens : goal.invariant-tokens
-invariant-tokens l = written_all l.written.items ≡ seen_all (take l.token-index l.tokens)
