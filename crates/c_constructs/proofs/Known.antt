@@ -1,5 +1,5 @@
 -- The fault of a name by what it means.
-use Rattle.std.proofs.Common.{◌≡◌, ℕ, Bool, List, ◌∷◌, Option, Some, None, refl, sym, subst}
+use Rattle.std.proofs.Common.{◌≡◌, ℕ, Bool, List, ◌∷◌, Option, Some, None, refl, sym, ap, subst, ◌∙◌}
 use Rattle.std.specs.Option.{option_map}
 use Rattle.base.specs.declared.fault.ReadCode.TheVariants.{Undeclared, BadBound}
 use Rattle.base.specs.declared.tree.ArrayId.{ArrayId}
@@ -9,6 +9,7 @@ use Rattle.c_grammar.specs.Rules.{sort_of}
 use Rattle.c_expressions.specs.declared.scope.Scope.{Scope}
 use Rattle.c_expressions.specs.declared.scope.Meaning.{Meaning}
 use Rattle.c_expressions.specs.declared.scope.Meaning.TheVariants as meaning
+use Rattle.c_expressions.specs.Means.{MeansArray}
 use Rattle.c_expressions.specs.Scopes.{context_of, sort_of_meaning}
 use Rattle.directives.specs.Names.{Uses}
 use Rattle.c_constructs.specs.Uses.{fault_in}
@@ -22,6 +23,14 @@ pub array_known : (s : Scope) (column : ℕ) (x : List ℕ) (m : Meaning) (a : A
 unfolding fault_in
 array_known s column x m a us h e =
     let k : Sorts s x (Some (meaning.Array a)) = subst (λ (n : Meaning). Sorts s x (Some n)) e h in rw (sym (k 0 0))
+    refl
+
+pub array_boxed : (s : Scope) (column : ℕ) (x : List ℕ) (m : Meaning) (a : ArrayId) (n : ScalarId) (us : Uses) →
+    Sorts s x (Some m) → m ≡ meaning.Boxed a n →
+    fault_in s ((column, OfArray x) ∷ us) ≡ fault_in s us
+unfolding fault_in
+array_boxed s column x m a n us h e =
+    let k : Sorts s x (Some (meaning.Boxed a n)) = subst (λ (n : Meaning). Sorts s x (Some n)) e h in rw (sym (k 0 0))
     refl
 
 pub array_scalar : (s : Scope) (column : ℕ) (x : List ℕ) (m : Meaning) (a : ScalarId) (b : Bool) (us : Uses) →
@@ -59,6 +68,14 @@ loop_scalar s column x m a b us h e =
     let k : Sorts s x (Some (meaning.Scalar a b)) = subst (λ (n : Meaning). Sorts s x (Some n)) e h in rw
     (sym (k 0 0)) refl
 
+pub loop_boxed : (s : Scope) (column : ℕ) (x : List ℕ) (m : Meaning) (a : ArrayId) (n : ScalarId) (us : Uses) →
+    Sorts s x (Some m) → m ≡ meaning.Boxed a n →
+    fault_in s ((column, OfLoop x) ∷ us) ≡ Some (record { code = BadBound; column = column })
+unfolding fault_in
+loop_boxed s column x m a n us h e =
+    let k : Sorts s x (Some (meaning.Boxed a n)) = subst (λ (n : Meaning). Sorts s x (Some n)) e h in rw (sym (k 0 0))
+    refl
+
 pub loop_array : (s : Scope) (column : ℕ) (x : List ℕ) (m : Meaning) (a : ArrayId) (us : Uses) →
     Sorts s x (Some m) → m ≡ meaning.Array a →
     fault_in s ((column, OfLoop x) ∷ us) ≡ Some (record { code = Undeclared; column = column })
@@ -71,3 +88,14 @@ pub loop_none : (s : Scope) (column : ℕ) (x : List ℕ) (us : Uses) → Sorts 
     fault_in s ((column, OfLoop x) ∷ us) ≡ Some (record { code = Undeclared; column = column })
 unfolding fault_in
 loop_none s column x us h = rw (sym (h 0 0)) refl
+
+-- ---- which array it is
+
+pub means_array : (o : Option Meaning) (m : Meaning) (a : ArrayId) → o ≡ Some m → m ≡ meaning.Array a → MeansArray o a
+means_array o m a e h =
+    subst (λ (u : Option Meaning). MeansArray u a) (sym (e ∙ ap (λ (n : Meaning). Some n) h)) refl
+
+pub means_boxed : (o : Option Meaning) (m : Meaning) (a : ArrayId) (n : ScalarId) → o ≡ Some m →
+    m ≡ meaning.Boxed a n → MeansArray o a
+means_boxed o m a n e h =
+    subst (λ (u : Option Meaning). MeansArray u a) (sym (e ∙ ap (λ (k : Meaning). Some k) h)) refl

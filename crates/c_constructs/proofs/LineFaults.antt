@@ -1,5 +1,6 @@
 -- The first rule that a line breaks by its names.
 use Rattle.std.proofs.Common.{◌≡◌, ℕ, suc, ◌+◌, ◌<◌, ◌≤◌, Bool, true, false, eqb, cond, List, [], ◌∷◌, map, Option, Some, None, refl, ap, ◌∙◌, arith, ne_eqb}
+use Rattle.std.specs.Prelude.{◌&&◌, not}
 use Rattle.std.proofs.lemmas.Bool.{eq-eqb}
 use Rattle.std.proofs.Math.Bool.{or-false}
 use Rattle.base.specs.declared.fault.ReadCode.{ReadCode as Code}
@@ -11,7 +12,7 @@ use Rattle.c_grammar.specs.Lines.{Use, use_of, with_use, first_of as next_of, us
 use Rattle.c_grammar.specs.Terminal.{Terminal, Line}
 use Rattle.c_grammar.specs.Texts.{Item}
 use Rattle.c_grammar.specs.Grammar.{Act, for}
-use Rattle.c_grammar.specs.Rules.{Context, Rule, breaks, misused, misused_at, name_of, sort_of}
+use Rattle.c_grammar.specs.Rules.{Context, Rule, breaks, misused, misused_at, name_of, names_boxes, sort_of}
 use Rattle.c_grammar.specs.Program.{first_rule, use_rules}
 use Rattle.c_grammar.specs.Source.{nth, column_of}
 use Rattle.directives.specs.declared.fault.LineFault.{LineFault}
@@ -85,27 +86,36 @@ two_more k = omega arith
 abbrev Tells : Context → List Lexeme → ℕ → Uses → Type 0
 Tells c ts low us = (code : Code) (k : ℕ) → low ≤ k → misused_at code c k (uses_of ts) ≡ misused_at code c k us
 
-line_test : (c : Context) (ts : List Lexeme) (act : Act) (n : Terminal) (k : ℕ) (code : Code) →
+-- the act is none where the names of boxed scalars stand
+abbrev pub IsOfLine : List Lexeme → Act → Type 0
+IsOfLine ts act = not (names_boxes (Line ts) act) ≡ true
+
+and_true : (a b : Bool) → b ≡ true → (a && b) ≡ a
+and_true true b e = e
+and_true false b e = refl
+
+line_test : (c : Context) (ts : List Lexeme) (act : Act) (n : Terminal) (k : ℕ) (code : Code) → IsOfLine ts act →
     at_line c ts act n (record { part = k + 2; code = code }) ≡ misused_at code c k (uses_of ts)
 unfolding breaks
-line_test c ts act n k code = rw (two_more k) refl
+line_test c ts act n k code o =
+    rw (two_more k) (and_true (misused_at code c k (uses_of ts)) (not (names_boxes (Line ts) act)) o)
 
 first_test : (c : Context) (ts : List Lexeme) (act : Act) (n : Terminal) (low : ℕ) (u : ℕ × Use) (us : Uses)
-    (code : Code) → Tells c ts low (u ∷ us) → low ≤ u.0 → Rises (u.0 + 1) us →
+    (code : Code) → IsOfLine ts act → Tells c ts low (u ∷ us) → low ≤ u.0 → Rises (u.0 + 1) us →
     at_line c ts act n (record { part = u.0 + 2; code = code }) ≡ misused code (sort_of c (name_of u.1)) u.1
-first_test c ts act n low u us code h l r = line_test c ts act n u.0 code ∙ h code u.0 l ∙ at_first code c u us r
+first_test c ts act n low u us code o h l r = line_test c ts act n u.0 code o ∙ h code u.0 l ∙ at_first code c u us r
 
 column_at : (i : Item Terminal) (k : ℕ) → column_of i (k + 2) ≡ nth i.columns k
 column_at i k = ap (column_of i) (two_more k)
 
 pub first_name : (c : Context) (ts : List Lexeme) (act : Act) (n : Terminal) (i : Item Terminal) (low : ℕ) (us : Uses) →
-    Rises low us → Tells c ts low us →
+    IsOfLine ts act → Rises low us → Tells c ts low us →
     placed_rule i (first_rule (at_line c ts act n) (use_rules us)) ≡ names_fault c (map (at_column i.columns) us)
-first_name c ts act n i low [] r h = refl
-first_name c ts act n i low (u ∷ us) r h =
+first_name c ts act n i low [] o r h = refl
+first_name c ts act n i low (u ∷ us) o r h =
     go (misused Undeclared (sort_of c (name_of u.1)) u.1) (misused BadBound (sort_of c (name_of u.1)) u.1)
-    (first_test c ts act n low u us Undeclared h r.0 r.1) (first_test c ts act n low u us BadBound h r.0 r.1)
-    (first_name c ts act n i (u.0 + 1) us r.1
+    (first_test c ts act n low u us Undeclared o h r.0 r.1) (first_test c ts act n low u us BadBound o h r.0 r.1)
+    (first_name c ts act n i (u.0 + 1) us o r.1
     (λ code k l. h code k (omega (arith, l, r.0)) ∙ past_first code c u us k l))
   where
     fault_at : Code → Option LineFault

@@ -13,7 +13,7 @@ use Rattle.c_grammar.specs.LineGrammar as line
 use Rattle.c_grammar.specs.Texts.{Item}
 use Rattle.c_grammar.specs.Terminal.{Terminal}
 use Rattle.c_grammar.specs.Source.{nth}
-use Rattle.c_expressions.specs.Means.{Items, Names, meaning_of}
+use Rattle.c_expressions.specs.Means.{Items, MeansArray, Names, meaning_of}
 use Rattle.directives.specs.declared.tree.Clause.{Clause}
 use Rattle.directives.specs.declared.tree.Clause.TheVariants.{Map, Depend, Motion, NoWait, Device, Amount, Schedule}
 use Rattle.directives.specs.declared.tree.Modifier.{Modifier}
@@ -211,7 +211,7 @@ section_placed : (names : Names) (i : Item Terminal) (is : Items) (k : ℕ) (s :
     (t : SectionText) → w ≡ section_of s → s.array.column ≡ nth i.columns k → IsSectionAt names i.line s t →
     IsSection names (i ∷ is) k w t
 section_placed names i is k s w t e c h = record {
-  array = ap (λ (v : line.Section). meaning_of names v.0) e ∙ h.array;
+  array = subst (λ (v : line.Section). MeansArray (meaning_of names v.0) t.array) (sym e) h.array;
   place = h.place ∙ ap (λ (n : ℕ). (let p : Place = record { line = i.line; column = n } in p)) c;
   bounds = subst (λ (v : line.Section). AreBounds names v.1 t.bounds) (sym e) h.bounds;
 }

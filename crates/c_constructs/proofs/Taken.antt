@@ -1,7 +1,7 @@
 -- The machine at a directive line outside a target.
 use Rattle.std.proofs.Common.{◌≡◌, ℕ, ◌<◌, ◌≤◌, Bool, true, false, List, ◌∷◌, map, Option, Some, None, refl, sym, ap, ◌∙◌, le-leb}
-use Rattle.std.specs.Prelude.{nat_le}
-use Rattle.std.proofs.lemmas.Bool.{lt-leb}
+use Rattle.std.specs.Prelude.{nat_le, not}
+use Rattle.std.proofs.lemmas.Bool.{and_from, lt-leb}
 use Rattle.base.specs.declared.fault.ReadCode.{ReadCode as Code}
 use Rattle.base.specs.declared.fault.ReadCode.TheVariants.{TooMany, DirectiveInTarget, DirectiveUnderIf}
 use Rattle.base.specs.declared.fault.TextFault.{TextFault}
@@ -10,7 +10,7 @@ use Rattle.c_grammar.specs.Lines.{line_fault, uses_of}
 use Rattle.c_grammar.specs.Terminal.{Terminal, Fixed, Mark, Name, Num, Line, Unknown, Unworked, End}
 use Rattle.c_grammar.specs.Texts.{Item, next_of}
 use Rattle.c_grammar.specs.Grammar.{for}
-use Rattle.c_grammar.specs.Rules.{Context, Rule, breaks, enter, inside, under_if, max_statements, source_grammar}
+use Rattle.c_grammar.specs.Rules.{Context, Rule, breaks, enter, inside, is_fault, names_boxes, under_if, max_statements, source_grammar}
 use Rattle.c_grammar.specs.Program.{Stack, first_broken, first_rule, fault_rules, use_rules, joined}
 use Rattle.c_grammar.specs.Source.{nth, fault_token}
 use Rattle.c_expressions.specs.declared.cursor.Cursor.{Cursor}
@@ -26,7 +26,7 @@ use Rattle.directives.specs.Names.{IsInSource, at_column, names_in}
 use Rattle.directives.specs.Spells.{at_columns, kinds_of, columns_of, line_answer}
 use Rattle.c_constructs.specs.Uses.{fault_in, names_fault}
 use Rattle.c_constructs.specs.Steps.{act_of}
-use Rattle.c_constructs.proofs.LineFaults.{at_line, placed_rule, all_rise, first_name}
+use Rattle.c_constructs.proofs.LineFaults.{IsOfLine, at_line, placed_rule, all_rise, first_name}
 use Rattle.c_grammar.proofs.SourceLaws.{same_itself}
 
 -- ---- the rules at the first byte
@@ -76,10 +76,15 @@ unfolding took run
 took_line c over s i is ts None e = rw e refl
 took_line c over s i is ts (Some r) e = rw e refl
 
+directive_act : (ts : List Lexeme) (over : Bool) → IsOfLine ts (act_of over)
+directive_act ts true = refl
+directive_act ts false = refl
+
 own_test : (c : Context) (ts : List Lexeme) (over : Bool) (n : Terminal) (f : ℕ × Code) → line_fault ts ≡ Some f →
     at_line c ts (act_of over) n (record { part = 1; code = f.1 }) ≡ true
 unfolding breaks
-own_test c ts over n f e = rw e (same_itself f.1)
+own_test c ts over n f e = and_from (is_fault f.1 (line_fault ts)) (not (names_boxes (Line ts) (act_of over)))
+    (rw e (same_itself f.1)) (directive_act ts over)
 
 own_rule : (c : Context) (over : Bool) (i : Item Terminal) (ts : List Lexeme) (n : Terminal) (f : ℕ × Code) →
     line_fault ts ≡ Some f →
@@ -101,7 +106,8 @@ name_rule : (c : Context) (over : Bool) (i : Item Terminal) (ts : List Lexeme) (
 name_rule c over i ts n e =
     ap (λ (o : Option (ℕ × Code)). placed_rule (put i (Line ts)) (first_rule (at_line c ts (act_of over) n)
     (joined (fault_rules o) (use_rules (uses_of ts))))) e
-    ∙ first_name c ts (act_of over) n (put i (Line ts)) 0 (uses_of ts) (all_rise ts) (λ code k l. refl)
+    ∙ first_name c ts (act_of over) n (put i (Line ts)) 0 (uses_of ts) (directive_act ts over) (all_rise ts)
+    (λ code k l. refl)
 
 -- ---- at the line
 

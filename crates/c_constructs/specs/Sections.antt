@@ -5,8 +5,7 @@ use Rattle.base.specs.declared.tree.MapText.{MapText}
 use Rattle.base.specs.declared.tree.UpdateText.{UpdateText}
 use Rattle.base.specs.declared.tree.DependText.{DependText}
 use Rattle.c_grammar.specs.LineGrammar as line
-use Rattle.c_expressions.specs.declared.scope.Meaning.TheVariants as meaning
-use Rattle.c_expressions.specs.Means.{Names, meaning_of}
+use Rattle.c_expressions.specs.Means.{Names, MeansArray, meaning_of}
 use Rattle.directives.specs.declared.tree.Section.{Section}
 use Rattle.directives.specs.declared.tree.Sections.{Sections}
 use Rattle.directives.specs.declared.tree.Clause.{Clause}
@@ -17,7 +16,7 @@ use Rattle.c_constructs.specs.Written.{AreBounds, Mapping, mapping_of, seen_upda
 
 -- what a section on that line means
 pub record IsSectionAt (names : Names) (line : ℕ) (s : Section) (t : SectionText) : Type 0 where
-  pub array : meaning_of names s.array.text.now ≡ Some (meaning.Array t.array)
+  pub array : MeansArray (meaning_of names s.array.text.now) t.array
   pub place : t.place ≡ record { line = line; column = s.array.column }
   pub bounds : AreBounds names (bounds_of s.bounds) t.bounds
 

@@ -29,7 +29,7 @@ use Rattle.c_grammar.specs.Lines.{is_target_kind}
 use Rattle.c_grammar.specs.LineGrammar as line
 use Rattle.c_grammar.specs.LineGrammar.{Literal, Variable, Product as Times', MapOf, DependOf, MotionOf, NoWait, DeviceOf, Always, Present, To, From, ToFrom, Alloc, Release, Delete, In, Out, InOut, ToDevice, FromDevice, LineText, clause, item, head, Maps, Depends}
 use Rattle.c_expressions.specs.declared.scope.Meaning.TheVariants as meaning
-use Rattle.c_expressions.specs.Means.{Items, Names, meaning_of, place_of}
+use Rattle.c_expressions.specs.Means.{Items, MeansArray, Names, meaning_of, place_of}
 
 -- ---- sections
 
@@ -59,7 +59,7 @@ place_on (i ∷ is) k = record { line = i.line; column = nth i.columns k }
 
 -- a section whose array's name is the line's token k
 pub record IsSection (names : Names) (is : Items) (k : ℕ) (s : line.Section) (t : SectionText) : Type 0 where
-  pub array : meaning_of names s.0 ≡ Some (meaning.Array t.array)
+  pub array : MeansArray (meaning_of names s.0) t.array
   pub place : t.place ≡ place_on is k
   pub bounds : AreBounds names s.1 t.bounds
 

@@ -3,7 +3,7 @@
 ghost use Rattle.std.specs.Prelude.{◌≡◌, ◌∷◌, IfOk, Some};
 ghost use Rattle.c_grammar.specs.Lines.{OfArray, OfLoop};
 ghost use Rattle.c_expressions.specs.declared.scope.Meaning.TheVariants as meaning;
-ghost use Rattle.c_expressions.specs.Means.{meaning_of};
+ghost use Rattle.c_expressions.specs.Means.{MeansArray, meaning_of};
 ghost use Rattle.c_expressions.specs.Scopes.{names_of};
 ghost use Rattle.directives.specs.Names.{Uses};
 ghost use Rattle.directives.specs.Reading.{Outcome};
@@ -14,12 +14,12 @@ use base::tree::ArrayId;
 use c_expressions::{Meaning, Scope};
 use directives::{DirectiveFault, LineFault, Name};
 
-/// The array of that name. A name that is none is `Undeclared`.
+/// The array of that name, or of the boxed scalar of that name. Any other name is `Undeclared`.
 #[tactic(auto, using(crate::proofs::Known::array_none))]
 pub fn array(scope: &Scope<'_>, name: &Name<'_>) -> Result<ArrayId, DirectiveFault>
     ensures told { (us : Uses) → Outcome result (fault_in scope.now
         ((name.now.column, OfArray name.now.text.now) ∷ us)) (fault_in scope.now us) }
-    ensures means { IfOk result (λ a. meaning_of (names_of scope.now) name.now.text.now ≡ Some (meaning.Array a)) }
+    ensures means { IfOk result (λ a. MeansArray (meaning_of (names_of scope.now) name.now.text.now) a) }
 {
     let undeclared = LineFault {
         code: ReadCode::Undeclared,
@@ -27,6 +27,7 @@ pub fn array(scope: &Scope<'_>, name: &Name<'_>) -> Result<ArrayId, DirectiveFau
     };
     match scope.meaning(name.text) {
         Some(Meaning::Array(array)) => Ok(array),
+        Some(Meaning::Boxed(array, _)) => Ok(array),
         Some(Meaning::Scalar(_, _)) => Err(DirectiveFault::Line(undeclared)),
         Some(Meaning::Loop(_)) => Err(DirectiveFault::Line(undeclared)),
         None => Err(DirectiveFault::Line(undeclared)),
@@ -44,12 +45,14 @@ pub fn loop_level(scope: &Scope<'_>, name: &Name<'_>) -> Result<u32, DirectiveFa
         code: ReadCode::Undeclared,
         column: name.column,
     };
+    let bad_bound = LineFault {
+        code: ReadCode::BadBound,
+        column: name.column,
+    };
     match scope.meaning(name.text) {
         Some(Meaning::Loop(level)) => Ok(level),
-        Some(Meaning::Scalar(_, _)) => Err(DirectiveFault::Line(LineFault {
-            code: ReadCode::BadBound,
-            column: name.column,
-        })),
+        Some(Meaning::Scalar(_, _)) => Err(DirectiveFault::Line(bad_bound)),
+        Some(Meaning::Boxed(_, _)) => Err(DirectiveFault::Line(bad_bound)),
         Some(Meaning::Array(_)) => Err(DirectiveFault::Line(undeclared)),
         None => Err(DirectiveFault::Line(undeclared)),
     }

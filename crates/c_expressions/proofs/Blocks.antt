@@ -10,7 +10,7 @@ use Rattle.c_expressions.specs.declared.scope.Frame.{Frame as GivenFrame}
 use Rattle.c_expressions.specs.declared.scope.Name.{Name}
 use Rattle.c_expressions.specs.declared.scope.Scope.{Scope}
 use Rattle.c_expressions.specs.Means.{Names}
-use Rattle.c_expressions.specs.Scopes.{context_of, frames_of, names_in, seen_frame, seen_name, fresh_name, sorted_name, sort_of_meaning}
+use Rattle.c_expressions.specs.Scopes.{box_numbers, context_of, frames_of, names_in, seen_frame, seen_name, fresh_name, sorted_name, sort_of_meaning}
 use Rattle.c_expressions.specs.Changes.{turn_name, turn_names}
 
 -- ---- the last of a list
@@ -59,6 +59,7 @@ or_other false b e = refl
 abbrev pub context_with : Scope → Option (List ℕ) → List Frame → Bool → Bool → ℕ → ℕ → Context
 context_with s fresh fs target choice d n = record {
   frames = fs;
+  boxes = box_numbers s;
   fresh = fresh;
   turn = None;
   target = target;

@@ -10,10 +10,10 @@ use Rattle.c_grammar.specs.Grammar.{Plain, for}
 use Rattle.c_grammar.specs.Rules.{Context, enter, rule_here}
 use Rattle.c_grammar.specs.Rules.{breaks}
 use Rattle.c_grammar.specs.Program.{Want, advance, place_code, first_broken}
-use Rattle.c_written.specs.declared.held.Written.{Written}
-use Rattle.c_written.specs.declared.held.WrittenTerminal.{WrittenTerminal}
-use Rattle.c_written.specs.declared.held.WrittenTerminal.TheVariants as held
-use Rattle.c_written.specs.Held.{seen_held, seen_written}
+use Rattle.c_terminals.specs.declared.held.Written.{Written}
+use Rattle.c_terminals.specs.declared.held.WrittenTerminal.{WrittenTerminal}
+use Rattle.c_terminals.specs.declared.held.WrittenTerminal.TheVariants as held
+use Rattle.c_terminals.specs.Held.{seen_held, seen_written}
 use Rattle.c_expressions.specs.declared.cursor.Cursor.{Cursor}
 use Rattle.c_expressions.specs.Means.{Items}
 use Rattle.c_expressions.specs.Cursor.{items, first_item, behind, more, item_or_end, end_item}

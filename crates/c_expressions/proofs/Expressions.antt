@@ -15,7 +15,7 @@ use Rattle.c_grammar.proofs.Goes.{level_high, fraction_high}
 use Rattle.c_expressions.specs.declared.cursor.Cursor.{Cursor}
 use Rattle.c_expressions.specs.declared.scope.Meaning.{Meaning}
 use Rattle.c_expressions.specs.declared.scope.Meaning.TheVariants as meaning
-use Rattle.c_expressions.specs.Means.{Items, Names, meaning_of, place_of, prefix_of, term_size, IsExpr, MeansScalar}
+use Rattle.c_expressions.specs.Means.{Items, Names, meaning_of, place_of, prefix_of, term_size, IsExpr, MeansBoxed, MeansScalar}
 use Rattle.c_expressions.specs.Cursor.{items, first_item, behind}
 use Rattle.c_expressions.specs.Reading.{terminals, kinds}
 use Rattle.c_expressions.specs.Signs.{Stops}
@@ -92,6 +92,38 @@ read_scalar names x id inside t t' e h b = record {
   stops = high (first_item t').terminal;
   fewer = behind_less t t' b;
   means = scalar_means (meaning_of names x) id inside h;
+}
+
+boxed_means : (names : Names) (x : List ℕ) (id : ArrayId) (n : ScalarId) (place : Place) (is : Items) (f : Expr) →
+    meaning_of names x ≡ Some (meaning.Boxed id n) → place ≡ place_of is → IsCellOf id place (expr.Number 0) f →
+    IsExpr names is (Named x) f
+boxed_means names x id n place is (expr.Cell' a at p g) h w c = (
+  subst (λ (o : Option Meaning). MeansBoxed o a) (sym h) (sym c.0),
+  c.1 ∙ w,
+  c.2,
+)
+boxed_means names x id n place is (expr.Number k) h w c = absurd c
+boxed_means names x id n place is (expr.Scalar k) h w c = absurd c
+boxed_means names x id n place is (expr.LoopName k) h w c = absurd c
+boxed_means names x id n place is (expr.Unary' u p g) h w c = absurd c
+boxed_means names x id n place is (expr.Binary' u p g q k) h w c = absurd c
+boxed_means names x id n place is (expr.And' p g q k) h w c = absurd c
+boxed_means names x id n place is (expr.Or' p g q k) h w c = absurd c
+boxed_means names x id n place is (expr.Shift' u p g k) h w c = absurd c
+boxed_means names x id n place is (expr.Divide' u p g k) h w c = absurd c
+
+pub read_boxed : (names : Names) (x : List ℕ) (id : ArrayId) (n : ScalarId) (place : Place) (t t' : Cursor) (f : Expr) →
+    (first_item t).terminal ≡ Name x → meaning_of names x ≡ Some (meaning.Boxed id n) → place ≡ place_of (items t) →
+    behind t ≡ items t' → IsCellOf id place (expr.Number 0) f → IsRead names 10 9 (items t) (items t') f
+read_boxed names x id n place t t' f e h w b c = record {
+  tree = Named x;
+  tokens = first_then (Name x) t t' e b;
+  rest = sym b;
+  ranked = tt;
+  tight = omega arith;
+  stops = high (first_item t').terminal;
+  fewer = behind_less t t' b;
+  means = boxed_means names x id n place (items t) f h w c;
 }
 
 pub read_loop : (names : Names) (x : List ℕ) (n : ℕ) (t t' : Cursor) → (first_item t).terminal ≡ Name x →

@@ -7,7 +7,7 @@ use Rattle.base.specs.declared.fault.ReadCode.TheVariants.{Unexpected, BadNumber
 use Rattle.c_grammar.specs.Terminal.{Terminal, Fixed, Mark, Name, Num, Line, Unknown, Unworked, End}
 use Rattle.c_grammar.specs.Texts.{Item}
 use Rattle.c_grammar.specs.Machine.{run as machine_run}
-use Rattle.c_grammar.specs.Grammar.{Act, Plain, DeclaresGlobal, DeclaresLocal, DeclaresLoop, MakesArray, MakesScalar, Length, Limit, Step, Starts, StartsIf, Prints, Assigned, StartsBlock, Otherwise, Reads, Opens, Closes, Alone, Over, Marks, Operand, OpensBracket, ClosesBracket, Divisor, Count, Inner}
+use Rattle.c_grammar.specs.Grammar.{Act, Plain, DeclaresGlobal, DeclaresLocal, DeclaresLoop, MakesArray, MakesScalar, Length, Limit, Step, Starts, StartsIf, Prints, Assigned, StartsBlock, Otherwise, Reads, Opens, Closes, Alone, Over, Marks, Boxes, Operand, OpensBracket, ClosesBracket, Divisor, Count, Inner}
 use Rattle.c_grammar.specs.Rules.{Context, enter, out, rule_here}
 use Rattle.c_grammar.specs.Rules.{breaks}
 use Rattle.c_grammar.specs.Program.{Stack, WantNum, advance, place_code, first_broken}
@@ -42,6 +42,7 @@ item_bad Closes c s i is h = absurd h
 item_bad Alone c s i is h = absurd h
 item_bad Over c s i is h = absurd h
 item_bad Marks c s i is h = absurd h
+item_bad Boxes c s i is h = absurd h
 item_bad Operand c s i is h = absurd h
 item_bad OpensBracket c s i is h = absurd h
 item_bad ClosesBracket c s i is h = absurd h

@@ -2,8 +2,8 @@
 use Rattle.std.specs.Prelude.{List, [], ◌∷◌, ◌++◌, map}
 use Rattle.c_grammar.specs.Terminal.{Terminal, End}
 use Rattle.c_grammar.specs.Texts.{Item}
-use Rattle.c_written.specs.declared.held.Written.{Written}
-use Rattle.c_written.specs.Held.{seen_written}
+use Rattle.c_terminals.specs.declared.held.Written.{Written}
+use Rattle.c_terminals.specs.Held.{seen_written}
 use Rattle.c_expressions.specs.declared.cursor.Cursor.{Cursor}
 use Rattle.c_expressions.specs.Means.{Items}
 

@@ -1,6 +1,7 @@
 -- Which expression a term means: names are resolved, and the place of a cell is that of its name.
 use Rattle.std.specs.Prelude.{◌≡◌, ℕ, ◌+◌, if◌then◌else◌, List, [], ◌∷◌, length, drop, Option, Some, None}
 use Rattle.std.specs.Str.{bytes_eq}
+use Rattle.base.specs.declared.tree.ArrayId.{ArrayId}
 use Rattle.base.specs.declared.tree.Place.{Place}
 use Rattle.base.specs.declared.tree.ScalarId.{ScalarId}
 use Rattle.base.specs.declared.tree.UnaryOp.{UnaryOp}
@@ -72,11 +73,24 @@ abbrev pub MeansScalar : Option Meaning → ScalarId → Type 0
 MeansScalar (Some (meaning.Scalar n inside)) id = n ≡ id
 MeansScalar _ id = ⊥
 
+-- the name is that of a boxed scalar, which is the cell of this array
+abbrev pub MeansBoxed : Option Meaning → ArrayId → Type 0
+MeansBoxed (Some (meaning.Boxed a n)) b = a ≡ b
+MeansBoxed _ b = ⊥
+
+-- the name of an array, or of a boxed scalar
+abbrev pub MeansArray : Option Meaning → ArrayId → Type 0
+MeansArray (Some (meaning.Array a)) b = a ≡ b
+MeansArray (Some (meaning.Boxed a n)) b = a ≡ b
+MeansArray _ b = ⊥
+
 -- the expression that a term means, where the term is spelled by the first of these tokens
 abbrev pub IsExpr : Names → Items → Term → Expr → Type 0
 IsExpr names is (Literal v) (expr.Number n) = v ≡ Some n
 IsExpr names is (Named x) (expr.Scalar id) = MeansScalar (meaning_of names x) id
 IsExpr names is (Named x) (expr.LoopName n) = meaning_of names x ≡ Some (meaning.Loop n)
+IsExpr names is (Named x) (expr.Cell' a at p e) =
+    MeansBoxed (meaning_of names x) a × (at ≡ place_of is) × (e ≡ expr.Number 0)
 IsExpr names is (Element x i) (expr.Cell' a at p e) =
     (meaning_of names x ≡ Some (meaning.Array a)) × (at ≡ place_of is) × IsExpr names (drop 2 is) i e
 IsExpr names is (Group t) e = IsExpr names (drop 1 is) t e

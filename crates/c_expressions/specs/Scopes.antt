@@ -1,8 +1,10 @@
 -- What the reader knows where a token stands.
-use Rattle.std.specs.Prelude.{ℕ, Bool, true, false, List, map, reverse, Option, Some, None}
+use Rattle.std.specs.Prelude.{ℕ, Bool, true, false, if◌then◌else◌, List, [], ◌∷◌, map, reverse, Option, Some, None}
 use Rattle.std.specs.Borrow.{Bor}
+use Rattle.std.specs.Str.{bytes_eq}
+use Rattle.base.specs.declared.tree.ArrayId.{ArrayId}
 use Rattle.std.specs.List.{flat_map}
-use Rattle.c_grammar.specs.Rules.{Context, Frame, Sort, AnArray, AScalar, ALoop, out, is_array, is_scalar}
+use Rattle.c_grammar.specs.Rules.{Context, Frame, Sort, AnArray, AScalar, ABoxed, ALoop, out, is_array, is_scalar}
 use Rattle.c_expressions.specs.declared.scope.Frame.{Frame as GivenFrame}
 use Rattle.c_expressions.specs.declared.scope.Meaning.{Meaning}
 use Rattle.c_expressions.specs.declared.scope.Meaning.TheVariants as meaning
@@ -14,6 +16,7 @@ use Rattle.c_expressions.specs.Means.{Names}
 abbrev pub sort_of_meaning : Meaning → Sort
 sort_of_meaning (meaning.Array a) = AnArray
 sort_of_meaning (meaning.Scalar n inside) = AScalar inside
+sort_of_meaning (meaning.Boxed a n) = ABoxed
 sort_of_meaning (meaning.Loop n) = ALoop
 
 abbrev pub is_array_meaning : Meaning → Bool
@@ -32,6 +35,24 @@ names_in f = map seen_name (reverse f.names.items)
 
 abbrev pub seen_frame : GivenFrame → Frame
 seen_frame f = record { names = map sorted_name (names_in f); inside = f.inside; choice = f.choice }
+
+-- the scalars that are boxed where they are declared outside of targets, with their arrays
+abbrev pub Boxes : Type 0
+Boxes = List (List ℕ × ArrayId)
+
+-- the array of that name, if it is one of these
+abbrev pub box_of : Boxes → List ℕ → Option ArrayId
+box_of [] x = None
+box_of (b ∷ bs) x = if bytes_eq b.0 x then Some b.1 else box_of bs x
+
+abbrev pub as_boxes : List (List ℕ × ℕ) → Boxes
+as_boxes bs = map (λ b. (b.0, record { 0 = b.1 })) bs
+
+abbrev pub box_numbers : Scope → List (List ℕ × ℕ)
+box_numbers s = map (λ b. (b.name.now, b.array.0)) s.boxes.items
+
+abbrev pub boxes_of : Scope → Boxes
+boxes_of s = as_boxes (box_numbers s)
 
 -- the open blocks, the innermost first
 abbrev pub frames_of : Scope → List Frame
@@ -56,6 +77,7 @@ abbrev pub context_of : Scope → ℕ → ℕ → Context
 context_of s depth tokens =
     record {
       frames = frames_of s;
+      boxes = box_numbers s;
       fresh = fresh_name s.fresh;
       turn = None;
       target = s.target;

@@ -8,9 +8,9 @@ use crate::line::words_misfit;
 use crate::terminal::{Terminal, terminal_of};
 use base::fault::{ReadCode, TextFault};
 use base::tree::Place;
+use c_terminals::Written;
 use c_tokens::Sign;
 use c_tokens::limits::MAX_NAME;
-use c_written::Written;
 use directives::{Word, is_directive, lower};
 
 #[derive(Clone, Copy)]
@@ -32,7 +32,7 @@ impl<'a, 'l> Cursor<'a, 'l> {
     ghost use Rattle.c_grammar.specs.Rules.{Context, out, rule_here, source_grammar};
     ghost use Rattle.c_grammar.specs.Program.{Stack, Want, WantNum, m, w};
     ghost use Rattle.c_grammar.specs.Source.{end_of};
-    ghost use Rattle.c_written.specs.Held.{seen_written};
+    ghost use Rattle.c_terminals.specs.Held.{seen_written};
     ghost use Rattle.c_expressions.specs.Means.{place_of};
     ghost use Rattle.c_expressions.specs.Seen.{HasColumns, seen};
     ghost use Rattle.directives.specs.Seen.{seen_word};

@@ -263,7 +263,7 @@ impl Scope<'_> {
 
     /// The name that stands next, or a cell of the array of that name.
     #[cycle(expr)]
-    #[tactic(auto, using(crate::proofs::Outcomes::on_from, crate::proofs::Terms::name_operand, crate::proofs::Terms::behind_cell, crate::proofs::Terms::behind_name, crate::proofs::Expressions::read_scalar, crate::proofs::Expressions::read_loop, crate::proofs::Expressions::read_cell))]
+    #[tactic(auto, using(crate::proofs::Outcomes::on_from, crate::proofs::Terms::name_operand, crate::proofs::Terms::behind_cell, crate::proofs::Terms::behind_name, crate::proofs::Expressions::read_scalar, crate::proofs::Expressions::read_boxed, crate::proofs::Expressions::read_loop, crate::proofs::Expressions::read_cell))]
     fn named(
         &self,
         tokens: &mut Cursor<'_, '_>,
@@ -287,6 +287,7 @@ impl Scope<'_> {
                 cell(self, array, place, index)
             }
             Meaning::Scalar(scalar, _) => Ok(Expr::Scalar(scalar)),
+            Meaning::Boxed(array, _) => cell(self, array, place, Expr::Number(0)),
             Meaning::Loop(level) => Ok(Expr::LoopName(level)),
         }
     }

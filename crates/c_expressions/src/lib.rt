@@ -17,6 +17,6 @@ pub use cursor::Cursor;
 pub use fault::ReadError;
 pub use line::{Misfit, words_misfit};
 pub use operators::{Fraction, Infix, Operator, infix_of};
-pub use scope::{Frame, Meaning, Name, Scope};
+pub use scope::{BoxedName, Frame, Meaning, Name, Scope};
 pub use spend::Tally;
 pub use terminal::Terminal;

@@ -11,8 +11,17 @@ pub enum Meaning {
     Array(ArrayId),
     /// Whether it is declared inside a target.
     Scalar(ScalarId, bool),
+    /// A scalar that is the one cell of the array.
+    Boxed(ArrayId, ScalarId),
     /// How many loops stand around the loop.
     Loop(u32),
+}
+
+/// A scalar of that name is the cell of the array, where it is declared outside of targets.
+#[derive(Clone, Copy)]
+pub struct BoxedName<'a> {
+    pub name: &'a [u8],
+    pub array: ArrayId,
 }
 
 /// A name that is declared.
@@ -38,6 +47,8 @@ pub struct Scope<'a> {
     pub alloc: Global,
     /// The open blocks, the outermost first: that of the globals.
     pub frames: Vec<Frame<'a>>,
+    /// The scalars that are boxed where they are declared.
+    pub boxes: Vec<BoxedName<'a>>,
     /// The name that is being declared. It is not visible yet.
     pub fresh: Option<&'a [u8]>,
     /// The next block is that of a target.
@@ -83,7 +94,24 @@ impl<'a> Scope<'a> {
     ghost use Rattle.std.specs.Option.{option_map};
     ghost use Rattle.c_grammar.specs.Rules.{sort_of};
     ghost use Rattle.c_expressions.specs.Means.{meaning_of};
-    ghost use Rattle.c_expressions.specs.Scopes.{context_of, names_of, sort_of_meaning, is_array_meaning, is_operand};
+    ghost use Rattle.std.specs.Prelude.{is_some};
+    ghost use Rattle.c_grammar.specs.Rules.{is_boxes_name};
+    ghost use Rattle.c_expressions.specs.Scopes.{box_numbers, box_of, boxes_of, context_of, names_of, sort_of_meaning, is_array_meaning, is_operand};
+
+    /// The array whose cell a scalar of that name is, if it is boxed where it is declared.
+    pub fn box_of(&self, name: &[u8]) -> Option<ArrayId>
+        ensures array { result ≡ box_of (boxes_of self.now) name.now }
+        ensures named { is_some result ≡ is_boxes_name (box_numbers self.now) name.now }
+    {
+        let mut rest = self.boxes.as_slice();
+        'boxes: while let [boxed, behind @ ..] = rest {
+            rest = behind;
+            if boxed.name == name {
+                return Some(boxed.array);
+            }
+        }
+        None
+    }
 
     /// What a visible name means.
     #[tactic(auto, using(crate::proofs::Contexts::innermost_is, crate::proofs::Contexts::innermost_not, crate::proofs::Contexts::sort_is))]

@@ -180,7 +180,7 @@ impl Scope<'_> {
         let meaning = self.meaning(name)?;
         let is_array = match meaning {
             Meaning::Array(_) => true,
-            Meaning::Scalar(_, _) | Meaning::Loop(_) => false,
+            Meaning::Scalar(_, _) | Meaning::Boxed(_, _) | Meaning::Loop(_) => false,
         };
         if is_array == is_cell {
             Some(meaning)

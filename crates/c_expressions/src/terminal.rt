@@ -1,11 +1,11 @@
 //! A token as the grammar sees it.
 
 ghost use Rattle.std.specs.Prelude.{◌≡◌};
-ghost use Rattle.c_written.specs.Held.{seen_written};
+ghost use Rattle.c_terminals.specs.Held.{seen_written};
 ghost use Rattle.c_expressions.specs.Seen.{HasColumns, seen};
 
+use c_terminals::{Written, WrittenTerminal};
 use c_tokens::Sign;
-use c_written::{Written, WrittenTerminal};
 use directives::{LineTokens, Word};
 
 #[derive(Clone, Copy)]

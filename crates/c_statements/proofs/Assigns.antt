@@ -13,7 +13,7 @@ use Rattle.c_grammar.specs.LineRules.{max_name}
 use Rattle.c_grammar.specs.Terminal.{Terminal, Mark, Name, same}
 use Rattle.c_grammar.specs.Texts.{Item, next_of}
 use Rattle.c_grammar.specs.Grammar.{Assigned, for}
-use Rattle.c_grammar.specs.Rules.{Context, Sort, AnArray, AScalar, ALoop, breaks, enter, begun, out, inside, sort_of, rule_here, max_statements, source_grammar}
+use Rattle.c_grammar.specs.Rules.{Context, Sort, AnArray, AScalar, ABoxed, ALoop, breaks, enter, begun, out, inside, sort_of, rule_here, max_statements, source_grammar}
 use Rattle.c_grammar.specs.Program.{Stack, AfterName, Value, Atom, Tail, m, advance, place_code, first_broken}
 use Rattle.c_expressions.specs.declared.cursor.Cursor.{Cursor}
 use Rattle.c_expressions.specs.declared.scope.Meaning.{Meaning}
@@ -50,6 +50,13 @@ item_assigned c s x i is (Some ALoop) false true over w e f g h k = rw (sym e, s
 item_assigned c s x i is (Some ALoop) true false over w e f g h k = rw (sym e, sym f, sym g) refl
 item_assigned c s x i is (Some ALoop) false false true w e f g h k = rw (sym e, sym f, sym g, sym h) refl
 item_assigned c s x i is (Some ALoop) false false false w e f g h k = rw (sym e, sym f, sym g, sym h) refl
+item_assigned c s x i is (Some ABoxed) true true over w e f g h k = rw (sym e, sym f, sym g) refl
+item_assigned c s x i is (Some ABoxed) false true over w e f g h k = rw (sym e, sym f, sym g) refl
+item_assigned c s x i is (Some ABoxed) true false true w e f g h k = rw (sym e, sym f, sym g, sym h) refl
+item_assigned c s x i is (Some ABoxed) false false true w e f g h k = rw (sym e, sym f, sym g, sym h) refl
+item_assigned c s x i is (Some ABoxed) false false false w e f g h k = rw (sym e, sym f, sym g, sym h) refl
+item_assigned c s x i is (Some ABoxed) true false false false e f g h k = rw (sym e, sym f, sym g, sym h, sym k) refl
+item_assigned c s x i is (Some ABoxed) true false false true e f g h k = rw (sym e, sym f, sym g, sym h, sym k) refl
 item_assigned c s x i is (Some (AScalar j)) true true over w e f g h k = rw (sym e, sym f, sym g) refl
 item_assigned c s x i is (Some (AScalar j)) false true over w e f g h k = rw (sym e, sym f, sym g) refl
 item_assigned c s x i is (Some (AScalar j)) true false true w e f g h k = rw (sym e, sym f, sym g, sym h) refl
@@ -107,6 +114,8 @@ kept_of (Some (meaning.Array a)) false q over w e = refl
 kept_of (Some (meaning.Loop n)) p true over w e = absurd cc
 kept_of (Some (meaning.Loop n)) true false over w e = absurd cc
 kept_of (Some (meaning.Loop n)) false false over w e = (refl, refl)
+kept_of (Some (meaning.Boxed a n)) p true over w e = absurd cc
+kept_of (Some (meaning.Boxed a n)) p false over w e = refl
 kept_of (Some (meaning.Scalar n i)) p true over w e = absurd cc
 kept_of (Some (meaning.Scalar n i)) p false over w e = refl
 
@@ -119,6 +128,9 @@ within_limits (Some ALoop) p true over w e = absurd cc
 within_limits (Some ALoop) true false over w e = absurd cc
 within_limits (Some ALoop) false false true w e = absurd cc
 within_limits (Some ALoop) false false false w e = refl
+within_limits (Some ABoxed) p true over w e = absurd cc
+within_limits (Some ABoxed) p false true w e = absurd cc
+within_limits (Some ABoxed) p false false w e = refl
 within_limits (Some (AScalar i)) p true over w e = absurd cc
 within_limits (Some (AScalar i)) p false true w e = absurd cc
 within_limits (Some (AScalar i)) p false false w e = refl

@@ -60,7 +60,7 @@ pub block_back : (s0 s1 s2 : Scope) → context_of s1 0 0 ≡ opened (turned Non
     names_of s0 → IsLeft s1 s2 → IsBack s0 s2
 block_back s0 s1 s2 e h p =
     let q : IsBack (counted s0) s2 = back_now (counted s0) s1 s2 None e h p in
-    record { frames = q.frames; names = q.names; target = q.target; waiting = q.waiting; scalars = q.scalars }
+    record { frames = q.frames; names = q.names; target = q.target; waiting = q.waiting; scalars = q.scalars; boxes = q.boxes }
 
 pub block_scope : (s0 s1 s2 : Scope) → context_of s1 0 0 ≡ opened (turned None (counted s0)) → names_of s1 ≡
     names_of s0 → IsLeft s1 s2 → IsSameBlock s0 s2
@@ -101,13 +101,13 @@ loop_tree s0 s1 s2 s3 s4 x level b u u' i2 i3 after all g e1 e2 e3 l f d g1 g2 r
 pub choice_scope : (s0 s1 s2 : Scope) → s1 ≡ choosing s0 → IsSameBlock s1 s2 → s2.choice ≡ false → IsSameBlock s0 s2
 choice_scope s0 s1 s2 e p w =
     let q : IsSameBlock (choosing s0) s2 = subst (λ (s : Scope). IsSameBlock s s2) e p in
-    record { frames = q.frames; names = q.names; inside = q.inside; choice = q.choice; target = q.target; waiting = λ h. w; scalars = q.scalars }
+    record { frames = q.frames; names = q.names; inside = q.inside; choice = q.choice; target = q.target; waiting = λ h. w; scalars = q.scalars; boxes = q.boxes }
 
 pub else_scope : (s0 s2 s3 s4 : Scope) → IsSameBlock s0 s2 → s3 ≡ behind_else s2 → IsSameBlock s3 s4 → s4.choice ≡ false → IsSameBlock s0 s4
 else_scope s0 s2 s3 s4 p e r w =
     let q : IsSameBlock (behind_else s2) s4 = subst (λ (s : Scope). IsSameBlock s s4) e r in
     same_again s0 s2 s4 p
-    (record { frames = q.frames; names = q.names; inside = q.inside; choice = q.choice; target = q.target; waiting = λ h. w; scalars = q.scalars })
+    (record { frames = q.frames; names = q.names; inside = q.inside; choice = q.choice; target = q.target; waiting = λ h. w; scalars = q.scalars; boxes = q.boxes })
 
 choosing_names : (s0 s1 : Scope) (before after : Items) (e : Expr) → s1 ≡ choosing s0 →
     IsConditionRead (names_of s1) before after e →

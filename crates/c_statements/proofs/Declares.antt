@@ -6,22 +6,26 @@ use Rattle.std.specs.Borrow.{Bor}
 use Rattle.std.proofs.lemmas.Bool.Decides.{nat_tests}
 use Rattle.c_tokens.specs.declared.kind.Sign.TheVariants as sign
 use Rattle.base.specs.declared.fault.ReadCode.TheVariants.{Unexpected, AlreadyDeclared, TooMany}
+use Rattle.base.specs.declared.tree.ArrayId.{ArrayId}
+use Rattle.base.specs.declared.tree.ScalarId.{ScalarId}
 use Rattle.c_grammar.specs.LineRules.{max_name}
 use Rattle.c_grammar.specs.Terminal.{Terminal, Fixed, Mark, Name, Num, Line, Unknown, Unworked, End}
 use Rattle.c_grammar.specs.Texts.{Item}
 use Rattle.c_grammar.specs.Machine.{run as machine_run}
 use Rattle.c_grammar.specs.Grammar.{DeclaresLocal}
-use Rattle.c_grammar.specs.Rules.{Context, AScalar, breaks, enter, out, declared, inside, is_visible, sort_of, max_scalars, rule_here}
+use Rattle.c_grammar.specs.Rules.{Context, Sort, breaks, enter, out, declared, inside, scalar_sort, is_visible, sort_of, max_scalars, rule_here}
 use Rattle.c_grammar.specs.Program.{Stack, WantName, advance, place_code, first_broken}
 use Rattle.c_expressions.specs.declared.cursor.Cursor.{Cursor}
 use Rattle.c_expressions.specs.declared.scope.Scope.{Scope}
 use Rattle.c_expressions.specs.Means.{Items}
 use Rattle.c_expressions.specs.Cursor.{items, first_item, behind}
 use Rattle.c_expressions.specs.Reading.{run, fault_at, misfit_at}
-use Rattle.c_expressions.specs.Scopes.{context_of, fresh_name}
+use Rattle.c_expressions.specs.Scopes.{context_of, fresh_name, sort_of_meaning}
 use Rattle.c_expressions.proofs.Going.{put, put_is, stop}
 use Rattle.c_statements.specs.Bodies.{naming}
-use Rattle.c_statements.specs.Simple.{ending}
+use Rattle.c_statements.specs.Simple.{ending, env_of}
+use Rattle.c_statements.specs.Statements.{box_for, scalar_or_box}
+use Rattle.c_statements.proofs.Boxing.{boxed_sort}
 use Rattle.c_statements.proofs.Heads.{NoName}
 
 -- ---- the name
@@ -103,24 +107,30 @@ stop_local c s t h = stop c (WantName DeclaresLocal ∷ s) (first_item t) (behin
 -- ---- the semicolon
 
 abbrev scalar_more : Context → Context
-scalar_more c = declared (AScalar (inside c)) (record (out c) { scalars = c.scalars + 1 })
+scalar_more c = declared (scalar_sort c) (record (out c) { scalars = c.scalars + 1 })
 
 item_declared : (c : Context) (s : Stack) (i : Item Terminal) (is : Items) →
     run c (ending true ∷ s) (put i (Mark sign.Semicolon) ∷ is) ≡ run (scalar_more c) s is
 unfolding run machine_run advance first_broken breaks enter
 item_declared c s i is = refl
 
-pub go_declared : (old new : Scope) (x : List ℕ) (s : Stack) (t t' : Cursor) → (first_item t).terminal ≡
-    Mark sign.Semicolon → behind t ≡ items t' →
-    context_of new 0 0 ≡ declared (AScalar (inside (context_of old 0 0)))
-    (record (context_of old 0 0) { fresh = Some x; scalars = old.scalars + 1 }) →
+abbrev declared_as : Scope → Sort → Option (List ℕ) → Context
+declared_as sc u o = declared u (record (context_of sc 0 0) { fresh = o; scalars = sc.scalars + 1 })
+
+pub go_declared : (old new : Scope) (x : List ℕ) (id : ScalarId) (o : Option ArrayId) (s : Stack) (t t' : Cursor) →
+    (first_item t).terminal ≡ Mark sign.Semicolon → behind t ≡ items t' → o ≡ box_for x (env_of old) →
+    context_of new 0 0 ≡ declared_as old (sort_of_meaning (scalar_or_box id (inside (context_of old 0 0)) o)) (Some x) →
     fresh_name old.fresh ≡ Some x →
     run (context_of old 0 0) (ending true ∷ s) (items t) ≡ run (context_of new 0 0) s (items t')
-go_declared old new x s t t' e b k f =
+go_declared old new x id o s t t' e b g k f =
+    let sort : scalar_sort (context_of old 0 0) ≡ sort_of_meaning (scalar_or_box id (inside (context_of old 0 0)) o) =
+    boxed_sort old x id f
+    ∙ ap (λ (u : Option ArrayId). sort_of_meaning (scalar_or_box id (inside (context_of old 0 0)) u)) (sym g) in
     ap (λ (i : Item Terminal). run (context_of old 0 0) (ending true ∷ s) (i ∷ behind t))
     (put_is (first_item t) (Mark sign.Semicolon) e) ∙ item_declared (context_of old 0 0) s (first_item t)
     (behind t)
     ∙ ap (run (scalar_more (context_of old 0 0)) s) b
-    ∙ ap (λ (o : Option (List ℕ)). run (declared (AScalar (inside (context_of old 0 0)))
-    (record (context_of old 0 0) { fresh = o; scalars = old.scalars + 1 })) s (items t')) f
+    ∙ ap (λ (u : Sort). run (declared_as old u (fresh_name old.fresh)) s (items t')) sort
+    ∙ ap (λ (u : Option (List ℕ)). run (declared_as old (sort_of_meaning (scalar_or_box id (inside (context_of old 0 0)) o)) u) s
+    (items t')) f
     ∙ ap (λ (c : Context). run c s (items t')) (sym k)

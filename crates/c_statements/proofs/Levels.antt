@@ -40,6 +40,7 @@ same_again a b d p q = record {
   target = λ h. q.target (p.target h);
   waiting = λ h. q.waiting (p.waiting h);
   scalars = omega (arith, p.scalars, q.scalars);
+  boxes = q.boxes ∙ p.boxes;
 }
 
 pub same_none : (s : Scope) → IsSameBlock s s
@@ -50,13 +51,13 @@ same_none s = record {
   choice = refl;
   target = λ h. h;
   waiting = λ h. h;
-  scalars = omega
-      arith;
+  scalars = omega arith;
+  boxes = refl;
 }
 
 pub same_counted : (old new : Scope) → new ≡ counted old → IsSameBlock old new
 same_counted old new e = subst (λ (s : Scope). IsSameBlock old s) (sym e)
-    (record { frames = refl; names = refl; inside = refl; choice = refl; target = λ h. h; waiting = λ h. h; scalars = omega arith })
+    (record { frames = refl; names = refl; inside = refl; choice = refl; target = λ h. h; waiting = λ h. h; scalars = omega arith; boxes = refl })
 
 pub same_counted_twice : (old new : Scope) → new ≡ counted (counted old) → IsSameBlock old new
 same_counted_twice old new e =
@@ -64,7 +65,7 @@ same_counted_twice old new e =
 
 pub same_limit : (old new : Scope) (n : ℕ) → new ≡ with_limit old n → IsSameBlock old new
 same_limit old new n e = subst (λ (s : Scope). IsSameBlock old s) (sym e)
-    (record { frames = refl; names = refl; inside = refl; choice = refl; target = λ h. h; waiting = λ h. h; scalars = omega arith })
+    (record { frames = refl; names = refl; inside = refl; choice = refl; target = λ h. h; waiting = λ h. h; scalars = omega arith; boxes = refl })
 
 abbrev below_items : Vec GivenFrame Global → Names
 below_items v = flat_map names_in (drop 1 (reverse v.items))
@@ -78,6 +79,7 @@ same_named old new p = record {
   target = λ h. ap (λ (c : Context). c.target) p.context ∙ h;
   waiting = λ h. ap (λ (c : Context). c.choice) p.context ∙ h;
   scalars = omega (arith, ap (λ (c : Context). c.scalars) p.context);
+  boxes = ap (λ (c : Context). c.boxes) p.context;
 }
 
 -- a name more
@@ -93,4 +95,5 @@ same_declared old new x s m n k e h = record {
   target = λ g. ap (λ (c : Context). c.target) e ∙ g;
   waiting = λ g. ap (λ (c : Context). c.choice) e ∙ g;
   scalars = omega (arith, k, ap (λ (c : Context). c.scalars) e);
+  boxes = ap (λ (c : Context). c.boxes) e;
 }

@@ -8,6 +8,7 @@ pub mod Heads
 pub mod Braces
 pub mod Directives
 pub mod Conditions
+pub mod Boxing
 pub mod Declares
 pub mod Levels
 pub mod Locals

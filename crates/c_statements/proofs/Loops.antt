@@ -16,6 +16,7 @@ loops_append [] b = omega arith
 loops_append ((x, meaning.Loop n) ∷ a) b = omega (arith, loops_append a b)
 loops_append ((x, meaning.Array n) ∷ a) b = loops_append a b
 loops_append ((x, meaning.Scalar n i) ∷ a) b = loops_append a b
+loops_append ((x, meaning.Boxed n i) ∷ a) b = loops_append a b
 
 -- ---- in a block
 
@@ -37,6 +38,7 @@ is_none : (x : List ℕ) (m : Meaning) (ns : Names) → NoLoop m → loops_in ((
 is_none x (meaning.Loop n) ns h = absurd h
 is_none x (meaning.Array a) ns h = refl
 is_none x (meaning.Scalar n i) ns h = refl
+is_none x (meaning.Boxed a n) ns h = refl
 
 pub loop_here : (xs : List Name) (k n : ℕ) (d : Name) → k < length xs → d ≡ get_or xs k d → d.meaning ≡ meaning.Loop n →
     loops_until xs (k + 1) ≡ loops_until xs k + 1

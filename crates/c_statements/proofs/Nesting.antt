@@ -10,7 +10,7 @@ use Rattle.c_expressions.specs.declared.scope.Meaning.TheVariants as meaning
 use Rattle.c_expressions.specs.declared.scope.Scope.{Scope}
 use Rattle.c_expressions.specs.Means.{Names}
 use Rattle.c_expressions.specs.Changes.{turn_name, turn_names}
-use Rattle.c_expressions.specs.Scopes.{context_of, frames_of, names_in, names_of}
+use Rattle.c_expressions.specs.Scopes.{as_boxes, boxes_of, context_of, frames_of, names_in, names_of}
 use Rattle.c_statements.specs.Bodies.{IsSameBlock, IsLeft, inner_env}
 use Rattle.c_statements.specs.Blocks.{turned}
 use Rattle.c_statements.specs.Loops.{IsNamedMore}
@@ -26,6 +26,7 @@ pub record IsBack (old new : Scope) : Type 0 where
   pub target : new.target ≡ false
   pub waiting : new.choice ≡ false
   pub scalars : old.scalars ≤ new.scalars
+  pub boxes : (context_of new 0 0).boxes ≡ (context_of old 0 0).boxes
 
 pub back_same : (a b : Scope) → IsBack a b → IsSameBlock a b
 back_same a b p = record {
@@ -37,6 +38,7 @@ back_same a b p = record {
   target = λ h. p.target;
   waiting = λ h. p.waiting;
   scalars = p.scalars;
+  boxes = p.boxes;
 }
 
 turn_size : (t : Option Turn) → length (with_name (turn_name t) ALoop []) ≡ length (turn_names t)
@@ -54,15 +56,17 @@ back_now a b d t e h p = record {
   target = p.target (ap (λ (c : Context). c.target) e);
   waiting = p.waiting (ap (λ (c : Context). c.choice) e);
   scalars = omega (arith, p.scalars, ap (λ (c : Context). c.scalars) e);
+  boxes = p.boxes ∙ ap (λ (c : Context). c.boxes) e;
 }
 
 -- what stands before and behind it
 pub env_back : (a d : Scope) (n : ℕ) → IsBack a d → d.next_scalar ≡ a.next_scalar + n → env_of d ≡ more n (env_of a)
-env_back a d n p e = env_is d (more n (env_of a)) p.names e refl (ap (λ (fs : List Frame). (top fs).inside) p.frames)
+env_back a d n p e = env_is d (more n (env_of a)) p.names (ap as_boxes p.boxes) e refl (ap (λ (fs : List Frame). (top fs).inside) p.frames)
 
 pub env_inner : (a b : Scope) (t : Option Turn) → context_of b 0 0 ≡ opened (turned (turn_name t) a) →
     names_of b ≡ turn_names t ++ names_of a → b.next_scalar ≡ a.next_scalar → env_of b ≡ inner_env t a
-env_inner a b t e h n = env_is b (inner_env t a) h n refl (ap inside e)
+env_inner a b t e h n =
+    env_is b (inner_env t a) h (ap (λ (c : Context). as_boxes c.boxes) e) n refl (ap inside e)
 
 or_no : (a b : Bool) → b ≡ false → (a || b) ≡ a
 or_no true b e = refl
@@ -81,6 +85,7 @@ inner_turn a t e h =
     (or_no (inside (context_of a 0 0)) a.target e)
     ∙ ap (λ (l : ℕ). (let v : Env = record {
       names = (t.name.now, meaning.Loop l) ∷ names_of a;
+      boxes = boxes_of a;
       scalars =
           a.next_scalar;
       loops = n + 1;
@@ -93,4 +98,6 @@ abbrev names_in_all : Vec GivenFrame Global → Names
 names_in_all v = flat_map names_in (reverse v.items)
 
 pub env_named : (a b : Scope) → IsNamedMore a b → env_of b ≡ env_of a
-env_named a b p = env_is b (env_of a) (ap names_in_all p.frames) p.next refl (ap inside p.context)
+env_named a b p =
+    env_is b (env_of a) (ap names_in_all p.frames) (ap (λ (c : Context). as_boxes c.boxes) p.context) p.next refl
+    (ap inside p.context)

@@ -10,7 +10,7 @@ use Rattle.c_grammar.specs.Terminal.{Terminal, Fixed, Mark, same}
 use Rattle.c_grammar.specs.Texts.{Item}
 use Rattle.c_grammar.specs.Machine.{run as machine_run}
 use Rattle.c_grammar.specs.Grammar.{Input, Value as ValueOf, source}
-use Rattle.c_grammar.specs.Rules.{Context, breaks, enter, inside, out, rule_here}
+use Rattle.c_grammar.specs.Rules.{Context, breaks, enter, inside, out, rule_here, sort_of}
 use Rattle.c_grammar.specs.Program.{Stack, Value, Atom, Tail, m, advance, place_code, first_broken}
 use Rattle.c_expressions.specs.declared.cursor.Cursor.{Cursor}
 use Rattle.c_expressions.specs.declared.scope.Scope.{Scope}
@@ -82,7 +82,7 @@ not_read c s t e = same_run c (Value ∷ s) (Atom ∷ Tail 9 ∷ s) (first_item 
 item_ends : (sc : Scope) (k : ℕ) (b : Bool) (s : Stack) (i : Item Terminal) (is : Items) →
     run (context_of sc 0 k) (ending b ∷ s) (put i (Mark sign.Semicolon) ∷ is) ≡
     run (context_of sc 0 0) (ending b ∷ s) (put i (Mark sign.Semicolon) ∷ is)
-unfolding run machine_run advance first_broken breaks enter
+unfolding run machine_run advance first_broken breaks enter sort_of
 item_ends sc k true s i is = refl
 item_ends sc k false s i is = refl
 

@@ -11,7 +11,7 @@ use Rattle.c_expressions.specs.declared.scope.Scope.{Scope}
 use Rattle.c_expressions.specs.Changes.{turn_names, names_below}
 use Rattle.c_expressions.specs.Means.{Items}
 use Rattle.c_expressions.specs.Reading.{terminals, kinds}
-use Rattle.c_expressions.specs.Scopes.{context_of, frames_of, names_of}
+use Rattle.c_expressions.specs.Scopes.{boxes_of, context_of, frames_of, names_of}
 use Rattle.c_statements.specs.Statements.{Env, declared_in, more, AreStatements}
 use Rattle.c_statements.specs.Simple.{loops_in}
 
@@ -28,6 +28,7 @@ pub record IsSameBlock (old new : Scope) : Type 0 where
   pub target : old.target ≡ false → new.target ≡ false
   pub waiting : old.choice ≡ false → new.choice ≡ false
   pub scalars : old.scalars ≤ new.scalars
+  pub boxes : (context_of new 0 0).boxes ≡ (context_of old 0 0).boxes
 
 -- the innermost block is closed
 pub record IsLeft (old new : Scope) : Type 0 where
@@ -36,6 +37,7 @@ pub record IsLeft (old new : Scope) : Type 0 where
   pub target : old.target ≡ false → new.target ≡ false
   pub waiting : old.choice ≡ false → new.choice ≡ false
   pub scalars : old.scalars ≤ new.scalars
+  pub boxes : (context_of new 0 0).boxes ≡ (context_of old 0 0).boxes
 
 -- the next block is not that of a target, and each loop's name is counted
 pub record IsReady (s : Scope) : Type 0 where
@@ -47,6 +49,7 @@ abbrev pub inner_env : Option Turn → Scope → Env
 inner_env t s =
     record {
       names = turn_names t ++ names_of s;
+      boxes = boxes_of s;
       scalars = s.next_scalar;
       loops = loops_in (turn_names t ++ names_of s);
       inside = inside (context_of s 0 0) || s.target;

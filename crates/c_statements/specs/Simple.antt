@@ -1,16 +1,21 @@
 -- Statements without a body that were read.
 use Rattle.std.specs.Prelude.{◌≡◌, ℕ, ◌+◌, ◌<◌, Bool, true, false, ◌&&◌, ◌||◌, nat_lt, nat_le, not, if◌then◌else◌, List, [], ◌∷◌, ◌++◌, length, drop, Option, Some, None}
 use Rattle.c_tokens.specs.declared.kind.Sign.TheVariants as sign
+use Rattle.base.specs.declared.tree.ArrayId.{ArrayId}
 use Rattle.base.specs.declared.tree.Expr.{Expr}
+use Rattle.base.specs.declared.tree.Expr.TheVariants.{Number}
+use Rattle.base.specs.declared.tree.Place.{Place}
+use Rattle.base.specs.declared.tree.ScalarId.{ScalarId}
 use Rattle.base.specs.declared.tree.Source.{Source as Assigned}
 use Rattle.base.specs.declared.tree.Stmt.{Stmt as Statement}
+use Rattle.base.specs.declared.tree.Stmt.TheVariants as statement
 use Rattle.base.specs.declared.fault.ReadCode.{ReadCode as Code}
 use Rattle.base.specs.declared.fault.ReadCode.TheVariants.{Undeclared, LoopNameAssigned, TooMany, OuterAssigned}
 use Rattle.c_grammar.specs.LineRules.{max_name}
 use Rattle.c_grammar.specs.Lines.{is_atomic, is_omp}
 use Rattle.c_grammar.specs.Terminal.{Terminal, Mark, Line, same}
-use Rattle.c_grammar.specs.Grammar.{Act, Plain, MakesScalar, for, Source, Stmt, Store, Term, source, stmt, term, IsRanked, IsRankedSource, IsStmt}
-use Rattle.c_grammar.specs.Rules.{Sort, AnArray, AScalar, ALoop, inside, max_statements}
+use Rattle.c_grammar.specs.Grammar.{Act, Plain, MakesScalar, for, Source, Stmt, Assign, Store, Term, source, stmt, term, IsRanked, IsRankedSource, IsStmt}
+use Rattle.c_grammar.specs.Rules.{Sort, AnArray, AScalar, ABoxed, ALoop, inside, max_statements}
 use Rattle.c_grammar.specs.Program.{Symbol, Stack, Want, Atom, Tail, Value, m}
 use Rattle.c_expressions.specs.declared.fault.ReadError.{ReadError}
 use Rattle.c_expressions.specs.declared.fault.ReadError.TheVariants as error
@@ -19,10 +24,10 @@ use Rattle.c_expressions.specs.declared.scope.Meaning.TheVariants as meaning
 use Rattle.c_expressions.specs.declared.scope.Scope.{Scope}
 use Rattle.c_expressions.specs.Means.{Items, Names, term_size, IsExpr}
 use Rattle.c_expressions.specs.Reading.{terminals, kinds}
-use Rattle.c_expressions.specs.Scopes.{context_of, names_of}
+use Rattle.c_expressions.specs.Scopes.{boxes_of, context_of, names_of}
 use Rattle.directives.specs.declared.fault.DirectiveFault.{DirectiveFault}
 use Rattle.directives.specs.declared.fault.DirectiveFault.TheVariants as fault
-use Rattle.c_statements.specs.Statements.{Env, source_size, stmt_size, behind, IsSource, IsStore, IsStatement}
+use Rattle.c_statements.specs.Statements.{Env, source_size, stmt_size, behind, IsSource, IsStatement}
 use Rattle.c_statements.specs.Updates.{as_update}
 
 -- how many loops some names are those of
@@ -31,12 +36,14 @@ loops_in [] = 0
 loops_in ((x, meaning.Loop n) ∷ ns) = loops_in ns + 1
 loops_in ((x, meaning.Array a) ∷ ns) = loops_in ns
 loops_in ((x, meaning.Scalar n i) ∷ ns) = loops_in ns
+loops_in ((x, meaning.Boxed a n) ∷ ns) = loops_in ns
 
 -- what stands before a statement
 abbrev pub env_of : Scope → Env
 env_of s =
     record {
       names = names_of s;
+      boxes = boxes_of s;
       scalars = s.next_scalar;
       loops = loops_in (names_of s);
       inside = inside (context_of s 0 0);
@@ -122,25 +129,6 @@ pub record IsStoreRead (env : Env) (before after : Items) (e : Expr) (v : Assign
   pub index_means : IsExpr env.names (drop 1 before) index e
   pub value_means : IsSource env (drop (term_size index + 3) before) value v
 
--- a store; env is what stands before it, next what stands behind it
-pub record IsWholeStore (env next : Env) (before after : Items) (x : Statement) : Type 0 where
-  pub name : List ℕ
-  pub index : Term
-  pub value : Source
-  pub tokens : terminals before ≡ kinds (stmt (Store name index value)) ++ terminals after
-  pub rest : after ≡ drop (stmt_size (Store name index value)) before
-  pub ranked : IsRanked index
-  pub value_ranked : IsRankedSource value
-  pub fewer : length after < length before
-  pub means : IsStore env before name index value x
-  pub next_is : next ≡ behind (Store name index value) env
-
--- the update that a store is
-pub record IsUpdateRead (env next : Env) (before after : Items) (x : Statement) : Type 0 where
-  pub store : Statement
-  pub whole : IsWholeStore env next before after store
-  pub update : x ≡ as_update store
-
 -- a statement; env is what stands before it, next what stands behind it
 pub record IsStmtRead (env next : Env) (before after : Items) (x : Statement) : Type 0 where
   pub text : Stmt
@@ -150,6 +138,27 @@ pub record IsStmtRead (env next : Env) (before after : Items) (x : Statement) : 
   pub fewer : length after < length before
   pub means : IsStatement env before text x
   pub next_is : next ≡ behind text env
+
+-- an assignment to a scalar or a store
+abbrev pub IsNamed : Stmt → Type 0
+IsNamed (Assign x v) = Unit {0}
+IsNamed (Store x i v) = Unit {0}
+IsNamed _ = ⊥
+
+pub record IsNameRead (env next : Env) (before after : Items) (x : Statement) : Type 0 where
+  pub read : IsStmtRead env next before after x
+  pub named : IsNamed read.text
+
+-- the update that it is
+pub record IsUpdateRead (env next : Env) (before after : Items) (x : Statement) : Type 0 where
+  pub statement : Statement
+  pub whole : IsNameRead env next before after statement
+  pub update : x ≡ as_update statement
+
+-- what the declaration of a scalar does, whose name stands at a place
+abbrev pub declaration : ScalarId → Option ArrayId → Place → Assigned → Statement
+declaration id None at v = statement.Declare id v
+declaration id (Some a) at v = statement.Store a at (Number 0) v
 
 -- ---- a name with which a statement begins
 
@@ -162,6 +171,8 @@ assign_code (Some ALoop) equal bracket over within = if bracket then Some Undecl
     (if equal then Some LoopNameAssigned else (if over then Some TooMany else None))
 assign_code (Some (AScalar i)) equal bracket over within = if bracket then Some Undeclared else
     (if over then Some TooMany else (if equal && within && not i then Some OuterAssigned else None))
+assign_code (Some ABoxed) equal bracket over within = if bracket then Some Undeclared else
+    (if over then Some TooMany else None)
 
 -- a limit is met at a name
 abbrev pub is_over : Scope → List ℕ → Bool
@@ -177,4 +188,5 @@ abbrev pub IsKept : Option Meaning → Bool → Bool → Type 0
 IsKept None equal bracket = ⊥
 IsKept (Some (meaning.Array a)) equal bracket = equal ≡ false
 IsKept (Some (meaning.Scalar n i)) equal bracket = bracket ≡ false
+IsKept (Some (meaning.Boxed a n)) equal bracket = bracket ≡ false
 IsKept (Some (meaning.Loop n)) equal bracket = (equal ≡ false) × (bracket ≡ false)

@@ -11,10 +11,10 @@ ghost use Rattle.c_expressions.specs.Cursor.{items, first_item, behind};
 ghost use Rattle.c_expressions.specs.Means.{meaning_of};
 ghost use Rattle.c_expressions.specs.Reading.{run, took, Outcome};
 ghost use Rattle.c_expressions.specs.Scopes.{context_of, names_of, sort_of_meaning};
-ghost use Rattle.c_statements.specs.Simple.{assign_code, code_at, env_of, counted, is_over, IsKept, IsAssignRead, IsStoreRead, IsStmtRead, IsUpdateRead, store_rest};
+ghost use Rattle.c_statements.specs.Simple.{assign_code, code_at, env_of, counted, is_over, IsKept, IsAssignRead, IsNameRead, IsStoreRead, IsUpdateRead, store_rest};
 
 use crate::right_side::{ended_source, is_inside};
-use crate::update::store_or_update;
+use crate::update::as_update;
 use base::fault::{ReadCode, TextFault};
 use base::tree::{Expr, Source, Stmt};
 use c_expressions::{Cursor, Meaning, ReadError, Scope};
@@ -52,6 +52,7 @@ fn assign_fault(
         Some(Meaning::Loop(_)) if bracket => Some(ReadCode::Undeclared),
         Some(Meaning::Loop(_)) if equal => Some(ReadCode::LoopNameAssigned),
         Some(Meaning::Scalar(_, _)) if bracket => Some(ReadCode::Undeclared),
+        Some(Meaning::Boxed(_, _)) if bracket => Some(ReadCode::Undeclared),
         Some(Meaning::Scalar(_, local)) => scalar_fault(local, equal, over, within),
         _ => { if over { Some(ReadCode::TooMany) } else { None } }
     }
@@ -150,7 +151,7 @@ pub fn assigned(
     ensures read { (s : Stack) → Outcome result (took (context_of scope.old 0 0) (for Assigned) (AfterName ∷ s)
         (items tokens.old)) (run (context_of scope.new 0 0) s (items tokens.new)) }
     ensures scope { OnOk result (scope.new ≡ counted scope.old) }
-    ensures tree { IfOk result (λ x. IsStmtRead (env_of scope.old) (env_of scope.new) (items tokens.old)
+    ensures tree { IfOk result (λ x. IsNameRead (env_of scope.old) (env_of scope.new) (items tokens.old)
         (items tokens.new) x) }
 {
     let place = tokens.place();
@@ -162,29 +163,29 @@ pub fn assigned(
         Some(Meaning::Scalar(scalar, _)) => {
             assigned_source(scope, tokens).map(|value| Stmt::Assign(scalar, value))
         }
+        Some(Meaning::Boxed(array, _)) => assigned_source(scope, tokens).map(|value| Stmt::Store(
+            array,
+            place,
+            Expr::Number(0),
+            value,
+        )),
         _ => Err(ReadError::Fault(tokens.refuse())),
     }
 }
 
-/// The update that the store which begins with the name that stands next is, or the store.
+/// The update that the assignment is which begins with the name that stands next, or the assignment.
 pub fn updated(
     scope: &mut Scope<'_>,
     tokens: &mut Cursor<'_, '_>,
     name: &[u8],
 ) -> Result<Stmt, ReadError>
     requires { (first_item tokens.old).terminal ≡ Name name.now }
-    ensures read { (s : Stack) → Outcome result (took (context_of scope.old 0 0) (for Assigned) (store_rest s)
+    ensures read { (s : Stack) → Outcome result (took (context_of scope.old 0 0) (for Assigned) (AfterName ∷ s)
         (items tokens.old)) (run (context_of scope.new 0 0) s (items tokens.new)) }
     ensures scope { OnOk result (scope.new ≡ counted scope.old) }
     ensures tree { IfOk result (λ x. IsUpdateRead (env_of scope.old) (env_of scope.new) (items tokens.old)
         (items tokens.new) x) }
 {
-    let place = tokens.place();
-    let meaning = begin_assigned(scope, tokens, name)?;
-    match meaning {
-        Some(Meaning::Array(array)) => {
-            element(scope, tokens).map(|(index, value)| store_or_update(array, place, index, value))
-        }
-        _ => Err(ReadError::Fault(tokens.refuse())),
-    }
+    let statement = assigned(scope, tokens, name)?;
+    Ok(as_update(statement))
 }

@@ -1,8 +1,8 @@
-//! Atomic updates: a line and the store behind it.
+//! Atomic updates: a line and the assignment behind it.
 
 ghost use Rattle.std.specs.Prelude.{◌≡◌, ◌<◌, ◌∷◌, OnOk, IfOk, true};
 ghost use Rattle.c_grammar.specs.Grammar.{Assigned, Marks, for};
-ghost use Rattle.c_grammar.specs.Program.{Stack, Body, WantName};
+ghost use Rattle.c_grammar.specs.Program.{Stack, AfterName, Body, WantName};
 ghost use Rattle.c_grammar.specs.Terminal.{Line};
 ghost use Rattle.c_expressions.specs.Cursor.{items, first_item, behind};
 ghost use Rattle.c_expressions.specs.Reading.{Outcome, run, took};
@@ -10,7 +10,7 @@ ghost use Rattle.c_expressions.specs.Scopes.{context_of};
 ghost use Rattle.c_expressions.specs.Seen.{columns_on, kinds_on};
 ghost use Rattle.c_tokens.specs.declared.limits.TheConstants.{MAX_STATEMENTS};
 ghost use Rattle.directives.specs.Ahead.{seen_line};
-ghost use Rattle.c_statements.specs.Simple.{counted, env_of, is_atomic_line, seen_error, store_rest, IsStmtRead, IsUpdateRead};
+ghost use Rattle.c_statements.specs.Simple.{counted, env_of, is_atomic_line, seen_error, IsStmtRead, IsUpdateRead};
 
 use crate::assign::updated;
 use base::fault::{ReadCode, TextFault};
@@ -86,10 +86,10 @@ fn begin_atomic(scope: &mut Scope<'_>, tokens: &mut Cursor<'_, '_>) -> Result<()
     Ok(())
 }
 
-/// The store behind the line of an atomic update, as the update that it is.
-fn marked_store(scope: &mut Scope<'_>, tokens: &mut Cursor<'_, '_>) -> Result<Stmt, ReadError>
+/// The assignment behind the line of an atomic update, as the update that it is.
+fn marked_assignment(scope: &mut Scope<'_>, tokens: &mut Cursor<'_, '_>) -> Result<Stmt, ReadError>
     ensures read { (s : Stack) → Outcome result
-        (run (context_of scope.old 0 0) (WantName Assigned ∷ store_rest s) (items tokens.old))
+        (run (context_of scope.old 0 0) (WantName Assigned ∷ AfterName ∷ s) (items tokens.old))
         (run (context_of scope.new 0 0) s (items tokens.new)) }
     ensures scope { OnOk result (scope.new ≡ counted scope.old) }
     ensures tree { IfOk result (λ x. IsUpdateRead (env_of scope.old) (env_of scope.new) (items tokens.old)
@@ -112,6 +112,6 @@ pub fn atomic_update(scope: &mut Scope<'_>, tokens: &mut Cursor<'_, '_>) -> Resu
         (items tokens.new) x) }
 {
     begin_atomic(scope, tokens)?;
-    let update = marked_store(scope, tokens)?;
+    let update = marked_assignment(scope, tokens)?;
     Ok(update)
 }

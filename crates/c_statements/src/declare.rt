@@ -5,21 +5,21 @@ ghost use Rattle.c_tokens.specs.declared.kind.Sign.TheVariants as sign;
 ghost use Rattle.c_grammar.specs.Lexeme.{Uint64};
 ghost use Rattle.c_grammar.specs.Terminal.{Fixed, Mark, Name};
 ghost use Rattle.c_grammar.specs.Grammar.{Starts, DeclaresLocal, for};
-ghost use Rattle.c_grammar.specs.Rules.{AScalar, declared, inside};
+ghost use Rattle.c_grammar.specs.Rules.{declared, inside};
 ghost use Rattle.c_grammar.specs.Program.{Stack, WantName, Value, m};
 ghost use Rattle.c_expressions.specs.declared.fault.ReadError.TheVariants.{Memory};
-ghost use Rattle.c_expressions.specs.declared.scope.Meaning.TheVariants as meaning;
 ghost use Rattle.c_expressions.specs.Cursor.{items, first_item, behind};
 ghost use Rattle.c_expressions.specs.Reading.{run, took, Outcome};
-ghost use Rattle.c_expressions.specs.Scopes.{context_of, names_of};
+ghost use Rattle.c_expressions.specs.Scopes.{context_of, names_of, sort_of_meaning};
 ghost use Rattle.c_tokens.specs.declared.limits.TheConstants.{MAX_SCALARS};
 ghost use Rattle.c_statements.specs.Bodies.{naming, IsSameBlock};
-ghost use Rattle.c_statements.specs.Simple.{counted, env_of, ending, IsStmtRead};
+ghost use Rattle.c_statements.specs.Simple.{counted, declaration, env_of, ending, IsStmtRead};
+ghost use Rattle.c_statements.specs.Statements.{box_for, scalar_or_box};
 
 use crate::head::is_visible;
 use crate::right_side::{is_inside, source};
 use base::fault::ReadCode;
-use base::tree::{ScalarId, Stmt};
+use base::tree::{ArrayId, Expr, Place, ScalarId, Source, Stmt};
 use c_expressions::{Cursor, Meaning, ReadError, Scope, Terminal};
 use c_tokens::Sign;
 use c_tokens::limits::{MAX_NAME, MAX_SCALARS, MAX_STATEMENTS};
@@ -70,15 +70,39 @@ fn local_name<'a>(scope: &mut Scope<'a>, tokens: &mut Cursor<'a, '_>) -> Result<
     }
 }
 
-/// Declares the scalar of that name. An error is want of memory.
-pub fn new_scalar<'a>(scope: &mut Scope<'a>, name: &'a [u8]) -> Result<ScalarId, ReadError>
+/// The array whose cell a scalar of that name is, if it is boxed where it is declared here.
+fn box_for(scope: &Scope<'_>, name: &[u8]) -> Option<ArrayId>
+    ensures { result ≡ box_for name.now (env_of scope.now) }
+{
+    if is_inside(scope) || scope.meaning(name).is_some() {
+        return None;
+    }
+    scope.box_of(name)
+}
+
+/// What the name of the next scalar means.
+fn scalar_or_box(id: ScalarId, inside: bool, boxed: Option<ArrayId>) -> Meaning
+    ensures { result ≡ scalar_or_box id inside boxed }
+{
+    match boxed {
+        Some(array) => Meaning::Boxed(array, id),
+        None => Meaning::Scalar(id, inside),
+    }
+}
+
+/// Declares the scalar of that name, which may be the cell of an array. An error is want of memory.
+pub fn new_scalar<'a>(
+    scope: &mut Scope<'a>,
+    name: &'a [u8],
+    boxed: Option<ArrayId>,
+) -> Result<ScalarId, ReadError>
     requires few { scope.old.scalars < MAX_SCALARS }
     ensures memory { IfErr result (λ e. e ≡ Memory) }
-    ensures context { OnOk result (context_of scope.new 0 0 ≡
-        declared (AScalar (inside (context_of scope.old 0 0)))
+    ensures context { IfOk result (λ id. context_of scope.new 0 0 ≡
+        declared (sort_of_meaning (scalar_or_box id (inside (context_of scope.old 0 0)) boxed))
         (record (context_of scope.old 0 0) { fresh = Some name.now; scalars = scope.old.scalars + 1 })) }
     ensures names { IfOk result (λ id. names_of scope.new ≡
-        (name.now, meaning.Scalar id (inside (context_of scope.old 0 0))) ∷ names_of scope.old) }
+        (name.now, scalar_or_box id (inside (context_of scope.old 0 0)) boxed) ∷ names_of scope.old) }
     ensures id { IfOk result (λ id. id.0 ≡ scope.old.next_scalar) }
     ensures next { OnOk result (scope.new.next_scalar ≡ scope.old.next_scalar + 1) }
 {
@@ -86,10 +110,20 @@ pub fn new_scalar<'a>(scope: &mut Scope<'a>, name: &'a [u8]) -> Result<ScalarId,
     let scalars = scope.scalars + 1;
     let next_scalar = scope.next_scalar + 1;
     let inside = is_inside(scope);
-    scope.declare(name, Meaning::Scalar(id, inside))?;
+    scope.declare(name, scalar_or_box(id, inside, boxed))?;
     scope.scalars = scalars;
     scope.next_scalar = next_scalar;
     Ok(id)
+}
+
+/// What the declaration of a scalar does, whose name stands at the place.
+fn declaration(id: ScalarId, boxed: Option<ArrayId>, place: Place, value: Source) -> Stmt
+    ensures { result ≡ declaration id boxed place value }
+{
+    match boxed {
+        Some(array) => Stmt::Store(array, place, Expr::Number(0), value),
+        None => Stmt::Declare(id, value),
+    }
 }
 
 /// A declaration, whose word stands next.
@@ -104,10 +138,12 @@ pub fn declared<'a>(scope: &mut Scope<'a>, tokens: &mut Cursor<'a, '_>) -> Resul
         (items tokens.new) x) }
 {
     begin_declaration(scope, tokens)?;
+    let place = tokens.place();
     let name = local_name(scope, tokens)?;
     tokens.expect(Sign::Equal)?;
     let value = source(scope, tokens)?;
     tokens.take();
-    let id = new_scalar(scope, name)?;
-    Ok(Stmt::Declare(id, value))
+    let boxed = box_for(scope, name);
+    let id = new_scalar(scope, name, boxed)?;
+    Ok(declaration(id, boxed, place, value))
 }

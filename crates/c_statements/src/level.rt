@@ -17,7 +17,7 @@ fn with_loops_of(frame: &Frame<'_>, before: u32) -> u32
     'names: for name in &frame.names {
         match name.meaning {
             Meaning::Loop(_) => count += 1,
-            Meaning::Array(_) | Meaning::Scalar(_, _) => {}
+            Meaning::Array(_) | Meaning::Scalar(_, _) | Meaning::Boxed(_, _) => {}
         }
     }
     count

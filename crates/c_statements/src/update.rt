@@ -119,7 +119,7 @@ fn update_op(array: ArrayId, index: &Expr, value: &Source) -> Option<CombineOp>
 }
 
 /// The update that the store of a value in an array's cell is, or the store.
-pub fn store_or_update(array: ArrayId, place: Place, index: Expr, value: Source) -> Stmt
+fn store_or_update(array: ArrayId, place: Place, index: Expr, value: Source) -> Stmt
     ensures { result ≡ as_update (statement.Store array place index value) }
 {
     let Some(op) = update_op(array, &index, &value) else {
@@ -136,5 +136,15 @@ pub fn store_or_update(array: ArrayId, place: Place, index: Expr, value: Source)
             Stmt::Combine(op, array, place, index, Box::into_inner(right))
         }
         other => Stmt::Store(array, place, index, Source::Value(other)),
+    }
+}
+
+/// The update that a statement is, or the statement.
+pub fn as_update(statement: Stmt) -> Stmt
+    ensures { result ≡ as_update statement }
+{
+    match statement {
+        Stmt::Store(array, place, index, value) => store_or_update(array, place, index, value),
+        other => other,
     }
 }

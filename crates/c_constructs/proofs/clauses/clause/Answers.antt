@@ -2,6 +2,7 @@ use Rattle.std.proofs.Common.{arith, refl}
 use Rattle.c_expressions.specs.Scopes.{names_of}
 use Rattle.c_constructs.proofs.Reading.{reads_maps, reads_depends, reads_updates, reads_nowait, reads_device, reads_amount, reads_schedule}
 use Rattle.std.proofs.lemmas.Grind.{common_steps}
+use Rattle.std.proofs.lemmas.Result.{err_from_is_err_and}
 use Rattle.c_constructs.proofs.clauses.clause.Goals as goal
 
 pub returns-in_ok-map_clause-in-Map-clause-means : goal.returns-in_ok-map_clause-in-Map-clause-means
@@ -36,7 +37,9 @@ returns-in-Schedule-clause-means g c = rw c.in-Schedule.is (reads_schedule g.K.M
     (names_of c.args.scope.now) c.args.line _ _ c.args.read.now)
 
 pub returns-in_err-map_clause-in-Map-clause-told : goal.returns-in_err-map_clause-in-Map-clause-told
-returns-in_err-map_clause-in-Map-clause-told g c = grind (arith, common_steps)
+returns-in_err-map_clause-in-Map-clause-told g c = λ us.
+    let p = err_from_is_err_and c.from_residual.result c.from_residual.ensures.1 in
+    rw (p.1, p.2, c.in-Map.is) (c.in_err-map_clause-in-Map.ensures.told us)
 
 pub returns-in_ok-map_clause-in-Map-clause-told : goal.returns-in_ok-map_clause-in-Map-clause-told
 returns-in_ok-map_clause-in-Map-clause-told g c = grind (arith, common_steps)

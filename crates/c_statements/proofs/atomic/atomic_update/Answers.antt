@@ -26,6 +26,6 @@ returns-clause-read c = λ s.
 
 pub returns-clause-tree : goal.returns-clause-tree
 returns-clause-tree c =
-    read_atomic c.args.scope.now c.begin_atomic.new.scope c.marked_store.new.scope c.args.tokens.now
-    c.begin_atomic.new.tokens (items c.marked_store.new.tokens) c.in_ok-update.update c.in_ok-begin_atomic.ensures.scope
+    read_atomic c.args.scope.now c.begin_atomic.new.scope c.marked_assignment.new.scope c.args.tokens.now
+    c.begin_atomic.new.tokens (items c.marked_assignment.new.tokens) c.in_ok-update.update c.in_ok-begin_atomic.ensures.scope
     c.requires c.in_ok-begin_atomic.ensures.taken c.in_ok-update.ensures.tree
