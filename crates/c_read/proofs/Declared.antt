@@ -1,5 +1,5 @@
 -- One global that was read.
-use Rattle.std.proofs.Common.{◌≡◌, ℕ, ◌+◌, ◌<◌, Bool, true, false, cond, List, [], ◌∷◌, ◌++◌, length, map, Some, None, refl, sym, ap, subst, ◌∙◌, arith, length-append}
+use Rattle.std.proofs.Common.{◌≡◌, ℕ, ◌+◌, ◌<◌, Bool, true, false, cond, List, [], ◌∷◌, ◌++◌, length, map, Option, Some, None, refl, sym, ap, subst, ◌∙◌, arith, length-append}
 use Rattle.std.specs.Prelude.{nat_lt, nat_le, ◌||◌, ◌&&◌, is_some, string_bytes}
 use Rattle.std.specs.Str.{bytes_eq, IsAscii}
 use Rattle.std.proofs.lemmas.Slice.Eq.{bytes_eq-Decides}
@@ -13,6 +13,7 @@ use Rattle.indexmap.specs.IndexMap.{insert_entry}
 use Rattle.c_tokens.specs.declared.kind.Sign.TheVariants as sign
 use Rattle.base.specs.declared.fault.ReadCode.{ReadCode as Code}
 use Rattle.base.specs.declared.fault.ReadCode.TheVariants.{Unexpected, AlreadyDeclared, TooMany}
+use Rattle.base.specs.declared.tree.ArrayId.{ArrayId}
 use Rattle.base.specs.declared.tree.ArrayInfo.{ArrayInfo}
 use Rattle.c_grammar.specs.AsciiNames.{AreAscii}
 use Rattle.c_grammar.specs.Lexeme.{Uint64}
@@ -29,11 +30,12 @@ use Rattle.c_expressions.specs.declared.scope.Scope.{Scope}
 use Rattle.c_expressions.specs.Means.{Items, Names, meaning_of}
 use Rattle.c_expressions.specs.Cursor.{items, first_item, behind}
 use Rattle.c_expressions.specs.Reading.{run, misfit_at, terminals}
-use Rattle.c_expressions.specs.Scopes.{context_of, names_of}
+use Rattle.c_expressions.specs.Scopes.{Boxes, as_boxes, box_numbers, box_of, boxes_of, context_of, names_of}
 use Rattle.c_expressions.proofs.Going.{put, put_is, stop, was_mark}
 use Rattle.c_expressions.proofs.Expressions.{behind_less}
 use Rattle.c_statements.specs.Loops.{IsGone}
-use Rattle.c_statements.specs.Simple.{loops_in}
+use Rattle.c_statements.specs.Simple.{env_of, loops_in}
+use Rattle.c_statements.specs.Statements.{box_for, scalar_or_box}
 use Rattle.c_statements.proofs.Heads.{gone_one, gone_then}
 use Rattle.c_read.specs.Globals.{Front, global_code, is_over, front_of, behind_globals, entry_of, AreGlobalsRead, AreKnown, IsArrayNamed, IsArrayRead, IsNamedAt, IsScalarNamed}
 use Rattle.c_read.proofs.Entries.{insert_last, known_last, known_more, name_kept}
@@ -121,27 +123,54 @@ name_ascii x before after h n = go (subst_ascii n.gone.tokens h)
 
 -- ---- what was read
 
-front_by : (a : ℕ) (ns : Names) (n : ℕ) (b : Bool) → Front
-front_by a ns n b = record { arrays = a; env = record { names = ns; scalars = n; loops = loops_in ns; inside = b } }
+front_by : (a : ℕ) (ns : Names) (bs : Boxes) (n : ℕ) (b : Bool) → Front
+front_by a ns bs n b =
+    record { arrays = a; env = record { names = ns; boxes = bs; scalars = n; loops = loops_in ns; inside = b } }
 
 array_front : (old new : Scope) (x : List ℕ) → IsArrayNamed x old new →
     front_of new ≡ behind_globals (Array x None ∷ []) (front_of old)
 unfolding front_by
 array_front old new x r =
-    ap (λ (a : ℕ). front_by a (names_of new) new.next_scalar (inside (context_of new 0 0))) r.arrays
-    ∙ ap (λ (ns : Names). front_by (old.arrays + 1) ns new.next_scalar (inside (context_of new 0 0))) r.names
-    ∙ ap (λ (n : ℕ). front_by (old.arrays + 1) ((x, meaning.Array (record { 0 = old.arrays })) ∷ names_of old) n (inside (context_of new 0 0))) r.next
-    ∙ ap (λ (b : Bool). front_by (old.arrays + 1) ((x, meaning.Array (record { 0 = old.arrays })) ∷ names_of old) old.next_scalar b) r.inside_is
+    let ns : Names = (x, meaning.Array (record { 0 = old.arrays })) ∷ names_of old in
+    let j : Bool = inside (context_of new 0 0) in
+    ap (λ (a : ℕ). front_by a (names_of new) (boxes_of new) new.next_scalar j) r.arrays
+    ∙ ap (λ (ms : Names). front_by (old.arrays + 1) ms (boxes_of new) new.next_scalar j) r.names
+    ∙ ap (λ (bs : List (List ℕ × ℕ)). front_by (old.arrays + 1) ns (as_boxes bs) new.next_scalar j) r.boxes
+    ∙ ap (λ (n : ℕ). front_by (old.arrays + 1) ns (boxes_of old) n j) r.next
+    ∙ ap (λ (b : Bool). front_by (old.arrays + 1) ns (boxes_of old) old.next_scalar b) r.inside_is
 
-scalar_front : (old new : Scope) (x : List ℕ) → IsScalarNamed x old new →
+-- no scalar is boxed yet
+no_box : (b : Bool) → cond {A = Option ArrayId} b None None ≡ None
+no_box true = refl
+no_box false = refl
+
+plain_box : (old : Scope) (x : List ℕ) → box_numbers old ≡ [] → box_for x (env_of old) ≡ None
+plain_box old x e =
+    let b : Bool = inside (context_of old 0 0) || is_some (meaning_of (names_of old) x) in
+    ap (λ (bs : List (List ℕ × ℕ)). cond b None (box_of (as_boxes bs) x)) e ∙ no_box b
+
+scalar_front : (old new : Scope) (x : List ℕ) → box_numbers old ≡ [] → IsScalarNamed x old new →
     front_of new ≡ behind_globals (Scalar x ∷ []) (front_of old)
 unfolding front_by
-scalar_front old new x r =
-    let ns : Names = (x, meaning.Scalar (record { 0 = old.next_scalar }) (inside (context_of old 0 0))) ∷ names_of old in
-    ap (λ (a : ℕ). front_by a (names_of new) new.next_scalar (inside (context_of new 0 0))) r.arrays
-    ∙ ap (λ (ms : Names). front_by old.arrays ms new.next_scalar (inside (context_of new 0 0))) r.names
-    ∙ ap (λ (n : ℕ). front_by old.arrays ns n (inside (context_of new 0 0))) r.next
-    ∙ ap (λ (b : Bool). front_by old.arrays ns (old.next_scalar + 1) b) r.inside_is
+scalar_front old new x e r =
+    let i : Bool = inside (context_of old 0 0) in
+    let ns : Names = (x, meaning.Scalar (record { 0 = old.next_scalar }) i) ∷ names_of old in
+    let j : Bool = inside (context_of new 0 0) in
+    ap (λ (a : ℕ). front_by a (names_of new) (boxes_of new) new.next_scalar j) r.arrays
+    ∙ ap (λ (ms : Names). front_by old.arrays ms (boxes_of new) new.next_scalar j) r.names
+    ∙ ap (λ (bs : List (List ℕ × ℕ)). front_by old.arrays ns (as_boxes bs) new.next_scalar j) r.boxes
+    ∙ ap (λ (n : ℕ). front_by old.arrays ns (boxes_of old) n j) r.next
+    ∙ ap (λ (b : Bool). front_by old.arrays ns (boxes_of old) (old.next_scalar + 1) b) r.inside_is
+    ∙ ap (λ (o : Option ArrayId). (let f : Front = record {
+      arrays = old.arrays;
+      env = record {
+        names = (x, scalar_or_box (record { 0 = old.next_scalar }) i o) ∷ names_of old;
+        boxes = boxes_of old;
+        scalars = old.next_scalar + 1;
+        loops = loops_in (names_of old);
+        inside = i;
+      };
+    } in f)) (sym (plain_box old x e))
 
 bytes_eq-same : (x : List ℕ) → bytes_eq x x ≡ true
 bytes_eq-same x = (bytes_eq-Decides x x).1 refl
@@ -211,16 +240,17 @@ module _ {Z : Type 0} where
       }
 
   pub read_scalar : (x : List ℕ) (old new : Scope) (es : List (String Z × ArrayInfo)) (i0 : Items) (t1 t2 : Cursor) →
-      IsNamedAt x i0 (items t1) → AreKnown (names_of old) es → same (Mark sign.Semicolon) (first_item t1).terminal ≡ true →
+      box_numbers old ≡ [] → IsNamedAt x i0 (items t1) → AreKnown (names_of old) es →
+      same (Mark sign.Semicolon) (first_item t1).terminal ≡ true →
       behind t1 ≡ items t2 → IsScalarNamed x old new → AreGlobalsRead old new es es i0 (items t2)
-  read_scalar x old new es i0 t1 t2 n h e b s =
+  read_scalar x old new es i0 t1 t2 o n h e b s =
       let both = gone_then (Fixed Uint64 ∷ Name x ∷ []) (Mark sign.Semicolon ∷ []) i0 (items t1) (items t2) n.gone
       (gone_one (Mark sign.Semicolon) t1 t2 (was_mark sign.Semicolon t1 e) b) in
       record {
         text = Scalar x ∷ [];
         tokens = both.tokens;
         rest = both.rest;
-        front = scalar_front old new x s;
+        front = scalar_front old new x o s;
         still = s.still;
         entries = sym (append-nil (map entry_of es));
         known =

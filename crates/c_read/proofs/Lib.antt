@@ -2,6 +2,8 @@ pub mod Counting
 pub mod Names
 pub mod Entries
 pub mod Declared
+pub mod Boxed
+pub mod Boxing
 pub mod Fronts
 pub mod Emptiness
 pub mod Gathering

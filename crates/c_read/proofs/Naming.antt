@@ -1,12 +1,13 @@
 -- The machine behind the name of a global.
-use Rattle.std.proofs.Common.{◌≡◌, ℕ, ◌+◌, ◌≤◌, List, [], ◌∷◌, Some, refl, sym, ap, subst, ◌∙◌}
+use Rattle.std.proofs.Common.{◌≡◌, ℕ, ◌+◌, ◌≤◌, Bool, true, false, cond, List, [], ◌∷◌, Some, refl, sym, ap, subst, ◌∙◌}
+use Rattle.std.specs.Prelude.{◌&&◌, not}
 use Rattle.base.specs.declared.tree.ScalarId.{ScalarId}
 use Rattle.c_tokens.specs.declared.kind.Sign.TheVariants as sign
 use Rattle.c_grammar.specs.Terminal.{Terminal, Mark, Num}
 use Rattle.c_grammar.specs.Texts.{Item}
 use Rattle.c_grammar.specs.Machine.{run as machine_run}
 use Rattle.c_grammar.specs.Grammar.{Length}
-use Rattle.c_grammar.specs.Rules.{Context, Sort, AnArray, AScalar, breaks, enter, declared, inside, under_if}
+use Rattle.c_grammar.specs.Rules.{Context, Sort, AnArray, AScalar, ABoxed, breaks, enter, declared, inside, is_boxes_name, is_visible, scalar_sort, sort_of, under_if}
 use Rattle.c_grammar.specs.Program.{Stack, AfterGlobal, WantNum, m, advance, first_broken}
 use Rattle.c_expressions.specs.declared.cursor.Cursor.{Cursor}
 use Rattle.c_expressions.specs.declared.scope.Scope.{Scope}
@@ -14,7 +15,7 @@ use Rattle.c_expressions.specs.Means.{Items}
 use Rattle.c_expressions.specs.Cursor.{items, first_item, behind}
 use Rattle.c_expressions.specs.Reading.{run}
 use Rattle.c_expressions.specs.declared.scope.Meaning.TheVariants as meaning
-use Rattle.c_expressions.specs.Scopes.{context_of, names_of}
+use Rattle.c_expressions.specs.Scopes.{box_numbers, context_of, names_of}
 use Rattle.c_statements.specs.Loops.{IsGone}
 use Rattle.c_statements.proofs.Heads.{gone_four}
 use Rattle.c_expressions.proofs.Going.{put, put_is}
@@ -33,11 +34,27 @@ item_array : (x : List ℕ) (sc : Scope) (s : Stack) (i : Item Terminal) (is : I
 unfolding run machine_run advance first_broken breaks enter
 item_array x sc s i is = refl
 
+-- with a scalar more, of that sort
+abbrev sorted_more : List ℕ → Sort → Context → Context
+sorted_more x u c = declared u (record c { fresh = Some x; scalars = c.scalars + 1 })
+
 item_scalar : (x : List ℕ) (sc : Scope) (s : Stack) (i : Item Terminal) (is : Items) →
     run (naming x (context_of sc 0 0)) (AfterGlobal ∷ s) (put i (Mark sign.Semicolon) ∷ is) ≡
-    run (one_scalar_more x (context_of sc 0 0)) s is
+    run (sorted_more x (scalar_sort (naming x (context_of sc 0 0))) (context_of sc 0 0)) s is
 unfolding run machine_run advance first_broken breaks enter
 item_scalar x sc s i is = refl
+
+not_boxed : (i v : Bool) → cond (not i && false && not v) ABoxed (AScalar i) ≡ AScalar i
+not_boxed true v = refl
+not_boxed false v = refl
+
+-- no scalar is boxed yet
+plain_sort : (x : List ℕ) (sc : Scope) → box_numbers sc ≡ [] →
+    scalar_sort (naming x (context_of sc 0 0)) ≡ AScalar (inside (context_of sc 0 0))
+plain_sort x sc e =
+    let i : Bool = inside (context_of sc 0 0) in
+    let v : Bool = is_visible (sort_of (naming x (context_of sc 0 0)) x) in
+    ap (λ (bs : List (List ℕ × ℕ)). cond (not i && is_boxes_name bs x && not v) ABoxed (AScalar i)) e ∙ not_boxed i v
 
 pub go_array : (x : List ℕ) (sc : Scope) (s : Stack) (t t' : Cursor) →
     (first_item t).terminal ≡ Mark sign.OpenBracket → behind t ≡ items t' →
@@ -50,12 +67,13 @@ go_array x sc s t t' e b =
     ∙ ap (run (one_array_more x (context_of sc 0 0)) after) b
 
 pub go_scalar : (x : List ℕ) (sc new : Scope) (s : Stack) (t t' : Cursor) →
-    (first_item t).terminal ≡ Mark sign.Semicolon → behind t ≡ items t' →
+    (first_item t).terminal ≡ Mark sign.Semicolon → behind t ≡ items t' → box_numbers sc ≡ [] →
     context_of new 0 0 ≡ one_scalar_more x (context_of sc 0 0) →
     run (naming x (context_of sc 0 0)) (AfterGlobal ∷ s) (items t) ≡ run (context_of new 0 0) s (items t')
-go_scalar x sc new s t t' e b k =
+go_scalar x sc new s t t' e b n k =
     ap (λ (i : Item Terminal). run (naming x (context_of sc 0 0)) (AfterGlobal ∷ s) (i ∷ behind t))
     (put_is (first_item t) (Mark sign.Semicolon) e) ∙ item_scalar x sc s (first_item t) (behind t)
+    ∙ ap (λ (u : Sort). run (sorted_more x u (context_of sc 0 0)) s (behind t)) (plain_sort x sc n)
     ∙ ap (run (one_scalar_more x (context_of sc 0 0)) s) b ∙ ap (λ (c : Context). run c s (items t')) (sym k)
 
 -- ---- the scope with one name more
@@ -97,6 +115,7 @@ array_named x k old new h e g n i =
       names = n;
       arrays = e;
       next = i;
+      boxes = ap (λ (c : Context). c.boxes) (g 0 0);
       inside_is = same_inside x AnArray old new g;
       still = record { target = s.target; choice = s.choice; always = s.always };
     }
@@ -108,6 +127,7 @@ array_with_cells x n old mid new a e = subst (λ (s : Scope). IsArrayNamed x old
       names = a.names;
       arrays = a.arrays;
       next = a.next;
+      boxes = a.boxes;
       inside_is = a.inside_is;
       still = record { target = a.still.target; choice = a.still.choice; always = a.still.always };
     })
@@ -120,10 +140,10 @@ gone_array n t0 t1 t2 t3 t4 e0 b0 e1 b1 e2 b2 e3 b3 =
     gone_four (Mark sign.OpenBracket) (Num (Some n)) (Mark sign.CloseBracket) (Mark sign.Semicolon) t0 t1 t2 t3 t4 e0 b0 e1 b1 e2 b2 e3 b3
 
 pub begun_scalar : (x : List ℕ) (old new : Scope) (s : Stack) (t t' : Cursor) →
-    (first_item t).terminal ≡ Mark sign.Semicolon → behind t ≡ items t' →
+    (first_item t).terminal ≡ Mark sign.Semicolon → behind t ≡ items t' → box_numbers old ≡ [] →
     context_of new 0 0 ≡ one_scalar_more x (context_of old 0 0) →
     run (naming x (context_of old 0 0)) (AfterGlobal ∷ s) (items t) ≡ run (context_of new 0 0) s (items t')
-begun_scalar x old new s t t' e b h = go_scalar x old new s t t' e b h
+begun_scalar x old new s t t' e b n h = go_scalar x old new s t t' e b n h
 
 pub scalar_named : (x : List ℕ) (id : ScalarId) (old new : Scope) →
     context_of new 0 0 ≡ one_scalar_more x (context_of old 0 0) →
@@ -134,6 +154,7 @@ scalar_named x id old new h n i m =
       names = n ∙ ap (λ (k : ℕ). (x, meaning.Scalar (record { 0 = k }) (inside (context_of old 0 0))) ∷ names_of old) i;
       arrays = ap (λ (c : Context). c.arrays) h;
       next = m;
+      boxes = ap (λ (c : Context). c.boxes) h;
       inside_is = ap (λ (c : Context). inside c) h;
       still = record {
         target = ap (λ (c : Context). c.target) h;

@@ -11,7 +11,7 @@ use Rattle.c_grammar.specs.Lexeme.{For, Uint64}
 use Rattle.c_grammar.specs.Terminal.{Terminal, Fixed, Mark, Name, same}
 use Rattle.c_grammar.specs.Texts.{Item}
 use Rattle.c_grammar.specs.Machine.{run as machine_run}
-use Rattle.c_grammar.specs.Grammar.{Head, Opens, Closes, Slots, Starts, Stmt, Stmts, Done, Then, Declare, Assign, Store, Repeat, Choose, ChooseElse, Show, Block, Directive, Atomic, OverBlock, OverLoop, IsLoopNest, IsNest, body_opening, body_closing, deeper, for, head_slots, nest_slots, stmt, stmt_in, stmts, stmts_in}
+use Rattle.c_grammar.specs.Grammar.{Head, Opens, Closes, Slots, Starts, Stmt, Stmts, Done, Then, Declare, Assign, Store, Repeat, Choose, ChooseElse, Show, Block, Directive, Atomic, AtomicAssign, OverBlock, OverLoop, IsLoopNest, IsNest, body_opening, body_closing, deeper, for, head_slots, nest_slots, stmt, stmt_in, stmts, stmts_in}
 use Rattle.c_grammar.specs.Rules.{Context, below, breaks, enter, inside, opened, rule_here}
 use Rattle.c_grammar.specs.Program.{Stack, Body, Nested, Want, advance, body, first_broken, loop, loop_body, place_code}
 use Rattle.c_expressions.specs.declared.changes.Turn.{Turn}
@@ -22,7 +22,7 @@ use Rattle.c_expressions.specs.Changes.{names_below, turn_name, turn_names}
 use Rattle.c_expressions.specs.Cursor.{items, first_item, behind}
 use Rattle.c_expressions.specs.Means.{Items}
 use Rattle.c_expressions.specs.Reading.{kinds, misfit_at, run, terminals, took}
-use Rattle.c_expressions.specs.Scopes.{context_of, frames_of, names_of}
+use Rattle.c_expressions.specs.Scopes.{boxes_of, context_of, frames_of, names_of}
 use Rattle.c_expressions.proofs.Expressions.{behind_less, first_then, kinds_append, one_more}
 use Rattle.c_expressions.proofs.Going.{put, put_is, put_same, stop_at}
 use Rattle.c_statements.specs.Blocks.{turned}
@@ -149,6 +149,7 @@ left_again s0 s2 s3 p e n = record {
   target = λ h. ap (λ (c : Context). c.target) e ∙ p.target h;
   waiting = λ h. ap (λ (c : Context). c.choice) e ∙ p.waiting h;
   scalars = omega (arith, p.scalars, ap (λ (c : Context). c.scalars) e);
+  boxes = ap (λ (c : Context). c.boxes) e ∙ p.boxes;
 }
 
 -- ---- the body of a loop
@@ -182,7 +183,14 @@ inside_turn : (s : Scope) (t : Turn) → (inside (context_of s 0 0) || s.target)
 inside_turn s t e h =
     let n = loops_in (names_of s) in
     ap (λ (i : Bool). (let v : Env = record (inner_env (Some t) s) { inside = i } in v)) e
-    ∙ ap (λ (l : ℕ). (let v : Env = record { names = (t.name.now, meaning.Loop l) ∷ names_of s; scalars = s.next_scalar; loops = n + 1; inside = true } in v)) h
+    ∙ ap (λ (l : ℕ). (let v : Env = record {
+      names = (t.name.now, meaning.Loop l) ∷ names_of s;
+      boxes =
+          boxes_of s;
+      scalars = s.next_scalar;
+      loops = n + 1;
+      inside = true;
+    } in v)) h
 
 in_body : (env inner next : Env) (before after : Items) (xs : List Statement) → (r : IsBodyRead env inner next before after xs) →
     (q : IsBodyRead (in_target env) inner (in_target next) before after xs) × (q.texts ≡ r.texts)
@@ -237,6 +245,7 @@ nest_text (Show e) depth n = absurd n
 nest_text (Block c) depth n = absurd n
 nest_text (Directive k) depth n = absurd n
 nest_text (Atomic k y i v) depth n = absurd n
+nest_text (AtomicAssign k y v) depth n = absurd n
 nest_text (OverBlock k c) depth n = absurd n
 nest_text (OverLoop k h c) depth n = absurd n
 
@@ -268,6 +277,7 @@ mutual
   kinds_one (Block c) d = refl
   kinds_one (Directive k) d = refl
   kinds_one (Atomic k y i v) d = refl
+  kinds_one (AtomicAssign k y v) d = refl
   kinds_one (OverBlock k c) d = refl
   kinds_one (OverLoop k h c) d = refl
 

@@ -1,20 +1,21 @@
 -- The globals of a program, and what stands before each token of their declarations.
-use Rattle.std.specs.Prelude.{◌≡◌, ℕ, ◌+◌, Bool, true, false, ◌&&◌, ◌||◌, nat_lt, nat_le, if◌then◌else◌, List, [], ◌∷◌, ◌++◌, length, map, drop, Option, Some, None, is_some, string_bytes}
+use Rattle.std.specs.Prelude.{◌≡◌, ℕ, ◌+◌, ◌-◌, Bool, true, false, ◌&&◌, ◌||◌, nat_lt, nat_le, if◌then◌else◌, List, [], ◌∷◌, ◌++◌, length, map, drop, Option, Some, None, is_some, string_bytes}
 use Rattle.std.specs.declared.string.String.{String}
 use Rattle.c_tokens.specs.declared.kind.Sign.TheVariants as sign
 use Rattle.base.specs.declared.fault.ReadCode.{ReadCode as Code}
 use Rattle.base.specs.declared.fault.ReadCode.TheVariants.{AlreadyDeclared, TooMany}
 use Rattle.base.specs.declared.tree.ArrayInfo.{ArrayInfo}
-use Rattle.c_grammar.specs.Grammar.{Global, Scalar, Array, globals}
+use Rattle.c_grammar.specs.Grammar.{Global, Scalar, Array, Text, globals}
 use Rattle.c_grammar.specs.LineRules.{max_name}
 use Rattle.c_grammar.specs.Terminal.{Terminal, Fixed, Mark, Name, Num, same}
-use Rattle.c_grammar.specs.Lexeme.{Uint64}
-use Rattle.c_grammar.specs.Rules.{Context, out, inside, under_if, is_visible, sort_of, max_arrays, max_scalars}
+use Rattle.c_grammar.specs.Lexeme.{Lexeme, Uint64}
+use Rattle.c_grammar.specs.Lines.{boxed_names}
+use Rattle.c_grammar.specs.Rules.{Context, out, inside, under_if, fresh_names, is_visible, numbered_from, sort_of, max_arrays, max_scalars}
 use Rattle.c_expressions.specs.declared.scope.Meaning.TheVariants as meaning
 use Rattle.c_expressions.specs.declared.scope.Scope.{Scope}
 use Rattle.c_expressions.specs.Means.{Items, Names, meaning_of}
 use Rattle.c_expressions.specs.Reading.{terminals, kinds}
-use Rattle.c_expressions.specs.Scopes.{context_of, names_of}
+use Rattle.c_expressions.specs.Scopes.{Boxes, as_boxes, context_of, names_of}
 use Rattle.c_statements.specs.Statements.{Env, with_scalar}
 use Rattle.c_statements.specs.Simple.{env_of}
 use Rattle.c_statements.specs.Loops.{IsGone}
@@ -50,6 +51,7 @@ pub record IsArrayNamed (x : List ℕ) (old new : Scope) : Type 0 where
   pub names : names_of new ≡ (x, meaning.Array (record { 0 = old.arrays })) ∷ names_of old
   pub arrays : new.arrays ≡ old.arrays + 1
   pub next : new.next_scalar ≡ old.next_scalar
+  pub boxes : (context_of new 0 0).boxes ≡ (context_of old 0 0).boxes
   pub inside_is : inside (context_of new 0 0) ≡ inside (context_of old 0 0)
   pub still : IsStill old new
 
@@ -59,6 +61,7 @@ pub record IsScalarNamed (x : List ℕ) (old new : Scope) : Type 0 where
       names_of new ≡ (x, meaning.Scalar (record { 0 = old.next_scalar }) (inside (context_of old 0 0))) ∷ names_of old
   pub arrays : new.arrays ≡ old.arrays
   pub next : new.next_scalar ≡ old.next_scalar + 1
+  pub boxes : (context_of new 0 0).boxes ≡ (context_of old 0 0).boxes
   pub inside_is : inside (context_of new 0 0) ≡ inside (context_of old 0 0)
   pub still : IsStill old new
 
@@ -76,7 +79,7 @@ pub record Front : Type 0 where
   pub env : Env
 
 abbrev pub no_front : Front
-no_front = record { arrays = 0; env = record { names = []; scalars = 0; loops = 0; inside = false } }
+no_front = record { arrays = 0; env = record { names = []; boxes = []; scalars = 0; loops = 0; inside = false } }
 
 abbrev pub with_array : List ℕ → Front → Front
 with_array x f =
@@ -92,6 +95,35 @@ with_global (Array x n) f = with_array x f
 abbrev pub behind_globals : List Global → Front → Front
 behind_globals [] f = f
 behind_globals (g ∷ gs) f = behind_globals gs (with_global g f)
+
+-- ---- the boxed scalars
+
+-- of these names, numbered from k on
+abbrev pub boxes_from : ℕ → List (List ℕ) → Boxes
+boxes_from k xs = as_boxes (numbered_from k xs)
+
+-- the names of the boxed scalars behind some globals
+abbrev pub boxes_on : Front → Option (List Lexeme) → List (List ℕ)
+boxes_on f None = []
+boxes_on f (Some l) = fresh_names (λ x. is_some (meaning_of f.env.names x)) (max_arrays - f.arrays) [] (boxed_names l)
+
+abbrev pub with_boxes : Option (List Lexeme) → Front → Front
+with_boxes o f =
+    record {
+      arrays = f.arrays + length (boxes_on f o);
+      env = record f.env { boxes = boxes_from f.arrays (boxes_on f o) };
+    }
+
+-- their arrays, of one cell each
+abbrev pub boxes_in : List (List ℕ) → List (List ℕ × Option ℕ)
+boxes_in xs = map (λ x. (x, Some 1)) xs
+
+-- what stands before the statements of main
+abbrev pub front_of_text : Text → Front
+front_of_text t = with_boxes t.boxes (behind_globals t.globals no_front)
+
+abbrev pub boxes_of_text : Text → List (List ℕ)
+boxes_of_text t = boxes_on (behind_globals t.globals no_front) t.boxes
 
 -- ---- what was read of them
 

@@ -1,4 +1,5 @@
 pub mod Globals
+pub mod Boxes
 pub mod Parts
 pub mod Gathering
 pub mod Read

@@ -9,7 +9,7 @@ ghost use Rattle.c_grammar.specs.Program.{Stack, AfterGlobal, WantName, WantNum,
 ghost use Rattle.c_grammar.specs.Rules.{inside, is_visible, sort_of};
 ghost use Rattle.c_expressions.specs.Cursor.{items, first_item, behind};
 ghost use Rattle.c_expressions.specs.Reading.{run, terminals, Outcome, OutcomeBy};
-ghost use Rattle.c_expressions.specs.Scopes.{context_of};
+ghost use Rattle.c_expressions.specs.Scopes.{box_numbers, context_of};
 ghost use Rattle.c_expressions.specs.Means.{meaning_of};
 ghost use Rattle.c_expressions.specs.Scopes.{names_of};
 ghost use Rattle.c_statements.specs.Loops.{IsGone};
@@ -158,6 +158,7 @@ pub fn scalar<'a>(
     name: &'a [u8],
 ) -> Result<(), ReadError>
     requires few { scope.old.scalars < 256 }
+    requires none { box_numbers scope.old ≡ [] }
     requires first { (first_item tokens.old).terminal ≡ Mark sign.Semicolon }
     ensures read { (s : Stack) → Outcome result
         (run (naming name.now (context_of scope.old 0 0)) (AfterGlobal ∷ s) (items tokens.old))
@@ -166,6 +167,6 @@ pub fn scalar<'a>(
     ensures taken { OnOk result (behind tokens.old ≡ items tokens.new) }
 {
     tokens.take();
-    new_scalar(scope, name)?;
+    new_scalar(scope, name, None)?;
     Ok(())
 }

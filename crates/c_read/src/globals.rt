@@ -10,7 +10,7 @@ ghost use Rattle.c_grammar.specs.Program.{Stack, AfterGlobal, Globals};
 ghost use Rattle.c_expressions.specs.Means.{meaning_of};
 ghost use Rattle.c_expressions.specs.Cursor.{items, first_item};
 ghost use Rattle.c_expressions.specs.Reading.{run, terminals, Outcome, OutcomeBy};
-ghost use Rattle.c_expressions.specs.Scopes.{context_of, names_of};
+ghost use Rattle.c_expressions.specs.Scopes.{box_numbers, context_of, names_of};
 ghost use Rattle.c_read.specs.Globals.{global_code, naming, AreGlobalsRead, AreKnown, IsArrayRead, IsNamedAt};
 
 use crate::array::{array, global_name, scalar};
@@ -71,10 +71,12 @@ fn global<'a>(
     requires word { (first_item tokens.old).terminal ≡ Fixed Uint64 }
     requires text { AreAscii (terminals (items tokens.old)) }
     requires known { AreKnown (names_of scope.old) arrays.old.entries }
+    requires none { box_numbers scope.old ≡ [] }
     ensures read { (s : Stack) → Outcome result (run (context_of scope.old 0 0) (Globals ∷ s) (items tokens.old))
         (run (context_of scope.new 0 0) (Globals ∷ s) (items tokens.new)) }
     ensures tree { OnOk result (AreGlobalsRead scope.old scope.new arrays.old.entries arrays.new.entries
         (items tokens.old) (items tokens.new)) }
+    ensures none { OnOk result (box_numbers scope.new ≡ []) }
     ensures fewer { OnOk result (length (items tokens.new) < length (items tokens.old)) }
 {
     let name = begin_global(scope, tokens)?;
@@ -93,11 +95,13 @@ pub fn globals<'a>(
     scope: &mut Scope<'a>,
     tokens: &mut Cursor<'a, '_>,
 ) -> Result<IndexMap<String, ArrayInfo>, ReadError>
-    requires { AreAscii (terminals (items tokens.old)) }
+    requires text { AreAscii (terminals (items tokens.old)) }
+    requires none { box_numbers scope.old ≡ [] }
     ensures read { (s : Stack) → Outcome result (run (context_of scope.old 0 0) (Globals ∷ s) (items tokens.old))
         (run (context_of scope.new 0 0) (Globals ∷ s) (items tokens.new)) }
     ensures tree { IfOk result (λ m. AreGlobalsRead scope.old scope.new [] m.entries (items tokens.old)
         (items tokens.new)) }
+    ensures none { OnOk result (box_numbers scope.new ≡ []) }
     ensures last { OnOk result (same (Fixed Uint64) (first_item tokens.new).terminal ≡ false) }
 {
     let mut arrays = IndexMap::new(scope.alloc);

@@ -2,6 +2,7 @@
 #![tactic(auto)]
 
 mod array;
+mod boxes;
 mod gathered;
 mod globals;
 mod nest;

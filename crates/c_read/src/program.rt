@@ -4,15 +4,15 @@ ghost use Rattle.std.specs.Prelude.{◌≡◌, [], ◌∷◌, map, OnOk, IfOk, I
 ghost use Rattle.base.specs.declared.tree.Program.{Program};
 ghost use Rattle.c_grammar.specs.AsciiNames.{AreAscii};
 ghost use Rattle.c_grammar.specs.Grammar.{Plain, for};
-ghost use Rattle.c_grammar.specs.Lexeme.{Uint64};
-ghost use Rattle.c_grammar.specs.Program.{Stack, Body, Globals, Want, start};
+ghost use Rattle.c_grammar.specs.Lexeme.{Int};
+ghost use Rattle.c_grammar.specs.Program.{Stack, Body, Want, main_rest, start, w};
 ghost use Rattle.c_grammar.specs.Rules.{begin};
 ghost use Rattle.c_grammar.specs.Grammar.{Text};
 ghost use Rattle.c_grammar.specs.Source.{item_of, items_of, written_out, IsFirstFault, Spells as SpellsText};
 ghost use Rattle.c_tokens.specs.Text.{tokens_of};
-ghost use Rattle.c_written.specs.Held.{written_all};
-ghost use Rattle.c_grammar.specs.Terminal.{End, Fixed, same};
-ghost use Rattle.c_expressions.specs.Cursor.{items, first_item};
+ghost use Rattle.c_terminals.specs.Held.{written_all};
+ghost use Rattle.c_grammar.specs.Terminal.{End};
+ghost use Rattle.c_expressions.specs.Cursor.{items};
 ghost use Rattle.c_expressions.specs.Reading.{run, terminals, Outcome};
 ghost use Rattle.c_expressions.specs.Scopes.{context_of, names_of};
 ghost use Rattle.c_statements.specs.Blocks.{turned};
@@ -24,23 +24,24 @@ ghost use Rattle.c_read.specs.Read.{AreInnerRead, IsOutside};
 ghost use Rattle.c_read.specs.Spells.{main_tokens, IsTextRead, Spells, OnText};
 ghost use Rattle.c_read.specs.Starts.{IsStart};
 
+use crate::boxes::boxes;
 use crate::globals::globals;
 use crate::parts::gather;
 use base::fault::{ReadCode, ReadFault, TextFault};
 use base::tree::{Part, Program};
 use c_expressions::{Cursor, Frame, ReadError, Scope};
 use c_statements::open_body;
+use c_terminals::Written;
 use c_tokens::Sign;
 use c_tokens::limits::MAX_SOURCE;
-use c_written::{Written, written};
+use c_written::written;
 use directives::Word;
 use std::alloc::{AllocError, Global};
 
-/// The words of `main`, up to its brace, behind the globals.
-#[tactic(auto, using(c_expressions::proofs::Outcomes::on_from, crate::proofs::Programs::main_comes, crate::proofs::Programs::gone_six))]
+/// The words of `main`, up to its brace.
+#[tactic(auto, using(c_expressions::proofs::Outcomes::on_from, crate::proofs::Programs::gone_six))]
 fn main_head<'a>(scope: &mut Scope<'a>, tokens: &mut Cursor<'a, '_>) -> Result<(), ReadError>
-    requires { same (Fixed Uint64) (first_item tokens.old).terminal ≡ false }
-    ensures read { (s : Stack) → Outcome result (run (context_of scope.old 0 0) (Globals ∷ s) (items tokens.old))
+    ensures read { (s : Stack) → Outcome result (run (context_of scope.old 0 0) (w Int ∷ main_rest s) (items tokens.old))
         (run (context_of scope.new 0 0) (Body ∷ Want End (for Plain) ∷ s) (items tokens.new)) }
     ensures opened { OnOk result (context_of scope.new 0 0 ≡ opened (turned None scope.old)) }
     ensures names { OnOk result (names_of scope.new ≡ names_of scope.old) }
@@ -84,7 +85,8 @@ fn program<'a>(scope: &mut Scope<'a>, tokens: &mut Cursor<'a, '_>) -> Result<Pro
     ensures read { Outcome result (run begin start (items tokens.old)) None }
     ensures tree { IfOk result (λ p. IsTextRead (items tokens.old) p) }
 {
-    let arrays = globals(scope, tokens)?;
+    let mut arrays = globals(scope, tokens)?;
+    boxes(scope, tokens, &mut arrays)?;
     main_head(scope, tokens)?;
     let body = main_parts(scope, tokens)?;
     Ok(Program {
@@ -108,6 +110,7 @@ fn new_scope<'a>(alloc: Global) -> Result<Scope<'a>, AllocError>
     Ok(Scope {
         alloc,
         frames,
+        boxes: Vec::new(alloc),
         fresh: None,
         target: false,
         choice: false,
