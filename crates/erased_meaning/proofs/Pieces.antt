@@ -1,91 +1,27 @@
 -- The parts that a text means, and the one region that it means without its directives, run alike.
-use Rattle.std.proofs.Common.{◌≡◌, ℕ, ◌+◌, ◌≤◌, true, false, List, [], ◌∷◌, ◌++◌, drop, Option, Some, None, refl, sym, ap, subst, ◌∙◌, arith, ◌⊎◌, inl, inr}
+use Rattle.std.proofs.Common.{◌≡◌, ℕ, ◌+◌, List, [], ◌∷◌, ◌++◌, drop, Option, Some, None, refl, sym, ap, subst, ◌∙◌, arith, ◌⊎◌, inl, inr}
 use Rattle.std.specs.Prelude.{option_and_then, option_map}
 use mathlib.Core.Former.{Count}
 use Rattle.base.specs.declared.tree.Bounds.{Bounds}
 use Rattle.base.specs.declared.tree.Place.{Place}
-use Rattle.base.specs.declared.tree.Region.{Region}
 use Rattle.base.specs.declared.tree.Part.{Part, Row_of-Part, items-the_row-Part}
 use Rattle.base.specs.declared.tree.Part.TheVariants as part
 use Rattle.base.specs.declared.tree.Stmt.{Stmt as Statement, items-the_row-Stmt}
 use Rattle.base.specs.declared.tree.Stmt.TheVariants as statement
 use Rattle.base.specs.Memory.{Memory, View, view_of}
-use Rattle.base.specs.Meaning.{Run, Plain, turn, turns_of, all_turns, run_stmt, run_row, run_list, after_region, run_kernel, erased_part, erased_row}
-use Rattle.c_grammar.specs.Lexeme.{Lexeme}
-use Rattle.c_grammar.specs.LineGrammar as line
-use Rattle.c_grammar.specs.Lines.{is_target, is_target_kind}
-use Rattle.c_grammar.specs.Grammar.{Head, Stmt, Declare, Assign, Store, Repeat, Choose, ChooseElse, Show, Block, Directive, Atomic, OverBlock, OverLoop, Stmts, Done, Then}
-use Rattle.c_grammar.proofs.LineKinds.{kind_is}
-use Rattle.c_expressions.specs.declared.scope.Meaning.TheVariants as meaning
-use Rattle.c_expressions.specs.Means.{Items, Names}
+use Rattle.base.specs.Meaning.{Run, Plain, turn, turns_of, all_turns, run_stmt, run_row, run_list, after_region, erased_part, erased_row}
+use Rattle.c_grammar.specs.Grammar.{Head, Stmt, Declare, Assign, Store, Repeat, Choose, ChooseElse, Show, Block, Directive, Atomic, AtomicAssign, OverBlock, OverLoop, Stmts, Done, Then}
+use Rattle.c_expressions.specs.Means.{Items}
 use Rattle.c_statements.specs.Statements.{Env, stmt_size, head_size, behind, more, declared_in, in_loop, IsHead, IsStatement, AreStatements}
-use Rattle.c_constructs.specs.LineMeaning.{LineOf}
-use Rattle.c_read.specs.Parts.{in_target, Placed, plain, pieces_in, pieces_of, ArePieces, IsPart, IsHostLoop, OneLoop, AreMixed}
+use Rattle.c_read.specs.Parts.{Placed, plain, pieces_in, pieces_of, ArePieces, IsPart, IsHostLoop, OneLoop, AreMixed}
 use Rattle.erasure.specs.Plain.{plain_before, plain_stmts}
-use Rattle.erased_meaning.proofs.Likeness.{OnHost, Like, Both}
-use Rattle.erased_meaning.proofs.Envs.{plain_env, plain_one, plain_then, behind_plain, more_plain, declared_plain, agree_before, AreQuiet}
-use Rattle.erased_meaning.proofs.Statements.{same_bounds, turns_same, row_runs, lists_end, one_ends}
-use Rattle.erased_meaning.proofs.Parts.{Ended, BothEnd, fresh, fresh_same, region_starts, region_ends, parts_run, parts_row, rest_run, region_then, ended_less, ended_then, ended_behind, ended_turns, AreOuter, kernel_end}
-
--- ---- the kind of a line
-
-is_target_line : (l : List Lexeme) (u : LineOf l) → is_target_kind u.text.kind ≡ true → is_target l ≡ true
-unfolding is_target
-is_target_line l u e =
-    ap is_target (sym u.tokens) ∙ ap is_target_kind (kind_is u.text.kind u.text.clauses) ∙ e
-
-is_data_line : (l : List Lexeme) (u : LineOf l) → u.text.kind ≡ line.Data → is_target l ≡ false
-unfolding is_target
-is_data_line l u e =
-    ap is_target (sym u.tokens) ∙ ap is_target_kind (kind_is u.text.kind u.text.clauses ∙ e)
-
--- ---- what is known of a text's targets
-
-abbrev mutual
-  -- the block or loop of each target reads and prints nothing, and assigns no scalar from outside
-  pub IsSafe : Env → Stmt → Type 0
-  IsSafe env (Repeat h b) = AreSafe (in_loop h.name env) b
-  IsSafe env (Block b) = AreSafe env b
-  IsSafe env (OverBlock l b) = (is_target l ≡ true → AreQuiet (in_target env) b) × (is_target l ≡ false → AreSafe env b)
-  IsSafe env (OverLoop l h b) =
-      (is_target l ≡ true → AreQuiet (in_target env) (Then (Repeat h b) Done)) × (is_target l ≡ false → AreSafe (in_loop h.name env) b)
-  IsSafe env _ = Unit {0}
-
-  pub AreSafe : Env → Stmts → Type 0
-  AreSafe env Done = Unit {0}
-  AreSafe env (Then s ss) = IsSafe env s × AreSafe (behind s env) ss
-
--- outside targets
-pub record IsOutside (env : Env) : Type 0 where
-  pub outside : env.inside ≡ false
-  pub names : AreOuter env.scalars env.names
-
-outer_more : (n m : ℕ) (ns : Names) → n ≤ m → AreOuter n ns → AreOuter m ns
-outer_more n m [] h a = tt
-outer_more n m ((x, meaning.Scalar k i) ∷ ns) h a = (a.0, omega (arith, h, a.1), outer_more n m ns h a.2)
-outer_more n m ((x, meaning.Array b) ∷ ns) h a = outer_more n m ns h a
-outer_more n m ((x, meaning.Loop k) ∷ ns) h a = outer_more n m ns h a
-
-outside_more : (n : ℕ) (env : Env) → IsOutside env → IsOutside (more n env)
-outside_more n env o = record { outside = o.outside; names = outer_more env.scalars (env.scalars + n) env.names (omega arith) o.names }
-
-outside_loop : (x : List ℕ) (env : Env) → IsOutside env → IsOutside (in_loop x env)
-outside_loop x env o = record { outside = o.outside; names = o.names }
-
-pub outside_behind : (s : Stmt) (env : Env) → IsOutside env → IsOutside (behind s env)
-outside_behind (Declare x v) env o =
-    record { outside = o.outside; names = (o.outside, omega arith, outer_more env.scalars (env.scalars + 1) env.names (omega arith) o.names) }
-outside_behind (Assign x v) env o = outside_more 0 env o
-outside_behind (Store x i v) env o = outside_more 0 env o
-outside_behind (Repeat h b) env o = outside_more (declared_in b) env o
-outside_behind (Choose e b) env o = outside_more (declared_in b) env o
-outside_behind (ChooseElse e b d) env o = outside_more (declared_in b + declared_in d) env o
-outside_behind (Show e) env o = outside_more 0 env o
-outside_behind (Block b) env o = outside_more (declared_in b) env o
-outside_behind (Directive l) env o = outside_more 0 env o
-outside_behind (Atomic l x i v) env o = outside_more 0 env o
-outside_behind (OverBlock l b) env o = outside_more (declared_in b) env o
-outside_behind (OverLoop l h b) env o = outside_more (declared_in b) env o
+use Rattle.erased_meaning.proofs.Boxes.{Layout}
+use Rattle.erased_meaning.proofs.Likeness.{OnHost, Like}
+use Rattle.erased_meaning.proofs.Envs.{plain_env, plain_one, plain_then, behind_plain, more_plain, declared_plain, agree_before}
+use Rattle.erased_meaning.proofs.Statements.{same_bounds, turns_same, row_runs, one_ends}
+use Rattle.erased_meaning.proofs.Parts.{Ended, BothEnd, fresh, fresh_same, region_starts, region_ends, parts_run, parts_row, rest_run, region_then, ended_less, ended_then, ended_behind, ended_turns}
+use Rattle.erased_meaning.proofs.Outside.{IsSafe, AreSafe, IsOutside, placed_outside, outside_loop, outside_behind}
+use Rattle.erased_meaning.proofs.Targets.{is_target_line, is_data_line, target_block, target_loop, host_loop}
 
 -- ---- pieces without places
 
@@ -95,42 +31,48 @@ unplaced env is ss place [] rest h = h
 unplaced env is Done place (x ∷ xs) rest h = absurd cc
 unplaced env is (Then s ss) place (x ∷ xs) rest h = (tt, h.1, h.2)
 
-none_on : (o : Option Run) → option_and_then (λ s. Some s) o ≡ o
-none_on None = refl
-none_on (Some r) = refl
-
-module _ (lengths : List ℕ) (w : Memory) where
+module _ (lay : Layout) (w : Memory) where
   abbrev there : View
-  there = view_of lengths w
+  there = view_of lay.second w
 
   -- the pieces of some statements run as the statements do that the text means without its directives
   abbrev pub RunsAlike : Stmts → Type 0
-  RunsAlike ss = (env : Env) (is js : Items) (xs : List Statement) (ps : List Part) (ys : List Statement) (loops : List ℕ) (p : Plain) (r q : Run) →
-      AreSafe env ss → IsOutside env → ArePieces env is ss (plain xs ++ pieces_of ps) → AreStatements (plain_env env) js (plain_stmts ss) ys →
-      Like p.memory w (OnHost p.printed) env.names r q →
-      BothEnd w env.names (rest_run lengths ps loops p (run_list xs (view_of lengths p.memory) loops r)) (run_list ys there loops q)
+  RunsAlike ss =
+      (env : Env) (is js : Items) (xs : List Statement) (ps : List Part) (ys : List Statement) (loops : List ℕ)
+      (p : Plain) (r q : Run) →
+      AreSafe env ss → IsOutside lay env → ArePieces env is ss (plain xs ++ pieces_of ps) →
+      AreStatements (plain_env env) js (plain_stmts ss) ys →
+      Like lay p.memory w (OnHost p.printed) env.names r q →
+      BothEnd lay w env.names (rest_run lay.first ps loops p (run_list xs (view_of lay.first p.memory) loops r))
+      (run_list ys there loops q)
 
   -- of parts that nothing is open before
-  parts_alike : (ss : Stmts) → RunsAlike ss → (env : Env) (is js : Items) (ps : List Part) (ys : List Statement) (loops : List ℕ) (p : Plain) (q : Run) →
-      AreSafe env ss → IsOutside env → ArePieces env is ss (pieces_of ps) → AreStatements (plain_env env) js (plain_stmts ss) ys →
-      Ended w env.names p q → BothEnd w env.names (parts_run lengths ps loops p) (run_list ys there loops q)
+  parts_alike : (ss : Stmts) → RunsAlike ss → (env : Env) (is js : Items) (ps : List Part) (ys : List Statement)
+      (loops : List ℕ) (p : Plain) (q : Run) →
+      AreSafe env ss → IsOutside lay env → ArePieces env is ss (pieces_of ps) →
+      AreStatements (plain_env env) js (plain_stmts ss) ys →
+      Ended lay w env.names p q → BothEnd lay w env.names (parts_run lay.first ps loops p) (run_list ys there loops q)
   parts_alike ss alike env is js ps ys loops p q safe o h k e =
-      subst (λ (u : Plain). BothEnd w env.names (parts_run lengths ps loops u) (run_list ys there loops q)) (fresh_same p)
-      (alike env is js [] ps ys loops p (fresh p) q safe o h k (region_starts w env.names p q e))
+      subst (λ (u : Plain). BothEnd lay w env.names (parts_run lay.first ps loops u) (run_list ys there loops q))
+      (fresh_same p)
+      (alike env is js [] ps ys loops p (fresh p) q safe o h k (region_starts lay w env.names p q e))
 
   -- ---- behind the last statement
 
-  none_left : (env : Env) (ps : List Part) (loops : List ℕ) (p : Plain) (q : Run) → pieces_of ps ≡ [] → Ended w env.names p q →
-      BothEnd w env.names (parts_run lengths ps loops p) (Some q)
+  none_left : (env : Env) (ps : List Part) (loops : List ℕ) (p : Plain) (q : Run) → pieces_of ps ≡ [] →
+      Ended lay w env.names p q →
+      BothEnd lay w env.names (parts_run lay.first ps loops p) (Some q)
   none_left env [] loops p q h e = e
   none_left env (part.Host d ∷ ps) loops p q h e =
       go d.body.items h (λ i. none_left env ps loops p q i e)
     where
       go : (xs : List Statement) → pieces_in d.place xs ++ pieces_of ps ≡ [] →
-          (pieces_of ps ≡ [] → BothEnd w env.names (parts_run lengths ps loops p) (Some q)) →
-          BothEnd w env.names (option_and_then (parts_run lengths ps loops)
-          (option_map (after_region p) (run_list xs (view_of lengths p.memory) loops (fresh p)))) (Some q)
-      go [] h rest = subst (λ (u : Plain). BothEnd w env.names (parts_run lengths ps loops u) (Some q)) (sym (fresh_same p)) (rest h)
+          (pieces_of ps ≡ [] → BothEnd lay w env.names (parts_run lay.first ps loops p) (Some q)) →
+          BothEnd lay w env.names (option_and_then (parts_run lay.first ps loops)
+          (option_map (after_region p) (run_list xs (view_of lay.first p.memory) loops (fresh p)))) (Some q)
+      go [] h rest =
+          subst (λ (u : Plain). BothEnd lay w env.names (parts_run lay.first ps loops u) (Some q))
+          (sym (fresh_same p)) (rest h)
       go (x ∷ xs) h rest = absurd cc
   none_left env (part.Block' c row ∷ ps) loops p q h e = absurd cc
   none_left env (part.Loop' b c row ∷ ps) loops p q h e = absurd cc
@@ -140,105 +82,89 @@ module _ (lengths : List ℕ) (w : Memory) where
 
   -- ---- blocks and loops
 
-  block_part : (b : Stmts) → RunsAlike b → (env : Env) (is js : Items) (n : Count) (row : Row_of-Part n) (y : Statement) (loops : List ℕ) (p : Plain) (q : Run) →
-      AreSafe env b → IsOutside env → ArePieces env is b (pieces_of (items-the_row-Part n row)) → IsStatement (plain_env env) js (Block (plain_stmts b)) y →
-      Ended w env.names p q → BothEnd w env.names (erased_row row lengths loops p) (run_stmt y there loops q)
+  block_part : (b : Stmts) → RunsAlike b → (env : Env) (is js : Items) (n : Count) (row : Row_of-Part n)
+      (y : Statement) (loops : List ℕ) (p : Plain) (q : Run) →
+      AreSafe env b → IsOutside lay env → ArePieces env is b (pieces_of (items-the_row-Part n row)) →
+      IsStatement (plain_env env) js (Block (plain_stmts b)) y →
+      Ended lay w env.names p q → BothEnd lay w env.names (erased_row row lay.first loops p) (run_stmt y there loops q)
   block_part b alike env is js n row (statement.Block' d row') loops p q safe o h k e =
-      subst (λ (u : Option Plain). BothEnd w env.names u (run_row row' there loops q)) (sym (parts_row lengths n row loops p))
-      (subst (λ (u : Option Run). BothEnd w env.names (parts_run lengths (items-the_row-Part n row) loops p) u) (sym (row_runs _ row' there loops q))
-      (parts_alike b alike env is (drop 1 js) (items-the_row-Part n row) (items-the_row-Stmt _ row') loops p q safe o h k e))
+      subst (λ (u : Option Plain). BothEnd lay w env.names u (run_row row' there loops q))
+      (sym (parts_row lay.first n row loops p))
+      (subst (λ (u : Option Run). BothEnd lay w env.names (parts_run lay.first (items-the_row-Part n row) loops p) u)
+      (sym (row_runs _ row' there loops q))
+      (parts_alike b alike env is (drop 1 js) (items-the_row-Part n row)
+      (items-the_row-Stmt _ row') loops p q safe o h k e))
   block_part b alike env is js n row _ loops p q safe o h k e = absurd k
 
-  loop_part : (d : Head) (b : Stmts) → RunsAlike b → (env : Env) (is js : Items) (a : Bounds) (n : Count) (row : Row_of-Part n) (y : Statement) (loops : List ℕ) (p : Plain) (q : Run) →
-      AreSafe (in_loop d.name env) b → IsOutside env → IsHead d a → ArePieces (in_loop d.name env) is b (pieces_of (items-the_row-Part n row)) →
-      IsStatement (plain_env env) js (Repeat d (plain_stmts b)) y → Ended w env.names p q →
-      BothEnd w env.names (all_turns a (λ v. erased_row row lengths (loops ++ v ∷ [])) p) (run_stmt y there loops q)
+  loop_part : (d : Head) (b : Stmts) → RunsAlike b → (env : Env) (is js : Items) (a : Bounds) (n : Count)
+      (row : Row_of-Part n) (y : Statement) (loops : List ℕ) (p : Plain) (q : Run) →
+      AreSafe (in_loop d.name env) b → IsOutside lay env → IsHead d a →
+      ArePieces (in_loop d.name env) is b (pieces_of (items-the_row-Part n row)) →
+      IsStatement (plain_env env) js (Repeat d (plain_stmts b)) y → Ended lay w env.names p q →
+      BothEnd lay w env.names (all_turns a (λ v. erased_row row lay.first (loops ++ v ∷ [])) p)
+      (run_stmt y there loops q)
   loop_part d b alike env is js a n row (statement.Loop' a' c row') loops p q safe o g h k e =
-      subst (λ (u : Option Run). BothEnd w env.names (all_turns a (λ v. erased_row row lengths (loops ++ v ∷ [])) p) u) same
-      (ended_turns w env.names (λ v. erased_row row lengths (loops ++ v ∷ [])) (λ v. run_row row' there (loops ++ v ∷ []))
-      (λ v p q e. ended_less w (in_loop d.name env).names env.names (erased_row row lengths (loops ++ v ∷ []) p) (run_row row' there (loops ++ v ∷ []) q) (λ f g a. a)
-      (subst (λ (u : Option Plain). BothEnd w (in_loop d.name env).names u (run_row row' there (loops ++ v ∷ []) q)) (sym (parts_row lengths n row (loops ++ v ∷ []) p))
-      (subst (λ (u : Option Run). BothEnd w (in_loop d.name env).names (parts_run lengths (items-the_row-Part n row) (loops ++ v ∷ []) p) u) (sym (row_runs _ row' there (loops ++ v ∷ []) q))
-      (parts_alike b alike (in_loop d.name env) is (drop (head_size d) js) (items-the_row-Part n row) (items-the_row-Stmt _ row') (loops ++ v ∷ []) p q safe
-      (outside_loop d.name env o) h k.1 (record { memory = e.memory; scalars = e.scalars; input = e.input; printed = e.printed })))))
+      subst (λ (u : Option Run). BothEnd lay w env.names (all_turns a
+      (λ v. erased_row row lay.first (loops ++ v ∷ [])) p) u) same
+      (ended_turns lay w env.names (λ v. erased_row row lay.first (loops ++ v ∷ []))
+      (λ v. run_row row' there (loops ++ v ∷ []))
+      (λ v p q e. ended_less lay w (in_loop d.name env).names env.names (erased_row row lay.first (loops ++ v ∷ []) p)
+      (run_row row' there (loops ++ v ∷ []) q) (λ m f g a. a.1)
+      (subst (λ (u : Option Plain). BothEnd lay w (in_loop d.name env).names u
+      (run_row row' there (loops ++ v ∷ []) q)) (sym (parts_row lay.first n row (loops ++ v ∷ []) p))
+      (subst (λ (u : Option Run). BothEnd lay w (in_loop d.name env).names
+      (parts_run lay.first (items-the_row-Part n row) (loops ++ v ∷ []) p) u)
+      (sym (row_runs _ row' there (loops ++ v ∷ []) q))
+      (parts_alike b alike (in_loop d.name env) is (drop (head_size d) js) (items-the_row-Part n row)
+      (items-the_row-Stmt _ row') (loops ++ v ∷ []) p q safe
+      (outside_loop lay d.name env o) h k.1
+      (record { memory = e.memory; scalars = (tt, e.scalars); input = e.input; printed = e.printed })))))
       (turns_of a) a.first a.step p q e)
     where
-      same : turn (turns_of a) a.first a.step (λ v. run_row row' there (loops ++ v ∷ [])) q ≡ all_turns a' (λ v. run_row row' there (loops ++ v ∷ [])) q
+      same : turn (turns_of a) a.first a.step (λ v. run_row row' there (loops ++ v ∷ [])) q
+          ≡ all_turns a' (λ v. run_row row' there (loops ++ v ∷ [])) q
       same =
-          ap (λ (n : ℕ). turn n a.first a.step (λ v. run_row row' there (loops ++ v ∷ [])) q) (turns_same a a' (same_bounds d a a' g k.0))
-          ∙ ap (λ (v : ℕ). turn (turns_of a') v a.step (λ v. run_row row' there (loops ++ v ∷ [])) q) (same_bounds d a a' g k.0).0
-          ∙ ap (λ (v : ℕ). turn (turns_of a') a'.first v (λ v. run_row row' there (loops ++ v ∷ [])) q) (same_bounds d a a' g k.0).2
+          ap (λ (n : ℕ). turn n a.first a.step (λ v. run_row row' there (loops ++ v ∷ [])) q)
+          (turns_same a a' (same_bounds d a a' g k.0))
+          ∙ ap (λ (v : ℕ). turn (turns_of a') v a.step (λ v. run_row row' there (loops ++ v ∷ [])) q)
+          (same_bounds d a a' g k.0).0
+          ∙ ap (λ (v : ℕ). turn (turns_of a') a'.first v (λ v. run_row row' there (loops ++ v ∷ [])) q)
+          (same_bounds d a a' g k.0).2
   loop_part d b alike env is js a n row _ loops p q safe o g h k e = absurd k
-
-  -- ---- targets
-
-  target_block : (b : Stmts) (env : Env) (is js : Items) (r : Region) (y : Statement) (loops : List ℕ) (p : Plain) (q : Run) →
-      AreQuiet (in_target env) b → IsOutside env → AreStatements (in_target env) is b r.body.items → IsStatement (plain_env env) js (Block (plain_stmts b)) y →
-      Ended w env.names p q → BothEnd w env.names (run_kernel lengths r loops p) (run_stmt y there loops q)
-  target_block b env is js r (statement.Block' d row') loops p q quiet o h k e =
-      subst (λ (u : Option Run). BothEnd w env.names (run_kernel lengths r loops p) u) (sym (row_runs _ row' there loops q))
-      (kernel_end lengths w b env is (drop 1 js) r.body.items (items-the_row-Stmt _ row') loops p q quiet o.names h k e)
-  target_block b env is js r _ loops p q quiet o h k e = absurd k
-
-  target_loop : (d : Head) (b : Stmts) (env : Env) (is js : Items) (r : Region) (y : Statement) (loops : List ℕ) (p : Plain) (q : Run) →
-      AreQuiet (in_target env) (Then (Repeat d b) Done) → IsOutside env → AreStatements (in_target env) is (Then (Repeat d b) Done) r.body.items →
-      IsStatement (plain_env env) js (Repeat d (plain_stmts b)) y → Ended w env.names p q →
-      BothEnd w env.names (run_kernel lengths r loops p) (run_stmt y there loops q)
-  target_loop d b env is js r y loops p q quiet o h k e =
-      subst (λ (u : Option Run). BothEnd w env.names (run_kernel lengths r loops p) u) (none_on (run_stmt y there loops q))
-      (kernel_end lengths w (Then (Repeat d b) Done) env is js r.body.items (y ∷ []) loops p q quiet o.names h (k, tt) e)
-
-  -- ---- loops of the host in a region with mapped data
-
-  host_loop : (d : Head) (b : Stmts) (env : Env) (is js : Items) (ps : List Part) (y : Statement) (loops : List ℕ) (p : Plain) (q : Run) →
-      IsHostLoop env is d b ps → IsStatement (plain_env env) js (Repeat d (plain_stmts b)) y → Ended w env.names p q →
-      BothEnd w env.names (parts_run lengths ps loops p) (run_stmt y there loops q)
-  host_loop d b env is js (part.Host r ∷ []) y loops p q h k e =
-      let view : View = view_of lengths p.memory in
-      let run : Both p.memory w (OnHost p.printed) env.names (run_list r.body.items view loops (fresh p)) (run_list (y ∷ []) there loops q) =
-      lists_end lengths p.memory w (OnHost p.printed) (Then (Repeat d b) Done) env is js r.body.items (y ∷ []) loops (fresh p) q tt tt
-      (region_starts w env.names p q e) h.1 (k, tt) in
-      subst (λ (u : Option Plain). BothEnd w env.names u (run_stmt y there loops q))
-      (sym (region_then lengths [] loops p (run_list r.body.items view loops (fresh p))))
-      (subst (λ (u : Option Run). BothEnd w env.names (rest_run lengths [] loops p (run_list r.body.items view loops (fresh p))) u)
-      (none_on (option_and_then (λ s. Some s) (run_stmt y there loops q)) ∙ none_on (run_stmt y there loops q))
-      (ended_behind w (OnHost p.printed) p.memory env.names env.names (λ s. Some (after_region p s)) (λ s. Some s)
-      (run_list r.body.items view loops (fresh p)) (run_list (y ∷ []) there loops q) run (λ r q l. region_ends w env.names p r q l)))
-  host_loop d b env is js (part.Host r ∷ x ∷ ps) y loops p q h k e = absurd h
-  host_loop d b env is js (part.Block' c row ∷ ps) y loops p q h k e = absurd h
-  host_loop d b env is js (part.Loop' a c row ∷ ps) y loops p q h k e = absurd h
-  host_loop d b env is js (part.Target t r ∷ ps) y loops p q h k e = absurd h
-  host_loop d b env is js (part.Data' g c row ∷ ps) y loops p q h k e = absurd h
-  host_loop d b env is js (part.Alone at t ∷ ps) y loops p q h k e = absurd h
-  host_loop d b env is js [] y loops p q h k e = absurd h
 
   -- ---- a part and what follows it
 
   -- what follows a statement, from where the part and the statement end
   abbrev Follow : Env → Stmts → (Plain → Option Plain) → List ℕ → Type 0
-  Follow env ss next loops = (ks : Items) (zs : List Statement) (p : Plain) (q : Run) → AreStatements (plain_env env) ks (plain_stmts ss) zs →
-      Ended w env.names p q → BothEnd w env.names (next p) (run_list zs there loops q)
+  Follow env ss next loops =
+      (ks : Items) (zs : List Statement) (p : Plain) (q : Run) → AreStatements (plain_env env) ks (plain_stmts ss) zs →
+      Ended lay w env.names p q → BothEnd lay w env.names (next p) (run_list zs there loops q)
 
   -- where the text without directives has one statement for the part
-  one_then : (s : Stmt) (n : ℕ) (ss : Stmts) (env : Env) (js : Items) (ys : List Statement) (o : Option Plain) (next : Plain → Option Plain) (loops : List ℕ) (q : Run) →
-      behind s (plain_env env) ≡ plain_env (more n env) → AreStatements (plain_env env) js (Then s (plain_stmts ss)) ys →
-      ((y : Statement) → IsStatement (plain_env env) js s y → BothEnd w env.names o (run_stmt y there loops q)) →
-      Follow (more n env) ss next loops → BothEnd w env.names (option_and_then next o) (run_list ys there loops q)
+  one_then : (s : Stmt) (n : ℕ) (ss : Stmts) (env : Env) (js : Items) (ys : List Statement) (o : Option Plain)
+      (next : Plain → Option Plain) (loops : List ℕ) (q : Run) →
+      behind s (plain_env env) ≡ plain_env (more n env) →
+      AreStatements (plain_env env) js (Then s (plain_stmts ss)) ys →
+      ((y : Statement) → IsStatement (plain_env env) js s y → BothEnd lay w env.names o (run_stmt y there loops q)) →
+      Follow (more n env) ss next loops → BothEnd lay w env.names (option_and_then next o) (run_list ys there loops q)
   one_then s n ss env js [] o next loops q same k part follow = absurd k
   one_then s n ss env js (y ∷ ys) o next loops q same k part follow =
       let ks : Items = drop (stmt_size s) js in
-      let rest : AreStatements (plain_env (more n env)) ks (plain_stmts ss) ys = subst (λ (e : Env). AreStatements e ks (plain_stmts ss) ys) same k.1 in
-      ended_then w env.names env.names next (run_list ys there loops) o (run_stmt y there loops q) (part y k.0)
-      (λ p q e. ended_less w (more n env).names env.names (next p) (run_list ys there loops q) (λ f g a. a)
+      let rest : AreStatements (plain_env (more n env)) ks
+      (plain_stmts ss) ys = subst (λ (e : Env). AreStatements e ks (plain_stmts ss) ys) same k.1 in
+      ended_then lay w env.names env.names next (run_list ys there loops) o (run_stmt y there loops q) (part y k.0)
+      (λ p q e. ended_less lay w (more n env).names env.names (next p) (run_list ys there loops q) (λ m f g a. a)
       (follow ks ys p q rest (record { memory = e.memory; scalars = e.scalars; input = e.input; printed = e.printed })))
 
-  data_loop : (d : Head) (b : Stmts) → RunsAlike b → (env : Env) (is js : Items) (ps : List Part) (y : Statement) (loops : List ℕ) (p : Plain) (q : Run) →
-      AreSafe (in_loop d.name env) b → IsOutside env →
+  data_loop : (d : Head) (b : Stmts) → RunsAlike b → (env : Env) (is js : Items) (ps : List Part) (y : Statement)
+      (loops : List ℕ) (p : Plain) (q : Run) →
+      AreSafe (in_loop d.name env) b → IsOutside lay env →
       OneLoop (λ bounds ps. IsHead d bounds × AreMixed ps × ArePieces (in_loop d.name env) is b (pieces_of ps)) ps →
-      IsStatement (plain_env env) js (Repeat d (plain_stmts b)) y → Ended w env.names p q →
-      BothEnd w env.names (parts_run lengths ps loops p) (run_stmt y there loops q)
+      IsStatement (plain_env env) js (Repeat d (plain_stmts b)) y → Ended lay w env.names p q →
+      BothEnd lay w env.names (parts_run lay.first ps loops p) (run_stmt y there loops q)
   data_loop d b alike env is js (part.Loop' a c row ∷ []) y loops p q safe o h k e =
-      subst (λ (u : Option Plain). BothEnd w env.names u (run_stmt y there loops q)) (sym (last (all_turns a (λ v. erased_row row lengths (loops ++ v ∷ [])) p)))
+      subst (λ (u : Option Plain). BothEnd lay w env.names u (run_stmt y there loops q))
+      (sym (last (all_turns a (λ v. erased_row row lay.first (loops ++ v ∷ [])) p)))
       (loop_part d b alike env is js a _ row y loops p q safe o h.0 h.2 k e)
     where
       last : (u : Option Plain) → option_and_then (λ s. Some s) u ≡ u
@@ -260,41 +186,55 @@ module _ (lengths : List ℕ) (w : Memory) where
   InnerAlike (OverLoop l d b) = RunsAlike b
   InnerAlike _ = Unit {0}
 
-  part_then : (s : Stmt) → InnerAlike s → (ss : Stmts) (env : Env) (is js : Items) (x : Part) (ys : List Statement) (next : Plain → Option Plain) (loops : List ℕ) (p : Plain) (q : Run) →
-      IsSafe env s → IsOutside env → IsPart env is s x → AreStatements (plain_env env) js (plain_before s (plain_stmts ss)) ys →
-      Ended w env.names p q → Follow (behind s env) ss next loops →
-      BothEnd w env.names (option_and_then next (erased_part x lengths loops p)) (run_list ys there loops q)
+  part_then : (s : Stmt) → InnerAlike s → (ss : Stmts) (env : Env) (is js : Items) (x : Part) (ys : List Statement)
+      (next : Plain → Option Plain) (loops : List ℕ) (p : Plain) (q : Run) →
+      IsSafe env s → IsOutside lay env → IsPart env is s x →
+      AreStatements (plain_env env) js (plain_before s (plain_stmts ss)) ys →
+      Ended lay w env.names p q → Follow (behind s env) ss next loops →
+      BothEnd lay w env.names (option_and_then next (erased_part x lay.first loops p)) (run_list ys there loops q)
   part_then (Block b) alike ss env is js (part.Block' c row) ys next loops p q safe o h k e follow =
-      one_then (Block (plain_stmts b)) (declared_in b) ss env js ys (erased_row row lengths loops p) next loops q
+      one_then (Block (plain_stmts b)) (declared_in b) ss env js ys (erased_row row lay.first loops p) next loops q
       (more_plain _ _ env (declared_plain b)) k
       (λ y g. block_part b alike env (drop 1 is) js _ row y loops p q safe o h.1 g e) follow
   part_then (Repeat d b) alike ss env is js (part.Loop' a c row) ys next loops p q safe o h k e follow =
-      one_then (Repeat d (plain_stmts b)) (declared_in b) ss env js ys _ next loops q (more_plain _ _ env (declared_plain b)) k
+      one_then (Repeat d (plain_stmts b)) (declared_in b) ss env js ys _ next loops q
+      (more_plain _ _ env (declared_plain b)) k
       (λ y g. loop_part d b alike env (drop (head_size d) is) js a _ row y loops p q safe o h.0 h.2 g e) follow
   part_then (OverBlock l b) alike ss env is js (part.Target t r) ys next loops p q safe o h k e follow =
-      one_then (Block (plain_stmts b)) (declared_in b) ss env js ys _ next loops q (more_plain _ _ env (declared_plain b)) k
-      (λ y g. target_block b env (drop 2 is) js r y loops p q (safe.0 (is_target_line l h.0 h.1.kind)) o h.3 g e) follow
+      one_then (Block (plain_stmts b)) (declared_in b) ss env js ys _ next loops q
+      (more_plain _ _ env (declared_plain b)) k
+      (λ y g. target_block lay w b env (drop 2 is) js r y loops p q
+      (safe.0 (is_target_line l h.0 h.1.kind)) o h.3 g e) follow
   part_then (OverLoop l d b) alike ss env is js (part.Target t r) ys next loops p q safe o h k e follow =
-      one_then (Repeat d (plain_stmts b)) (declared_in b) ss env js ys _ next loops q (more_plain _ _ env (declared_plain b)) k
-      (λ y g. target_loop d b env (drop 1 is) js r y loops p q (safe.0 (is_target_line l h.0 h.1.kind)) o h.3 g e) follow
+      one_then (Repeat d (plain_stmts b)) (declared_in b) ss env js ys _ next loops q
+      (more_plain _ _ env (declared_plain b)) k
+      (λ y g. target_loop lay w d b env (drop 1 is) js r y loops p q
+      (safe.0 (is_target_line l h.0 h.1.kind)) o h.3 g e) follow
   part_then (OverBlock l b) alike ss env is js (part.Data' g c row) ys next loops p q safe o h k e follow =
-      one_then (Block (plain_stmts b)) (declared_in b) ss env js ys (erased_row row lengths loops p) next loops q (more_plain _ _ env (declared_plain b)) k
-      (λ y g. block_part b alike env (drop 2 is) js _ row y loops p q (safe.1 (is_data_line l h.0 h.1.kind)) o h.3 g e) follow
+      one_then (Block (plain_stmts b)) (declared_in b) ss env js ys (erased_row row lay.first loops p) next loops q
+      (more_plain _ _ env (declared_plain b)) k
+      (λ y g. block_part b alike env (drop 2 is) js _ row y loops p q
+      (safe.1 (is_data_line l h.0 h.1.kind)) o h.3 g e) follow
   part_then (OverLoop l d b) alike ss env is js (part.Data' g c row) ys next loops p q safe o h k e follow =
-      one_then (Repeat d (plain_stmts b)) (declared_in b) ss env js ys (erased_row row lengths loops p) next loops q (more_plain _ _ env (declared_plain b)) k
-      (λ y g. subst (λ (u : Option Plain). BothEnd w env.names u (run_stmt y there loops q)) (sym (parts_row lengths _ row loops p))
+      one_then (Repeat d (plain_stmts b)) (declared_in b) ss env js ys (erased_row row lay.first loops p) next loops q
+      (more_plain _ _ env (declared_plain b)) k
+      (λ y g. subst (λ (u : Option Plain). BothEnd lay w env.names u (run_stmt y there loops q))
+      (sym (parts_row lay.first _ row loops p))
       (either y g h.2)) follow
     where
       either : (y : Statement) → IsStatement (plain_env env) js (Repeat d (plain_stmts b)) y →
           IsHostLoop env (drop 1 is) d b (items-the_row-Part _ row) ⊎
-          OneLoop (λ bounds ps. IsHead d bounds × AreMixed ps × ArePieces (in_loop d.name env) (drop (1 + head_size d) is) b (pieces_of ps)) (items-the_row-Part _ row) →
-          BothEnd w env.names (parts_run lengths (items-the_row-Part _ row) loops p) (run_stmt y there loops q)
-      either y g (inl host) = host_loop d b env (drop 1 is) js (items-the_row-Part _ row) y loops p q host g e
+          OneLoop (λ bounds ps. IsHead d bounds × AreMixed ps × ArePieces (in_loop d.name env)
+          (drop (1 + head_size d) is) b (pieces_of ps)) (items-the_row-Part _ row) →
+          BothEnd lay w env.names (parts_run lay.first (items-the_row-Part _ row) loops p) (run_stmt y there loops q)
+      either y g (inl host) = host_loop lay w d b env (drop 1 is) js (items-the_row-Part _ row) y loops p q o host g e
       either y g (inr loop) =
-          data_loop d b alike env (drop (1 + head_size d) is) js (items-the_row-Part _ row) y loops p q (safe.1 (is_data_line l h.0 h.1.kind)) o loop g e
+          data_loop d b alike env (drop (1 + head_size d) is) js (items-the_row-Part _ row) y loops p q
+          (safe.1 (is_data_line l h.0 h.1.kind)) o loop g e
   part_then (Directive l) alike ss env is js (part.Alone at t) ys next loops p q safe o h k e follow =
       let none : env.scalars ≡ env.scalars + 0 = omega arith in
-      follow js ys p q (subst (λ (n : ℕ). AreStatements (record (plain_env env) { scalars = n }) js (plain_stmts ss) ys) none k)
+      follow js ys p q (subst (λ (n : ℕ). AreStatements (record (plain_env env) { scalars = n }) js
+      (plain_stmts ss) ys) none k)
       (record { memory = e.memory; scalars = e.scalars; input = e.input; printed = e.printed })
   part_then (Block b) alike ss env is js _ ys next loops p q safe o h k e follow = absurd h
   part_then (Repeat d b) alike ss env is js _ ys next loops p q safe o h k e follow = absurd h
@@ -305,6 +245,7 @@ module _ (lengths : List ℕ) (w : Memory) where
   part_then (Assign v a) alike ss env is js x ys next loops p q safe o h k e follow = absurd h
   part_then (Store v i a) alike ss env is js x ys next loops p q safe o h k e follow = absurd h
   part_then (Atomic l v i a) alike ss env is js x ys next loops p q safe o h k e follow = absurd h
+  part_then (AtomicAssign l v a) alike ss env is js x ys next loops p q safe o h k e follow = absurd h
   part_then (Choose t a) alike ss env is js x ys next loops p q safe o h k e follow = absurd h
   part_then (ChooseElse t a b) alike ss env is js x ys next loops p q safe o h k e follow = absurd h
   part_then (Show t) alike ss env is js x ys next loops p q safe o h k e follow = absurd h
@@ -316,59 +257,87 @@ module _ (lengths : List ℕ) (w : Memory) where
   then_then f g None = refl
   then_then f g (Some r) = refl
 
-  module _ (s : Stmt) (ss : Stmts) (alike : RunsAlike ss) (inner : InnerAlike s) (env : Env) (is js : Items) (ys : List Statement) (loops : List ℕ)
-      (safe : AreSafe env (Then s ss)) (o : IsOutside env) (k : AreStatements (plain_env env) js (plain_stmts (Then s ss)) ys) where
-    statement_then : (x : Statement) (xs : List Statement) (ps : List Part) (p : Plain) (r q : Run) → IsStatement env is s x →
-        ArePieces (behind s env) (drop (stmt_size s) is) ss (plain xs ++ pieces_of ps) → Like p.memory w (OnHost p.printed) env.names r q →
-        BothEnd w env.names (rest_run lengths ps loops p (run_list (x ∷ xs) (view_of lengths p.memory) loops r)) (run_list ys there loops q)
+  module _ (s : Stmt) (ss : Stmts) (alike : RunsAlike ss) (inner : InnerAlike s) (env : Env) (is js : Items)
+      (ys : List Statement) (loops : List ℕ)
+      (safe : AreSafe env (Then s ss)) (o : IsOutside lay env)
+      (k : AreStatements (plain_env env) js (plain_stmts (Then s ss)) ys) where
+    statement_then : (x : Statement) (xs : List Statement) (ps : List Part) (p : Plain) (r q : Run) →
+        IsStatement env is s x →
+        ArePieces (behind s env) (drop (stmt_size s) is) ss (plain xs ++ pieces_of ps) →
+        Like lay p.memory w (OnHost p.printed) env.names r q →
+        BothEnd lay w env.names
+        (rest_run lay.first ps loops p (run_list (x ∷ xs) (view_of lay.first p.memory) loops r))
+        (run_list ys there loops q)
     statement_then x xs ps p r q h rest l =
-        go ys (subst (λ (b : Stmts). AreStatements (plain_env env) js b ys) (plain_then env is s x (plain_stmts ss) h) k)
+        go ys (subst (λ (b : Stmts). AreStatements (plain_env env) js b ys)
+        (plain_then env is s x (plain_stmts ss) h) k)
       where
         go : (ys : List Statement) → AreStatements (plain_env env) js (Then (plain_one s) (plain_stmts ss)) ys →
-            BothEnd w env.names (rest_run lengths ps loops p (run_list (x ∷ xs) (view_of lengths p.memory) loops r)) (run_list ys there loops q)
+            BothEnd lay w env.names
+            (rest_run lay.first ps loops p (run_list (x ∷ xs) (view_of lay.first p.memory) loops r))
+            (run_list ys there loops q)
         go [] k = absurd k
         go (y ∷ ys) k =
-            let view : View = view_of lengths p.memory in
+            let view : View = view_of lay.first p.memory in
             let ks : Items = drop (stmt_size (plain_one s)) js in
             let more : AreStatements (plain_env (behind s env)) ks (plain_stmts ss) ys =
             subst (λ (e : Env). AreStatements e ks (plain_stmts ss) ys) (behind_plain env is s x h) k.1 in
-            let after : Run → Option Plain = λ r. rest_run lengths ps loops p (run_list xs view loops r) in
-            let both : BothEnd w (behind s env).names (option_and_then after (run_stmt x view loops r)) (run_list (y ∷ ys) there loops q) =
-            ended_behind w (OnHost p.printed) p.memory (behind s env).names (behind s env).names after (run_list ys there loops)
+            let after : Run → Option Plain = λ r. rest_run lay.first ps loops p (run_list xs view loops r) in
+            let both : BothEnd lay w (behind s env).names (option_and_then after (run_stmt x view loops r))
+            (run_list (y ∷ ys) there loops q) =
+            ended_behind lay w (OnHost p.printed) p.memory (behind s env).names (behind s env).names after
+            (run_list ys there loops)
             (run_stmt x view loops r) (run_stmt y there loops q)
-            (one_ends lengths p.memory w (OnHost p.printed) s env is js x y loops r q tt tt l h k.0)
-            (λ r q l. alike (behind s env) (drop (stmt_size s) is) ks xs ps ys loops p r q safe.1 (outside_behind s env o) rest more l) in
-            ended_less w (behind s env).names env.names (rest_run lengths ps loops p (run_list (x ∷ xs) view loops r)) (run_list (y ∷ ys) there loops q)
+            (one_ends lay p.memory w (OnHost p.printed) s env is js x y loops r q tt
+            (placed_outside lay p.printed env o) l h k.0)
+            (λ r q l. alike (behind s env) (drop (stmt_size s) is) ks xs ps ys loops p r q safe.1
+            (outside_behind lay s env o) rest more l) in
+            ended_less lay w (behind s env).names env.names (rest_run lay.first ps loops p
+            (run_list (x ∷ xs) view loops r)) (run_list (y ∷ ys) there loops q)
             (agree_before s env)
-            (subst (λ (u : Option Plain). BothEnd w (behind s env).names u (run_list (y ∷ ys) there loops q))
-            (sym (then_then (λ r. parts_run lengths ps loops (after_region p r)) (run_list xs view loops) (run_stmt x view loops r))) both)
+            (subst (λ (u : Option Plain). BothEnd lay w (behind s env).names u (run_list (y ∷ ys) there loops q))
+            (sym (then_then (λ r. parts_run lay.first ps loops (after_region p r)) (run_list xs view loops)
+            (run_stmt x view loops r))) both)
 
-    part_case : (x : Part) (ps : List Part) (p : Plain) (q : Run) → IsPart env is s x → ArePieces (behind s env) (drop (stmt_size s) is) ss (pieces_of ps) →
-        Ended w env.names p q → BothEnd w env.names (option_and_then (parts_run lengths ps loops) (erased_part x lengths loops p)) (run_list ys there loops q)
+    part_case : (x : Part) (ps : List Part) (p : Plain) (q : Run) → IsPart env is s x →
+        ArePieces (behind s env) (drop (stmt_size s) is) ss (pieces_of ps) →
+        Ended lay w env.names p q → BothEnd lay w env.names
+        (option_and_then (parts_run lay.first ps loops) (erased_part x lay.first loops p)) (run_list ys there loops q)
     part_case x ps p q h rest e =
-        part_then s inner ss env is js x ys (parts_run lengths ps loops) loops p q safe.0 o h k e
-        (λ ks zs p q g e. parts_alike ss alike (behind s env) (drop (stmt_size s) is) ks ps zs loops p q safe.1 (outside_behind s env o) rest g e)
+        part_then s inner ss env is js x ys (parts_run lay.first ps loops) loops p q safe.0 o h k e
+        (λ ks zs p q g e. parts_alike ss alike (behind s env) (drop (stmt_size s) is) ks ps zs loops p q safe.1
+        (outside_behind lay s env o) rest g e)
 
-    pieces_then : (ps : List Part) (xs : List Statement) (p : Plain) (r q : Run) → ArePieces env is (Then s ss) (plain xs ++ pieces_of ps) →
-        Like p.memory w (OnHost p.printed) env.names r q →
-        BothEnd w env.names (rest_run lengths ps loops p (run_list xs (view_of lengths p.memory) loops r)) (run_list ys there loops q)
+    pieces_then : (ps : List Part) (xs : List Statement) (p : Plain) (r q : Run) →
+        ArePieces env is (Then s ss) (plain xs ++ pieces_of ps) →
+        Like lay p.memory w (OnHost p.printed) env.names r q →
+        BothEnd lay w env.names (rest_run lay.first ps loops p (run_list xs (view_of lay.first p.memory) loops r))
+        (run_list ys there loops q)
     pieces_then ps (x ∷ xs) p r q h l = statement_then x xs ps p r q h.1 h.2 l
     pieces_then [] [] p r q h l = absurd h
     pieces_then (part.Host d ∷ ps) [] p r q h l =
         let next : Plain = after_region p r in
-        subst (λ (u : Option Plain). BothEnd w env.names u (run_list ys there loops q))
-        (sym (region_then lengths ps loops next (run_list d.body.items (view_of lengths next.memory) loops (fresh next))))
-        (pieces_then ps d.body.items next (fresh next) q (unplaced env is (Then s ss) d.place d.body.items (pieces_of ps) h)
-        (region_starts w env.names next q (region_ends w env.names p r q l)))
-    pieces_then (part.Block' c row ∷ ps) [] p r q h l = part_case (part.Block' c row) ps (after_region p r) q h.1 h.2 (region_ends w env.names p r q l)
-    pieces_then (part.Loop' a c row ∷ ps) [] p r q h l = part_case (part.Loop' a c row) ps (after_region p r) q h.1 h.2 (region_ends w env.names p r q l)
-    pieces_then (part.Target t d ∷ ps) [] p r q h l = part_case (part.Target t d) ps (after_region p r) q h.1 h.2 (region_ends w env.names p r q l)
-    pieces_then (part.Data' g c row ∷ ps) [] p r q h l = part_case (part.Data' g c row) ps (after_region p r) q h.1 h.2 (region_ends w env.names p r q l)
-    pieces_then (part.Alone at t ∷ ps) [] p r q h l = part_case (part.Alone at t) ps (after_region p r) q h.1 h.2 (region_ends w env.names p r q l)
+        subst (λ (u : Option Plain). BothEnd lay w env.names u (run_list ys there loops q))
+        (sym (region_then lay.first ps loops next (run_list d.body.items (view_of lay.first next.memory) loops
+        (fresh next))))
+        (pieces_then ps d.body.items next (fresh next) q (unplaced env is (Then s ss) d.place d.body.items
+        (pieces_of ps) h)
+        (region_starts lay w env.names next q (region_ends lay w env.names p r q l)))
+    pieces_then (part.Block' c row ∷ ps) [] p r q h l =
+        part_case (part.Block' c row) ps (after_region p r) q h.1 h.2 (region_ends lay w env.names p r q l)
+    pieces_then (part.Loop' a c row ∷ ps) [] p r q h l =
+        part_case (part.Loop' a c row) ps (after_region p r) q h.1 h.2 (region_ends lay w env.names p r q l)
+    pieces_then (part.Target t d ∷ ps) [] p r q h l =
+        part_case (part.Target t d) ps (after_region p r) q h.1 h.2 (region_ends lay w env.names p r q l)
+    pieces_then (part.Data' g c row ∷ ps) [] p r q h l =
+        part_case (part.Data' g c row) ps (after_region p r) q h.1 h.2 (region_ends lay w env.names p r q l)
+    pieces_then (part.Alone at t ∷ ps) [] p r q h l =
+        part_case (part.Alone at t) ps (after_region p r) q h.1 h.2 (region_ends lay w env.names p r q l)
 
   pieces_done : RunsAlike Done
   pieces_done env is js (x ∷ xs) ps ys loops p r q safe o h k l = absurd cc
-  pieces_done env is js [] ps [] loops p r q safe o h k l = none_left env ps loops (after_region p r) q h (region_ends w env.names p r q l)
+  pieces_done env is js [] ps [] loops p r q safe o h k l =
+      none_left env ps loops (after_region p r) q h (region_ends lay w env.names p r q l)
   pieces_done env is js [] ps (y ∷ ys) loops p r q safe o h k l = absurd k
 
   mutual
@@ -391,9 +360,12 @@ module _ (lengths : List ℕ) (w : Memory) where
     inner_alike (Show e) = tt
     inner_alike (Directive l) = tt
     inner_alike (Atomic l x i v) = tt
+    inner_alike (AtomicAssign l x v) = tt
 
   -- the parts of a text and the statements that it means without its directives
-  pub texts_alike : (b : Stmts) (env : Env) (is js : Items) (ps : List Part) (ys : List Statement) (loops : List ℕ) (p : Plain) (q : Run) →
-      AreSafe env b → IsOutside env → ArePieces env is b (pieces_of ps) → AreStatements (plain_env env) js (plain_stmts b) ys →
-      Ended w env.names p q → BothEnd w env.names (parts_run lengths ps loops p) (run_list ys there loops q)
+  pub texts_alike : (b : Stmts) (env : Env) (is js : Items) (ps : List Part) (ys : List Statement) (loops : List ℕ)
+      (p : Plain) (q : Run) →
+      AreSafe env b → IsOutside lay env → ArePieces env is b (pieces_of ps) →
+      AreStatements (plain_env env) js (plain_stmts b) ys →
+      Ended lay w env.names p q → BothEnd lay w env.names (parts_run lay.first ps loops p) (run_list ys there loops q)
   texts_alike b = parts_alike b (runs_alike b)

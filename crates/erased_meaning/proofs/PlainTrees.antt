@@ -5,7 +5,7 @@ use Rattle.base.specs.declared.tree.Place.{Place}
 use Rattle.base.specs.declared.tree.Part.{Part, items-the_row-Part}
 use Rattle.base.specs.declared.tree.Part.TheVariants as part
 use Rattle.base.specs.declared.tree.Stmt.{Stmt as Statement}
-use Rattle.c_grammar.specs.Grammar.{Stmt, Declare, Assign, Store, Repeat, Choose, ChooseElse, Show, Block, Directive, Atomic, OverBlock, OverLoop, Stmts, Done, Then}
+use Rattle.c_grammar.specs.Grammar.{Stmt, Declare, Assign, Store, Repeat, Choose, ChooseElse, Show, Block, Directive, Atomic, AtomicAssign, OverBlock, OverLoop, Stmts, Done, Then}
 use Rattle.c_expressions.specs.Means.{Items}
 use Rattle.c_statements.specs.Statements.{Env, AreStatements, behind, stmt_size, in_loop, head_size}
 use Rattle.c_read.specs.declared.piece.Piece.TheVariants as piece
@@ -41,6 +41,7 @@ mutual
   bare_before (Block b) ss h = (plain_bare b, h)
   bare_before (Directive l) ss h = h
   bare_before (Atomic l x i v) ss h = (tt, h)
+  bare_before (AtomicAssign l x v) ss h = (tt, h)
   bare_before (OverBlock l b) ss h = (plain_bare b, h)
   bare_before (OverLoop l g b) ss h = (plain_bare b, h)
 
@@ -68,17 +69,20 @@ not_mixed (part.Data' g c row ∷ ps) h = absurd h
 not_mixed (part.Alone at t ∷ ps) h = absurd h
 
 mutual
-  bare_no_parts : (b : Stmts) (env : Env) (is : Items) (ps : List Placed) → AreBare b → ArePieces env is b ps → NoParts ps
+  bare_no_parts : (b : Stmts) (env : Env) (is : Items) (ps : List Placed) → AreBare b → ArePieces env is b ps →
+      NoParts ps
   bare_no_parts Done env is [] h k = tt
   bare_no_parts Done env is (p ∷ ps) h k = absurd cc
   bare_no_parts (Then s ss) env is [] h k = absurd k
-  bare_no_parts (Then s ss) env is ((at, piece.Statement x) ∷ ps) h k = bare_no_parts ss (behind s env) (drop (stmt_size s) is) ps h.1 k.2
+  bare_no_parts (Then s ss) env is ((at, piece.Statement x) ∷ ps) h k =
+      bare_no_parts ss (behind s env) (drop (stmt_size s) is) ps h.1 k.2
   bare_no_parts (Then s ss) env is ((at, piece.Part p) ∷ ps) h k = bare_no_part s env is p h.0 k.1
 
   bare_no_part : (s : Stmt) (env : Env) (is : Items) (p : Part) → IsBare s → IsPart env is s p → ⊥
   bare_no_part (Block b) env is (part.Block' c row) h k =
       both_ways (are_mixed (items-the_row-Part _ row))
-      (not_mixed (items-the_row-Part _ row) (bare_no_parts b env (drop 1 is) (pieces_of (items-the_row-Part _ row)) h k.1))
+      (not_mixed (items-the_row-Part _ row) (bare_no_parts b env (drop 1 is)
+      (pieces_of (items-the_row-Part _ row)) h k.1))
       k.0.0
   bare_no_part (Block b) env is _ h k = absurd k
   bare_no_part (Repeat d b) env is (part.Loop' a c row) h k =
@@ -94,23 +98,28 @@ mutual
   bare_no_part (Show e) env is p h k = absurd k
   bare_no_part (Directive l) env is p h k = absurd h
   bare_no_part (Atomic l x i v) env is p h k = absurd k
+  bare_no_part (AtomicAssign l x v) env is p h k = absurd k
   bare_no_part (OverBlock l b) env is p h k = absurd h
   bare_no_part (OverLoop l g b) env is p h k = absurd h
 
 -- ---- its statements
 
-pieces_statements : (b : Stmts) (env : Env) (is : Items) (xs : List Statement) → ArePieces env is b (plain xs ++ []) → AreStatements env is b xs
+pieces_statements : (b : Stmts) (env : Env) (is : Items) (xs : List Statement) → ArePieces env is b (plain xs ++ []) →
+    AreStatements env is b xs
 pieces_statements Done env is [] h = tt
 pieces_statements Done env is (x ∷ xs) h = absurd cc
 pieces_statements (Then s ss) env is [] h = absurd h
-pieces_statements (Then s ss) env is (x ∷ xs) h = (h.1, pieces_statements ss (behind s env) (drop (stmt_size s) is) xs h.2)
+pieces_statements (Then s ss) env is (x ∷ xs) h =
+    (h.1, pieces_statements ss (behind s env) (drop (stmt_size s) is) xs h.2)
 
-placed_statements : (b : Stmts) (env : Env) (is : Items) (place : Place) (xs : List Statement) → ArePieces env is b (pieces_in place xs ++ []) →
+placed_statements : (b : Stmts) (env : Env) (is : Items) (place : Place) (xs : List Statement) →
+    ArePieces env is b (pieces_in place xs ++ []) →
     AreStatements env is b xs
 placed_statements Done env is place [] h = tt
 placed_statements Done env is place (x ∷ xs) h = absurd cc
 placed_statements (Then s ss) env is place [] h = absurd h
-placed_statements (Then s ss) env is place (x ∷ xs) h = (h.1, pieces_statements ss (behind s env) (drop (stmt_size s) is) xs h.2)
+placed_statements (Then s ss) env is place (x ∷ xs) h =
+    (h.1, pieces_statements ss (behind s env) (drop (stmt_size s) is) xs h.2)
 
 -- no region, or one of these statements
 abbrev pub AreOneRegion : Env → Items → Stmts → List Part → Type 0
@@ -118,7 +127,8 @@ AreOneRegion env is b [] = AreStatements env is b []
 AreOneRegion env is b (part.Host r ∷ []) = AreStatements env is b r.body.items
 AreOneRegion env is b _ = ⊥
 
-pub one_region : (b : Stmts) (env : Env) (is : Items) (ps : List Part) → AreBare b → ArePieces env is b (pieces_of ps) → AreLongest false ps →
+pub one_region : (b : Stmts) (env : Env) (is : Items) (ps : List Part) → AreBare b →
+    ArePieces env is b (pieces_of ps) → AreLongest false ps →
     AreOneRegion env is b ps
 one_region b env is ps bare h l = go ps h l (bare_no_parts b env is (pieces_of ps) bare h)
   where
@@ -126,7 +136,8 @@ one_region b env is ps bare h l = go ps h l (bare_no_parts b env is (pieces_of p
     none Done h = tt
     none (Then s ss) h = absurd h
 
-    go : (ps : List Part) → ArePieces env is b (pieces_of ps) → AreLongest false ps → NoParts (pieces_of ps) → AreOneRegion env is b ps
+    go : (ps : List Part) → ArePieces env is b (pieces_of ps) → AreLongest false ps → NoParts (pieces_of ps) →
+        AreOneRegion env is b ps
     go [] h l n = none b h
     go (part.Host r ∷ []) h l n = placed_statements b env is r.place r.body.items h
     go (part.Host r ∷ part.Host u ∷ ps) h l n = absurd (let bad = l.2.0 in cc)

@@ -1,216 +1,86 @@
--- A text that keeps the rules reads and prints nothing in a target, and assigns no scalar from outside there.
-use Rattle.std.proofs.Common.{◌≡◌, ℕ, zero, suc, ◌+◌, Bool, true, false, List, [], ◌∷◌, ◌++◌, Option, Some, None, refl, sym, ap, subst, ◌∙◌, append_assoc}
-use Rattle.std.specs.Prelude.{◌||◌, ◌&&◌, not}
+-- A text that keeps the rules reads and prints nothing in a target, and assigns no scalar from outside there that is
+-- not boxed.
+use Rattle.std.proofs.Common.{◌≡◌, ℕ, zero, suc, ◌+◌, Bool, true, false, List, [], ◌∷◌, ◌++◌, Some, None, refl, sym, ap, subst, ◌∙◌, append_assoc}
+use Rattle.std.specs.Prelude.{◌||◌}
 use Rattle.std.proofs.Math.Bool.{or-false}
-use Rattle.base.specs.declared.fault.ReadCode.TheVariants.{Undeclared, LoopNameAssigned, DirectiveInTarget, OuterAssigned, HostOnly, NoBody}
+use Rattle.base.specs.declared.fault.ReadCode.TheVariants.{DirectiveInTarget, NoBody}
 use Rattle.c_tokens.specs.declared.kind.Sign.TheVariants as sign
-use Rattle.c_grammar.specs.Lexeme.{Lexeme, For, If, Else, Uint64}
+use Rattle.c_grammar.specs.Lexeme.{Lexeme, For, If, Else}
 use Rattle.c_grammar.specs.Lines.{depth_of, is_target}
-use Rattle.c_grammar.specs.Terminal.{Terminal, Fixed, Mark, Name, Line}
-use Rattle.c_grammar.specs.Grammar.{Plain, DeclaresLocal, MakesScalar, Starts, StartsIf, StartsBlock, Assigned, Otherwise, Opens, Over, Marks, for, mark, Slot, Slots, Term, term, Source, Input, Value, source, Head, head_slots, body_opening, body_closing, end_mark, Stmt, Declare, Assign, Store, Repeat, Choose, ChooseElse, Show, Block, Directive, Atomic, OverBlock, OverLoop, Stmts, Done, Then, deeper, loop_role, stmt, stmt_in, stmts, stmts_in}
-use Rattle.c_grammar.specs.Rules.{Context, begun, out, with_name, Frame, Rule, Sort, AScalar, top, below, inside, act, enter, breaks, sort_of, is_array, is_scalar, is_visible, is_loop, is_outer}
-use Rattle.c_expressions.specs.declared.scope.Meaning.{Meaning}
-use Rattle.c_expressions.specs.declared.scope.Meaning.TheVariants as meaning
-use Rattle.c_expressions.specs.Means.{meaning_of}
+use Rattle.c_grammar.specs.Terminal.{Terminal, Fixed, Mark, Line}
+use Rattle.c_grammar.specs.Grammar.{Plain, StartsIf, StartsBlock, Otherwise, Opens, Over, for, mark, Slot, Slots, Term, term, Head, head_slots, body_opening, body_closing, Stmt, Declare, Assign, Store, Repeat, Choose, ChooseElse, Show, Block, Directive, Atomic, AtomicAssign, OverBlock, OverLoop, Stmts, Done, Then, deeper, loop_role, stmt, stmt_in, stmts, stmts_in}
+use Rattle.c_grammar.specs.Rules.{Context, begun, out, Frame, below, inside, act, enter, breaks}
+use Rattle.c_expressions.specs.Scopes.{as_boxes}
 use Rattle.c_statements.specs.Statements.{Env, behind, more, declared_in, in_loop}
 use Rattle.erasure.proofs.Follows.{entered, entered_append, next_in, Keeps, keeps_split}
-use Rattle.erased_meaning.proofs.Envs.{IsQuietSource, IsInside, IsQuiet, AreQuiet}
-use Rattle.erased_meaning.proofs.Pieces.{IsSafe, AreSafe}
-use Rattle.erased_meaning.proofs.Contexts.{flat, Stands, sort_is, sort_known, are_still, kept_all, still_append, term_still, source_still, stands_kept, IsBefore, within, opens_block, opens_loop, Closed, stands_closed}
+use Rattle.erased_meaning.proofs.Envs.{AreQuiet}
+use Rattle.erased_meaning.proofs.Outside.{AreSafe}
+use Rattle.erased_meaning.proofs.Contexts.{Stands, kept_all, still_append, term_still, stands_kept, IsBefore, within, opens_block, opens_loop, Closed, stands_closed}
+use Rattle.erased_meaning.proofs.Simple.{Known, StmtKnown, true_false, stands_more, inside_at, declare_known, assign_known, store_known, atomic_known, atomic_assign_known, show_known, alone_known}
 
 -- what is known of statements there
 abbrev pub KnownAll : Env → Stmts → Type 0
 KnownAll env b = (env.inside ≡ false → AreSafe env b) × (env.inside ≡ true → AreQuiet env b)
 
-abbrev Known : Env → Stmt → Type 0
-Known env s = (env.inside ≡ false → IsSafe env s) × (env.inside ≡ true → IsQuiet env s)
-
 abbrev Left : Context → Context → Type 0
-Left c d = (below d.frames ≡ below c.frames) × (d.target ≡ false) × (d.turn ≡ None)
+Left c d =
+    (below d.frames ≡ below c.frames) × (as_boxes d.boxes ≡ as_boxes c.boxes) × (d.target ≡ false) × (d.turn ≡ None)
 
 abbrev pub StmtsKnown : Stmts → Type 0
 StmtsKnown b = (depth : ℕ) (c : Context) (env : Env) (n : Terminal) → Stands c env → Keeps c (stmts_in b depth) n →
     KnownAll env b × Left c (entered c (stmts_in b depth))
-
-abbrev StmtKnown : Stmt → Type 0
-StmtKnown s = (depth : ℕ) (c : Context) (env : Env) (n : Terminal) → Stands c env → Keeps c (stmt_in s depth) n →
-    Known env s × Stands (entered c (stmt_in s depth)) (behind s env) ×
-    (below (entered c (stmt_in s depth)).frames ≡ below c.frames)
 
 abbrev close : Slots
 close = body_closing ∷ []
 
 -- ---- in braces
 
-closes : (b : Stmts) (depth : ℕ) → StmtsKnown b → (c : Context) (env : Env) (n : Terminal) (fs : List Frame) → below c.frames ≡ fs → Stands c env →
+closes : (b : Stmts) (depth : ℕ) → StmtsKnown b → (c : Context) (env : Env) (n : Terminal) (fs : List Frame) →
+    below c.frames ≡ fs → Stands c env →
     Keeps c (stmts_in b depth ++ close) n → KnownAll env b × Closed (entered c (stmts_in b depth ++ close)) fs
+    (as_boxes c.boxes)
 unfolding enter
 closes b depth known c env n fs e s k =
     let parts = keeps_split c (stmts_in b depth) close n k in
     let inner = known depth c env (next_in close n) s parts.0 in
-    let same = sym (entered_append c (stmts_in b depth) close) in
-    (inner.0, subst (λ (d : Context). Closed d fs) same (record { frames = inner.1.0 ∙ e; target = inner.1.1; turn = inner.1.2 }))
+    let same = sym (entered_append c (stmts_in b depth) close) in (
+      inner.0,
+      subst (λ (d : Context). Closed d fs (as_boxes c.boxes)) same
+          (record { frames = inner.1.0 ∙ e; boxes = inner.1.1; target = inner.1.2; turn = inner.1.3 }),
+    )
 
 pub known_within : (env : Env) (b : Stmts) → KnownAll (within env false) b → KnownAll env b
 known_within env b k =
     subst (λ (u : Bool). KnownAll (record env { inside = u }) b) (or-false env.inside) k
 
-braces : (b : Stmts) → StmtsKnown b → (c : Context) (env : Env) (n : Terminal) → Stands c env → Keeps c (body_opening ∷ (stmts b ++ close)) n →
-    KnownAll env b × Closed (entered c (body_opening ∷ (stmts b ++ close))) c.frames
+braces : (b : Stmts) → StmtsKnown b → (c : Context) (env : Env) (n : Terminal) → Stands c env →
+    Keeps c (body_opening ∷ (stmts b ++ close)) n →
+    KnownAll env b × Closed (entered c (body_opening ∷ (stmts b ++ close))) c.frames (as_boxes c.boxes)
 unfolding enter
 braces b known c env n s k =
     let inner = closes b 0 known (enter c body_opening) (within env false) n c.frames refl
-    (opens_block (act c (Mark sign.OpenBrace) Plain) env false (record { names = s.names; inside_is = s.inside_is; target = s.target; turn = s.turn })) k.1 in
+    (opens_block (act c (Mark sign.OpenBrace) Plain) env false
+    (record { names = s.names; boxes = s.boxes; inside_is = s.inside_is; target = s.target; turn = s.turn })) k.1 in
     (known_within env b inner.0, inner.1)
 
 -- from the first token of a loop's head on
-turns : (h : Head) (b : Stmts) (depth : ℕ) → StmtsKnown b → (c : Context) (env : Env) (i : Bool) (n : Terminal) → IsBefore c env None i →
+turns : (h : Head) (b : Stmts) (depth : ℕ) → StmtsKnown b → (c : Context) (env : Env) (i : Bool) (n : Terminal) →
+    IsBefore c env None i →
     Keeps c (head_slots h ++ (body_opening ∷ (stmts_in b depth ++ close))) n →
     KnownAll (within (in_loop h.name env) i) b ×
-    Closed (entered c (head_slots h ++ (body_opening ∷ (stmts_in b depth ++ close)))) c.frames
+    Closed (entered c (head_slots h ++ (body_opening ∷ (stmts_in b depth ++ close)))) c.frames (as_boxes c.boxes)
 unfolding enter
 turns h b depth known c env i n s k =
     let d : Context = entered c (head_slots h) in
     let parts = keeps_split c (head_slots h) (body_opening ∷ (stmts_in b depth ++ close)) n k in
     closes b depth known (enter d body_opening) (within (in_loop h.name env) i) n c.frames refl
-    (opens_loop (act d (Mark sign.OpenBrace) Plain) env h.name i (record { names = s.names; inside_is = s.inside_is; target = s.target; turn = refl })) parts.1.1
-
--- ---- what the rules say
-
-true_false : {A : Type 0} (b : Bool) → b ≡ true → b ≡ false → A
-true_false true e f = absurd cc
-true_false false e f = absurd cc
-
--- the right side of an assignment
-quiet_source : (v : Source) (c : Context) (n : Terminal) → inside c ≡ true → Keeps c (source v) n → IsQuietSource v
-unfolding breaks
-quiet_source Input c n i k = true_false (inside c) i (k.0 (record { part = 0; code = HostOnly }))
-quiet_source (Value e) c n i k = tt
-
-own_sort : (o : Option Meaning) → is_visible (sort_known o) ≡ true → is_array (sort_known o) ≡ false → is_loop (sort_known o) ≡ false →
-    is_outer (sort_known o) ≡ false → IsInside o
-own_sort None v a l e = absurd cc
-own_sort (Some (meaning.Array b)) v a l e = absurd cc
-own_sort (Some (meaning.Loop n)) v a l e = absurd cc
-own_sort (Some (meaning.Scalar n true)) v a l e = tt
-own_sort (Some (meaning.Scalar n false)) v a l e = absurd cc
-
-array_not : (v a o : Bool) → (not v || (true && a) || (false && o)) ≡ false → (v ≡ true) × (a ≡ false)
-array_not true false o h = (refl, refl)
-array_not true true o h = absurd cc
-array_not false a o h = absurd cc
-
-both_then : (a b : Bool) → (a && b) ≡ false → a ≡ true → b ≡ false
-both_then true b h e = h
-both_then false b h e = absurd cc
-
--- a scalar that is assigned in a target
-quiet_name : (c : Context) (env : Env) (x : List ℕ) → Stands c env → inside c ≡ true →
-    ((r : Rule) → breaks r c (Name x, for Assigned) (Mark sign.Equal) ≡ false) → IsInside (meaning_of env.names x)
-unfolding breaks
-quiet_name c env x s i k =
-    let same = sort_is c env x s in
-    let first = array_not (is_visible (sort_of c x)) (is_array (sort_of c x)) (is_scalar (sort_of c x)) (k (record { part = 0; code = Undeclared })) in
-    let loop : is_loop (sort_of c x) ≡ false = k (record { part = 0; code = LoopNameAssigned }) in
-    let outer : is_outer (sort_of c x) ≡ false =
-    both_then (inside c) (is_outer (sort_of c x)) (k (record { part = 0; code = OuterAssigned })) i in
-    own_sort (meaning_of env.names x) (ap is_visible (sym same) ∙ first.0) (ap is_array (sym same) ∙ first.1)
-    (ap is_loop (sym same) ∙ loop) (ap is_outer (sym same) ∙ outer)
-
-stands_more : (c : Context) (env : Env) (n : ℕ) → Stands c env → Stands c (more n env)
-stands_more c env n s = record { names = s.names; inside_is = s.inside_is; target = s.target; turn = s.turn }
-
-inside_at : (c : Context) (env : Env) → Stands c env → env.inside ≡ true → inside c ≡ true
-inside_at c env s e = s.inside_is ∙ e
-
--- ---- statements without statements in them
-
-after_still : (xs : Slots) (c : Context) (env : Env) (n : ℕ) → are_still xs ≡ true → Stands c env →
-    Stands (entered c xs) (more n env) × (below (entered c xs).frames ≡ below c.frames)
-after_still xs c env n e s =
-    let kept = kept_all xs c e in (stands_more (entered c xs) env n (stands_kept c (entered c xs) env kept s), ap below kept.frames)
-
-pub flat_top : (fs : List Frame) → (top fs).names ++ flat (below fs) ≡ flat fs
-flat_top [] = refl
-flat_top (f ∷ fs) = refl
-
-pub declares : (x : List ℕ) (c d : Context) (env : Env) → Stands c env → d.frames ≡ c.frames → d.target ≡ c.target → d.turn ≡ c.turn → d.fresh ≡ Some x →
-    Stands (act d (Mark sign.Semicolon) MakesScalar) (behind (Declare x Input) env)
-declares x c d env s f t u g =
-    let in_d : inside d ≡ env.inside = ap (λ (fs : List Frame). (top fs).inside) f ∙ s.inside_is in
-    record {
-      names =
-          ap (λ (o : Option (List ℕ)). with_name o (AScalar (inside d)) (top d.frames).names ++ flat (below d.frames)) g
-          ∙ ap (λ (i : Bool). (x, AScalar i) ∷ ((top d.frames).names ++ flat (below d.frames))) in_d
-          ∙ ap (λ (ns : List (List ℕ × Sort)). (x, AScalar env.inside) ∷ ns) (flat_top d.frames ∙ ap flat f ∙ s.names);
-      inside_is = in_d;
-      target = t ∙ s.target;
-      turn = u ∙ s.turn;
-    }
-
-declare_known : (x : List ℕ) (v : Source) → StmtKnown (Declare x v)
-unfolding enter
-declare_known x v depth c env n s k =
-    let last : Slots = (Mark sign.Semicolon, for MakesScalar) ∷ [] in
-    let front : Slots = (Fixed Uint64, for Starts) ∷ (Name x, for DeclaresLocal) ∷ mark sign.Equal ∷ [] in
-    let d : Context = entered c front in
-    let parts = keeps_split d (source v) last n k.1.1.1 in
-    let kept = kept_all (source v) d (source_still v) in
-    let whole : entered d (source v ++ last) ≡ entered (entered d (source v)) last = entered_append d (source v) last in (
-      (λ e. tt {0}, λ e. quiet_source v d (next_in last n) (inside_at c env s e) parts.0),
-      subst (λ (u : Context). Stands u (behind (Declare x v) env)) (sym whole)
-          (declares x c (entered d (source v)) env s kept.frames kept.target kept.turn kept.fresh),
-      ap (λ (u : Context). below u.frames) whole ∙ ap below kept.frames,
-    )
-
-assign_known : (x : List ℕ) (v : Source) → StmtKnown (Assign x v)
-unfolding enter
-assign_known x v depth c env n s k =
-    let last : Slots = end_mark ∷ [] in
-    let d : Context = entered c ((Name x, for Assigned) ∷ mark sign.Equal ∷ []) in
-    let parts = keeps_split d (source v) last n k.1.1 in
-    let after = after_still (stmt (Assign x v)) c env 0 (still_append (source v) last (source_still v) refl) s in (
-      (λ e. tt {0}, λ e. (quiet_source v d (next_in last n) (inside_at c env s e) parts.0, quiet_name c env x s (inside_at c env s e) k.0)),
-      after.0,
-      after.1,
-    )
-
-store_known : (x : List ℕ) (i : Term) (v : Source) → StmtKnown (Store x i v)
-unfolding enter
-store_known x i v depth c env n s k =
-    let last : Slots = end_mark ∷ [] in
-    let value : Slots = mark sign.CloseBracket ∷ mark sign.Equal ∷ (source v ++ last) in
-    let first : Context = entered c ((Name x, for Assigned) ∷ mark sign.OpenBracket ∷ []) in
-    let parts = keeps_split first (term i) value n k.1.1 in
-    let d : Context = entered (entered first (term i)) (mark sign.CloseBracket ∷ mark sign.Equal ∷ []) in
-    let kept = kept_all (term i) first (term_still i) in
-    let in_d : inside d ≡ inside c = ap (λ (fs : List Frame). (top fs).inside) kept.frames in
-    let more_parts = keeps_split d (source v) last n parts.1.1.1 in
-    let after = after_still (stmt (Store x i v)) c env 0
-    (still_append (term i) value (term_still i) (still_append (source v) last (source_still v) refl)) s in
-    ((λ e. tt {0}, λ e. quiet_source v d (next_in last n) (in_d ∙ inside_at c env s e) more_parts.0), after.0, after.1)
-
-atomic_known : (l : List Lexeme) (x : List ℕ) (i : Term) (v : Source) → StmtKnown (Atomic l x i v)
-unfolding enter
-atomic_known l x i v depth c env n s k =
-    store_known x i v depth (enter c (Line l, for Marks)) env n
-    (record { names = s.names; inside_is = s.inside_is; target = s.target; turn = s.turn }) k.1
-
-show_known : (e : Term) → StmtKnown (Show e)
-unfolding breaks
-show_known e depth c env n s k =
-    let after = after_still (stmt (Show e)) c env 0 (still_append (term e) (mark sign.CloseParen ∷ end_mark ∷ []) (term_still e) refl) s in
-    ((λ i. tt {0}, λ i. true_false (inside c) (inside_at c env s i) (k.0 (record { part = 0; code = HostOnly }))), after.0, after.1)
-
-alone_known : (l : List Lexeme) → StmtKnown (Directive l)
-unfolding breaks
-alone_known l depth c env n s k =
-    let after = after_still (stmt (Directive l)) c env 0 refl s in
-    ((λ i. tt {0}, λ i. true_false (inside c) (inside_at c env s i) (k.0 (record { part = 0; code = DirectiveInTarget }))), after.0, after.1)
+    (opens_loop (act d (Mark sign.OpenBrace) Plain) env h.name i
+    (record { names = s.names; boxes = s.boxes; inside_is = s.inside_is; target = s.target; turn = refl })) parts.1.1
 
 -- ---- blocks, loops and branches
 
-closed_behind : (c d : Context) (env : Env) (n : ℕ) → Closed d c.frames → Stands c env → Stands d (more n env) × (below d.frames ≡ below c.frames)
+closed_behind : (c d : Context) (env : Env) (n : ℕ) → Closed d c.frames (as_boxes c.boxes) → Stands c env →
+    Stands d (more n env) × (below d.frames ≡ below c.frames)
 closed_behind c d env n k s = (stands_more d env n (stands_closed c d env k s), ap below k.frames)
 
 block_known : (b : Stmts) → StmtsKnown b → StmtKnown (Block b)
@@ -218,7 +88,8 @@ unfolding enter
 block_known b known depth c env n s k =
     let x : Slot = (Mark sign.OpenBrace, for StartsBlock) in
     let inner = closes b 0 known (enter c x) (within env false) n c.frames refl
-    (opens_block (begun (out c)) env false (record { names = s.names; inside_is = s.inside_is; target = s.target; turn = s.turn })) k.1 in
+    (opens_block (begun (out c)) env false
+    (record { names = s.names; boxes = s.boxes; inside_is = s.inside_is; target = s.target; turn = s.turn })) k.1 in
     let after = closed_behind c (entered c (stmt (Block b))) env (declared_in b) inner.1 s in
     (known_within env b inner.0, after.0, after.1)
 
@@ -226,29 +97,37 @@ repeat_known : (h : Head) (b : Stmts) → StmtsKnown b → StmtKnown (Repeat h b
 unfolding enter
 repeat_known h b known zero c env n s k =
     let d : Context = enter c (Fixed For, loop_role 0) in
-    let inner = turns h b 0 known d env false n (record { names = s.names; inside_is = s.inside_is; target = s.target; turn = s.turn }) k.1 in
+    let inner = turns h b 0 known d env false n
+    (record { names = s.names; boxes = s.boxes; inside_is = s.inside_is; target = s.target; turn = s.turn }) k.1 in
     let after = closed_behind c (entered c (stmt_in (Repeat h b) 0)) env (declared_in b)
-    (record { frames = inner.1.frames; target = inner.1.target; turn = inner.1.turn }) s in
+    (record { frames = inner.1.frames; boxes = inner.1.boxes; target = inner.1.target; turn = inner.1.turn }) s in
     (known_within (in_loop h.name env) b inner.0, after.0, after.1)
 repeat_known h b known (suc e) c env n s k =
     let d : Context = enter c (Fixed For, loop_role (suc e)) in
-    let inner = turns h b e known d env false n (record { names = s.names; inside_is = s.inside_is; target = s.target; turn = s.turn }) k.1 in
+    let inner = turns h b e known d env false n
+    (record { names = s.names; boxes = s.boxes; inside_is = s.inside_is; target = s.target; turn = s.turn }) k.1 in
     let after = closed_behind c (entered c (stmt_in (Repeat h b) (suc e))) env (declared_in b)
-    (record { frames = inner.1.frames; target = inner.1.target; turn = inner.1.turn }) s in
+    (record { frames = inner.1.frames; boxes = inner.1.boxes; target = inner.1.target; turn = inner.1.turn }) s in
     (known_within (in_loop h.name env) b inner.0, after.0, after.1)
 
 abbrev asks : Term → Slots
 asks e = (Fixed If, for StartsIf) ∷ mark sign.OpenParen ∷ (term e ++ mark sign.CloseParen ∷ [])
 
-asked : (e : Term) (ys : Slots) → asks e ++ ys ≡ (Fixed If, for StartsIf) ∷ mark sign.OpenParen ∷ (term e ++ (mark sign.CloseParen ∷ ys))
-asked e ys = ap (λ (zs : Slots). (Fixed If, for StartsIf) ∷ mark sign.OpenParen ∷ zs) (append_assoc (term e) (mark sign.CloseParen ∷ []) ys)
+asked : (e : Term) (ys : Slots) → asks e ++ ys ≡ (Fixed If, for StartsIf) ∷ mark sign.OpenParen ∷
+    (term e ++ (mark sign.CloseParen ∷ ys))
+asked e ys =
+    ap (λ (zs : Slots). (Fixed If, for StartsIf) ∷ mark sign.OpenParen ∷ zs)
+    (append_assoc (term e) (mark sign.CloseParen ∷ []) ys)
 
 -- behind the condition of a branch
 abbrev Behind : Stmt → Slots → Type 0
-Behind s ys = (c : Context) (env : Env) (n : Terminal) → Stands c env → Keeps c ys n → Known env s × Closed (entered c ys) c.frames
+Behind s ys =
+    (c : Context) (env : Env) (n : Terminal) → Stands c env → Keeps c ys n → Known env s × Closed
+    (entered c ys) c.frames (as_boxes c.boxes)
 
 asked_known : (e : Term) (ys : Slots) (s : Stmt) (j : ℕ) → ((env : Env) → behind s env ≡ more j env) →
-    ((depth : ℕ) → stmt_in s depth ≡ (Fixed If, for StartsIf) ∷ mark sign.OpenParen ∷ (term e ++ (mark sign.CloseParen ∷ ys))) →
+    ((depth : ℕ) →
+    stmt_in s depth ≡ (Fixed If, for StartsIf) ∷ mark sign.OpenParen ∷ (term e ++ (mark sign.CloseParen ∷ ys))) →
     Behind s ys → StmtKnown s
 asked_known e ys s j more_is is next depth c env n st k =
     let whole : stmt_in s depth ≡ asks e ++ ys = is depth ∙ sym (asked e ys) in
@@ -257,9 +136,15 @@ asked_known e ys s j more_is is next depth c env n st k =
     let parts = keeps_split c (asks e) ys n (subst (λ (xs : Slots). Keeps c xs n) whole k) in
     let inner = next d env n (stands_kept c d env kept st) parts.1 in
     let end : entered c (stmt_in s depth) ≡ entered d ys = ap (entered c) whole ∙ entered_append c (asks e) ys in
-    let closed : Closed (entered c (stmt_in s depth)) c.frames =
-    subst (λ (u : Context). Closed u c.frames) (sym end)
-    (record { frames = inner.1.frames ∙ kept.frames; target = inner.1.target; turn = inner.1.turn }) in
+    let closed : Closed (entered c (stmt_in s depth)) c.frames (as_boxes c.boxes) =
+    subst (λ (u : Context). Closed u c.frames (as_boxes c.boxes)) (sym end)
+    (record {
+      frames = inner.1.frames ∙ kept.frames;
+      boxes = inner.1.boxes
+          ∙ ap as_boxes kept.boxes;
+      target = inner.1.target;
+      turn = inner.1.turn;
+    }) in
     let after = closed_behind c (entered c (stmt_in s depth)) env j closed st in
     (inner.0, subst (λ (v : Env). Stands (entered c (stmt_in s depth)) v) (sym (more_is env)) after.0, after.1)
 
@@ -283,12 +168,24 @@ branches e a b first second c env n s k =
     let d : Context = entered c block in
     let st = stands_closed c d env one.1 s in
     let two = braces b second (enter d (Fixed Else, for Otherwise)) (more (declared_in a) env) n
-    (record { names = st.names; inside_is = st.inside_is; target = st.target; turn = st.turn }) parts.1.1 in
+    (record {
+      names = st.names;
+      boxes = st.boxes;
+      inside_is = st.inside_is;
+      target = st.target;
+      turn = st.turn;
+    }) parts.1.1 in
     let end : entered c (body_opening ∷ (stmts a ++ (body_closing ∷ otherwise b))) ≡ entered d (otherwise b) =
     ap (entered c) (sym path) ∙ entered_append c block (otherwise b) in (
       (λ i. tt {0}, λ i. (one.0.1 i, two.0.1 i)),
-      subst (λ (u : Context). Closed u c.frames) (sym end)
-          (record { frames = two.1.frames ∙ one.1.frames; target = two.1.target; turn = two.1.turn }),
+      subst (λ (u : Context). Closed u c.frames (as_boxes c.boxes)) (sym end)
+          (record {
+            frames = two.1.frames ∙ one.1.frames;
+            boxes = two.1.boxes
+                ∙ one.1.boxes;
+            target = two.1.target;
+            turn = two.1.turn;
+          }),
     )
 
 else_known : (e : Term) (a b : Stmts) → StmtsKnown a → StmtsKnown b → StmtKnown (ChooseElse e a b)
@@ -304,17 +201,20 @@ inside_or env i e = ap (λ (u : Bool). u || i) e
 over_known : (env : Env) (b : Stmts) (i : Bool) → KnownAll (within env i) b → env.inside ≡ false →
     (i ≡ true → AreQuiet (record env { inside = true }) b) × (i ≡ false → AreSafe env b)
 over_known env b i k e = (
-  λ t. subst (λ (u : Bool). AreQuiet (record env { inside = u }) b) (inside_or env i e ∙ t) (k.1 (inside_or env i e ∙ t)),
-  λ f. subst (λ (u : Bool). AreSafe (record env { inside = u }) b) (inside_or env i e ∙ f ∙ sym e) (k.0 (inside_or env i e ∙ f)),
+  λ t. subst (λ (u : Bool). AreQuiet (record env { inside = u }) b) (inside_or env i e ∙ t)
+      (k.1 (inside_or env i e ∙ t)),
+  λ f. subst (λ (u : Bool). AreSafe (record env { inside = u }) b) (inside_or env i e ∙ f ∙ sym e)
+      (k.0 (inside_or env i e ∙ f)),
 )
 
 over_block_known : (l : List Lexeme) (b : Stmts) → StmtsKnown b → StmtKnown (OverBlock l b)
 unfolding enter breaks
 over_block_known l b known depth c env n s k =
     let d : Context = enter c (Line l, for Over) in
-    let inner = closes b 0 known (enter d (Mark sign.OpenBrace, (Some NoBody, Opens))) (within env (is_target l)) n c.frames refl
+    let inner = closes b 0 known (enter d (Mark sign.OpenBrace, (Some NoBody, Opens)))
+    (within env (is_target l)) n c.frames refl
     (opens_block (act d (Mark sign.OpenBrace) Plain) env (is_target l)
-    (record { names = s.names; inside_is = s.inside_is; target = refl; turn = s.turn })) k.1.1 in
+    (record { names = s.names; boxes = s.boxes; inside_is = s.inside_is; target = refl; turn = s.turn })) k.1.1 in
     let after = closed_behind c (entered c (stmt (OverBlock l b))) env (declared_in b) inner.1 s in (
       (
         λ e. over_known env b (is_target l) inner.0 e,
@@ -329,9 +229,9 @@ unfolding enter breaks
 over_loop_known l h b known depth c env n s k =
     let d : Context = entered c ((Line l, for Over) ∷ (Fixed For, (Some NoBody, Plain)) ∷ []) in
     let inner = turns h b (deeper (depth_of l)) known d env (is_target l) n
-    (record { names = s.names; inside_is = s.inside_is; target = refl; turn = s.turn }) k.1.1 in
+    (record { names = s.names; boxes = s.boxes; inside_is = s.inside_is; target = refl; turn = s.turn }) k.1.1 in
     let after = closed_behind c (entered c (stmt (OverLoop l h b))) env (declared_in b)
-    (record { frames = inner.1.frames; target = inner.1.target; turn = inner.1.turn }) s in (
+    (record { frames = inner.1.frames; boxes = inner.1.boxes; target = inner.1.target; turn = inner.1.turn }) s in (
       (
         λ e. let over = over_known (in_loop h.name env) b (is_target l) inner.0 e in (λ t. (over.0 t, tt {0}), over.1),
         λ e. true_false (inside c) (inside_at c env s e) (k.0 (record { part = 0; code = DirectiveInTarget })),
@@ -342,31 +242,33 @@ over_loop_known l h b known depth c env n s k =
 
 -- ---- all statements
 
-behind_inside : (s : Stmt) (env : Env) → (behind s env).inside ≡ env.inside
-behind_inside (Declare x v) env = refl
-behind_inside (Assign x v) env = refl
-behind_inside (Store x i v) env = refl
-behind_inside (Repeat h b) env = refl
-behind_inside (Choose e a) env = refl
-behind_inside (ChooseElse e a b) env = refl
-behind_inside (Show e) env = refl
-behind_inside (Block b) env = refl
-behind_inside (Directive l) env = refl
-behind_inside (Atomic l x i v) env = refl
-behind_inside (OverBlock l b) env = refl
-behind_inside (OverLoop l h b) env = refl
+behind_same : (s : Stmt) (env : Env) → ((behind s env).inside ≡ env.inside) × ((behind s env).boxes ≡ env.boxes)
+behind_same (Declare x v) env = (refl, refl)
+behind_same (Assign x v) env = (refl, refl)
+behind_same (Store x i v) env = (refl, refl)
+behind_same (Repeat h b) env = (refl, refl)
+behind_same (Choose e a) env = (refl, refl)
+behind_same (ChooseElse e a b) env = (refl, refl)
+behind_same (Show e) env = (refl, refl)
+behind_same (Block b) env = (refl, refl)
+behind_same (Directive l) env = (refl, refl)
+behind_same (Atomic l x i v) env = (refl, refl)
+behind_same (AtomicAssign l x v) env = (refl, refl)
+behind_same (OverBlock l b) env = (refl, refl)
+behind_same (OverLoop l h b) env = (refl, refl)
 
 mutual
   pub stmts_known : (b : Stmts) → StmtsKnown b
-  stmts_known Done depth c env n s k = ((λ e. tt {0}, λ e. tt {0}), (refl, s.target, s.turn))
+  stmts_known Done depth c env n s k = ((λ e. tt {0}, λ e. tt {0}), (refl, refl, s.target, s.turn))
   stmts_known (Then t ss) depth c env n s k =
       let parts = keeps_split c (stmt_in t depth) (stmts_in ss depth) n k in
       let one = stmt_known t depth c env (next_in (stmts_in ss depth) n) s parts.0 in
       let rest = stmts_known ss depth (entered c (stmt_in t depth)) (behind t env) n one.1 parts.1 in
       let same = sym (entered_append c (stmt_in t depth) (stmts_in ss depth)) in
-      let kept = behind_inside t env in (
-        (λ e. (one.0.0 e, rest.0.0 (kept ∙ e)), λ e. (one.0.1 e, rest.0.1 (kept ∙ e))),
-        subst (λ (d : Context). Left c d) same (rest.1.0 ∙ one.2, rest.1.1, rest.1.2),
+      let kept = behind_same t env in (
+        (λ e. (one.0.0 e, rest.0.0 (kept.0 ∙ e)), λ e. (one.0.1 e, rest.0.1 (kept.0 ∙ e))),
+        subst (λ (d : Context). Left c d) same
+            (rest.1.0 ∙ one.2, rest.1.1 ∙ one.1.boxes ∙ kept.1 ∙ sym s.boxes, rest.1.2, rest.1.3),
       )
 
   stmt_known : (t : Stmt) → StmtKnown t
@@ -380,5 +282,6 @@ mutual
   stmt_known (Block b) = block_known b (stmts_known b)
   stmt_known (Directive l) = alone_known l
   stmt_known (Atomic l x i v) = atomic_known l x i v
+  stmt_known (AtomicAssign l x v) = atomic_assign_known l x v
   stmt_known (OverBlock l b) = over_block_known l b (stmts_known b)
   stmt_known (OverLoop l h b) = over_loop_known l h b (stmts_known b)

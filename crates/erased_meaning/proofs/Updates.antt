@@ -102,7 +102,8 @@ module _ (names : Names) where
   same_value (LoopName m) (LoopName n) h = ap (λ (i : ℕ). Some (slice_index names.loops i)) (eqb-true m n h)
   same_value (Cell' a at p e) (Cell' b to q f) h =
       let w = and_parts (a.0 == b.0) (same_expr e f) h in
-      ap₂ (λ (c : ArrayId) (v : Option ℕ). option_and_then (cell_in names c) v) (same_array a b w.0) (same_value e f w.1)
+      ap₂ (λ (c : ArrayId) (v : Option ℕ). option_and_then (cell_in names c) v) (same_array a b w.0)
+      (same_value e f w.1)
   same_value (Unary' o p e) (Unary' u q f) h =
       let w = and_parts (unary_number o == unary_number u) (same_expr e f) h in
       ap₂ (λ (c : UnaryOp) (v : Option ℕ). on_one (unary c) v) (same_unary o u w.0) (same_value e f w.1)

@@ -1,11 +1,12 @@
 -- The tokens of a tree without its directives are those of the tree that are no directive lines.
-use Rattle.std.proofs.Common.{◌≡◌, ℕ, Bool, true, false, cond, List, [], ◌∷◌, ◌++◌, refl, sym, ap, ◌∙◌}
+use Rattle.std.proofs.Common.{◌≡◌, ℕ, Bool, true, false, cond, List, [], ◌∷◌, ◌++◌, Option, Some, None, refl, sym, ap, ◌∙◌}
+use Rattle.std.proofs.lemmas.Bool.{and_parts}
 use Rattle.c_tokens.specs.declared.kind.Sign.TheVariants as sign
 use Rattle.c_grammar.specs.Blocks.{bare, is_directive}
-use Rattle.c_grammar.specs.Lexeme.{Lexeme, For, If, Else, Int, Main, Void}
+use Rattle.c_grammar.specs.Lexeme.{Lexeme, For, If, Else, Int, Main, Void, same}
 use Rattle.c_grammar.specs.Terminal.{Terminal, Fixed, Mark, Name, Num, Line, Unknown, Unworked, End}
-use Rattle.c_grammar.specs.Lines.{is_omp, depth_of}
-use Rattle.c_grammar.specs.Grammar.{Slots, Plain, StartsIf, Otherwise, for, mark, Term, Literal, Named, Element, Group, Prefixed, Both, By, term, Source, Input, Value, source, Head, head_slots, body_opening, body_closing, Stmt, Declare, Assign, Store, Repeat, Choose, ChooseElse, Show, Block, Directive, Atomic, OverBlock, OverLoop, Stmts, Done, Then, deeper, stmt_in, stmts_in, stmt, stmts, IsStmt, AreStmts, IsText, Global, Scalar, Array, global, globals, Text, main_part, slots}
+use Rattle.c_grammar.specs.Lines.{boxing_word, is_boxing, is_omp, depth_of}
+use Rattle.c_grammar.specs.Grammar.{Slots, Plain, StartsIf, Otherwise, for, mark, word, Term, Literal, Named, Element, Group, Prefixed, Both, By, term, Source, Input, Value, source, Head, head_slots, body_opening, body_closing, Stmt, Declare, Assign, Store, Repeat, Choose, ChooseElse, Show, Block, Directive, Atomic, AtomicAssign, OverBlock, OverLoop, Stmts, Done, Then, deeper, stmt_in, stmts_in, stmt, stmts, IsStmt, AreStmts, IsText, Global, Scalar, Array, global, globals, Text, main_part, AreBoxes, boxes_slots, slots}
 use Rattle.c_grammar.specs.Rules.{source_grammar}
 use Rattle.c_grammar.specs.Texts.{Item, kinds, terminals}
 use Rattle.erasure.specs.Plain.{plain_before, plain_stmts, plain_tree}
@@ -127,6 +128,9 @@ bares_store x i v =
     bares_same (stmt (Store x i v))
     (no_lines_append (term i) _ (term_no_lines i) (no_lines_append (source v) _ (source_no_lines v) refl))
 
+bares_assign : (x : List ℕ) (v : Source) → Bares (stmt (Assign x v)) (stmt (Assign x v))
+bares_assign x v = bares_same (stmt (Assign x v)) (no_lines_append (source v) _ (source_no_lines v) refl)
+
 mutual
   -- whether they are a nest of loops or not
   pub bares_stmts : (b : Stmts) (d : ℕ) → AreStmts b → Bares (stmts_in b d) (stmts (plain_stmts b))
@@ -139,8 +143,7 @@ mutual
       bares_join (stmt (Declare x v)) (stmt (Declare x v)) xs (stmts ss)
       (bares_same (stmt (Declare x v)) (no_lines_append (source v) _ (source_no_lines v) refl)) p
   bares_stmt (Assign x v) d xs ss g p =
-      bares_join (stmt (Assign x v)) (stmt (Assign x v)) xs (stmts ss)
-      (bares_same (stmt (Assign x v)) (no_lines_append (source v) _ (source_no_lines v) refl)) p
+      bares_join (stmt (Assign x v)) (stmt (Assign x v)) xs (stmts ss) (bares_assign x v) p
   bares_stmt (Store x i v) d xs ss g p =
       bares_join (stmt (Store x i v)) (stmt (Store x i v)) xs (stmts ss) (bares_store x i v) p
   bares_stmt (Repeat h b) d xs ss g p =
@@ -166,6 +169,9 @@ mutual
   bares_stmt (Atomic l x i v) d xs ss g p =
       line_gone l (stmt (Store x i v) ++ xs) (stmt (Store x i v) ++ stmts ss) g.0
       (bares_join (stmt (Store x i v)) (stmt (Store x i v)) xs (stmts ss) (bares_store x i v) p)
+  bares_stmt (AtomicAssign l x v) d xs ss g p =
+      line_gone l (stmt (Assign x v) ++ xs) (stmt (Assign x v) ++ stmts ss) g.0
+      (bares_join (stmt (Assign x v)) (stmt (Assign x v)) xs (stmts ss) (bares_assign x v) p)
   bares_stmt (OverBlock l b) d xs ss g p =
       bares_join (stmt (OverBlock l b)) (stmt (Block (plain_stmts b))) xs (stmts ss)
       (line_gone l (body_opening ∷ (stmts b ++ close)) (stmt (Block (plain_stmts b))) g.0 (bares_block b (bares_stmts b 0 g.2))) p
@@ -184,9 +190,30 @@ globals_no_lines : (gs : List Global) → NoLines (globals gs)
 globals_no_lines [] = refl
 globals_no_lines (g ∷ gs) = no_lines_append (global g) (globals gs) (global_no_lines g) (globals_no_lines gs)
 
+boxing_is_omp : (l : List Lexeme) → is_boxing l ≡ true → is_omp l ≡ true
+unfolding is_omp
+boxing_is_omp [] e = absurd cc
+boxing_is_omp (t ∷ []) e = absurd cc
+boxing_is_omp (t ∷ u ∷ []) e = absurd cc
+boxing_is_omp (t ∷ u ∷ v ∷ ts) e = (and_parts (is_omp (t ∷ u ∷ [])) (same boxing_word v) e).0
+
+-- the line of the boxed scalars is gone
+bares_boxes : (o : Option (List Lexeme)) → AreBoxes o → Bares (boxes_slots o) []
+bares_boxes None h = refl
+bares_boxes (Some l) h = line_gone l [] [] (boxing_is_omp l h) refl
+
+abbrev main_begins : Slots
+main_begins = word Int ∷ word Main ∷ mark sign.OpenParen ∷ word Void ∷ mark sign.CloseParen ∷ body_opening ∷ []
+
+bares_main : (b : Stmts) → AreStmts b → Bares (main_part b) (main_part (plain_stmts b))
+bares_main b h =
+    let rest : Slots = body_closing ∷ (End, for Plain) ∷ [] in
+    bares_behind main_begins (stmts b ++ rest) (stmts (plain_stmts b) ++ rest) refl
+    (bares_join (stmts b) (stmts (plain_stmts b)) rest rest (bares_stmts b 0 h) refl)
+
 pub bares_slots : (t : Text) → IsText t → Bares (slots t) (slots (plain_tree t))
 bares_slots t h =
-    bares_behind (globals t.globals) (main_part t.body) (main_part (plain_stmts t.body)) (globals_no_lines t.globals)
-    (ap (λ (ts : List Terminal). Fixed Int ∷ Fixed Main ∷ Mark sign.OpenParen ∷ Fixed Void ∷ Mark sign.CloseParen ∷ Mark sign.OpenBrace ∷ ts)
-    (bares_join (stmts t.body) (stmts (plain_stmts t.body)) (body_closing ∷ (End, for Plain) ∷ []) (body_closing ∷ (End, for Plain) ∷ [])
-    (bares_stmts t.body 0 h) refl))
+    bares_behind (globals t.globals) (boxes_slots t.boxes ++ main_part t.body) (main_part (plain_stmts t.body))
+    (globals_no_lines t.globals)
+    (bares_join (boxes_slots t.boxes) [] (main_part t.body) (main_part (plain_stmts t.body)) (bares_boxes t.boxes h.0)
+    (bares_main t.body h.1))

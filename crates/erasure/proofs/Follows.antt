@@ -4,7 +4,7 @@ use Rattle.std.specs.Prelude.{◌||◌}
 use Rattle.base.specs.declared.fault.ReadCode.{ReadCode as Code}
 use Rattle.base.specs.declared.fault.ReadCode.TheVariants.{UnknownByte, Unexpected, Undeclared, AlreadyDeclared, BadNumber, BadLength, LoopNameAssigned, BadOperand, TooDeep, TooMany, UnknownDirective, UnknownClause, ClauseCount, BadMapType, BadBound, ArrayTwice, DirectiveInTarget, OuterAssigned, HostOnly, NoBody, DirectiveUnderIf, BadDevice}
 use Rattle.c_grammar.specs.Terminal.{Terminal, Fixed, Mark, Name, Num, Line, Unknown, Unworked, End}
-use Rattle.c_grammar.specs.Grammar.{Act, Plain, DeclaresGlobal, DeclaresLocal, DeclaresLoop, MakesArray, MakesScalar, Length, Limit, Step, Starts, StartsIf, Prints, Assigned, StartsBlock, Otherwise, Reads, Opens, Closes, Alone, Over, Marks, Operand, OpensBracket, ClosesBracket, Divisor, Count, Inner, Slot, Slots}
+use Rattle.c_grammar.specs.Grammar.{Act, Plain, DeclaresGlobal, DeclaresLocal, DeclaresLoop, MakesArray, MakesScalar, Length, Limit, Step, Starts, StartsIf, Prints, Assigned, StartsBlock, Otherwise, Reads, Opens, Closes, Alone, Over, Marks, Boxes, Operand, OpensBracket, ClosesBracket, Divisor, Count, Inner, Slot, Slots}
 use Rattle.c_grammar.specs.Rules.{Context, begin, act, enter, breaks, breaks_act, breaks_part, misuses, wrong_token, Rule, source_grammar}
 use Rattle.c_grammar.specs.Texts.{KeepsRules, enter_all, next_slot}
 use Rattle.erasure.proofs.Contexts.{is_line_terminal, plain, Follows, plain_breaks, plain_enter}
@@ -169,11 +169,12 @@ no_misuse c code k Unknown e = refl
 no_misuse c code k Unworked e = refl
 no_misuse c code k End e = refl
 
-plain_part : (c : Context) (n : ℕ) (t : Terminal) (a : Act) (next : Terminal) → n ≤ c.statements → is_line_terminal t ≡ false →
-    (k : ℕ) (code : Code) → breaks_part k code c t a next ≡ false → breaks_part k code (plain n c) t a next ≡ false
-plain_part c n t a next h l zero code e = from_or (wrong_token code t) _ _ e (plain_breaks c n h t next code a)
-plain_part c n t a next h l (suc zero) code e = e
-plain_part c n t a next h l (suc (suc k)) code e = no_misuse (plain n c) code k t l
+plain_part : (c : Context) (n a : ℕ) (t : Terminal) (r : Act) (next : Terminal) → n ≤ c.statements → a ≤ c.arrays →
+    is_line_terminal t ≡ false → (k : ℕ) (code : Code) → breaks_part k code c t r next ≡ false →
+    breaks_part k code (plain n a c) t r next ≡ false
+plain_part c n a t r next h g l zero code e = from_or (wrong_token code t) _ _ e (plain_breaks c n a h g t next code r)
+plain_part c n a t r next h g l (suc zero) code e = e
+plain_part c n a t r next h g l (suc (suc k)) code e = rw (no_misuse (plain n a c) code k t l) refl
 
 free_part : (c : Context) (t : Terminal) (a : Act) (next other : Terminal) → IsFree a → (k : ℕ) (code : Code) →
     breaks_part k code c t a next ≡ breaks_part k code c t a other
@@ -186,8 +187,8 @@ plain_slot : (c d : Context) (x : Slot) (next : Terminal) → Follows c d → is
     ((r : Rule) → breaks r c x next ≡ false) → (r : Rule) → breaks r d x next ≡ false
 unfolding breaks
 plain_slot c d x next f l k r =
-    ap (λ (e : Context). breaks_part r.part r.code e x.0 x.1.1 next) f.1
-    ∙ plain_part c f.0 x.0 x.1.1 next f.2 l r.part r.code (k r)
+    ap (λ (e : Context). breaks_part r.part r.code e x.0 x.1.1 next) f.2
+    ∙ plain_part c f.0 f.1 x.0 x.1.1 next f.3 f.4 l r.part r.code (k r)
 
 free_slot : (c : Context) (x : Slot) (next other : Terminal) → IsFree x.1.1 → ((r : Rule) → breaks r c x next ≡ false) →
     (r : Rule) → breaks r c x other ≡ false
@@ -197,8 +198,8 @@ free_slot c x next other f k r = sym (free_part c x.0 x.1.1 next other f r.part 
 pub follows_slot : (c d : Context) (x : Slot) → Follows c d → is_line_terminal x.0 ≡ false → Follows (enter c x) (enter d x)
 unfolding enter
 follows_slot c d x f l =
-    let next = plain_enter c f.0 x.0 x.1.1 f.2 l in
-    (next.0, ap (λ (e : Context). act e x.0 x.1.1) f.1 ∙ next.1, next.2)
+    let next = plain_enter c f.0 f.1 x.0 x.1.1 f.3 f.4 l in
+    (next.0, next.1, ap (λ (e : Context). act e x.0 x.1.1) f.2 ∙ next.2, next.3, next.4)
 
 -- some tokens, with any token behind them
 pub follows_keeps : (xs : Slots) (c d : Context) (n m : Terminal) → NoLines xs → EndsFree xs → Follows c d → Keeps c xs n → Keeps d xs m
@@ -248,6 +249,7 @@ free_out c Unknown Over f = (refl, refl)
 free_out c Unworked Over f = (refl, refl)
 free_out c End Over f = (refl, refl)
 free_out c t Marks f = (refl, refl)
+free_out c t Boxes f = (refl, refl)
 free_out c t Operand f = absurd f
 free_out c t OpensBracket f = absurd f
 free_out c t ClosesBracket f = absurd f

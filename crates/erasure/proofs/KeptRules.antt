@@ -1,5 +1,5 @@
 -- A tree without its directives keeps the rules that the tree keeps.
-use Rattle.std.proofs.Common.{◌≡◌, ℕ, zero, suc, ◌+◌, ◌≤◌, false, List, [], ◌∷◌, ◌++◌, length, Some, refl, ap, subst, ◌∙◌, arith, append_assoc, append-nil}
+use Rattle.std.proofs.Common.{◌≡◌, ℕ, zero, suc, ◌+◌, ◌≤◌, false, List, [], ◌∷◌, ◌++◌, length, Option, Some, None, refl, sym, ap, subst, ◌∙◌, arith, append_assoc, append-nil}
 use Rattle.std.specs.Prelude.{nat_le, nat_lt}
 use Rattle.base.specs.declared.fault.ReadCode.{ReadCode as Code}
 use Rattle.base.specs.declared.fault.ReadCode.TheVariants.{TooDeep, TooMany, NoBody}
@@ -7,40 +7,40 @@ use Rattle.c_tokens.specs.declared.kind.Sign.TheVariants as sign
 use Rattle.c_grammar.specs.Lexeme.{Lexeme, For, If, Else, Int, Main, Void, Uint64, Print}
 use Rattle.c_grammar.specs.Terminal.{Terminal, Mark, Fixed, Name, Line, End}
 use Rattle.c_grammar.specs.Lines.{depth_of}
-use Rattle.c_grammar.specs.Grammar.{Slot, Slots, Plain, DeclaresLocal, MakesScalar, Starts, StartsIf, StartsBlock, Prints, Assigned, Otherwise, Opens, Alone, Over, Marks, for, mark, word, Term, term, Source, source, Head, head_slots, body_opening, body_closing, end_mark, Stmt, Declare, Assign, Store, Repeat, Choose, ChooseElse, Show, Block, Directive, Atomic, OverBlock, OverLoop, Stmts, Done, Then, deeper, loop_role, stmt_in, stmts_in, stmt, stmts, IsStmt, AreStmts, Global, Scalar, Array, global, globals, Text, main_part, slots, IsText}
+use Rattle.c_grammar.specs.Grammar.{Slot, Slots, Plain, DeclaresLocal, MakesScalar, Starts, StartsIf, StartsBlock, Prints, Assigned, Otherwise, Opens, Alone, Over, Marks, Boxes, for, mark, word, Term, term, Source, source, Head, head_slots, body_opening, body_closing, end_mark, Stmt, Declare, Assign, Store, Repeat, Choose, ChooseElse, Show, Block, Directive, Atomic, AtomicAssign, OverBlock, OverLoop, Stmts, Done, Then, deeper, loop_role, stmt_in, stmts_in, stmt, stmts, IsStmt, AreStmts, Global, Scalar, Array, global, globals, Text, main_part, boxes_slots, slots, IsText}
 use Rattle.c_grammar.specs.Rules.{Context, Rule, begin, begun, out, enter, breaks, breaks_part, source_grammar, max_statements, max_braces}
 use Rattle.c_grammar.specs.Texts.{KeepsRules}
 use Rattle.erasure.specs.Plain.{plain_before, plain_stmts, plain_tree}
 use Rattle.erasure.proofs.Contexts.{plain, Follows, opened_same, depth_same, no_more}
-use Rattle.erasure.proofs.Follows.{entered, next_in, IsOut, Goes, Keeps, keeps_at, keeps_all, NoLines, no_lines_append, EndsFree, ends_free, Keeping, keeping_none, keeping_same, keeping_join, keeping_as}
+use Rattle.erasure.proofs.Follows.{entered, next_in, IsOut, Keeps, keeps_at, keeps_all, NoLines, no_lines_append, EndsFree, ends_free, Keeping, keeping_none, keeping_same, keeping_join, keeping_as}
 use Rattle.erasure.proofs.BareTexts.{term_no_lines, source_no_lines, head_no_lines, global_no_lines}
 
 -- ---- the line of a directive, and the first token behind it
 
 -- no rule is broken at a word or sign that begins a statement but one that is broken at a line
-module _ (c : Context) (n : ℕ) (h : n ≤ c.statements) (l : List Lexeme) (next : Terminal)
+module _ (c : Context) (n a : ℕ) (h : n ≤ c.statements) (l : List Lexeme) (next : Terminal)
     (line : (r : Rule) → breaks r c (Line l, for Over) next ≡ false) where
   few : nat_le max_statements n ≡ false
   unfolding breaks
   few = no_more n c.statements max_statements h (line (record { part = 0; code = TooMany }))
 
   block_begins : (behind : Terminal) → nat_lt max_braces (length c.frames) ≡ false → (r : Rule) →
-      breaks r (plain n c) (Mark sign.OpenBrace, for StartsBlock) behind ≡ false
+      breaks r (plain n a c) (Mark sign.OpenBrace, for StartsBlock) behind ≡ false
   unfolding breaks
   block_begins behind deep r = part r.part r.code
     where
-      part : (k : ℕ) (code : Code) → breaks_part k code (plain n c) (Mark sign.OpenBrace) StartsBlock behind ≡ false
+      part : (k : ℕ) (code : Code) → breaks_part k code (plain n a c) (Mark sign.OpenBrace) StartsBlock behind ≡ false
       part zero TooDeep = rw (depth_same c.frames) deep
       part zero TooMany = few
       part zero _ = refl
       part (suc zero) code = refl
       part (suc (suc k)) code = refl
 
-  loop_begins : (behind : Terminal) → (r : Rule) → breaks r (plain n c) (Fixed For, for Starts) behind ≡ false
+  loop_begins : (behind : Terminal) → (r : Rule) → breaks r (plain n a c) (Fixed For, for Starts) behind ≡ false
   unfolding breaks
   loop_begins behind r = part r.part r.code
     where
-      part : (k : ℕ) (code : Code) → breaks_part k code (plain n c) (Fixed For) Starts behind ≡ false
+      part : (k : ℕ) (code : Code) → breaks_part k code (plain n a c) (Fixed For) Starts behind ≡ false
       part zero TooMany = few
       part zero _ = refl
       part (suc zero) code = refl
@@ -54,13 +54,18 @@ keeping_block : (l : List Lexeme) →
 unfolding breaks enter
 keeping_block l zs c d n m end f o k go =
     let x : Slot = (Mark sign.OpenBrace, for StartsBlock) in
-    let first : Follows (entered c (line_slot l ∷ (Mark sign.OpenBrace, (Some NoBody, Opens)) ∷ [])) (enter d x) =
-    (f.0 + 1, ap (λ (e : Context). enter e x) f.1 ∙ opened_same (f.0 + 1) (begun (out c)), omega (arith, f.2)) in
+    let first : Follows (entered c (line_slot l ∷ (Mark sign.OpenBrace, (Some NoBody, Opens)) ∷ [])) (enter d x) = (
+      f.0 + 1,
+      f.1,
+      ap (λ (e : Context). enter e x) f.2 ∙ opened_same (f.0 + 1) f.1 (begun (out c)),
+      omega (arith, f.3),
+      f.4,
+    ) in
     let rest = go (enter d x) first (refl, refl) in
     let deep : nat_lt max_braces (length c.frames) ≡ false = k.1.0 (record { part = 0; code = TooDeep }) in (
       (
-        λ r. ap (λ (e : Context). breaks r e x (next_in zs m)) f.1
-            ∙ block_begins c f.0 f.2 l (Mark sign.OpenBrace) k.0 (next_in zs m) deep r,
+        λ r. ap (λ (e : Context). breaks r e x (next_in zs m)) f.2
+            ∙ block_begins c f.0 f.1 f.3 l (Mark sign.OpenBrace) k.0 (next_in zs m) deep r,
         rest.0,
       ),
       rest.1,
@@ -71,33 +76,42 @@ unfolding breaks enter
 keeping_loop l zs c d n m end f o k go =
     let x : Slot = (Fixed For, for Starts) in
     let first : Follows (entered c (line_slot l ∷ (Fixed For, (Some NoBody, Plain)) ∷ [])) (enter d x) =
-    (f.0 + 1, ap (λ (e : Context). enter e x) f.1, omega (arith, f.2)) in
+    (f.0 + 1, f.1, ap (λ (e : Context). enter e x) f.2, omega (arith, f.3), f.4) in
     let rest = go (enter d x) first (refl, refl) in (
       (
-        λ r. ap (λ (e : Context). breaks r e x (next_in zs m)) f.1
-            ∙ loop_begins c f.0 f.2 l (Fixed For) k.0 (next_in zs m) r,
+        λ r. ap (λ (e : Context). breaks r e x (next_in zs m)) f.2
+            ∙ loop_begins c f.0 f.1 f.3 l (Fixed For) k.0 (next_in zs m) r,
         rest.0,
       ),
       rest.1,
     )
 
--- a token that does no more than begin a statement may be gone
-keeping_gone : (x : Slot) → ((c : Context) → enter c x ≡ begun (out c)) → Keeping (x ∷ []) []
-keeping_gone x begins zs c d n m end f o k go =
-    let same : plain f.0 c ≡ plain f.0 (out c) =
-    ap (λ (a : ℕ). record (plain f.0 c) { depth = a }) o.0
-    ∙ ap (λ (a : ℕ). record (plain f.0 c) { depth = 0; tokens = a }) o.1 in
-    let goes : (e : Context) → Follows (begun (out c)) e → IsOut (begun (out c)) → Goes e zs m end =
-    subst (λ (b : Context). (e : Context) → Follows b e → IsOut b → Goes e zs m end) (begins c) go in
-    goes d (f.0, f.1 ∙ same, omega (arith, f.2)) (refl, refl)
+-- a token that does no more than begin a statement, or name arrays, may be gone
+keeping_gone : (x : Slot) →
+    ((c : Context) (n a : ℕ) → n ≤ c.statements → a ≤ c.arrays → Follows (enter c x) (plain n a (out c))) →
+    ((c : Context) → IsOut (enter c x)) → Keeping (x ∷ []) []
+keeping_gone x follows is_out zs c d n m end f o k go =
+    let same : plain f.0 f.1 c ≡ plain f.0 f.1 (out c) =
+    ap (λ (u : ℕ). record (plain f.0 f.1 c) { depth = u }) o.0
+    ∙ ap (λ (u : ℕ). record (plain f.0 f.1 c) { depth = 0; tokens = u }) o.1 in
+    go d (subst (λ (e : Context). Follows (enter c x) e) (sym (f.2 ∙ same)) (follows c f.0 f.1 f.3 f.4)) (is_out c)
 
 keeping_alone : (l : List Lexeme) → Keeping ((Line l, for Alone) ∷ []) []
 unfolding enter
-keeping_alone l = keeping_gone (Line l, for Alone) (λ c. refl)
+keeping_alone l =
+    keeping_gone (Line l, for Alone) (λ c n a h g. (n, a, refl, omega (arith, h), g)) (λ c. (refl, refl))
 
 keeping_marks : (l : List Lexeme) → Keeping ((Line l, for Marks) ∷ []) []
 unfolding enter
-keeping_marks l = keeping_gone (Line l, for Marks) (λ c. refl)
+keeping_marks l =
+    keeping_gone (Line l, for Marks) (λ c n a h g. (n, a, refl, omega (arith, h), g)) (λ c. (refl, refl))
+
+-- the line of the boxed scalars, if there is one
+keeping_boxes : (o : Option (List Lexeme)) → Keeping (boxes_slots o) []
+unfolding enter
+keeping_boxes None = keeping_none
+keeping_boxes (Some l) =
+    keeping_gone (Line l, for Boxes) (λ c n a h g. (n, a, refl, h, omega (arith, g))) (λ c. (refl, refl))
 
 -- ---- statements
 
@@ -162,6 +176,11 @@ keeping_store x i v =
     (no_lines_append (term i) value (term_no_lines i) (no_lines_append (source v) (end_mark ∷ []) (source_no_lines v) refl))
     (ends_free (mark sign.CloseBracket ∷ mark sign.Equal ∷ source v) end_mark [] tt)
 
+keeping_assign : (x : List ℕ) (v : Source) → Keeping (stmt (Assign x v)) (stmt (Assign x v))
+keeping_assign x v =
+    keeping_simple (Name x, for Assigned) (mark sign.Equal ∷ source v) end_mark []
+    (no_lines_append (source v) (end_mark ∷ []) (source_no_lines v) refl) tt
+
 mutual
   keeping_stmts : (b : Stmts) (d : ℕ) → Keeping (stmts_in b d) (stmts (plain_stmts b))
   keeping_stmts Done d = keeping_none
@@ -175,9 +194,7 @@ mutual
       (keeping_simple (Fixed Uint64, for Starts) ((Name x, for DeclaresLocal) ∷ mark sign.Equal ∷ source v) last []
       (no_lines_append (source v) (last ∷ []) (source_no_lines v) refl) tt) k
   keeping_stmt (Assign x v) d xs ss k =
-      keeping_join (stmt (Assign x v)) (stmt (Assign x v)) xs (stmts ss)
-      (keeping_simple (Name x, for Assigned) (mark sign.Equal ∷ source v) end_mark []
-      (no_lines_append (source v) (end_mark ∷ []) (source_no_lines v) refl) tt) k
+      keeping_join (stmt (Assign x v)) (stmt (Assign x v)) xs (stmts ss) (keeping_assign x v) k
   keeping_stmt (Store x i v) d xs ss k =
       keeping_join (stmt (Store x i v)) (stmt (Store x i v)) xs (stmts ss) (keeping_store x i v) k
   keeping_stmt (Repeat h b) d xs ss k =
@@ -207,6 +224,10 @@ mutual
   keeping_stmt (Atomic l x i v) d xs ss k =
       keeping_join ((Line l, for Marks) ∷ []) [] (stmt (Store x i v) ++ xs) (stmt (Store x i v) ++ stmts ss) (keeping_marks l)
       (keeping_join (stmt (Store x i v)) (stmt (Store x i v)) xs (stmts ss) (keeping_store x i v) k)
+  keeping_stmt (AtomicAssign l x v) d xs ss k =
+      keeping_join ((Line l, for Marks) ∷ []) [] (stmt (Assign x v) ++ xs) (stmt (Assign x v) ++ stmts ss)
+      (keeping_marks l)
+      (keeping_join (stmt (Assign x v)) (stmt (Assign x v)) xs (stmts ss) (keeping_assign x v) k)
   keeping_stmt (OverBlock l b) d xs ss k =
       keeping_join (stmt (OverBlock l b)) (stmt (Block (plain_stmts b))) xs (stmts ss)
       (keeping_join (line_slot l ∷ (Mark sign.OpenBrace, (Some NoBody, Opens)) ∷ []) ((Mark sign.OpenBrace, for StartsBlock) ∷ [])
@@ -233,18 +254,26 @@ main_begins = word Int ∷ word Main ∷ mark sign.OpenParen ∷ word Void ∷ m
 abbrev main_ends : Slots
 main_ends = body_closing ∷ (End, for Plain) ∷ []
 
+keeping_main : (b : Stmts) → Keeping (main_part b) (main_part (plain_stmts b))
+keeping_main b =
+    keeping_join main_begins main_begins (stmts b ++ main_ends) (stmts (plain_stmts b) ++ main_ends)
+    (keeping_all main_begins refl tt)
+    (keeping_join (stmts b) (stmts (plain_stmts b)) main_ends main_ends (keeping_stmts b 0)
+    (keeping_all main_ends refl tt))
+
 keeping_slots : (t : Text) → Keeping (slots t) (slots (plain_tree t))
 keeping_slots t =
-    keeping_join (globals t.globals) (globals t.globals) (main_part t.body) (main_part (plain_stmts t.body)) (keeping_globals t.globals)
-    (keeping_join main_begins main_begins (stmts t.body ++ main_ends) (stmts (plain_stmts t.body) ++ main_ends)
-    (keeping_all main_begins refl tt)
-    (keeping_join (stmts t.body) (stmts (plain_stmts t.body)) main_ends main_ends (keeping_stmts t.body 0) (keeping_all main_ends refl tt)))
+    let main : Slots = main_part (plain_stmts t.body) in
+    keeping_join (globals t.globals) (globals t.globals) (boxes_slots t.boxes ++ main_part t.body) main
+    (keeping_globals t.globals)
+    (keeping_join (boxes_slots t.boxes) [] (main_part t.body) main (keeping_boxes t.boxes) (keeping_main t.body))
 
 pub plain_keeps : (t : Text) → KeepsRules source_grammar (slots t) → KeepsRules source_grammar (slots (plain_tree t))
 plain_keeps t k front x more r e =
     let ys : Slots = slots (plain_tree t) in
     let all : Keeps begin (ys ++ []) End =
-    (keeping_slots t [] begin begin End End (entered begin (slots t)) (0, refl, omega arith) (refl, refl)
+    (keeping_slots t [] begin begin End End (entered begin (slots t)) (0, 0, refl, omega arith, omega arith)
+    (refl, refl)
     (keeps_at (slots t) [] (slots t) k refl) (λ b f o. (tt, f))).0 in
     keeps_all begin (ys ++ []) front x more r all (append-nil ys ∙ e)
 
@@ -266,8 +295,9 @@ mutual
   plain_is (Block b) ss h k = (plain_are b h, k)
   plain_is (Directive l) ss h k = k
   plain_is (Atomic l x i v) ss h k = ((h.2, h.3), k)
+  plain_is (AtomicAssign l x v) ss h k = (h.2, k)
   plain_is (OverBlock l b) ss h k = (plain_are b h.2, k)
   plain_is (OverLoop l g b) ss h k = (plain_are b h.2, k)
 
 pub plain_is_text : (t : Text) → IsText t → IsText (plain_tree t)
-plain_is_text t h = plain_are t.body h
+plain_is_text t h = (tt, plain_are t.body h.1)

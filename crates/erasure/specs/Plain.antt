@@ -1,5 +1,6 @@
 -- A tree without its directives.
-use Rattle.c_grammar.specs.Grammar.{Stmt, Declare, Assign, Store, Repeat, Choose, ChooseElse, Show, Block, Directive, Atomic, OverBlock, OverLoop, Stmts, Done, Then, Text}
+use Rattle.std.specs.Prelude.{None}
+use Rattle.c_grammar.specs.Grammar.{Stmt, Declare, Assign, Store, Repeat, Choose, ChooseElse, Show, Block, Directive, Atomic, AtomicAssign, OverBlock, OverLoop, Stmts, Done, Then, Text}
 
 abbrev mutual
   -- the statement without its directives, and those behind it: nothing stands for a directive alone, and for one over a
@@ -15,6 +16,7 @@ abbrev mutual
   plain_before (Block b) ss = Then (Block (plain_stmts b)) ss
   plain_before (Directive l) ss = ss
   plain_before (Atomic l x i v) ss = Then (Store x i v) ss
+  plain_before (AtomicAssign l x v) ss = Then (Assign x v) ss
   plain_before (OverBlock l b) ss = Then (Block (plain_stmts b)) ss
   plain_before (OverLoop l h b) ss = Then (Repeat h (plain_stmts b)) ss
 
@@ -23,4 +25,4 @@ abbrev mutual
   plain_stmts (Then s ss) = plain_before s (plain_stmts ss)
 
 abbrev pub plain_tree : Text → Text
-plain_tree t = record t { body = plain_stmts t.body }
+plain_tree t = record t { boxes = None; body = plain_stmts t.body }

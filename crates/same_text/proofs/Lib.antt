@@ -16,7 +16,9 @@ mod UnlinedCalls
 mod UnlinedFunctions
 mod UnlinedGrids
 mod UnlinedDeclarations
+mod UnlinedCounters
 mod UnlinedUpdates
+mod UnlinedBoxes
 mod UnlinedTexts
 mod Told
 mod Whole

@@ -1,6 +1,8 @@
 -- Texts whose tokens are the same but for directive lines spell programs that do the same without directives.
-use Rattle.std.proofs.Common.{◌≡◌, ◌≤◌, ℕ, Bool, true, false, cond, List, [], ◌∷◌, ◌++◌, length, refl, sym, ap, subst, ◌∙◌, arith}
+use Rattle.std.proofs.Common.{◌≡◌, ◌≤◌, ℕ, ◌+◌, Bool, true, false, cond, List, [], ◌∷◌, ◌++◌, length, refl, sym, ap, subst, ◌∙◌, arith, length-append}
+use Rattle.std.proofs.lemmas.List.{append-nil}
 use Rattle.base.specs.declared.tree.Program.{Program}
+use Rattle.base.specs.Meaning.{erased, lengths_of}
 use Rattle.c_grammar.specs.Grammar.{Text, slots}
 use Rattle.c_grammar.specs.Rules.{source_grammar}
 use Rattle.c_grammar.specs.Source.{items_of, written_out, end_of, max_source, Spells as SpellsText}
@@ -13,7 +15,7 @@ use Rattle.erasure.specs.Erased.{erased_text, items_in}
 use Rattle.erasure.specs.Plain.{plain_tree}
 use Rattle.erasure.proofs.Covered.{erased_items}
 use Rattle.erasure.proofs.Spelled.{kinds_in, with_end, erased_shorter, spells_plain}
-use Rattle.erased_meaning.specs.Laws.{IsErased}
+use Rattle.erased_meaning.specs.Laws.{IsErased, SameRun}
 use Rattle.erased_meaning.proofs.ErasedRuns.{erased_is}
 use Rattle.erased_meaning.proofs.Globals.{main_safe}
 use Rattle.same_text.specs.Laws.{bare_tokens, RunAlike}
@@ -61,12 +63,28 @@ same_tokens_erase a b p q e s u =
     erased_is s.text (items_of a) (items_of (erased_text b)) p q (main_safe s.text s.spelled.spelled.keeps) s.means
     (subst (λ (t : Text). IsProgram (items_of (erased_text b)) t q) one u.means)
 
+-- where each of two lists begins with the other they are the same
+no_more : (ns ms xs ys : List ℕ) → ns ≡ ms ++ xs → ms ≡ ns ++ ys → xs ≡ []
+no_more ns ms [] ys e f = refl
+no_more ns ms (x ∷ xs) ys e f =
+    let first : length ns ≡ length ms + length (x ∷ xs) = ap length e ∙ length-append ms (x ∷ xs) in
+    let second : length ms ≡ length ns + length ys = ap length f ∙ length-append ns ys in
+    absurd (omega (arith, first, second))
+
 -- a text without its directive lines has the same tokens, and its program no directive
 pub same_tokens_run : (a b : List ℕ) (p q : Program) → bare_tokens a ≡ bare_tokens b → Spells (erased_text a) p →
     Spells (erased_text b) q → RunAlike p q
 same_tokens_run a b p q e s u =
     let all : IsErased p q = same_tokens_erase (erased_text a) b p q (twice_bare a ∙ e) s u in
-    record { lengths = sym all.lengths; runs = all.runs }
+    let back : IsErased q p = same_tokens_erase (erased_text b) a q p (twice_bare b ∙ sym e) u s in
+    let none : all.boxes ≡ [] = no_more (lengths_of p) (lengths_of q) all.boxes back.boxes all.lengths back.lengths in
+    let lengths : lengths_of p ≡ lengths_of q =
+    all.lengths ∙ ap (λ (ns : List ℕ). lengths_of q ++ ns) none ∙ append-nil (lengths_of q) in
+    record {
+      lengths = lengths;
+      runs = λ input. subst (λ (n : ℕ). SameRun n (erased p input) (erased q input)) (ap length (sym lengths))
+          (all.runs input);
+    }
 
 -- ---- the second text without directive lines is one of the grammar
 

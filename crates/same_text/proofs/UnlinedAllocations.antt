@@ -1,5 +1,5 @@
 -- Arrays are allocated without a look at the lines of the tokens.
-use Rattle.std.proofs.Common.{◌≡◌, ℕ, Bool, true, false, cond, List, [], ◌∷◌, ◌++◌, length, Option, Some, None, refl, sym, ap, ◌∙◌}
+use Rattle.std.proofs.Common.{◌≡◌, ℕ, Bool, true, false, cond, List, [], ◌∷◌, ◌++◌, length, Option, Some, None, refl, ap, ◌∙◌}
 use Rattle.std.specs.Prelude.{◌&&◌, ◌||◌, not, nat_lt, reverse, codes}
 use Rattle.c_tokens.specs.declared.kind.Sign.{Sign}
 use Rattle.c_tokens.specs.declared.kind.Sign.TheVariants as sign
@@ -259,7 +259,7 @@ statement_same i is (Some a) r =
 statement_same i is None r =
     pick (is_freed r.names i is) _ (opened i r) (kept i r) _ _ (freed_same r.names i is) (opened_same i r) (kept_same i r)
 
-main_same : (i : Item Terminal) (is : Items) → begins_main (unlined i) (all_unlined is) ≡ begins_main i is
+pub main_same : (i : Item Terminal) (is : Items) → begins_main (unlined i) (all_unlined is) ≡ begins_main i is
 main_same i [] = refl
 main_same i (m ∷ is) = refl
 

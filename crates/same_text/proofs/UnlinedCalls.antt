@@ -1,6 +1,6 @@
 -- Calls of functions are expanded without a look at the lines of the tokens.
 use Rattle.std.proofs.Common.{◌≡◌, ℕ, zero, suc, ◌+◌, ◌-◌, Bool, true, false, cond, List, [], ◌∷◌, ◌++◌, length, map, take, drop, Option, Some, None, refl, ap, ap₂, ◌∙◌}
-use Rattle.std.specs.Prelude.{◌&&◌, ◌==◌, not, nat_lt}
+use Rattle.std.specs.Prelude.{◌&&◌, ◌==◌, ◌^◌, not, nat_lt}
 use Rattle.std.specs.Option.{option_map}
 use Rattle.std.specs.Str.{bytes_eq}
 use Rattle.c_tokens.specs.declared.kind.Sign.TheVariants as sign
@@ -11,7 +11,7 @@ use Rattle.c_grammar.specs.Blocks.{Items, is_directive, bare, at}
 use Rattle.c_grammar.specs.Changes.{is_mark, is_boundary}
 use Rattle.c_grammar.specs.Constants.{Names, is_among, is_name, with_terminal}
 use Rattle.c_grammar.specs.Expressions.{Nothing, Worked, Number, Fault, expression}
-use Rattle.c_grammar.specs.Functions.{Arguments, Expanded, Function, Functions, Others, Passed, Parameter, Puts, Statements, argument_closed, argument_on, arguments, assigned_call, block_of, both, call, called, closes, constant_in, declaration, declared_call, ends_here, equal_behind, expanded_at, expanded_by, expanded_of, expanded_with, expansion, first_some, function_of, given, has_value, in_room, index_len, index_on, index_out, is_none, is_whole, later, left_len, local, nothing_passed, opens, passed, passed_to, passes, passes_array, passes_name, passes_one, passes_one_array, passes_value, put_all, put_terminal, statement_on, stays}
+use Rattle.c_grammar.specs.Functions.{Arguments, Expanded, Function, Functions, Others, Passed, Parameter, Puts, Scalar, Array, Small, Sort, Statements, stands_small, argument_closed, argument_on, arguments, assigned_call, block_of, both, call, called, closes, constant_in, declaration, declared_call, ends_here, equal_behind, expanded_at, expanded_by, expanded_of, expanded_with, expansion, first_some, function_of, given, has_value, in_room, index_len, index_on, index_out, is_none, is_whole, later, left_len, local, nothing_passed, opens, passed, passed_to, passes, passes_array, passes_name, passes_one, passes_one_array, passes_as, passes_value, put_all, put_terminal, statement_on, stays}
 use Rattle.same_text.specs.Laws.{unlined}
 use Rattle.same_text.proofs.Unlined.{all_unlined, AreUnlined, either, one, some, bare_unlined}
 use Rattle.same_text.proofs.UnlinedExpressions.{found_unlined, expression_same}
@@ -183,13 +183,24 @@ array_same x [] = refl
 array_same x (i ∷ []) = one_array x i.terminal
 array_same x (i ∷ j ∷ is) = refl
 
+small_same : (x : List ℕ) (o : Option ℕ) → PassesSame (stands_small x o) (stands_small x o)
+small_same x None = refl
+small_same x (Some n) = picked passed_unlined (nat_lt n (2 ^ 31)) _ _ _ _ refl refl
+
+as_same : (s : Sort) (globals : Names) (p : Parameter) (is : Items) →
+    PassesSame (passes_as s globals p (all_unlined is)) (passes_as s globals p is)
+as_same Scalar globals p is =
+    picked passed_unlined p.assigned _ _ _ _ (local_same p.name is)
+    (ap (passes_value globals p.name (all_unlined is)) (constant_same is)
+    ∙ value_same globals p.name is (constant_in is))
+as_same Array globals p is = array_same p.name is
+as_same Small globals p is =
+    picked passed_unlined p.assigned _ _ _ _ refl
+    (ap (stands_small p.name) (constant_same is) ∙ small_same p.name (constant_in is))
+
 passes_same : (globals : Names) (p : Parameter) (is : Items) →
     PassesSame (passes globals p (all_unlined is)) (passes globals p is)
-passes_same globals p is =
-    picked passed_unlined p.array _ _ _ _ (array_same p.name is)
-    (picked passed_unlined p.assigned _ _ _ _ (local_same p.name is)
-    (ap (passes_value globals p.name (all_unlined is)) (constant_same is)
-    ∙ value_same globals p.name is (constant_in is)))
+passes_same globals p is = as_same p.sort globals p is
 
 both_same : (o p : Option Passed) →
     PassesSame (both (option_map passed_unlined o) (option_map passed_unlined p)) (both o p)

@@ -34,8 +34,8 @@ parameters_same (i ∷ is) h ps k = on (behind h i.terminal) (λ h ps. parameter
     on : (s : Step) → ((h : Head) (ps : List Declared) → go' h ps ≡ go h ps) →
         parameter_on s ps (k + 1) go' ≡ parameter_on s ps (k + 1) go
     on (Goes h) ih = ih h ps
-    on (Adds x array) ih = ih Begins (ps ++ declares x array ∷ [])
-    on (Closes x array) ih = refl
+    on (Adds x sort) ih = ih Begins (ps ++ declares x sort ∷ [])
+    on (Closes x sort) ih = refl
     on Stops ih = refl
 
 none_same : (is : Items) → no_parameters (all_unlined is) ≡ no_parameters is
@@ -116,7 +116,7 @@ from_same : (k : ℕ) (body : Items) (ds : List Declared) →
 from_same k body [] = refl
 from_same k body (d ∷ ds) =
     ap₂
-    (λ (b : Bool) (ps : List Parameter). record { name = unspelled k; array = d.array; assigned = b } ∷ ps)
+    (λ (b : Bool) (ps : List Parameter). record { name = unspelled k; sort = d.sort; assigned = b } ∷ ps)
     (assigned_same d.name body) (from_same (k + 1) body ds)
 
 -- ---- a function with its names and calls

@@ -1,6 +1,6 @@
 -- Arrays are said to be present without a look at the lines of the tokens.
 use Rattle.std.proofs.Common.{◌≡◌, ℕ, ◌+◌, ◌-◌, Bool, true, false, cond, List, [], ◌∷◌, ◌++◌, refl, ap, ◌∙◌}
-use Rattle.std.specs.Prelude.{◌&&◌, ◌||◌, ◌==◌, not, nat_le}
+use Rattle.std.specs.Prelude.{◌&&◌, ◌==◌, not}
 use Rattle.c_tokens.specs.declared.kind.Sign.TheVariants as sign
 use Rattle.c_grammar.specs.Lexeme.{Lexeme, Placed}
 use Rattle.c_grammar.specs.Terminal.{Terminal, Fixed, Mark, Name, Num, Line, Unknown, Unworked, End, same}
@@ -10,7 +10,7 @@ use Rattle.c_grammar.specs.Changes.{is_mark}
 use Rattle.c_grammar.specs.Constants.{Names, with_tokens}
 use Rattle.c_grammar.specs.Expressions.{placed_of}
 use Rattle.c_grammar.specs.Lines.{is_omp}
-use Rattle.c_grammar.specs.Presence.{before_end, clauses_for, goes_on, guarded, guarded_item, guarded_tokens, is_else, is_mapped, is_target, opens_part, present_clause, target_column, uses, uses_on}
+use Rattle.c_grammar.specs.Presence.{before_end, clauses_for, goes_on, guarded, guarded_item, guarded_tokens, is_mapped, is_target, opens_part, present_clause, target_column, uses, uses_on}
 use Rattle.same_text.specs.Laws.{unlined}
 use Rattle.same_text.proofs.Unlined.{AreUnlined, all_unlined}
 
@@ -22,7 +22,7 @@ pub goes_unlined : (d : ℕ) (is : Items) → goes_on d (all_unlined is) ≡ goe
 goes_unlined d [] = refl
 goes_unlined d (i ∷ is) = refl
 
-on_unlined : (d : ℕ) (i : Item Terminal) (is : Items) (go go' : ℕ → Bool) → ((k : ℕ) → go' k ≡ go k) →
+pub on_unlined : (d : ℕ) (i : Item Terminal) (is : Items) (go go' : ℕ → Bool) → ((k : ℕ) → go' k ≡ go k) →
     uses_on d (unlined i) (all_unlined is) go' ≡ uses_on d i is go
 on_unlined d i is go go' r =
     same_if (opens_part i) _ _ _ _ (r (d + 1))
@@ -47,7 +47,7 @@ clauses_unlined (x ∷ xs) column ts is =
     ∙ ap (λ (ps : List Placed). cond (uses x 0 is && not (is_mapped x 0 false ts)) (present_clause column x) [] ++ ps)
     (clauses_unlined xs column ts is)
 
-line_unlined : (i : Item Terminal) (ts : List Lexeme) (ps : List Placed) (b : Bool) →
+pub line_unlined : (i : Item Terminal) (ts : List Lexeme) (ps : List Placed) (b : Bool) →
     cond b (with_tokens (unlined i) ts ps) (unlined i) ≡ unlined (cond b (with_tokens i ts ps) i)
 line_unlined i ts ps true = refl
 line_unlined i ts ps false = refl

@@ -2,11 +2,14 @@
 use Rattle.std.proofs.Common.{◌≡◌, false, List, [], ◌∷◌, refl, sym, ap, ◌∙◌}
 use Rattle.c_grammar.specs.Terminal.{Terminal}
 use Rattle.c_grammar.specs.Allocations.{allocated}
+use Rattle.c_grammar.specs.Boxes.{announced, boxed}
 use Rattle.c_grammar.specs.Blocks.{Items, nothing_read, in_blocks, typed}
 use Rattle.c_grammar.specs.Changes.{begin, in_full}
 use Rattle.c_grammar.specs.Constants.{undefined, worked}
 use Rattle.c_grammar.specs.Functions.{expanded}
 use Rattle.c_grammar.specs.Grids.{flat}
+use Rattle.c_grammar.specs.Counters.{counted}
+use Rattle.c_grammar.specs.Unset.{zeroed}
 use Rattle.c_grammar.specs.Declarations.{Other, settled}
 use Rattle.c_grammar.specs.Updates.{Outside, commuting}
 use Rattle.c_grammar.specs.Initial.{initialized, no_globals}
@@ -22,7 +25,9 @@ use Rattle.same_text.proofs.UnlinedPrints.{printed_unlined}
 use Rattle.same_text.proofs.UnlinedConstants.{worked_unlined}
 use Rattle.same_text.proofs.UnlinedFunctions.{expanded_unlined}
 use Rattle.same_text.proofs.UnlinedGrids.{flat_unlined}
+use Rattle.same_text.proofs.UnlinedCounters.{counted_unlined, zeroed_unlined}
 use Rattle.same_text.proofs.UnlinedDeclarations.{settled_unlined}
+use Rattle.same_text.proofs.UnlinedBoxes.{announced_unlined, boxed_unlined}
 use Rattle.same_text.proofs.UnlinedUpdates.{commuting_unlined}
 use Rattle.same_text.proofs.UnlinedDropped.{undefined_unlined}
 use Rattle.same_text.proofs.UnlinedAllocations.{allocated_unlined}
@@ -31,12 +36,13 @@ use Rattle.same_text.proofs.UnlinedChanges.{full_unlined}
 
 -- what follows the constants
 later_unlined : (is : Items) →
-    AreUnlined (in_full begin 0 (initialized no_globals 0 (allocated (all_unlined is))))
-    (in_full begin 0 (initialized no_globals 0 (allocated is)))
+    AreUnlined (announced (in_full begin 0 (initialized no_globals 0 (allocated (all_unlined is)))))
+    (announced (in_full begin 0 (initialized no_globals 0 (allocated is))))
 later_unlined is =
-    ap (λ (js : Items). in_full begin 0 (initialized no_globals 0 js)) (allocated_unlined is)
-    ∙ ap (λ (js : Items). in_full begin 0 js) (initialized_unlined (allocated is) no_globals 0)
-    ∙ full_unlined (initialized no_globals 0 (allocated is)) begin 0
+    ap (λ (js : Items). announced (in_full begin 0 (initialized no_globals 0 js))) (allocated_unlined is)
+    ∙ ap (λ (js : Items). announced (in_full begin 0 js)) (initialized_unlined (allocated is) no_globals 0)
+    ∙ ap announced (full_unlined (initialized no_globals 0 (allocated is)) begin 0)
+    ∙ announced_unlined (in_full begin 0 (initialized no_globals 0 (allocated is)))
 
 written_unlined : (is : Items) → AreUnlined (written_out (all_unlined is)) (written_out is)
 written_unlined is =
@@ -45,28 +51,34 @@ written_unlined is =
     let a : Items = typed 0 p in
     let u : Items = undeclared false a in
     let b : Items = in_blocks nothing_read u in
-    let d : Items = settled Other b in
+    let l : Items = counted b in
+    let d : Items = settled Other (zeroed l) in
     let c : Items = worked [] [] 0 d in
     let f : Items = expanded c in
     let g : Items = flat [] [] [] 0 (undefined [] 0 0 f) in
-    let later : Items → Items = λ js. in_full begin 0 (initialized no_globals 0 (allocated js)) in
-    let since_updates : Items → Items = λ js. later (commuting Outside js) in
+    let later : Items → Items = λ js. announced (in_full begin 0 (initialized no_globals 0 (allocated js))) in
+    let since_boxes : Items → Items = λ js. later (commuting Outside js) in
+    let since_updates : Items → Items = λ js. since_boxes (boxed js) in
     let since_grids : Items → Items = λ js. since_updates (flat [] [] [] 0 js) in
     let since_defined : Items → Items = λ js. since_grids (undefined [] 0 0 js) in
     let since_declared : Items → Items = λ js. since_defined (expanded (worked [] [] 0 js)) in
-    let since_blocks : Items → Items = λ js. since_declared (settled Other js) in
+    let since_zeroed : Items → Items = λ js. since_declared (settled Other js) in
+    let since_blocks : Items → Items = λ js. since_zeroed (zeroed (counted js)) in
     let since_typed : Items → Items = λ js. since_blocks (in_blocks nothing_read (undeclared false js)) in
     ap (λ (js : Items). since_typed (typed 0 (printed 0 js))) (nested_unlined is)
     ∙ ap (λ (js : Items). since_typed (typed 0 js)) (printed_unlined n 0)
     ∙ ap since_typed (typed_unlined p 0)
     ∙ ap (λ (js : Items). since_blocks (in_blocks nothing_read js)) (undeclared_unlined a false)
     ∙ ap since_blocks (blocks_unlined u nothing_read)
-    ∙ ap since_declared (settled_unlined b Other)
+    ∙ ap (λ (js : Items). since_zeroed (zeroed js)) (counted_unlined b)
+    ∙ ap since_zeroed (zeroed_unlined l)
+    ∙ ap since_declared (settled_unlined (zeroed l) Other)
     ∙ ap (λ (js : Items). since_defined (expanded js)) (worked_unlined d [] [] 0)
     ∙ ap since_defined (expanded_unlined c)
     ∙ ap since_grids (undefined_unlined f [] 0 0)
     ∙ ap since_updates (flat_unlined (undefined [] 0 0 f) [] [] [] 0)
-    ∙ ap later (commuting_unlined g Outside) ∙ later_unlined (commuting Outside g)
+    ∙ ap since_boxes (boxed_unlined g)
+    ∙ ap later (commuting_unlined (boxed g) Outside) ∙ later_unlined (commuting Outside (boxed g))
 
 kinds_unlined : (is : Items) → kinds_in is ≡ kinds_in (all_unlined is)
 kinds_unlined [] = refl

@@ -12,13 +12,13 @@ use Rattle.c_grammar.specs.Constants.{Names, with_tokens}
 use Rattle.c_grammar.specs.Expressions.{placed_of}
 use Rattle.c_grammar.specs.Functions.{index_len}
 use Rattle.c_grammar.specs.Presence.{goes_on, opens_part}
-use Rattle.c_grammar.specs.Updates.{Inside, OnRegion, Onward, Outside, Reduction, Region, again, again_at, all_mapped, are_summed, atomic_tokens, begins_with, behind, changed, changed_behind, changing, clause_on, commuting, directive_on, equal, has_update, is_assigned, is_atomic, is_by, is_combined, is_named, is_summed, is_taken, lexemes, line_on, mapped_words, mark_at, marked, mention, named_update, none_mapped, other, reduced, reduction_at, sign_at, summed, taken, taken_at, token_on, update, with_names}
+use Rattle.c_grammar.specs.Updates.{Inside, OnRegion, Onward, Outside, Reduction, Region, again, again_at, all_mapped, are_summed, atomic_tokens, begins_with, behind, changed, changed_behind, changing, clause_on, commuting, directive_on, equal, has_update, is_assigned, is_atomic, is_by, is_combined, is_named, is_summed, is_taken, lexemes, line_on, mapped_words, mark_at, marked, mention, named_update, none_mapped, other, place_len, reduced, reduction_at, sign_at, summed, taken, taken_at, token_on, update, with_names}
 use Rattle.same_text.specs.Laws.{unlined}
 use Rattle.same_text.proofs.Unlined.{AreUnlined, all_unlined, bare_unlined, one}
 use Rattle.same_text.proofs.UnlinedCalls.{drop_unlined, index_same, length_unlined, take_unlined}
 use Rattle.same_text.proofs.UnlinedPresence.{goes_unlined, same_if}
 
--- ---- updates of a cell
+-- ---- updates of a cell or a scalar
 
 changing_unlined : (k : Option Kind) (is : Items) → changing k (all_unlined is) ≡ changing k is
 changing_unlined None is = refl
@@ -58,9 +58,17 @@ behind_unlined x is (Some k) =
     ∙ ap (λ (js : Items). changed x (all_unlined (take k is)) js) (drop_unlined k is)
     ∙ changed_unlined x (take k is) (drop k is)
 
+place_unlined : (is : Items) → place_len (all_unlined is) ≡ place_len is
+place_unlined [] = refl
+place_unlined (i ∷ is) = go (is_mark sign.OpenBracket i)
+  where
+    go : (b : Bool) → cond b (index_len 0 0 (all_unlined (i ∷ is))) (Some 0) ≡ cond b (index_len 0 0 (i ∷ is)) (Some 0)
+    go true = index_same (i ∷ is) 0 0
+    go false = refl
+
 update_unlined : (x : List ℕ) (is : Items) → update x (all_unlined is) ≡ update x is
 update_unlined x is =
-    ap (λ (o : Option ℕ). changed_behind x (all_unlined is) o) (index_same is 0 0) ∙ behind_unlined x is (index_len 0 0 is)
+    ap (λ (o : Option ℕ). changed_behind x (all_unlined is) o) (place_unlined is) ∙ behind_unlined x is (place_len is)
 
 -- ---- what stands in a region
 
@@ -76,14 +84,14 @@ again_at_unlined (Some k) is =
 
 mention_on : (x : List ℕ) (op : Sign) (d : ℕ) (starts : Bool) (is : Items) (go go' : Onward) →
     ((d : ℕ) (s : Bool) (n : ℕ) → go' d s n ≡ go d s n) →
-    starts && is_by op (update x (all_unlined is)) && go' d false (again_at (index_len 0 0 (all_unlined is)) (all_unlined is))
-    ≡ starts && is_by op (update x is) && go d false (again_at (index_len 0 0 is) is)
+    starts && is_by op (update x (all_unlined is)) && go' d false (again_at (place_len (all_unlined is)) (all_unlined is))
+    ≡ starts && is_by op (update x is) && go d false (again_at (place_len is) is)
 mention_on x op d starts is go go' r =
-    ap (λ (o : Option Sign). starts && is_by op o && go' d false (again_at (index_len 0 0 (all_unlined is)) (all_unlined is)))
+    ap (λ (o : Option Sign). starts && is_by op o && go' d false (again_at (place_len (all_unlined is)) (all_unlined is)))
     (update_unlined x is)
     ∙ ap (λ (b : Bool). starts && is_by op (update x is) && b)
-    (ap (λ (o : Option ℕ). go' d false (again_at o (all_unlined is))) (index_same is 0 0)
-    ∙ ap (λ (n : ℕ). go' d false n) (again_at_unlined (index_len 0 0 is) is) ∙ r d false (again_at (index_len 0 0 is) is))
+    (ap (λ (o : Option ℕ). go' d false (again_at o (all_unlined is))) (place_unlined is)
+    ∙ ap (λ (n : ℕ). go' d false n) (again_at_unlined (place_len is) is) ∙ r d false (again_at (place_len is) is))
 
 mention_unlined : (x : List ℕ) (op : Sign) (d : ℕ) (starts : Bool) (n : ℕ) (is : Items) (go go' : Onward) →
     ((d : ℕ) (s : Bool) (n : ℕ) → go' d s n ≡ go d s n) →

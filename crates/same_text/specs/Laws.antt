@@ -20,10 +20,10 @@ unlined i = record { terminal = i.terminal; line = 0; column = i.column; columns
 abbrev pub bare_tokens : List ℕ → List (Item Terminal)
 bare_tokens bytes = map unlined (bare (items_in bytes))
 
--- arrays of the same lengths, and the same numbers printed, memory and input left without directives
+-- arrays of the same lengths, and the same numbers printed, memory of these and input left without directives
 pub record RunAlike (p q : Program) : Type 0 where
   pub lengths : lengths_of p ≡ lengths_of q
-  pub runs : (input : List ℕ) → SameRun (erased p input) (erased q input)
+  pub runs : (input : List ℕ) → SameRun (length (lengths_of p)) (erased p input) (erased q input)
 
 -- deleting whole directive lines leaves the other tokens
 abbrev pub BareTokensStay : Type 0
