@@ -1,6 +1,7 @@
-// What is tried where turns that meet do nothing with a cell but update it.
+// What is tried where turns that meet do nothing with a cell or a scalar but update it.
 
 use crate::candidates::Candidates;
+use crate::clauses::{place_of, with_reduction};
 use crate::lines::{Change, cut};
 use crate::places::statement_tokens;
 use crate::view::View;
@@ -9,11 +10,19 @@ use base::tree::Place;
 use c_tokens::{Kind, Sign, Token};
 use std::alloc::AllocError;
 
-// A statement that updates a cell by an operator that commutes: the name, and where it stands.
+// A statement that begins with a name, and where it stands.
 #[derive(Clone, Copy)]
-struct Update<'t> {
+struct Start<'t> {
     name: &'t [u8],
     place: Place,
+}
+
+// One that updates a cell or a scalar by an operator that commutes.
+#[derive(Clone, Copy)]
+struct Update<'t> {
+    start: Start<'t>,
+    operator: &'static str,
+    is_scalar: bool,
 }
 
 // How far the beginning of a statement has been read.
@@ -21,21 +30,21 @@ struct Update<'t> {
 enum Read<'t> {
     Inside,
     Start,
-    Name(Update<'t>),
-    Index(Update<'t>, usize),
-    Cell(Update<'t>),
+    Name(Start<'t>),
+    Index(Start<'t>, usize),
+    Cell(Start<'t>),
 }
 
-fn commutes(sign: Sign) -> bool {
-    matches!(
-        sign,
-        Sign::PlusEqual
-            | Sign::StarEqual
-            | Sign::AmpersandEqual
-            | Sign::BarEqual
-            | Sign::CaretEqual
-            | Sign::PlusPlus
-    )
+// The operator of an update that commutes.
+fn commuting(kind: Kind) -> Option<&'static str> {
+    match kind {
+        Kind::Sign(Sign::PlusEqual | Sign::PlusPlus) => Some("+"),
+        Kind::Sign(Sign::StarEqual) => Some("*"),
+        Kind::Sign(Sign::AmpersandEqual) => Some("&"),
+        Kind::Sign(Sign::BarEqual) => Some("|"),
+        Kind::Sign(Sign::CaretEqual) => Some("^"),
+        _ => None,
+    }
 }
 
 // Behind a token that is none of those of an update.
@@ -48,41 +57,58 @@ fn behind_other<'t>(token: &Token) -> Read<'t> {
     }
 }
 
-fn behind_index<'t>(update: Update<'t>, depth: usize, token: &Token) -> Read<'t> {
+fn behind_index<'t>(start: Start<'t>, depth: usize, token: &Token) -> Read<'t> {
     match token.kind {
-        Kind::Sign(Sign::OpenBracket) => Read::Index(update, depth.saturating_add(1)),
-        Kind::Sign(Sign::CloseBracket) if depth <= 1 => Read::Cell(update),
-        Kind::Sign(Sign::CloseBracket) => Read::Index(update, depth.saturating_sub(1)),
-        _ => Read::Index(update, depth),
+        Kind::Sign(Sign::OpenBracket) => Read::Index(start, depth.saturating_add(1)),
+        Kind::Sign(Sign::CloseBracket) if depth <= 1 => Read::Cell(start),
+        Kind::Sign(Sign::CloseBracket) => Read::Index(start, depth.saturating_sub(1)),
+        _ => Read::Index(start, depth),
     }
 }
 
 // A second bracket is that of a row.
 fn behind<'t>(text: &'t [u8], read: Read<'t>, token: &Token) -> Read<'t> {
     match (read, token.kind) {
-        (Read::Start, Kind::Name) => Read::Name(Update {
+        (Read::Start, Kind::Name) => Read::Name(Start {
             name: cut(text, token.first, token.last.saturating_add(1)),
             place: Place {
                 line: token.line,
                 column: token.column,
             },
         }),
-        (Read::Name(update) | Read::Cell(update), Kind::Sign(Sign::OpenBracket)) => {
-            Read::Index(update, 1)
+        (Read::Name(start) | Read::Cell(start), Kind::Sign(Sign::OpenBracket)) => {
+            Read::Index(start, 1)
         }
-        (Read::Index(update, depth), _) => behind_index(update, depth, token),
+        (Read::Index(start, depth), _) => behind_index(start, depth, token),
         _ => behind_other(token),
     }
 }
 
-// The updates in the statement behind a line.
+// The update that a statement is, of which so much has been read, with this token.
+fn as_update<'t>(read: Read<'t>, token: &Token) -> Option<Update<'t>> {
+    let operator = commuting(token.kind)?;
+    match read {
+        Read::Name(start) => Some(Update {
+            start,
+            operator,
+            is_scalar: true,
+        }),
+        Read::Cell(start) => Some(Update {
+            start,
+            operator,
+            is_scalar: false,
+        }),
+        _ => None,
+    }
+}
+
+// The updates in the statement behind a line, of arrays and of what is held in arrays.
 fn updates<'v>(view: &View<'v>, line: usize) -> Result<Vec<Update<'v>>, AllocError> {
     let mut found = Vec::new(view.alloc);
     let mut read = Read::Start;
     for token in statement_tokens(view.alloc, view.text, line)? {
-        if let Read::Cell(update) = read
-            && let Kind::Sign(sign) = token.kind
-            && commutes(sign)
+        if let Some(update) = as_update(read, &token)
+            && view.array_of(update.start.name).is_some()
         {
             found.push(update)?;
         }
@@ -100,24 +126,62 @@ fn before_each(
 ) -> Result<(), AllocError> {
     let mut changes = Vec::new(view.alloc);
     for update in all {
-        if update.name == name {
-            if !view.begins_line(update.place) {
+        if update.start.name == name {
+            if !view.begins_line(update.start.place) {
                 return Ok(());
             }
-            changes.push(view.directive(update.place.line, "atomic")?)?;
+            changes.push(view.directive(update.start.place.line, "atomic")?)?;
         }
     }
     out.many(changes)
 }
 
-/// `atomic` before each update of an array, for each array that the target updates so.
+// The line with a scalar that is updated summed up, where it is one and is not summed up yet.
+fn with_sum(
+    view: &View<'_>,
+    line: &[u8],
+    update: Update<'_>,
+) -> Result<Option<Vec<u8>>, AllocError> {
+    if !update.is_scalar {
+        return Ok(None);
+    }
+    let Some(array) = view.array_of(update.start.name) else {
+        return Ok(None);
+    };
+    let name = view.name(array);
+    let clause = b"reduction".as_slice();
+    if place_of(view.alloc, line, clause, name.as_bytes())?.is_some() {
+        return Ok(None);
+    }
+    let text = with_reduction(view.alloc, line, update.operator, name)?;
+    Ok(Some(text))
+}
+
+// The line that sums up each scalar that is updated.
+fn summed(view: &View<'_>, all: &[Update<'_>], line: &[u8]) -> Result<Vec<u8>, AllocError> {
+    let mut text = Vec::from_slice(view.alloc, line)?;
+    for update in all {
+        if let Some(more) = with_sum(view, text.as_slice(), *update)? {
+            text = more;
+        }
+    }
+    Ok(text)
+}
+
+/// A `reduction` of the scalars that the target updates, and `atomic` before each update of an array or a scalar, for
+/// each that it updates so.
 pub fn mark_updates(view: &View<'_>, item: &Item, out: &mut Candidates) -> Result<(), AllocError> {
     let all = updates(view, item.place.line)?;
+    let line = view.line_of(item);
+    let summed = summed(view, all.as_slice(), line)?;
+    if summed.as_slice() != line {
+        out.replace(item.place.line, Some(summed))?;
+    }
     let mut seen: Vec<&[u8]> = Vec::new(view.alloc);
     for update in all.as_slice() {
-        if !seen.contains(&update.name) {
-            seen.push(update.name)?;
-            before_each(view, all.as_slice(), update.name, out)?;
+        if !seen.contains(&update.start.name) {
+            seen.push(update.start.name)?;
+            before_each(view, all.as_slice(), update.start.name, out)?;
         }
     }
     Ok(())

@@ -299,6 +299,16 @@ pub fn with_depend(
     with_item_more(alloc, line, "depend", true, head, item)
 }
 
+/// The line with one more that is summed up by an operator.
+pub fn with_reduction(
+    alloc: Global,
+    line: &[u8],
+    operator: &str,
+    item: &str,
+) -> Result<Vec<u8>, AllocError> {
+    with_item_more(alloc, line, "reduction", true, operator, item)
+}
+
 /// The line without a clause, the blanks before it, and a comma beside it.
 pub fn without_clause(alloc: Global, line: &[u8], clause: &Word) -> Result<Vec<u8>, AllocError> {
     spliced(alloc, line, with_blanks(line, clause), &[])

@@ -46,6 +46,17 @@ impl<'v> View<'v> {
         }
     }
 
+    /// The array of that name.
+    pub fn array_of(&self, name: &[u8]) -> Option<ArrayId> {
+        for number in 0..self.outlined.lengths().len() {
+            let array = ArrayId(number as u32);
+            if self.name(array).as_bytes() == name {
+                return Some(array);
+            }
+        }
+        None
+    }
+
     pub fn length(&self, array: ArrayId) -> u64 {
         match self.outlined.lengths().get(array.0 as usize) {
             Some(length) => u64::from(*length),

@@ -1,3 +1,4 @@
+pub mod FirstArrays
 pub mod FineRuns
 pub mod InC
 pub mod Listings

@@ -10,12 +10,12 @@ use Rattle.base.specs.Accepted.{IsAccepted}
 use Rattle.base.specs.Answer.{finals_in, marked_values}
 use Rattle.base.specs.Items.{plan}
 use Rattle.base.specs.Limits.{most_items}
-use Rattle.base.specs.Memory.{Memory}
-use Rattle.base.specs.Meaning.{Plain, erased, output_of}
+use Rattle.base.specs.Meaning.{Plain, erased, lengths_of, output_of}
 use Rattle.c_read.specs.Spells.{Spells}
 use Rattle.erased_meaning.specs.Laws.{ErasedTextRuns, IsErased, SameEnd, SameRun}
 use Rattle.mapcheck.specs.Passes.{IsCheckFault}
-use Rattle.pipeline.specs.Source.{Answers, Faults, IsAcceptedAnswer, IsPlainAnswer, IsProgramFault, IsRunStopped, IsSourceAnswer, IsSourceFault, by_choices, on_threads}
+use Rattle.pipeline.specs.Source.{Answers, Faults, IsAcceptedAnswer, IsPlainAnswer, IsProgramFault, IsRunStopped, IsSourceAnswer, IsSourceFault, by_choices, first_arrays, on_threads}
+use Rattle.pipeline.proofs.FirstArrays.{same_first}
 
 -- what an answer shows of the erased program
 pub record Shows (p : Program) (input : List ℕ) (a : Answer) : Type 0 where
@@ -34,22 +34,28 @@ pub on_threads_shows : (p : Program) (input : List ℕ) (capacity : ℕ) (a : An
 on_threads_shows p input capacity a (h, within) =
     record { plain = h.plain; is_erased = h.is_erased; output = h.output; finals = h.finals }
 
+abbrev arrays_of : Program → ℕ
+arrays_of q = length (lengths_of q)
+
 -- what the program of the text without directives does is what the answer has
 pub plain_answer : (p q : Program) (input : List ℕ) (a : Answer) → Shows p input a → IsErased p q → IsPlainAnswer p q input a
 plain_answer p q input a h e =
-    go (erased q input) refl (subst (λ (o : Option Plain). SameRun o (erased q input)) h.is_erased (e.runs input))
+    go (erased q input) refl (subst (λ (o : Option Plain). SameRun (arrays_of q) o (erased q input)) h.is_erased (e.runs input))
   where
-    go : (o : Option Plain) → erased q input ≡ o → SameRun (Some h.plain) (erased q input) → IsPlainAnswer p q input a
-    go None f same = absurd (subst (λ (o : Option Plain). SameRun (Some h.plain) o) f same)
+    go : (o : Option Plain) → erased q input ≡ o → SameRun (arrays_of q) (Some h.plain) (erased q input) → IsPlainAnswer p q input a
+    go None f same = absurd (subst (λ (o : Option Plain). SameRun (arrays_of q) (Some h.plain) o) f same)
     go (Some t) f same =
-        let end : SameEnd h.plain t = subst (λ (o : Option Plain). SameRun (Some h.plain) o) f same in
+        let end : SameEnd (arrays_of q) h.plain t =
+        subst (λ (o : Option Plain). SameRun (arrays_of q) (Some h.plain) o) f same in
         record {
           no_directive = e.plain;
+          boxes = e.boxes;
           lengths = e.lengths;
           plain = t;
           is_erased = f;
           output = h.output ∙ ap (λ (xs : List ℕ). output_of xs) end.printed;
-          finals = h.finals ∙ ap (λ (m : Memory). marked_values p m) end.memory;
+          finals = ap (first_arrays (arrays_of q)) h.finals
+              ∙ same_first p (arrays_of q) h.plain.memory t.memory end.memory;
         }
 
 source_answer : ErasedTextRuns → (is : Answers) (bytes input : List ℕ) → ((p : Program) (a : Answer) → is p a → Shows p input a) →

@@ -1,5 +1,5 @@
 -- What is answered of a source that is run: that of the program that its bytes spell.
-use Rattle.std.specs.Prelude.{ℕ, ◌≡◌, ◌≤◌, List, Some, length}
+use Rattle.std.specs.Prelude.{ℕ, ◌≡◌, ◌≤◌, nat_lt, List, ◌++◌, Some, filter, length}
 use Rattle.base.specs.declared.tree.Program.{Program}
 use Rattle.base.specs.declared.item.Answer.{Answer}
 use Rattle.base.specs.declared.fault.RunFault.{RunFault}
@@ -56,14 +56,22 @@ IsProgramFault is p (Run f) = IsRunStopped is p f
 IsProgramFault is p (Read f) = ⊥
 IsProgramFault is p (Outline f) = ⊥
 
--- q has no directive; it prints this on the host alone, and leaves these numbers in the arrays that p has marked current
+-- of arrays with their values, those of the first n
+abbrev pub first_arrays : ℕ → List (ℕ × List ℕ) → List (ℕ × List ℕ)
+first_arrays n fs = filter (λ f. nat_lt f.0 n) fs
+
+-- q has no directive; it prints this on the host alone, and leaves these numbers in those of its arrays that p has marked
+-- current. p may have further arrays, of its boxed scalars
 pub record IsPlainAnswer (p q : Program) (input : List ℕ) (a : Answer) : Type 0 where
   pub no_directive : IsOneRegion q.body.items
-  pub lengths : lengths_of q ≡ lengths_of p
+  pub boxes : List ℕ
+  pub lengths : lengths_of p ≡ lengths_of q ++ boxes
   pub plain : Plain
   pub is_erased : erased q input ≡ Some plain
   pub output : a.out.items ≡ output_of plain.printed
-  pub finals : finals_in a ≡ marked_values p plain.memory
+  pub finals :
+      first_arrays (length (lengths_of q)) (finals_in a)
+      ≡ first_arrays (length (lengths_of q)) (marked_values p plain.memory)
 
 -- the answer of the program that the bytes spell, which is that of the program that they spell without directive lines
 pub record IsSourceAnswer (is : Answers) (bytes input : List ℕ) (a : Answer) : Type 0 where

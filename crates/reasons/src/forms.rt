@@ -15,7 +15,7 @@ pub struct Telling {
 
 // A loop.
 const LOOP: &str =
-    "a loop counts upwards, `for (uint64_t i = NUM; i < NUM; i += NUM) { .. }`, also with `int i`, with `i <= NUM` and with `i++`, each NUM a constant expression";
+    "a loop counts upwards, `for (uint64_t i = NUM; i < NUM; i += NUM) { .. }`, also with `int i`, with `i <= NUM` and with `i++`, each NUM a constant expression; `int i;` before it, in a block, lets it begin with `i = NUM`";
 
 const MAIN: &str = "a program is its globals, and then `int main(void) { .. }`";
 
@@ -36,7 +36,8 @@ const ALLOCATION: &str =
 const COMMA: &str =
     "of statements the declarations alone have commas, between their names: `uint64_t a = 1, b = 2;`";
 
-const LOCAL: &str = "a local is declared with its value: `uint64_t a = 0, b = 0;`";
+const LOCAL: &str =
+    "a declaration in a block is of scalars, with values or without: `uint64_t a = 0, b;`";
 
 const LENGTH: &str =
     "an array is `uint64_t A[NUM];` or `uint64_t A[NUM][NUM];`, each NUM a constant expression";
@@ -252,11 +253,15 @@ fn misused(naming: Naming, around: &Around<'_>) -> Option<Telling> {
         }),
         Naming::Scalar if is_on_line && !around.is_in_bound() => Some(Telling {
             said: "is a scalar, where the name of an array has to stand",
-            help: "hold it in an array of one cell, `uint64_t s[1];`: arrays alone are mapped",
+            help: "declare it in `main`, as a `uint64_t`, or hold it in an array of one cell, `uint64_t s[1];`",
         }),
         Naming::Scalar if around.next == b'[' && !is_on_line => Some(Telling {
             said: "is a scalar, and has a subscript here",
             help: "declare it as an array, `uint64_t A[NUM];`",
+        }),
+        Naming::LoopName if !is_on_line => Some(Telling {
+            said: "is the name of loops, and ends with each of them",
+            help: "hold it in another scalar where a loop has it, or take another name for the loop",
         }),
         _ => None,
     }

@@ -4,7 +4,7 @@ use crate::diagnosis::{Diagnosis, Note, Weight};
 use crate::rules::refusal_rule;
 use crate::scene::Scene;
 use crate::search::{Access, Wanted, first_but};
-use crate::source::{has_word, is_update_at, line_of};
+use crate::source::{has_word, line_of, update_at};
 use crate::words::add;
 use base::fault::Refusal;
 use base::item::{Cell, Item};
@@ -58,6 +58,32 @@ impl Scene<'_> {
         first_but(self.alloc, lengths, region, &item.loops, wanted, turn)
     }
 
+    // What both turns only update, they may update in any order.
+    fn help_update(
+        &self,
+        cell: Cell,
+        write: &Access,
+        other: &Access,
+        notes: &mut Vec<Note>,
+    ) -> Result<(), AllocError> {
+        let Some(update) = update_at(self.bytes, write.place) else {
+            return Ok(());
+        };
+        if update_at(self.bytes, other.place).is_none() {
+            return Ok(());
+        }
+        let help = if update.is_scalar {
+            format!(in self.alloc;
+                "with `reduction({}: {})` behind the words of the loop, turns may update it in any order",
+                update.operator,
+                self.name_of(cell.array)
+            )?
+        } else {
+            String::from_str(self.alloc, ATOMIC)?
+        };
+        add(notes, Weight::Help, write.place, help)
+    }
+
     // What other turns read and one alone writes may be written elsewhere.
     fn help_other_array(
         &self,
@@ -96,10 +122,7 @@ impl Scene<'_> {
             return Ok(());
         };
         self.note_turn(&name, &other, notes)?;
-        if is_update_at(self.bytes, write.place) && is_update_at(self.bytes, other.place) {
-            let atomic = String::from_str(self.alloc, ATOMIC)?;
-            add(notes, Weight::Help, write.place, atomic)?;
-        }
+        self.help_update(cell, &write, &other, notes)?;
         self.help_other_array(cell, item, region, &write, notes)
     }
 

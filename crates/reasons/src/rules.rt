@@ -68,7 +68,7 @@ pub fn read_rule(code: ReadCode) -> &'static str {
         ReadCode::ArrayTwice => "an array stands once at most among the map items of a directive",
         ReadCode::DirectiveInTarget => "no directive stands inside a `target`",
         ReadCode::OuterAssigned =>
-            "a `target` assigns no scalar that is declared outside it: it captures the value",
+            "a `target` captures a scalar; one that `main` declares and that a clause names, `map(tofrom: x)`, it assigns",
         ReadCode::HostOnly => "a `target` neither prints nor reads",
         ReadCode::NoBody =>
             "a `target` or a `target data` is followed by a block or a loop, one as `target parallel for` by as many loops, each alone in the one around it, as `collapse` says",

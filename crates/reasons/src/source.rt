@@ -176,6 +176,8 @@ pub enum Naming {
     Nothing,
     Array,
     Scalar,
+    /// The name of loops whose heads declare none.
+    LoopName,
 }
 
 /// Whether a type ends by this word.
@@ -188,9 +190,28 @@ fn ends_declaration(text: &str) -> bool {
     text == ";" || text == "{" || text == "}" || text == ")"
 }
 
+// Whether the name has no type in the head of a loop.
+fn is_loop_name(bytes: &[u8], name: &str) -> bool {
+    let mut behind = 0;
+    'tokens: for token in Tokens::new(bytes) {
+        let text = text_of(bytes, &token);
+        behind = match behind {
+            1 if text == "(" => 2,
+            2 if text == name => 3,
+            3 if text == "=" => return true,
+            _ if text == "for" => 1,
+            _ => 0,
+        };
+    }
+    false
+}
+
 /// What the first declaration of a name declares it as: it stands behind a type, or a comma of a declaration, and an
 /// array has a `[` behind it.
 pub fn naming_of(bytes: &[u8], name: &str) -> Naming {
+    if is_loop_name(bytes, name) {
+        return Naming::LoopName;
+    }
     let mut in_declaration = false;
     let mut names_next = false;
     let mut is_declared = false;
@@ -210,31 +231,49 @@ pub fn naming_of(bytes: &[u8], name: &str) -> Naming {
     Naming::Nothing
 }
 
-fn is_commuting_change(text: &str) -> bool {
-    text == "+=" || text == "*=" || text == "&=" || text == "|=" || text == "^=" || text == "++"
+// The operator of a change that commutes.
+fn commuting_operator(text: &str) -> Option<&'static str> {
+    match text {
+        "+=" | "++" => Some("+"),
+        "*=" => Some("*"),
+        "&=" => Some("&"),
+        "|=" => Some("|"),
+        "^=" => Some("^"),
+        _ => None,
+    }
 }
 
-/// Whether the cell whose name stands at a place is changed there by an operator that commutes.
-pub fn is_update_at(bytes: &[u8], place: Place) -> bool {
+/// A change by an operator that commutes, of a cell or of a scalar.
+#[derive(Clone, Copy)]
+pub struct Update {
+    pub operator: &'static str,
+    pub is_scalar: bool,
+}
+
+/// How the cell or the scalar whose name stands at a place is changed there, if by an operator that commutes.
+pub fn update_at(bytes: &[u8], place: Place) -> Option<Update> {
     let mut depth = 0u32;
-    let mut behind_index = false;
+    let mut is_behind = false;
+    let mut is_scalar = true;
     'tokens: for token in Tokens::new(bytes) {
         if is_before(&token, place) {
             continue;
         }
         let text = text_of(bytes, &token);
         if text == "[" {
+            is_scalar = false;
             depth = depth.saturating_add(1);
         } else if text == "]" {
             depth = depth.saturating_sub(1);
-            behind_index = depth == 0;
-        } else if depth == 0 && behind_index {
-            return is_commuting_change(text);
-        } else if text == ";" {
-            return false;
+        } else if depth == 0 && is_behind {
+            return commuting_operator(text).map(|operator| Update {
+                operator,
+                is_scalar,
+            });
         }
+        is_behind = true;
     }
-    false
+    None
 }
 
 /// Whether a word stands in a line.
