@@ -176,11 +176,31 @@ impl<'a> Numbers<'a> {
         }
     }
 
-    /// Whether the name that stands at a place is declared there by the type `int`.
+    // Whether a declaration by the type `int` has the name, and no name before it a value.
+    fn is_int(&self, name: &[u8]) -> bool {
+        let mut is_declaration = false;
+        for token in &self.tokens {
+            let text = text_of(self.bytes, token);
+            match token.kind {
+                Kind::Name if text == b"int".as_slice() => is_declaration = true,
+                Kind::Name if is_declaration && text == name => return true,
+                Kind::Name | Kind::Sign(Sign::Comma) => {}
+                _ => is_declaration = false,
+            }
+        }
+        false
+    }
+
+    /// Whether the name of the loop in whose head it stands at a place is of the type `int`: by that word before it, or
+    /// by a declaration where the head has none.
     pub fn is_int_at(&self, place: Place) -> bool {
-        match self.tokens.get(self.index_of(place).wrapping_sub(1)) {
-            None => false,
-            Some(token) => text_of(self.bytes, token) == b"int".as_slice(),
+        let number = self.index_of(place);
+        let Some(before) = self.tokens.get(number.wrapping_sub(1)) else {
+            return false;
+        };
+        match (before.kind, self.tokens.get(number)) {
+            (Kind::Sign(_), Some(name)) => self.is_int(text_of(self.bytes, name)),
+            _ => text_of(self.bytes, before) == b"int".as_slice(),
         }
     }
 

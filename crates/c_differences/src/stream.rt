@@ -1,8 +1,8 @@
 // The written tokens of a source, passed in the order of its tree.
 
 use base::tree::{BinaryOp, DivideOp, Place, ShiftOp, UnaryOp};
+use c_terminals::{Written, WrittenTerminal};
 use c_tokens::Sign;
-use c_written::{Written, WrittenTerminal};
 use directives::Word;
 
 // What is looked for.
