@@ -2,8 +2,6 @@
 #![tactic(auto)]
 
 #[cfg(test)]
-mod commands;
-#[cfg(test)]
 mod counters_tests;
 #[cfg(test)]
 mod device_tests;
@@ -33,8 +31,6 @@ mod report_tests;
 mod rooms;
 #[cfg(test)]
 mod rows;
-#[cfg(test)]
-mod shown_text_tests;
 #[cfg(test)]
 mod sources;
 #[cfg(test)]

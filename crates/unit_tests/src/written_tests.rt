@@ -1,4 +1,5 @@
-use c_written::{Written, WrittenTerminal, written};
+use c_terminals::{Written, WrittenTerminal};
+use c_written::written;
 use directives::Lexeme;
 use std::alloc::Global;
 

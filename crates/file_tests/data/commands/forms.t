@@ -5,7 +5,7 @@ $ ompc explain forms/counts_down.c
 forms/counts_down.c:3:30: error: `--` cannot stand here [E102]
     3 | for (uint64_t i = 0; i < 8; i--) { A[i & 3] = i; }
       |                              ^~
-forms/counts_down.c:3:30: help: a loop counts upwards, `for (uint64_t i = NUM; i < NUM; i += NUM) { .. }`, also with `int i`, with `i <= NUM` and with `i++`, each NUM a constant expression
+forms/counts_down.c:3:30: help: a loop counts upwards, `for (uint64_t i = NUM; i < NUM; i += NUM) { .. }`, also with `int i`, with `i <= NUM` and with `i++`, each NUM a constant expression; `int i;` before it, in a block, lets it begin with `i = NUM`
 ! E102 line 3 column 30
 [1]
 $ ompc explain forms/limit_of_all.c
@@ -33,21 +33,21 @@ $ ompc explain forms/scalar_limit.c
 forms/scalar_limit.c:4:26: error: `x` cannot stand here [E102]
     4 | for (uint64_t i = 0; i < x; i += 1) { A[i] = i; }
       |                          ^
-forms/scalar_limit.c:4:26: help: a loop counts upwards, `for (uint64_t i = NUM; i < NUM; i += NUM) { .. }`, also with `int i`, with `i <= NUM` and with `i++`, each NUM a constant expression
+forms/scalar_limit.c:4:26: help: a loop counts upwards, `for (uint64_t i = NUM; i < NUM; i += NUM) { .. }`, also with `int i`, with `i <= NUM` and with `i++`, each NUM a constant expression; `int i;` before it, in a block, lets it begin with `i = NUM`
 ! E102 line 4 column 26
 [1]
 $ ompc explain forms/loop_of_short.c
 forms/loop_of_short.c:3:6: error: `short` cannot stand here [E102]
     3 | for (short i = 0; i < 4; i += 1) { A[i] = i; }
       |      ^~~~~
-forms/loop_of_short.c:3:6: help: a loop counts upwards, `for (uint64_t i = NUM; i < NUM; i += NUM) { .. }`, also with `int i`, with `i <= NUM` and with `i++`, each NUM a constant expression
+forms/loop_of_short.c:3:6: help: a loop counts upwards, `for (uint64_t i = NUM; i < NUM; i += NUM) { .. }`, also with `int i`, with `i <= NUM` and with `i++`, each NUM a constant expression; `int i;` before it, in a block, lets it begin with `i = NUM`
 ! E102 line 3 column 6
 [1]
 $ ompc explain forms/while_loop.c
 forms/while_loop.c:2:1: error: `while` is not declared here [E103]
     2 | while (1) { }
       | ^~~~~
-forms/while_loop.c:2:1: help: a loop counts upwards, `for (uint64_t i = NUM; i < NUM; i += NUM) { .. }`, also with `int i`, with `i <= NUM` and with `i++`, each NUM a constant expression
+forms/while_loop.c:2:1: help: a loop counts upwards, `for (uint64_t i = NUM; i < NUM; i += NUM) { .. }`, also with `int i`, with `i <= NUM` and with `i++`, each NUM a constant expression; `int i;` before it, in a block, lets it begin with `i = NUM`
 ! E103 line 2 column 1
 [1]
 $ ompc explain forms/declaration_as_body.c
@@ -168,18 +168,18 @@ forms/initializer.c:1:12: error: `=` cannot stand here [E102]
 forms/initializer.c:1:12: help: a global begins as 0, or as numbers or constants, `uint64_t n = 8;` or `uint64_t A[4] = {1, 2};`, no more than it has cells; anything else is assigned in `main`
 ! E102 line 1 column 12
 [1]
-$ ompc explain forms/no_initializer.c
-forms/no_initializer.c:2:11: error: `;` cannot stand here [E102]
-    2 | uint64_t x;
-      |           ^
-forms/no_initializer.c:2:11: help: a local is declared with its value: `uint64_t a = 0, b = 0;`
-! E102 line 2 column 11
+$ ompc explain forms/int_list.c
+forms/int_list.c:3:1: error: `int` cannot stand here [E102]
+    3 | int i, n;
+      | ^~~
+forms/int_list.c:3:1: help: the one type is `uint64_t`, also written `size_t`, `unsigned long` or `unsigned long long`, without other words before it; the name of a loop, and a constant, may be an `int`
+! E102 line 3 column 1
 [1]
 $ ompc explain forms/two_names.c
 forms/two_names.c:2:11: error: `,` cannot stand here [E102]
-    2 | uint64_t a, b = 1;
+    2 | uint64_t a, *b;
       |           ^
-forms/two_names.c:2:11: help: a local is declared with its value: `uint64_t a = 0, b = 0;`
+forms/two_names.c:2:11: help: a declaration in a block is of scalars, with values or without: `uint64_t a = 0, b;`
 ! E102 line 2 column 11
 [1]
 $ ompc explain forms/local_array.c
@@ -479,7 +479,7 @@ $ ompc explain forms/mapped_scalar.c
 forms/mapped_scalar.c:3:32: error: `x` is a scalar, where the name of an array has to stand [E103]
     3 | #pragma omp target map(tofrom: x)
       |                                ^
-forms/mapped_scalar.c:3:32: help: hold it in an array of one cell, `uint64_t s[1];`: arrays alone are mapped
+forms/mapped_scalar.c:3:32: help: declare it in `main`, as a `uint64_t`, or hold it in an array of one cell, `uint64_t s[1];`
 ! E103 line 3 column 32
 [1]
 $ ompc explain forms/mapped_constant.c

@@ -1,3 +1,3 @@
 int main(void) {
-uint64_t a, b = 1;
+uint64_t a, *b;
 }

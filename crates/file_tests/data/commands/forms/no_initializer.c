@@ -1,3 +1,0 @@
-int main(void) {
-uint64_t x;
-}

@@ -1,0 +1,6 @@
+#include "ompc.h"
+uint64_t A[8];
+int main(void) {
+int i;
+for (i = 0; i < 8; i++) { A[i] = i * 1073741824; }
+}
