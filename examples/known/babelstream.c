@@ -5,9 +5,10 @@
 #define TIMES 10
 #define SCALAR 3
 
-uint64_t a[SIZE], b[SIZE], c[SIZE], sum[1];
+uint64_t a[SIZE], b[SIZE], c[SIZE];
 
 int main() {
+  uint64_t sum = 0;
   #pragma omp target enter data map(alloc: a, b, c)
   #pragma omp target teams distribute parallel for simd
   for (size_t i = 0; i < SIZE; i++) {
@@ -24,14 +25,12 @@ int main() {
     for (size_t i = 0; i < SIZE; i++) c[i] = a[i] + b[i];
     #pragma omp target teams distribute parallel for simd
     for (size_t i = 0; i < SIZE; i++) a[i] = b[i] + SCALAR * c[i];
-    #pragma omp target map(tofrom: sum)
-    {
-      sum[0] = 0;
-      for (size_t i = 0; i < SIZE; i++) sum[0] += a[i] * b[i];
-    }
+    sum = 0;
+    #pragma omp target teams distribute parallel for map(tofrom: sum) reduction(+: sum)
+    for (size_t i = 0; i < SIZE; i++) sum += a[i] * b[i];
   }
   #pragma omp target exit data map(from: a, b, c)
-  printf("%lu\n", sum[0]);
+  printf("%lu\n", sum);
   printf("%lu\n", a[0]);
   return 0;
 }

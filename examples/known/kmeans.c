@@ -6,9 +6,10 @@
 #define ROUNDS 6
 
 uint64_t points[POINTS][2], centres[CENTRES][2], member[POINTS];
-uint64_t sum[CENTRES][2], count[CENTRES], delta[1];
+uint64_t sum[CENTRES][2], count[CENTRES];
 
 int main() {
+  uint64_t delta = 0;
   for (size_t p = 0; p < POINTS; p++)
     for (size_t d = 0; d < 2; d++)
       points[p][d] = ((2 * p + d) * 7919 + 13) % 1000;
@@ -16,11 +17,11 @@ int main() {
     centres[k][0] = points[k][0];
     centres[k][1] = points[k][1];
   }
-  #pragma omp target data map(to: points) map(tofrom: member) map(alloc: centres, delta)
+  #pragma omp target data map(to: points) map(tofrom: member) map(alloc: centres)
   {
     for (size_t round = 0; round < ROUNDS; round++) {
-      delta[0] = 0;
-      #pragma omp target update to(centres, delta)
+      delta = 0;
+      #pragma omp target update to(centres)
       #pragma omp target teams distribute parallel for reduction(+: delta)
       for (size_t p = 0; p < POINTS; p++) {
         uint64_t best = 0, distance = 1000000000;
@@ -31,10 +32,10 @@ int main() {
             best = k;
           }
         }
-        if (member[p] != best) delta[0]++;
+        if (member[p] != best) delta++;
         member[p] = best;
       }
-      #pragma omp target update from(member, delta)
+      #pragma omp target update from(member)
       for (size_t k = 0; k < CENTRES; k++) {
         count[k] = 0;
         sum[k][0] = 0;
@@ -58,7 +59,7 @@ int main() {
           }
     }
   }
-  printf("%lu\n", delta[0]);
+  printf("%lu\n", delta);
   for (size_t k = 0; k < CENTRES; k++) {
     printf("%lu\n", centres[k][0]);
     printf("%lu\n", centres[k][1]);
