@@ -12,14 +12,14 @@ use Rattle.c_grammar.specs.Blocks.{Items, is_directive, bare}
 use Rattle.c_grammar.specs.Changes.{is_mark, is_boundary}
 use Rattle.c_grammar.specs.Constants.{Names, is_among, is_name, worked}
 use Rattle.c_grammar.specs.AsciiNames.{IsAsciiTerminal}
-use Rattle.c_grammar.specs.Functions.{array_names, Arguments, Declared, Expanded, Function, Functions, Headed, Known, Others, Passed, Parameter, Put, Scalar, Array, Small, Sort, stands_for, stands_small, passes_as, passes_small, Called, Counts, Puts, Returned, Where, Outside, InHead, InBody, added, argument_closed, argument_on, arguments, assigned_call, block_of, both, call, called, closed, closes, constant_in, declaration, declared_call, defined, digits, ends_here, expanded, expanded_at, expanded_by, expanded_of, expanded_with, expansion, first_some, function_of, function_with, given, has_function, has_value, head_at, headed_or, in_body, in_head, in_room, is_main, is_none, is_specifier, is_static, known_names, later, left_len, line_in, local, may_be_added, most_lines, names_in, other_name, nothing_known, opens, out_of_body, outside, parameters_from, passed, passed_to, passes, passes_array, passes_name, passes_one, passes_one_array, passes_value, put_all, put_for, put_terminal, puts_from, raw_in, returned, returned_by, specifies, statement_on, stays, terminal_for, token_in, unknown, unspelled, value_at, with_function, with_name}
+use Rattle.c_grammar.specs.Functions.{array_names, Arguments, Declared, Expanded, Function, Functions, Gives, NoValue, AValue, AStatus, without_value, Headed, Known, Others, Passed, Parameter, Put, Scalar, Array, Small, Sort, stands_for, stands_small, passes_as, passes_small, Called, Counts, Puts, Returned, Where, Outside, InHead, InBody, added, argument_closed, argument_on, arguments, assigned_call, block_of, both, call, called, closed, closes, constant_in, declaration, declared_call, defined, digits, ends_here, expanded, expanded_at, expanded_by, expanded_of, expanded_with, expansion, first_some, function_of, function_with, given, has_function, has_value, head_at, headed_or, in_body, in_head, in_room, is_main, is_none, is_specifier, is_static, known_names, later, left_len, line_in, local, may_be_added, most_lines, names_in, other_name, nothing_known, opens, out_of_body, outside, parameters_from, passed, passed_to, passes, passes_array, passes_name, passes_one, passes_one_array, passes_value, put_all, put_for, put_terminal, puts_from, raw_in, returned, returned_by, specifies, statement_on, stays, terminal_for, token_in, unknown, unspelled, value_at, with_function, with_name}
 use Rattle.c_grammar.specs.Presence.{guarded}
 use Rattle.c_grammar.proofs.AsciiPresence.{guarded_text}
 use Rattle.c_grammar.proofs.AsciiTokens.{AreItemsText, chosen_text, both_text, bare_text}
 
 -- ---- names that no source can spell
 
-abbrev AreLow : List ℕ → Type 0
+abbrev pub AreLow : List ℕ → Type 0
 AreLow [] = Unit {0}
 AreLow (b ∷ bs) = (b < 128) × AreLow bs
 
@@ -30,7 +30,7 @@ both_true : (a b : Bool) → (a && b) ≡ true → (a ≡ true) × (b ≡ true)
 both_true true b e = (refl, e)
 both_true false b e = absurd cc
 
-all_low : (bs : List ℕ) → list_all (λ b. nat_lt b 128) bs ≡ true → AreLow bs
+pub all_low : (bs : List ℕ) → list_all (λ b. nat_lt b 128) bs ≡ true → AreLow bs
 all_low [] e = tt
 all_low (b ∷ bs) e =
     let h = both_true (nat_lt b 128) (list_all (λ b. nat_lt b 128) bs) e in (low_byte b h.0, all_low bs h.1)
@@ -45,7 +45,7 @@ drop_low zero bs h = h
 drop_low (suc n) [] h = tt
 drop_low (suc n) (b ∷ bs) h = drop_low n bs h.1
 
-low_text : (bs : List ℕ) → AreLow bs → IsAscii bs
+pub low_text : (bs : List ℕ) → AreLow bs → IsAscii bs
 low_text [] h i = omega arith
 low_text (b ∷ bs) h zero = h.0
 low_text (b ∷ bs) h (suc i) = low_text bs h.1 i
@@ -452,9 +452,14 @@ returned_text (i ∷ is) front h f =
     either_returned (same (Name (codes "return")) i.terminal) _ _ (value_at_text is front [] h.1 f tt)
     (returned_text is (front ++ i ∷ []) h.1 (both_text front (i ∷ []) f (h.0, tt)))
 
-returned_by_text : (valued : Bool) (body : Items) → AreItemsText body → IsReturnedText (returned_by valued body)
-returned_by_text true body h = returned_text body [] h tt
-returned_by_text false body h = (h, tt)
+without_text : (o : Option Returned) → IsReturnedText o → IsReturnedText (without_value o)
+without_text None h = tt
+without_text (Some r) h = (h.0, tt)
+
+returned_by_text : (gives : Gives) (body : Items) → AreItemsText body → IsReturnedText (returned_by gives body)
+returned_by_text NoValue body h = (h, tt)
+returned_by_text AValue body h = returned_text body [] h tt
+returned_by_text AStatus body h = without_text (returned [] body) (returned_text body [] h tt)
 
 abbrev IsAddedText : Option Known → Type 0
 IsAddedText None = Unit {0}
@@ -507,8 +512,8 @@ out_text : (k : Known) (h : Headed) (raw body : Items) (d : ℕ) (i : Item Termi
     → AreItemsText raw → AreItemsText body → IsAsciiTerminal i.terminal → OnwardText go
     → AreItemsText (out_of_body k h raw body d i go)
 out_text k h raw body zero i go a q b p r =
-    closed_text k raw (added k h (returned_by h.valued body)) go a q
-    (added_text k h (returned_by h.valued body) a (returned_by_text h.valued body b)) r
+    closed_text k raw (added k h (returned_by h.gives body)) go a q
+    (added_text k h (returned_by h.gives body) a (returned_by_text h.gives body b)) r
 out_text k h raw body (suc d) i go a q b p r =
     r k (InBody h raw (body ++ i ∷ []) d 0) a (q, both_text body (i ∷ []) b (p, tt))
 

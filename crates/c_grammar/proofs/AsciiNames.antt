@@ -14,9 +14,9 @@ use Rattle.c_tokens.specs.declared.kind.Mood.TheVariants.{Fresh, Inside, AfterNu
 use Rattle.c_tokens.specs.declared.kind.Piece.{Piece}
 use Rattle.c_tokens.specs.declared.kind.Piece.TheVariants as piece
 use Rattle.c_tokens.specs.declared.kind.Token.{Token}
-use Rattle.c_tokens.specs.Piece.{is_blank, is_not_feed, is_include, after_blank, comment_end, mark_at, starts_with_byte, is_name_start, is_name_part, is_digit, piece_at, number_of, hex_number_of, hex_part, is_hexadecimal, is_hex_digit, decimal_len, decimal_piece, number_in, number_piece, name_piece, line_piece, comment_piece, sign_piece}
+use Rattle.c_tokens.specs.Piece.{is_blank, is_not_feed, is_include, after_blank, comment_end, mark_at, starts_with_byte, is_name_start, is_name_part, is_digit, piece_at, number_of, hex_number_of, hex_part, is_hexadecimal, is_hex_digit, decimal_len, decimal_piece, number_in, number_piece, name_piece, line_piece, comment_piece, sign_at, sign_piece}
 use Rattle.c_tokens.specs.Text.{Place, start, after, after_kind, token_at, unknown_at, given, tokens_from, tokens_of}
-use Rattle.c_grammar.specs.Lexeme.{Word, word_of, Placed, For}
+use Rattle.c_grammar.specs.Lexeme.{Word, word_of, Lexeme, Placed, For, lexeme_of, lexemes_from, lexemes_of, piece_on_line, placed, reserved_or_not}
 use Rattle.c_grammar.specs.Terminal.{Terminal, Fixed, Mark, Name, Num, Line, Unknown, Unworked, End, same}
 use Rattle.c_grammar.specs.Texts.{Item}
 use Rattle.c_grammar.specs.Lines.{is_omp}
@@ -27,6 +27,7 @@ use Rattle.c_grammar.specs.Changes.{With, ByNumber, ByOne}
 use Rattle.c_grammar.specs.Blocks as blocks
 use Rattle.c_grammar.specs.Blocks.{is_directive, bare, at, type_at, type_on, typed, longs, Open, Around, Reading, nothing_read, with_open, begins_body, begins_update, is_atomic_line, line_in_block, is_else, is_name, Ends, ends, left, is_end, braces_at, parted, in_blocks}
 use Rattle.c_grammar.specs.Nesting.{nested}
+use Rattle.c_grammar.specs.Macros.{replaced}
 use Rattle.c_grammar.specs.DeclaredFunctions.{begins_part, ends_part, has_functions, undeclared}
 use Rattle.c_grammar.specs.Prints.{is_text, text_len, alone, print_at, print_on, printed}
 use Rattle.c_grammar.specs.Constants.{with_tokens, line_tokens, put_item, Definition, Defines, Misdefines, definition, at_wanted, wanted, Names, undefined, definition_len, drop_on, leave_on, work_on, Onward, plain, expressed, read_on, worked}
@@ -37,18 +38,25 @@ use Rattle.c_grammar.specs.Boxes.{boxed}
 use Rattle.c_grammar.specs.Source.{text_of, word_or_name, kind_terminal, on_line, item_of, end_of, written_out, items_of}
 use Rattle.c_grammar.specs.AsciiNames.{IsAsciiTerminal, AreAscii, terminals_of}
 use Rattle.c_grammar.specs.Functions.{expanded}
+use Rattle.c_grammar.specs.Pointers.{pointed}
+use Rattle.c_grammar.specs.Choices.{chosen}
 use Rattle.c_grammar.specs.Grids.{flat}
 use Rattle.c_grammar.specs.Counters.{counted}
+use Rattle.c_grammar.specs.Privates.{owned}
 use Rattle.c_grammar.specs.Unset.{zeroed}
 use Rattle.c_grammar.specs.Declarations.{Other, settled}
 use Rattle.c_grammar.specs.Updates.{Outside, commuting}
 use Rattle.c_grammar.proofs.AsciiTokens.{AreItemsText, chosen_text, both_text, bare_text}
 use Rattle.c_grammar.proofs.AsciiNesting.{nested_text}
+use Rattle.c_grammar.proofs.AsciiChoices.{chosen_text as choices_text}
+use Rattle.c_grammar.proofs.AsciiMacros.{AreLexemesText, AreWholeText, IsLexemeText, IsLineText, replaced_text}
 use Rattle.c_grammar.proofs.AsciiGrids.{flat_text}
 use Rattle.c_grammar.proofs.AsciiCounters.{counted_text, zeroed_text}
+use Rattle.c_grammar.proofs.AsciiPrivates.{owned_text}
 use Rattle.c_grammar.proofs.AsciiDeclarations.{settled_text}
 use Rattle.c_grammar.proofs.AsciiUpdates.{commuting_text}
 use Rattle.c_grammar.proofs.AsciiFunctions.{expanded_text}
+use Rattle.c_grammar.proofs.AsciiPointers.{pointed_text}
 use Rattle.c_grammar.proofs.AsciiAllocations.{allocated_text}
 use Rattle.c_grammar.proofs.AsciiBoxes.{announced_text, boxed_text}
 
@@ -212,6 +220,79 @@ unfolding tokens_from
 tokens_text bytes [] k mood p e = (tt, tt)
 tokens_text bytes (b ∷ bs) (suc k) mood p e = tokens_text bytes bs k mood (after p b) (next_rest bytes b bs p e)
 tokens_text bytes (b ∷ bs) zero mood p e = given_text bytes b bs p (piece_at mood b bs) (λ k m. tokens_from bs k m (after p b)) e (piece_named mood b bs) (λ k m. tokens_text bytes bs k m (after p b) (next_rest bytes b bs p e))
+
+-- ---- lines
+
+piece_named_on : (mood : Mood) (b : ℕ) (bs : List ℕ) → IsNamePiece b bs (piece_on_line mood b bs)
+unfolding piece_on_line
+piece_named_on mood b bs =
+    let all : List ℕ = b ∷ bs in
+    let number : Piece = number_piece (take (prefix_len is_name_part all) all) in
+    let third : Piece = sign_piece (sign_at all) in
+    let second : Piece = cond (is_name_start b) (name_piece mood all) third in
+    let first : Piece = cond (is_digit b) number second in
+    chosen_piece b bs (is_blank b) (piece.Layout 1 (after_blank b mood)) first (λ e. tt {0})
+    (λ e. chosen_piece b bs (is_digit b) number second (λ f. number_no_piece b bs (take (prefix_len is_name_part all) all))
+    (λ f. chosen_piece b bs (is_name_start b) (name_piece mood all) third (λ g. named_piece mood b bs g)
+    (λ g. signed_piece b bs (sign_at all))))
+
+-- the tokens of a line have names of ASCII bytes
+abbrev ArePlacedText : List Placed → Type 0
+ArePlacedText ps = AreLexemesText (map (λ p. p.lexeme) ps)
+
+reserved_text : (x : List ℕ) (o : Option Word) → IsAscii x → IsLexemeText (reserved_or_not x o)
+reserved_text x None h = h
+reserved_text x (Some w) h = tt
+
+lexeme_text : (b : ℕ) (bs : List ℕ) (k : Kind) (n : ℕ) → IsNamePiece b bs (piece.Token k n) →
+    IsLexemeText (lexeme_of k (take n (b ∷ bs)))
+lexeme_text b bs kind.Name n h =
+    reserved_text (take n (b ∷ bs)) (word_of (take n (b ∷ bs)))
+    (subst (λ (k : ℕ). IsAscii (take k (b ∷ bs))) (sym h.1) (text_prefix (b ∷ bs)))
+lexeme_text b bs (kind.Number v) n h = tt
+lexeme_text b bs kind.BadNumber n h = tt
+lexeme_text b bs (kind.Sign s) n h = tt
+lexeme_text b bs kind.Line n h = tt
+lexeme_text b bs kind.Unknown n h = tt
+
+on_columns_text : (b : ℕ) (bs : List ℕ) (c : ℕ) (q : Piece) (go : ℕ → Mood → List Placed) → IsNamePiece b bs q →
+    ((k : ℕ) (m : Mood) → ArePlacedText (go k m)) → ArePlacedText (placed q (b ∷ bs) c go)
+on_columns_text b bs c (piece.Layout n m) go h r = r (n - 1) m
+on_columns_text b bs c (piece.Token k n) go h r = (lexeme_text b bs k n h, r (n - 1) (after_kind k))
+on_columns_text b bs c piece.Unknown go h r = (tt, tt)
+
+lexemes_text : (bs : List ℕ) (k : ℕ) (mood : Mood) (c : ℕ) → ArePlacedText (lexemes_from bs k mood c)
+unfolding lexemes_from
+lexemes_text [] k mood c = (tt, tt)
+lexemes_text (b ∷ bs) (suc k) mood c = lexemes_text bs k mood (c + 1)
+lexemes_text (b ∷ bs) zero mood c =
+    on_columns_text b bs c (piece_on_line mood b bs) (λ k m. lexemes_from bs k m (c + 1)) (piece_named_on mood b bs)
+    (λ k m. lexemes_text bs k m (c + 1))
+
+line_of_text : (x : List ℕ) (ps : List Placed) (k : Kind) → ArePlacedText ps → IsLineText (kind_terminal x ps k)
+line_of_text x ps kind.Name h = word_of_text (word_of x)
+  where
+    word_of_text : (o : Option Word) → IsLineText (word_or_name x o)
+    word_of_text None = tt
+    word_of_text (Some w) = tt
+line_of_text x ps (kind.Number n) h = tt
+line_of_text x ps kind.BadNumber h = tt
+line_of_text x ps (kind.Sign s) h = tt
+line_of_text x ps kind.Line h = h
+line_of_text x ps kind.Unknown h = tt
+
+on_line_text : (bytes : List ℕ) (t : Token) (k : Kind) → ArePlacedText (on_line bytes t k)
+on_line_text bytes t kind.Line = lexemes_text (drop 1 (text_of bytes t)) 0 Inside (t.column + 1)
+on_line_text bytes t kind.Name = tt
+on_line_text bytes t (kind.Number n) = tt
+on_line_text bytes t kind.BadNumber = tt
+on_line_text bytes t (kind.Sign s) = tt
+on_line_text bytes t kind.Unknown = tt
+
+whole_text : (bytes : List ℕ) (ts : List Token) → AreItemsText (map (item_of bytes) ts) → AreWholeText (map (item_of bytes) ts)
+whole_text bytes [] h = tt
+whole_text bytes (t ∷ ts) h =
+    ((h.0, line_of_text (text_of bytes t) (on_line bytes t t.kind) t.kind (on_line_text bytes t t.kind)), whole_text bytes ts h.1)
 
 -- ---- constants
 
@@ -428,9 +509,10 @@ outside_text : (i : Item Terminal) (is : Items) (s : changes.State) (go : change
     → IsAsciiTerminal i.terminal → AreItemsText s.since → GoesText go → AreItemsText (changes.outside i is s go)
 outside_text i is s go h n r =
     chosen_text (same (Fixed For) i.terminal) _ _ (h, r _ 0 tt)
+    (chosen_text (changes.has_words i is s) _ _ (tt, r _ (changes.words_len is) (h, n))
     (chosen_text (changes.is_mark sign.CloseParen i && changes.is_main s.since) _ _ (tt, kept_text i s go h n r)
     (chosen_text (same (Name (codes "return")) i.terminal && changes.is_empty s.since && changes.is_last_return is) _ _
-    (r s 2 n) (kind_text_of i (changes.kind_of i.terminal) is s go h n r)))
+    (r s 2 n) (kind_text_of i (changes.kind_of i.terminal) is s go h n r))))
 
 limit_text : (o : Option ℕ) → IsAsciiTerminal (changes.limit_token o)
 limit_text None = tt
@@ -608,15 +690,19 @@ undeclared_text (i ∷ is) inside h =
 
 -- ---- all of it
 
-written_text : (is : Items) → AreItemsText is → AreItemsText (written_out is)
+written_text : (is : Items) → AreWholeText is → AreItemsText (written_out is)
 written_text is h =
-    let calls : Items = printed 0 (nested is) in
+    let own : Items = replaced is in
+    let calls : Items = printed 0 (nested own) in
     let types : Items = typed 0 calls in
     let whole : Items = in_blocks nothing_read (undeclared false types) in
     let loops : Items = counted whole in
-    let known : Items = settled Other (zeroed loops) in
+    let private : Items = owned loops in
+    let known : Items = settled Other (zeroed private) in
     let numbered : Items = worked [] [] 0 known in
-    let plain : Items = undefined [] 0 0 (expanded numbered) in
+    let arrays : Items = pointed numbered in
+    let branched : Items = chosen (expanded arrays) in
+    let plain : Items = undefined [] 0 0 branched in
     let flattened : Items = flat [] [] [] 0 plain in
     let boxes : Items = boxed flattened in
     let cells : Items = commuting Outside boxes in
@@ -624,11 +710,12 @@ written_text is h =
     (full_text (initialized no_globals 0 (allocated cells)) changes.begin 0 tt
     (initialized_text (allocated cells) no_globals 0 (tt, tt)
     (allocated_text cells (commuting_text boxes Outside (boxed_text flattened (flat_text plain [] [] [] 0
-    (undefined_text (expanded numbered) [] 0 0
-    (expanded_text (λ is h. worked_text is [] [] 0 h) numbered
-    (worked_text known [] [] 0 (settled_text (zeroed loops) Other (zeroed_text loops (counted_text whole
+    (undefined_text branched [] 0 0
+    (choices_text (expanded arrays) (expanded_text (λ is h. worked_text is [] [] 0 h) arrays
+    (pointed_text numbered (worked_text known [] [] 0 (settled_text (zeroed private) Other (zeroed_text private
+    (owned_text loops (counted_text whole
     (blocks_text (undeclared false types) nothing_read (undeclared_text types false
-    (typed_text calls 0 (printed_text (nested is) 0 (nested_text is h)))))))))))))))))
+    (typed_text calls 0 (printed_text (nested own) 0 (nested_text own (replaced_text is h)))))))))))))))))))))
 
 all_but : (is : Items) (e : Item Terminal) → AreItemsText (is ++ e ∷ []) → AreItemsText is
 all_but [] e h = tt
@@ -639,4 +726,4 @@ pub names_are_ascii : (bytes : List ℕ) → AreAscii (terminals_of (items_of by
 names_are_ascii bytes =
     let raw : Items = map (item_of bytes) (tokens_of bytes) in
     let text : AreItemsText raw = all_but raw (end_of bytes) (tokens_text bytes bytes 0 Fresh start refl) in
-    ended_text (written_out raw) (end_of bytes) (written_text raw text) tt
+    ended_text (written_out raw) (end_of bytes) (written_text raw (whole_text bytes (tokens_of bytes) text)) tt

@@ -10,8 +10,10 @@ use Rattle.c_grammar.specs.Lines.{is_omp}
 use Rattle.c_grammar.specs.Blocks as blocks
 use Rattle.c_grammar.specs.Blocks.{Items, is_directive, bare, at, type_at, type_on, longs, typed, Around, Reading, nothing_read, with_open, begins_body, begins_update, is_atomic_line, line_in_block, is_else, is_name, Ends, ends, left, is_end, noted, read_in, braces_at, closed, parted, in_block, in_blocks}
 use Rattle.c_grammar.specs.Nesting.{nested}
+use Rattle.c_grammar.specs.Macros.{replaced}
 use Rattle.c_grammar.specs.DeclaredFunctions.{undeclared}
 use Rattle.c_grammar.specs.Counters.{counted}
+use Rattle.c_grammar.specs.Privates.{owned}
 use Rattle.c_grammar.specs.Unset.{zeroed}
 use Rattle.c_grammar.specs.Declarations.{Other, settled}
 use Rattle.c_grammar.specs.Prints.{is_text, text_len, alone, print_at, print_on, printed}
@@ -22,6 +24,8 @@ use Rattle.c_grammar.specs.Changes.{With, ByNumber, ByOne}
 use Rattle.c_grammar.specs.Initial as globals
 use Rattle.c_grammar.specs.Initial.{Globals, Initial, initialized, no_globals}
 use Rattle.c_grammar.specs.Functions.{expanded}
+use Rattle.c_grammar.specs.Pointers.{pointed}
+use Rattle.c_grammar.specs.Choices.{chosen}
 use Rattle.c_grammar.specs.Grids.{flat}
 use Rattle.c_grammar.specs.Updates.{Outside, commuting}
 use Rattle.c_grammar.specs.Allocations.{allocated}
@@ -30,10 +34,14 @@ use Rattle.c_grammar.specs.Source.{written_out}
 use Rattle.c_grammar.proofs.BareAllocations.{allocated_bare}
 use Rattle.c_grammar.proofs.BareBoxes.{announced_bare, boxed_bare}
 use Rattle.c_grammar.proofs.BareNesting.{nested_bare}
+use Rattle.c_grammar.proofs.BareMacros.{replaced_bare}
 use Rattle.c_grammar.proofs.BareDeclaredFunctions.{undeclared_bare}
 use Rattle.c_grammar.proofs.BareFunctions.{expanded_bare}
 use Rattle.c_grammar.proofs.BareCounters.{counted_bare, zeroed_bare}
+use Rattle.c_grammar.proofs.BarePointers.{pointed_bare}
+use Rattle.c_grammar.proofs.BarePrivates.{owned_bare}
 use Rattle.c_grammar.proofs.BareDeclarations.{settled_bare}
+use Rattle.c_grammar.proofs.BareChoices.{chosen_bare}
 use Rattle.c_grammar.proofs.BareGrids.{flat_bare}
 use Rattle.c_grammar.proofs.BareUpdates.{commuting_bare}
 use Rattle.c_grammar.proofs.BareTokens.{IsPlain, ArePlain, IsBare, either, one, some, either_plain, plain_bare, same_bare, both_plain}
@@ -367,10 +375,11 @@ outside_bare : (i : Item Terminal) (is : Items) (s : changes.State) (go go' : Go
     → GoBare go' go → IsBare (changes.outside i is s go') (changes.outside i is s go)
 outside_bare i is s go go' h q r =
     either (same (Fixed For) i.terminal) _ _ _ _ (one i _ _ h (r _ 0 tt))
+    (either (changes.has_words i is s) _ _ _ _ (one (at i (Fixed Void)) _ _ refl (r _ (changes.words_len is) (h, q)))
     (either (changes.is_mark sign.CloseParen i && changes.is_main s.since) _ _ _ _
     (ap (λ (v : Items). at i (Fixed Void) ∷ v) (kept_bare i s go go' h q r))
     (either (same (Name (codes "return")) i.terminal && changes.is_empty s.since && changes.is_last_return is) _ _ _ _
-    (r s 2 q) (kind_bare i (changes.kind_of i.terminal) is s go go' h q r)))
+    (r s 2 q) (kind_bare i (changes.kind_of i.terminal) is s go go' h q r))))
 
 limit_plain : (i : Item Terminal) (o : Option ℕ) → IsPlain (at i (changes.limit_token o))
 limit_plain i None = refl
@@ -571,35 +580,44 @@ later_bare is =
 
 pub written_bare : (is : Items) → written_out (bare is) ≡ bare (written_out is)
 written_bare is =
-    let n : Items = nested is in
+    let m : Items = replaced is in
+    let n : Items = nested m in
     let p : Items = printed 0 n in
     let a : Items = typed 0 p in
     let u : Items = undeclared false a in
     let b : Items = in_blocks nothing_read u in
     let l : Items = counted b in
-    let d : Items = settled Other (zeroed l) in
+    let o : Items = owned l in
+    let d : Items = settled Other (zeroed o) in
     let c : Items = worked [] [] 0 d in
-    let x : Items = expanded c in
+    let q : Items = pointed c in
+    let f : Items = expanded q in
+    let x : Items = chosen f in
     let g : Items = flat [] [] [] 0 (undefined [] 0 0 x) in
     let later : Items → Items = λ js. announced (changes.in_full changes.begin 0 (initialized no_globals 0 (allocated js))) in
     let since_updates : Items → Items = λ js. later (commuting Outside js) in
     let since_boxes : Items → Items = λ js. since_updates (boxed js) in
     let since_grids : Items → Items = λ js. since_boxes (flat [] [] [] 0 js) in
     let since_defined : Items → Items = λ js. since_grids (undefined [] 0 0 js) in
-    let since_declared : Items → Items = λ js. since_defined (expanded (worked [] [] 0 js)) in
+    let since_declared : Items → Items = λ js. since_defined (chosen (expanded (pointed (worked [] [] 0 js)))) in
     let since_zeroed : Items → Items = λ js. since_declared (settled Other js) in
-    let since_blocks : Items → Items = λ js. since_zeroed (zeroed (counted js)) in
+    let since_counted : Items → Items = λ js. since_zeroed (zeroed (owned js)) in
+    let since_blocks : Items → Items = λ js. since_counted (counted js) in
     let since_typed : Items → Items = λ js. since_blocks (in_blocks nothing_read (undeclared false js)) in
-    ap (λ (js : Items). since_typed (typed 0 (printed 0 js))) (nested_bare is)
+    ap (λ (js : Items). since_typed (typed 0 (printed 0 (nested js)))) (replaced_bare is)
+    ∙ ap (λ (js : Items). since_typed (typed 0 (printed 0 js))) (nested_bare m)
     ∙ ap (λ (js : Items). since_typed (typed 0 js)) (printed_bare n 0)
     ∙ ap since_typed (typed_bare p 0)
     ∙ ap (λ (js : Items). since_blocks (in_blocks nothing_read js)) (undeclared_bare a false)
     ∙ ap since_blocks (blocks_bare u nothing_read)
-    ∙ ap (λ (js : Items). since_zeroed (zeroed js)) (counted_bare b)
-    ∙ ap since_zeroed (zeroed_bare l)
-    ∙ ap since_declared (settled_bare (zeroed l) Other)
-    ∙ ap (λ (js : Items). since_defined (expanded js)) (worked_bare d [] [] 0)
-    ∙ ap since_defined (expanded_bare (λ js. worked_bare js [] [] 0) c)
+    ∙ ap since_counted (counted_bare b)
+    ∙ ap (λ (js : Items). since_zeroed (zeroed js)) (owned_bare l)
+    ∙ ap since_zeroed (zeroed_bare o)
+    ∙ ap since_declared (settled_bare (zeroed o) Other)
+    ∙ ap (λ (js : Items). since_defined (chosen (expanded (pointed js)))) (worked_bare d [] [] 0)
+    ∙ ap (λ (js : Items). since_defined (chosen (expanded js))) (pointed_bare c)
+    ∙ ap (λ (js : Items). since_defined (chosen js)) (expanded_bare (λ js. worked_bare js [] [] 0) q)
+    ∙ ap since_defined (chosen_bare f)
     ∙ ap since_grids (undefined_bare x [] 0 0)
     ∙ ap since_boxes (flat_bare (undefined [] 0 0 x) [] [] [] 0)
     ∙ ap since_updates (boxed_bare g)

@@ -13,7 +13,7 @@ use Rattle.c_grammar.specs.Texts.{Item}
 use Rattle.c_grammar.specs.Blocks.{Items, is_directive, bare, at}
 use Rattle.c_grammar.specs.Changes.{is_mark, is_boundary}
 use Rattle.c_grammar.specs.Constants.{Names, is_among, is_name, with_terminal, worked}
-use Rattle.c_grammar.specs.Functions.{Arguments, Expanded, Function, Functions, Headed, Known, Others, Passed, Parameter, Put, Scalar, Array, Small, Sort, stands_for, stands_small, passes_as, passes_small, Called, Counts, Puts, Returned, Where, Outside, InHead, InBody, added, argument_closed, argument_on, arguments, array_names, assigned_call, block_of, both, call, called, closed, closes, constant_in, declaration, declared_call, declared_in, defined, ends_here, expanded, expanded_at, expanded_by, expanded_of, expanded_with, expansion, first_some, function_of, function_with, given, has_function, has_value, head_at, headed_or, in_body, in_head, in_room, is_main, is_none, is_specifier, is_static, known_names, later, left_len, line_in, local, may_be_added, most_known, most_lines, most_names, names_in, other_name, nothing_known, opens, out_of_body, outside, parameters_from, passed, passed_to, passes, passes_array, passes_name, passes_one, passes_one_array, passes_value, plain, put_all, put_for, put_line, put_terminal, puts_from, raw_in, returned, returned_by, specifies, statement_on, stays, terminal_for, token_in, value_at, value_ended, with_function, with_name}
+use Rattle.c_grammar.specs.Functions.{Arguments, Expanded, Function, Functions, Gives, NoValue, AValue, AStatus, without_value, Headed, Known, Others, Passed, Parameter, Put, Scalar, Array, Small, Sort, stands_for, stands_small, passes_as, passes_small, Called, Counts, Puts, Returned, Where, Outside, InHead, InBody, added, argument_closed, argument_on, arguments, array_names, assigned_call, block_of, both, call, called, closed, closes, constant_in, declaration, declared_call, declared_in, defined, ends_here, expanded, expanded_at, expanded_by, expanded_of, expanded_with, expansion, first_some, function_of, function_with, given, has_function, has_value, head_at, headed_or, in_body, in_head, in_room, is_main, is_none, is_specifier, is_static, known_names, later, left_len, line_in, local, may_be_added, most_known, most_lines, most_names, names_in, other_name, nothing_known, opens, out_of_body, outside, parameters_from, passed, passed_to, passes, passes_array, passes_name, passes_one, passes_one_array, passes_value, plain, put_all, put_for, put_line, put_terminal, puts_from, raw_in, returned, returned_by, specifies, statement_on, stays, terminal_for, token_in, value_at, value_ended, with_function, with_name}
 use Rattle.c_grammar.specs.Presence.{guarded}
 use Rattle.c_grammar.proofs.BarePresence.{guarded_bare}
 use Rattle.c_grammar.proofs.BareTokens.{IsPlain, ArePlain, IsBare, either, one, some, plain_bare, same_bare, both_plain, bare_both, plain_kept}
@@ -533,9 +533,14 @@ returned_bare (i ∷ is) front = step (returned_bare is) (is_directive i.termina
         rw e (either_returned (same (Name (codes "return")) i.terminal) _ _ _ _ (value_bare is front [])
         (ap (λ (v : Items). returned v (bare is)) (sym (more front i e)) ∙ ih (front ++ i ∷ [])))
 
-returned_by_bare : (valued : Bool) (body : Items) → BaresReturned (returned_by valued (bare body)) (returned_by valued body)
-returned_by_bare true body = returned_bare body []
-returned_by_bare false body = refl
+without_bare : (o o' : Option Returned) → BaresReturned o' o → BaresReturned (without_value o') (without_value o)
+without_bare None o' h = ap without_value h
+without_bare (Some r) o' h = ap without_value h
+
+returned_by_bare : (gives : Gives) (body : Items) → BaresReturned (returned_by gives (bare body)) (returned_by gives body)
+returned_by_bare NoValue body = refl
+returned_by_bare AValue body = returned_bare body []
+returned_by_bare AStatus body = without_bare (returned [] body) (returned [] (bare body)) (returned_bare body [])
 
 -- ---- the source
 
@@ -587,9 +592,9 @@ out_bare : (k : Known) (h : Headed) (raw body : Items) (d : ℕ) (i : Item Termi
     → IsBare (out_of_body (bare_known k) h (bare raw) (bare body) d i go') (out_of_body k h raw body d i go)
 out_bare k h raw body zero i go go' p r =
     ap (λ (o : Option Known). closed (bare_known k) (bare raw) o go')
-    (ap (λ (o : Option Returned). added (bare_known k) h o) (returned_by_bare h.valued body)
-    ∙ added_bare k h (returned_by h.valued body))
-    ∙ closed_bare k raw (added k h (returned_by h.valued body)) go go' r
+    (ap (λ (o : Option Returned). added (bare_known k) h o) (returned_by_bare h.gives body)
+    ∙ added_bare k h (returned_by h.gives body))
+    ∙ closed_bare k raw (added k h (returned_by h.gives body)) go go' r
 out_bare k h raw body (suc d) i go go' p r =
     ap (λ (v : Items). go' (bare_known k) (InBody h (bare raw) v d 0)) (sym (more body i p))
     ∙ r k (InBody h raw (body ++ i ∷ []) d 0)

@@ -18,7 +18,7 @@ omp_stays i (t ∷ []) ps e = absurd cc
 omp_stays i (t ∷ u ∷ ts) ps e = e
 
 -- a directive line stays one
-line_kept : (i : Item Terminal) (ts : List Lexeme) (ps : List Placed) (b c : Bool) → is_omp ts ≡ b → is_directive i.terminal ≡ b →
+pub line_kept : (i : Item Terminal) (ts : List Lexeme) (ps : List Placed) (b c : Bool) → is_omp ts ≡ b → is_directive i.terminal ≡ b →
     is_directive (cond (b && c) (with_tokens i ts ps) i).terminal ≡ b
 line_kept i ts ps true true e f = omp_stays i ts ps e
 line_kept i ts ps true false e f = f

@@ -149,16 +149,24 @@ abbrev pub is_named : List ℕ → Items → Bool
 is_named x [] = false
 is_named x (i ∷ is) = same (Name x) i.terminal || is_named x is
 
-abbrev pub frees : Names → Terminal → Items → Bool
-frees names (Name x) is = is_among names x && not (is_named x is)
-frees names t is = false
+abbrev pub freed_name : Terminal → Items → Option (List ℕ)
+freed_name (Name x) is = if is_named x is then None else Some x
+freed_name t is = None
 
--- free(NAME); of an array that was allocated, and whose name stands nowhere behind
+-- free(NAME); of a name that stands nowhere behind
+abbrev pub freed : Item Terminal → Items → Option (List ℕ)
+freed f (o ∷ x ∷ b ∷ s ∷ is) =
+    if same (Name (codes "free")) f.terminal && is_mark sign.OpenParen o && ends_call (b ∷ s ∷ is)
+    then freed_name x.terminal is else None
+freed f is = None
+
+abbrev pub is_one : Names → Option (List ℕ) → Bool
+is_one names None = false
+is_one names (Some x) = is_among names x
+
+-- of an array that was allocated
 abbrev pub is_freed : Names → Item Terminal → Items → Bool
-is_freed names f (o ∷ x ∷ b ∷ s ∷ is) =
-    same (Name (codes "free")) f.terminal && is_mark sign.OpenParen o && ends_call (b ∷ s ∷ is) &&
-    frees names x.terminal is
-is_freed names f is = false
+is_freed names f is = is_one names (freed f is)
 
 -- ---- all tokens
 

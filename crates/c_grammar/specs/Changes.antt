@@ -1,9 +1,9 @@
 -- Changes in full: x op= e, x++ and ++x are assignments, and the head of a loop has its limit by < and its step by +=. main
--- has the word void between its brackets, and does not say that it returns 0.
+-- has the word void between its brackets, for int NAME, char **NAME too, and does not say that it returns 0.
 use Rattle.std.specs.Prelude.{ℕ, zero, suc, ◌+◌, ◌-◌, ◌^◌, Bool, true, false, not, ◌&&◌, ◌||◌, nat_lt, nat_le, if◌then◌else◌, [], ◌∷◌, ◌++◌, Option, Some, None, codes}
 use Rattle.c_tokens.specs.declared.kind.Sign.{Sign}
 use Rattle.c_tokens.specs.declared.kind.Sign.TheVariants as sign
-use Rattle.c_grammar.specs.Lexeme.{Main, Void, For}
+use Rattle.c_grammar.specs.Lexeme.{Int, Main, Void, For}
 use Rattle.c_grammar.specs.Terminal.{Terminal, Fixed, Mark, Name, Num, Unworked, same}
 use Rattle.c_grammar.specs.Texts.{Item}
 use Rattle.c_grammar.specs.Blocks.{Items, at, is_directive, bare}
@@ -166,6 +166,28 @@ abbrev pub is_main : Items → Bool
 is_main (b ∷ m ∷ is) = is_mark sign.OpenParen b && same (Fixed Main) m.terminal
 is_main _ = false
 
+-- * NAME and the bracket
+abbrev pub is_pointed : Items → Bool
+is_pointed (p ∷ x ∷ b ∷ is) = is_mark sign.Star p && is_name x.terminal && is_mark sign.CloseParen b
+is_pointed _ = false
+
+-- NAME [ ] and the bracket
+abbrev pub is_bracketed : Items → Bool
+is_bracketed (x ∷ o ∷ c ∷ b ∷ is) =
+    is_name x.terminal && is_mark sign.OpenBracket o && is_mark sign.CloseBracket c && is_mark sign.CloseParen b
+is_bracketed _ = false
+
+abbrev pub vector_len : Items → ℕ
+vector_len is = if is_pointed is then 6 else (if is_bracketed is then 7 else 0)
+
+-- behind the first type: how many tokens the words of the command have up to the bracket, as NAME, char **NAME or
+-- NAME, char *NAME[]
+abbrev pub words_len : Items → ℕ
+words_len (x ∷ c ∷ t ∷ p ∷ is) =
+    if is_name x.terminal && is_mark sign.Comma c && same (Name (codes "char")) t.terminal && is_mark sign.Star p
+    then vector_len is else 0
+words_len _ = 0
+
 -- 0; and the last brace of the source
 abbrev pub is_last_return : Items → Bool
 is_last_return (n ∷ s ∷ b ∷ []) = is_zero n.terminal && is_mark sign.Semicolon s && is_mark sign.CloseBrace b
@@ -175,12 +197,20 @@ is_last_return (n ∷ s ∷ b ∷ []) = is_zero n.terminal && is_mark sign.Semic
     is_zero _ = false
 is_last_return _ = false
 
+-- the type of the number of those words
+abbrev pub has_words : Item Terminal → Items → State → Bool
+has_words i is s = same (Fixed Int) i.terminal && is_main s.since && nat_lt 0 (words_len is)
+
+abbrev pub without_words : Item Terminal → Items → State → Onward → Items
+without_words i is s go = at i (Fixed Void) ∷ go (in_state Outside (i ∷ s.since)) (words_len is)
+
 abbrev pub outside : Item Terminal → Items → State → Onward → Items
 outside i is s go =
     if same (Fixed For) i.terminal then i ∷ go (in_state (InHead 0) []) 0
+    else (if has_words i is s then without_words i is s go
     else (if is_mark sign.CloseParen i && is_main s.since then at i (Fixed Void) ∷ kept i s go
     else (if same (Name (codes "return")) i.terminal && is_empty s.since && is_last_return is then go s 2
-    else by_kind i (kind_of i.terminal) is s go))
+    else by_kind i (kind_of i.terminal) is s go)))
 
 -- ---- heads of loops
 

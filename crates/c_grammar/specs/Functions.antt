@@ -138,11 +138,15 @@ abbrev pub parameters_in : Option ℕ → Items → Parameters
 parameters_in (Some k) is = Some ([], k)
 parameters_in None is = parameters Begins [] 0 is
 
--- the head of a function that is defined: its name, whether it has a value, its parameters, and how many more tokens the
--- head has, up to the brace
+-- what a function gives: nothing, a number of 64 bits, or a number of the type int, which no call uses
+pub data Gives : Type 0 where
+  NoValue AValue AStatus : Gives
+
+-- the head of a function that is defined: its name, what it gives, its parameters, and how many more tokens the head has, up to
+-- the brace
 pub record Headed : Type 0 where
   pub name : List ℕ
-  pub valued : Bool
+  pub gives : Gives
   pub declared : List Declared
   pub len : ℕ
 
@@ -153,27 +157,28 @@ opens_body k is = begins (drop k is)
     begins (i ∷ is) = is_mark sign.OpenBrace i
     begins [] = false
 
-abbrev pub headed_on : List ℕ → Bool → Items → Parameters → Option Headed
-headed_on x valued is None = None
-headed_on x valued is (Some p) =
-    if opens_body p.1 is then Some (record { name = x; valued = valued; declared = p.0; len = 3 + p.1 }) else None
+abbrev pub headed_on : List ℕ → Gives → Items → Parameters → Option Headed
+headed_on x gives is None = None
+headed_on x gives is (Some p) =
+    if opens_body p.1 is then Some (record { name = x; gives = gives; declared = p.0; len = 3 + p.1 }) else None
 
-abbrev pub headed_by : Terminal → Bool → Item Terminal → Items → Option Headed
-headed_by (Name x) valued o is =
-    if is_mark sign.OpenParen o then headed_on x valued is (parameters_in (no_parameters is) is) else None
-headed_by t valued o is = None
+abbrev pub headed_by : Terminal → Gives → Item Terminal → Items → Option Headed
+headed_by (Name x) gives o is =
+    if is_mark sign.OpenParen o then headed_on x gives is (parameters_in (no_parameters is) is) else None
+headed_by t gives o is = None
 
 -- behind the type of what it gives
-abbrev pub headed : Bool → Items → Option Headed
-headed valued (x ∷ o ∷ is) = headed_by x.terminal valued o is
-headed valued is = None
+abbrev pub headed : Gives → Items → Option Headed
+headed gives (x ∷ o ∷ is) = headed_by x.terminal gives o is
+headed gives is = None
 
 abbrev pub is_type : Terminal → Bool
-is_type t = same (Fixed Void) t || same (Fixed Uint64) t
+is_type t = same (Fixed Void) t || same (Fixed Uint64) t || same (Fixed Int) t
 
 abbrev pub head_at : Terminal → Items → Option Headed
 head_at t is =
-    if same (Fixed Void) t then headed false is else (if same (Fixed Uint64) t then headed true is else None)
+    if same (Fixed Void) t then headed NoValue is
+    else (if same (Fixed Uint64) t then headed AValue is else (if same (Fixed Int) t then headed AStatus is else None))
 
 -- ---- functions
 
@@ -617,9 +622,15 @@ returned front [] = None
 returned front (i ∷ is) =
     if same (Name (codes "return")) i.terminal then value_at front [] is else returned (front ++ i ∷ []) is
 
-abbrev pub returned_by : Bool → Items → Option Returned
-returned_by true body = returned [] body
-returned_by false body = Some (record { front = body; value = [] })
+-- what is returned is an expression, which does nothing else
+abbrev pub without_value : Option Returned → Option Returned
+without_value None = None
+without_value (Some r) = Some (record { front = r.front; value = [] })
+
+abbrev pub returned_by : Gives → Items → Option Returned
+returned_by NoValue body = Some (record { front = body; value = [] })
+returned_by AValue body = returned [] body
+returned_by AStatus body = without_value (returned [] body)
 
 abbrev pub parameters_from : ℕ → Items → List Declared → List Parameter
 parameters_from k body [] = []
@@ -715,7 +726,7 @@ closed k raw None go = raw ++ go k (Outside true)
 closed k raw (Some l) go = go l (Outside true)
 
 abbrev pub out_of_body : Known → Headed → Items → Items → ℕ → Item Terminal → Onward → Items
-out_of_body k h raw body zero i go = closed k raw (added k h (returned_by h.valued body)) go
+out_of_body k h raw body zero i go = closed k raw (added k h (returned_by h.gives body)) go
 out_of_body k h raw body (suc d) i go = go k (InBody h raw (body ++ i ∷ []) d 0)
 
 abbrev pub in_body : Known → Headed → Items → Items → ℕ → Item Terminal → Onward → Items

@@ -63,7 +63,7 @@ takes ns t =
     else (if is_word (codes "default") t || is_word (codes "shared") t then has (codes "teams") ns || has (codes "parallel") ns
     else (if is_word (codes "reduction") t
     then has (codes "teams") ns || has (codes "parallel") ns || has (codes "simd") ns || has (codes "loop") ns
-    else is_word (codes "firstprivate") t))))))
+    else is_word (codes "firstprivate") t || is_word (codes "private") t))))))
 
 -- a clause that a target by itself does not take
 abbrev pub is_of_construct : Lexeme → Bool
