@@ -3,8 +3,9 @@ use Rattle.std.proofs.Common.{◌≡◌, ℕ, ◌<◌, ◌≤◌, true, false, L
 use Rattle.std.specs.Prelude.{nat_lt}
 use Rattle.std.proofs.lemmas.Bool.Decides.{nat_tests}
 use Rattle.base.specs.declared.fault.ReadCode.TheVariants.{UnknownByte, BadNumber, TooMany}
+use Rattle.c_tokens.specs.declared.kind.Sign.{Sign}
 use Rattle.c_grammar.specs.Lexeme.{Lexeme, Reserved, Signed, Worded, Numbered, Strange, Ended, Placed, same}
-use Rattle.c_grammar.specs.LineRules.{max_name, line_wrong}
+use Rattle.c_grammar.specs.LineRules.{is_question, max_name, line_wrong}
 use Rattle.c_grammar.specs.LineMachine.{line_first_wrong}
 use Rattle.c_expressions.specs.Lines.{pragma, omp, misfit_on, words_misfit}
 
@@ -26,10 +27,18 @@ pub own_short : (t : Lexeme) (x : List ℕ) → t ≡ Worded x → length x ≤ 
 unfolding line_first_wrong line_wrong
 own_short t x e h = (let short : nat_lt max_name (length x) ≡ false = grind (arith, nat_tests) in rw (e, short) refl)
 
--- a token that breaks no rule wherever it stands
+pub own_question : (t : Lexeme) (s : Sign) → t ≡ Signed s → is_question s ≡ true → line_first_wrong t ≡ Some UnknownByte
+unfolding line_first_wrong line_wrong
+own_question t s e h = rw (e, h) refl
+
+pub own_sign : (t : Lexeme) (s : Sign) → t ≡ Signed s → is_question s ≡ false → line_first_wrong t ≡ None
+unfolding line_first_wrong line_wrong
+own_sign t s e h = rw (e, h) refl
+
+-- a token that breaks no rule wherever it stands, and is no sign
 abbrev pub IsQuiet : Lexeme → Type 0
 IsQuiet (Reserved w) = Unit {0}
-IsQuiet (Signed s) = Unit {0}
+IsQuiet (Signed s) = ⊥
 IsQuiet (Numbered (Some n)) = Unit {0}
 IsQuiet Ended = Unit {0}
 IsQuiet _ = ⊥
@@ -37,7 +46,7 @@ IsQuiet _ = ⊥
 pub own_other : (t : Lexeme) → IsQuiet t → line_first_wrong t ≡ None
 unfolding line_first_wrong line_wrong
 own_other (Reserved w) h = refl
-own_other (Signed s) h = refl
+own_other (Signed s) h = absurd h
 own_other (Numbered (Some n)) h = refl
 own_other (Numbered None) h = absurd h
 own_other Ended h = refl

@@ -2,12 +2,14 @@
 
 ghost use Rattle.std.specs.Prelude.{◌≡◌};
 ghost use Rattle.std.specs.Option.{option_map};
+ghost use Rattle.c_grammar.specs.LineRules.{is_question};
 ghost use Rattle.c_grammar.specs.LineMachine.{line_first_wrong};
 ghost use Rattle.directives.specs.Ahead.{seen_line};
 ghost use Rattle.directives.specs.Seen.{seen_lexeme, seen_placed};
 ghost use Rattle.c_expressions.specs.Lines.{misfit_on, seen_misfit, words_misfit};
 
 use base::fault::ReadCode;
+use c_tokens::Sign;
 use c_tokens::limits::MAX_NAME;
 use directives::{Lexeme, Lexemes, LineTokens, PlacedLexeme, lower, same_lexeme};
 
@@ -18,14 +20,30 @@ pub struct Misfit {
     pub column: usize,
 }
 
+fn is_question(sign: Sign) -> bool
+    ensures { result ≡ is_question sign }
+{
+    match sign {
+        Sign::Question => true,
+        _ => false,
+    }
+}
+
 /// The code that a token has wherever it stands.
-#[tactic(auto, using(crate::proofs::Words::own_strange, crate::proofs::Words::own_bad, crate::proofs::Words::own_long, crate::proofs::Words::own_short, crate::proofs::Words::own_other))]
+#[tactic(auto, using(crate::proofs::Words::own_strange, crate::proofs::Words::own_bad, crate::proofs::Words::own_long, crate::proofs::Words::own_short, crate::proofs::Words::own_question, crate::proofs::Words::own_sign, crate::proofs::Words::own_other))]
 fn own_code(lexeme: Lexeme<'_>) -> Option<ReadCode>
     ensures { result ≡ line_first_wrong (seen_lexeme lexeme.entry) }
 {
     match lexeme {
         Lexeme::Strange => Some(ReadCode::UnknownByte),
         Lexeme::BadNumber => Some(ReadCode::BadNumber),
+        Lexeme::Sign(sign) => {
+            if is_question(sign) {
+                Some(ReadCode::UnknownByte)
+            } else {
+                None
+            }
+        }
         Lexeme::Name(name) => {
             if name.len() > MAX_NAME {
                 Some(ReadCode::TooMany)

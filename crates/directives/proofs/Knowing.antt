@@ -86,6 +86,12 @@ long_only : (l : Bool) → (if l || false then Some TooMany else None) ≡ first
 long_only true = refl
 long_only false = refl
 
+-- a sign may be a question mark
+strange_only : (l : Bool) →
+    (if l || false then Some UnknownByte else None) ≡ first_some (if l then Some UnknownByte else None) None
+strange_only true = refl
+strange_only false = refl
+
 pub broken_is : (c : LineContext) (t : Lexeme) (a : Act) (m : Option Code) (n : Lexeme) →
     line_first_broken c (t, (m, seen_act a)) n ≡ broken_by c t (seen_act a)
 unfolding line_first_broken line_breaks line_wrong broken_by
@@ -104,14 +110,14 @@ broken_is c (Numbered None) (act.Amounts a) m n = refl
 broken_is c (Numbered (Some k)) (act.Amounts a) m n = refl
 broken_is c (Worded x) (act.Amounts a) m n = long_only (is_long (Worded x))
 broken_is c (Reserved x) (act.Amounts a) m n = refl
-broken_is c (Signed x) (act.Amounts a) m n = refl
+broken_is c (Signed x) (act.Amounts a) m n = strange_only (is_strange (Signed x))
 broken_is c Strange (act.Amounts a) m n = refl
 broken_is c Ended (act.Amounts a) m n = refl
 broken_is c (Numbered None) act.Chunks m n = refl
 broken_is c (Numbered (Some k)) act.Chunks m n = refl
 broken_is c (Worded x) act.Chunks m n = long_only (is_long (Worded x))
 broken_is c (Reserved x) act.Chunks m n = refl
-broken_is c (Signed x) act.Chunks m n = refl
+broken_is c (Signed x) act.Chunks m n = strange_only (is_strange (Signed x))
 broken_is c Strange act.Chunks m n = refl
 broken_is c Ended act.Chunks m n = refl
 broken_is c t act.Opens m n = lowest (is_strange t) (is_bad_number t) (is_long t) false false false false

@@ -11,6 +11,7 @@ ghost use Rattle.directives.specs.Known.{own_code};
 use crate::lexeme::Lexeme;
 use crate::tree::{Amount, Modifier};
 use base::fault::ReadCode;
+use c_tokens::Sign;
 use c_tokens::limits::{MAX_DEPENDS, MAX_NAME, MAX_TERMS};
 use std::alloc::{AllocError, Global};
 
@@ -96,7 +97,7 @@ pub fn own_code(lexeme: Lexeme<'_>) -> Option<ReadCode>
     ensures { result ≡ own_code (seen_lexeme lexeme.entry) }
 {
     match lexeme {
-        Lexeme::Strange => Some(ReadCode::UnknownByte),
+        Lexeme::Strange | Lexeme::Sign(Sign::Question) => Some(ReadCode::UnknownByte),
         Lexeme::BadNumber => Some(ReadCode::BadNumber),
         Lexeme::Name(name) => {
             if name.len() > MAX_NAME {
