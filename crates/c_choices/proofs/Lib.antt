@@ -1,0 +1,3 @@
+mod Parting
+mod Lifting
+pub mod Holding

@@ -1,0 +1,11 @@
+use Rattle.std.proofs.Common.{◌≡◌, ◌≤◌, ◌+◌, length}
+use Rattle.c_grammar.specs.Choices.{is_set}
+use Rattle.c_terminals.specs.Seen.{seen_all}
+use Rattle.c_choices.proofs.statements.is_set.Given as goal
+
+abbrev pub invariant-tokens : goal.invariant-tokens
+invariant-tokens l =
+    (is_set l.brackets (seen_all l.rest) ≡ is_set 0 (seen_all l.fn.tokens)) × (l.brackets + length l.rest ≤ length l.fn.tokens)
+
+abbrev pub decreases-tokens : goal.decreases-tokens
+decreases-tokens l = length l.rest

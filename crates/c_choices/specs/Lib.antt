@@ -1,0 +1,3 @@
+pub mod Parts
+pub mod State
+pub mod Held

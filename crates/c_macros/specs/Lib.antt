@@ -1,0 +1,3 @@
+pub mod Macros
+pub mod Definitions
+pub mod Text
