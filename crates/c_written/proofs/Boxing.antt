@@ -19,7 +19,7 @@ use Rattle.c_terminals.specs.declared.token.Terminal.{Terminal as Given}
 use Rattle.c_terminals.specs.declared.token.Terminal.TheVariants as given
 use Rattle.c_terminals.specs.declared.token.Token.{Token}
 use Rattle.c_terminals.specs.Seen.{seen, seen_terminal}
-use Rattle.c_written.proofs.Defining.{placed_again}
+use Rattle.c_terminals.proofs.Placing.{placed_again}
 use Rattle.c_written.proofs.Guarding.{first_true, inner, item_at, line_item, second_true, whole_before, whole_behind, whole_more}
 
 -- ---- the line before main

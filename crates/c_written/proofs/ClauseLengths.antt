@@ -48,7 +48,7 @@ take_none : (n : ℕ) → take {A = PlacedLexeme} n [] ≡ []
 take_none zero = refl
 take_none (suc n) = refl
 
-behind : (k : ℕ) (rs : List PlacedLexeme) → drop k (all_placed rs) ≡ all_placed (take (length rs - k) (drop k rs))
+pub behind : (k : ℕ) (rs : List PlacedLexeme) → drop k (all_placed rs) ≡ all_placed (take (length rs - k) (drop k rs))
 behind zero [] = ap all_placed (sym (take_none (length {A = PlacedLexeme} [] - 0)))
 behind (suc k) [] = ap all_placed (sym (take_none (length {A = PlacedLexeme} [] - suc k)))
 behind zero (r ∷ rs) =

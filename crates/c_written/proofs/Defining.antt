@@ -16,6 +16,7 @@ use Rattle.c_terminals.specs.Seen.{item_at, seen, seen_terminal}
 use Rattle.c_written.specs.Forms.{all_placed}
 use Rattle.c_written.specs.Lines.{named, named_by}
 use Rattle.c_written.proofs.Remarks.{remark_anywhere}
+use Rattle.c_terminals.proofs.Placing.{placed_again}
 
 drop_items : (line k : ℕ) (ps : List Placed) → drop k (as_items line ps) ≡ as_items line (drop k ps)
 drop_items line zero ps = refl
@@ -90,10 +91,6 @@ defines_short vs line (p ∷ []) h = refl
 defines_short vs line (p ∷ q ∷ ps) h = absurd (omega arith)
 
 -- ---- the tokens of a line with their columns
-
-pub placed_again : (ps : List Placed) → placed_of (kinds_of ps) (columns_of ps) ≡ ps
-placed_again [] = refl
-placed_again (p ∷ ps) = ap (λ (qs : List Placed). p ∷ qs) (placed_again ps)
 
 pub line_defines : (vs : Values) (t : Token) (l : Bor LineTokens) → t.terminal ≡ given.Line l →
     definition vs (seen t) (seen_terminal t.terminal) ≡ new_only vs (definition_in vs (as_items t.line (seen_line l.now)))

@@ -20,7 +20,7 @@ use Rattle.c_terminals.specs.declared.token.Terminal.TheVariants as given
 use Rattle.c_terminals.specs.declared.token.Token.{Token}
 use Rattle.c_written.specs.Forms.{all_placed}
 use Rattle.c_terminals.specs.Seen.{columns_in, seen, seen_terminal}
-use Rattle.c_written.proofs.Defining.{placed_again}
+use Rattle.c_terminals.proofs.Placing.{placed_again}
 
 -- tokens that end well before others
 abbrev pub inner : List Placed → Bool

@@ -21,7 +21,7 @@ use Rattle.c_terminals.specs.declared.token.Token.{Token}
 use Rattle.c_written.specs.Forms.{all_placed}
 use Rattle.c_terminals.specs.Seen.{seen, seen_terminal}
 use Rattle.c_written.specs.Spots.{all_kinds}
-use Rattle.c_written.proofs.Defining.{placed_again}
+use Rattle.c_terminals.proofs.Placing.{placed_again}
 use Rattle.c_written.proofs.Guarding.{first_true, inner, item_at, line_item, second_true, whole_before, whole_behind}
 
 both_true : (a b : Bool) → a ≡ true → b ≡ true → (a && b) ≡ true

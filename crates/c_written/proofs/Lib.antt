@@ -1,9 +1,7 @@
-pub mod Among
 pub mod Enumerating
 pub mod Undefining
 pub mod Printing
 pub mod Typing
-pub mod Stacks
 pub mod Naming
 pub mod Popped
 pub mod Blocking
@@ -62,3 +60,4 @@ pub mod PlainClauses
 pub mod ReducedLines
 pub mod CommutingLines
 pub mod Rows
+pub mod KeptLines

@@ -5,7 +5,7 @@ use Rattle.std.proofs.lemmas.List.{take_more, take_all}
 use Rattle.c_grammar.specs.Expressions.{Values, value_of}
 use Rattle.c_written.specs.declared.values.Constant.{Constant}
 use Rattle.c_written.specs.Values.{seen_constant, values_of}
-use Rattle.c_written.proofs.Stacks.{stack_more}
+use Rattle.c_terminals.proofs.Stacks.{stack_more}
 
 newest : (cs : List Constant) (k : ℕ) (d : Constant) → k < length cs →
     values_of (take (k + 1) cs) ≡ seen_constant (get_or cs k d) ∷ values_of (take k cs)

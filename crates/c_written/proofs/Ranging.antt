@@ -6,7 +6,7 @@ use Rattle.c_grammar.specs.Grids.{Ranges, range_of}
 use Rattle.c_written.specs.declared.indices.Named.{Named}
 use Rattle.c_written.specs.Indices.{ranges_in, seen_named}
 use Rattle.c_written.specs.Ranges.{seen_range}
-use Rattle.c_written.proofs.Stacks.{stack_more}
+use Rattle.c_terminals.proofs.Stacks.{stack_more}
 
 newest : (xs ys : List Named) (k : ℕ) (d : Named) → ys ≡ xs → k < length ys → d ≡ get_or ys k d →
     ranges_in (take (k + 1) xs) ≡ seen_named d ∷ ranges_in (take k xs)

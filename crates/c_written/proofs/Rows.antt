@@ -21,7 +21,7 @@ use Rattle.c_terminals.specs.declared.token.Terminal.TheVariants as given
 use Rattle.c_terminals.specs.declared.token.Token.{Token}
 use Rattle.c_written.specs.RowSections.{next_at, put_at}
 use Rattle.c_terminals.specs.Seen.{seen, seen_terminal}
-use Rattle.c_written.proofs.Defining.{placed_again}
+use Rattle.c_terminals.proofs.Placing.{placed_again}
 use Rattle.c_written.proofs.Guarding.{first_true, item_at, line_item, second_true, whole_more}
 use Rattle.c_written.proofs.Putting.{all_well, well_kinds}
 

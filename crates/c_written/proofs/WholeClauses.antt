@@ -20,7 +20,7 @@ by_test false x y z P f g e = g refl e
 
 -- ---- how long a clause is
 
-names_within : (s : Scope) (scalar : Bool) (ps : List Placed) (k n : ℕ) → names_len s scalar k ps ≡ Some n → n ≤ k + length ps
+pub names_within : (s : Scope) (scalar : Bool) (ps : List Placed) (k n : ℕ) → names_len s scalar k ps ≡ Some n → n ≤ k + length ps
 names_within s scalar [] k n e = absurd cc
 names_within s scalar (x ∷ []) k n e = absurd cc
 names_within s scalar (x ∷ c ∷ ps) k n e =

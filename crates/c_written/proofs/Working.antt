@@ -23,7 +23,7 @@ use Rattle.c_terminals.specs.Held.{seen_written, written_all}
 use Rattle.c_written.specs.Values.{seen_values}
 use Rattle.c_written.specs.Past.{past_of}
 use Rattle.c_written.specs.Constants.{behind, with_constants}
-use Rattle.c_written.proofs.Defining.{placed_again}
+use Rattle.c_terminals.proofs.Placing.{placed_again}
 use Rattle.c_terminals.proofs.Owning.{held_more}
 
 pub worked_end : (vs : Values) (past : List Terminal) (k : ℕ) → worked vs past k [] ≡ []

@@ -6,7 +6,7 @@ use Rattle.c_grammar.specs.Boxes.{Found, Listing, before_main}
 use Rattle.c_grammar.specs.Constants.{Names}
 use Rattle.c_written.specs.declared.box_lists.Listing.{Listing as Given}
 use Rattle.c_written.specs.declared.boxes.Found.{Found as Read}
-use Rattle.c_written.specs.Names.{seen_names}
+use Rattle.c_terminals.specs.Names.{seen_names}
 use Rattle.c_written.specs.Spots.{seen_spot}
 
 abbrev pub seen_listing : Given → Listing

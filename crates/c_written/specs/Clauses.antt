@@ -12,7 +12,7 @@ use Rattle.c_written.specs.declared.clauses.Step.{Step as GivenStep}
 use Rattle.c_written.specs.declared.clauses.Step.TheVariants as step
 use Rattle.c_written.specs.declared.clauses.Clauses.{Clauses}
 use Rattle.c_written.specs.Forms.{all_placed}
-use Rattle.c_written.specs.Names.{seen_names}
+use Rattle.c_terminals.specs.Names.{seen_names}
 use Rattle.c_written.specs.Values.{seen_values}
 
 abbrev pub seen_scope : GivenScope → Scope

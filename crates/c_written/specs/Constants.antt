@@ -9,7 +9,7 @@ use Rattle.c_written.specs.declared.constants.Constants.{Constants}
 use Rattle.c_written.specs.Stack.{item_at}
 use Rattle.c_terminals.specs.Held.{written_all}
 use Rattle.c_written.specs.Values.{seen_values}
-use Rattle.c_written.specs.Names.{seen_names}
+use Rattle.c_terminals.specs.Names.{seen_names}
 use Rattle.c_written.specs.Past.{past_of}
 
 -- the number, or the name, that it is

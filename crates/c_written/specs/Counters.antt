@@ -6,7 +6,7 @@ use Rattle.c_written.specs.declared.counters.Before.{Before as Given}
 use Rattle.c_written.specs.declared.counters.Before.TheVariants as given
 use Rattle.c_written.specs.declared.counters.Found.{Found as Read}
 use Rattle.c_written.specs.declared.counted.Counters.{Counters}
-use Rattle.c_written.specs.Names.{seen_names}
+use Rattle.c_terminals.specs.Names.{seen_names}
 use Rattle.c_terminals.specs.Seen.{seen_all}
 
 abbrev pub seen_before : Given → Before

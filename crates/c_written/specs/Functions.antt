@@ -11,6 +11,8 @@ use Rattle.c_written.specs.declared.calls.Parameter.{Parameter}
 use Rattle.c_written.specs.declared.calls.Passed.{Passed}
 use Rattle.c_written.specs.declared.calls.Scope.{Scope}
 use Rattle.c_written.specs.declared.heads.Declared.{Declared}
+use Rattle.c_written.specs.declared.heads.Gives.{Gives}
+use Rattle.c_written.specs.declared.heads.Gives.TheVariants as gives
 use Rattle.c_written.specs.declared.heads.Head.{Head}
 use Rattle.c_written.specs.declared.heads.Head.TheVariants as heads
 use Rattle.c_written.specs.declared.heads.Headed.{Headed}
@@ -58,11 +60,16 @@ seen_step (steps.Adds d) = functions.Adds d.name.now (seen_sort d.sort)
 seen_step (steps.Closes d) = functions.Closes d.name.now (seen_sort d.sort)
 seen_step steps.Stops = functions.Stops
 
+abbrev pub seen_gives : Gives → functions.Gives
+seen_gives gives.NoValue = functions.NoValue
+seen_gives gives.AValue = functions.AValue
+seen_gives gives.AStatus = functions.AStatus
+
 abbrev pub all_declared : List Declared → List functions.Declared
 all_declared ds = map seen_declared ds
 
 abbrev pub seen_headed : Headed → functions.Headed
-seen_headed h = record { name = h.name.now; valued = h.valued; declared = all_declared h.declared.items; len = h.len }
+seen_headed h = record { name = h.name.now; gives = seen_gives h.gives; declared = all_declared h.declared.items; len = h.len }
 
 -- ---- names
 

@@ -1,4 +1,3 @@
-pub mod Ahead
 pub mod Values
 pub mod Work
 pub mod Passes
@@ -18,6 +17,7 @@ pub mod Counters
 pub mod Globals
 pub mod Functions
 pub mod Allocations
+pub mod Pointers
 pub mod Names
 pub mod Clauses
 pub mod Spots
@@ -29,3 +29,5 @@ pub mod Reductions
 pub mod Regions
 pub mod RowSections
 pub mod Boxes
+pub mod Moves
+pub mod Privates

@@ -19,10 +19,6 @@ abbrev pub unended : Items → Items
 unended [] = []
 unended (i ∷ is) = record { terminal = no_end i.terminal; line = i.line; column = i.column; columns = i.columns } ∷ unended is
 
--- a token of a line
-abbrev pub item_of : ℕ → Placed → Item Terminal
-item_of line p = record { terminal = as_terminal p.lexeme; line = line; column = p.column; columns = [] }
-
 -- what is defined behind the word define: by a token, and those behind it
 abbrev pub named_by : Values → ℕ → Terminal → ℕ → List Placed → Option Definition
 named_by vs line (Name x) column ps =

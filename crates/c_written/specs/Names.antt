@@ -1,17 +1,10 @@
--- Names, the last one first.
+-- The names that tokens are.
 use Rattle.std.specs.Prelude.{ℕ, Bool, false, List, [], ◌∷◌, map, reverse, Option, Some, None, if◌then◌else◌}
 use Rattle.std.specs.Borrow.{Bor}
 use Rattle.c_grammar.specs.Blocks.{Items}
 use Rattle.c_grammar.specs.Lexeme.{Uint64}
 use Rattle.c_grammar.specs.Terminal.{Terminal, Fixed, Name, same}
 use Rattle.c_written.specs.Stack.{item_at}
-use Rattle.c_written.specs.declared.names.Names.{Names}
-
-abbrev pub names_of : List (Bor (List ℕ)) → List (List ℕ)
-names_of xs = reverse (map (λ x. x.now) xs)
-
-abbrev pub seen_names : Names → List (List ℕ)
-seen_names n = names_of n.names.items
 
 -- the name that it is
 abbrev pub name_at : Option Terminal → Option (List ℕ)

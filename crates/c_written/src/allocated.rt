@@ -4,14 +4,13 @@ ghost use Rattle.std.specs.Prelude.{◌≡◌, ◌++◌, map, reverse, IfOk, OnO
 ghost use Rattle.c_grammar.specs.Blocks.{bare};
 ghost use Rattle.c_grammar.specs.Allocations.{all_read, allocated, begins_main, declaration, depth_behind, is_boundary, joined, nothing_read};
 ghost use Rattle.c_written.specs.Allocations.{seen_allocation};
+ghost use Rattle.c_terminals.specs.Ahead.{ahead};
 ghost use Rattle.c_terminals.specs.Held.{written_all};
 ghost use Rattle.c_terminals.specs.Seen.{seen, seen_all, seen_terminal};
 
-use crate::ahead::Ahead;
-use crate::allocations::{Array, allocation, is_named};
+use crate::allocations::{Array, allocation, freed, is_named};
 use crate::presence::guarded;
-use crate::targets::is_sign;
-use c_terminals::{Terminal, Token, Written};
+use c_terminals::{Ahead, Terminal, Token, Written};
 use c_tokens::Sign;
 use directives::Word;
 use std::alloc::{AllocError, Global};
@@ -41,7 +40,7 @@ struct Allocations<'a, 'l> {
 }
 
 /// Whether a statement is over behind the token, or none has begun.
-fn is_boundary(terminal: Terminal<'_, '_>) -> bool
+pub fn is_boundary(terminal: Terminal<'_, '_>) -> bool
     ensures { result ≡ is_boundary (seen_terminal terminal.entry) }
 {
     terminal.is_sign(Sign::Semicolon)
@@ -50,7 +49,7 @@ fn is_boundary(terminal: Terminal<'_, '_>) -> bool
 }
 
 /// How many braces and brackets are open behind the token.
-fn depth_behind(terminal: Terminal<'_, '_>, depth: usize) -> Result<usize, AllocError>
+pub fn depth_behind(terminal: Terminal<'_, '_>, depth: usize) -> Result<usize, AllocError>
     ensures { IfOk result (λ d. d ≡ depth_behind (seen_terminal terminal.entry) depth) }
 {
     if terminal.is_sign(Sign::OpenBrace) || terminal.is_sign(Sign::OpenParen) {
@@ -63,10 +62,11 @@ fn depth_behind(terminal: Terminal<'_, '_>, depth: usize) -> Result<usize, Alloc
 }
 
 /// Whether the token is `int`, with `main` behind it.
-pub fn begins_main(token: Token<'_, '_>, rest: &[Token<'_, '_>]) -> bool
-    ensures { result ≡ begins_main (seen token.entry) (bare (seen_all rest.now)) }
+pub fn begins_main(token: Token<'_, '_>, rest: Ahead<'_, '_, '_>) -> bool
+    ensures { result ≡ begins_main (seen token.entry) (ahead rest.entry) }
 {
-    match Ahead::new(rest).next() {
+    let mut ahead = rest;
+    match ahead.next() {
         Some(next) => token.terminal.is_word(Word::Int) && next.terminal.is_word(Word::Main),
         None => false,
     }
@@ -115,19 +115,9 @@ impl<'a, 'l> Allocations<'a, 'l> {
     fn is_freed(&self, token: Token<'a, 'l>, rest: &[Token<'a, 'l>]) -> bool
         ensures { result ≡ is_freed (names_of self.now) (seen token.entry) (bare (seen_all rest.now)) }
     {
-        let mut ahead = Ahead::new(rest);
-        if !token.terminal.is_named(b"free".as_slice()) || !is_sign(ahead.next(), Sign::OpenParen) {
-            return false;
-        }
-        let Some(array) = ahead.next() else {
-            return false;
-        };
-        if !is_sign(ahead.next(), Sign::CloseParen) || !is_sign(ahead.next(), Sign::Semicolon) {
-            return false;
-        }
-        match array.terminal {
-            Terminal::Name(name) => self.is_array(name) && !is_named(name, ahead),
-            _ => false,
+        match freed(token, Ahead::new(rest)) {
+            Some(name) => self.is_array(name),
+            None => false,
         }
     }
 
@@ -243,7 +233,7 @@ impl<'a, 'l> Allocations<'a, 'l> {
         if self.at_statement() {
             return self.begin(token, rest);
         }
-        if !self.inside && begins_main(token, rest) {
+        if !self.inside && begins_main(token, Ahead::new(rest)) {
             return self.enter(token);
         }
         self.keep(token)

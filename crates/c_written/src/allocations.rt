@@ -4,17 +4,16 @@ ghost use Rattle.std.specs.Prelude.{◌≡◌, map};
 ghost use Rattle.std.specs.Option.{option_map};
 ghost use Rattle.c_grammar.specs.Terminal.{same};
 ghost use Rattle.c_grammar.specs.Blocks.{bare};
-ghost use Rattle.c_grammar.specs.Allocations.{allocates, allocation, behind_size, called, cast, counted, ends_call, is_ended, is_named, numbered, or_all, product, skipped, times, told};
+ghost use Rattle.c_grammar.specs.Allocations.{allocates, allocation, behind_size, called, cast, counted, ends_call, is_ended, is_named, numbered, or_all, product, skipped, freed, times, told};
 ghost use Rattle.c_grammar.specs.Initial.{value_of};
-ghost use Rattle.c_written.specs.Ahead.{ahead};
+ghost use Rattle.c_terminals.specs.Ahead.{ahead};
 ghost use Rattle.c_written.specs.Allocations.{seen_allocation, seen_cells};
 ghost use Rattle.c_terminals.specs.Seen.{seen, seen_all, seen_terminal};
 
-use crate::ahead::Ahead;
 use crate::initial::value_of;
 use crate::targets::is_sign;
 use crate::work::Work;
-use c_terminals::{Terminal, Token};
+use c_terminals::{Ahead, Terminal, Token};
 use c_tokens::Sign;
 use directives::Word;
 
@@ -238,7 +237,7 @@ fn behind_cast<'a, 'l, 's>(start: Ahead<'a, 'l, 's>) -> Ahead<'a, 'l, 's>
 }
 
 /// The array of that name that a call behind `=` allocates.
-fn array_named<'a, 'l>(named: Token<'a, 'l>, start: Ahead<'a, 'l, '_>) -> Option<Array<'a, 'l>>
+pub fn array_named<'a, 'l>(named: Token<'a, 'l>, start: Ahead<'a, 'l, '_>) -> Option<Array<'a, 'l>>
     ensures { option_map seen_allocation result ≡ allocates (seen named.entry) (seen named.entry).terminal (ahead start.entry) }
 {
     match named.terminal {
@@ -278,4 +277,27 @@ pub fn is_named(name: &[u8], start: Ahead<'_, '_, '_>) -> bool
         }
     }
     false
+}
+
+/// The name that a statement frees, if it stands nowhere behind it.
+pub fn freed<'a>(token: Token<'a, '_>, rest: Ahead<'a, '_, '_>) -> Option<&'a [u8]>
+    ensures { option_map (λ x. x.now) result ≡ freed (seen token.entry) (ahead rest.entry) }
+{
+    let mut ahead = rest;
+    if !token.terminal.is_named(b"free".as_slice()) || !is_sign(ahead.next(), Sign::OpenParen) {
+        return None;
+    }
+    let Some(array) = ahead.next() else {
+        return None;
+    };
+    if !is_sign(ahead.next(), Sign::CloseParen) || !is_sign(ahead.next(), Sign::Semicolon) {
+        return None;
+    }
+    let Terminal::Name(name) = array.terminal else {
+        return None;
+    };
+    if is_named(name, ahead) {
+        return None;
+    }
+    Some(name)
 }

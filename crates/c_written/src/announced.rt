@@ -13,7 +13,7 @@ ghost use Rattle.c_terminals.specs.Seen.{seen, seen_all};
 
 use crate::allocated::begins_main;
 use crate::boxes::boxes_of;
-use c_terminals::{Token, Written, WrittenTerminal};
+use c_terminals::{Ahead, Token, Written, WrittenTerminal};
 use directives::{Lexeme, LineTokens, PlacedLexeme, Word};
 use std::alloc::{AllocError, Global};
 
@@ -106,7 +106,7 @@ fn put_line<'a>(
 fn is_main(token: Token<'_, '_>, behind: &[Token<'_, '_>]) -> bool
     ensures { result ≡ (begins_main (seen token.entry) (bare (seen_all behind.now)) && not (is_directive (seen token.entry).terminal)) }
 {
-    begins_main(token, behind) && !token.terminal.is_directive()
+    begins_main(token, Ahead::new(behind)) && !token.terminal.is_directive()
 }
 
 // Adds a token, and the line before it where it stands; whether it stands now.

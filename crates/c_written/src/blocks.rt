@@ -2,12 +2,11 @@
 
 ghost use Rattle.std.specs.Prelude.{◌≡◌, IfOk};
 ghost use Rattle.c_grammar.specs.Blocks.{begins_body, begins_update, brackets_behind, in_blocks, is_atomic_line, is_break, is_else, is_name, nothing_read};
-ghost use Rattle.c_written.specs.Ahead.{next_of};
+ghost use Rattle.c_terminals.specs.Ahead.{next_of};
 ghost use Rattle.c_terminals.specs.Seen.{seen_all, seen_terminal};
 
-use crate::ahead::Ahead;
 use crate::stack::Stack;
-use c_terminals::{Terminal, Token};
+use c_terminals::{Ahead, Terminal, Token};
 use c_tokens::Sign;
 use directives::{Word, is_atomic};
 use std::alloc::{AllocError, Global};
@@ -174,7 +173,7 @@ impl<'a, 'l> Blocks<'a, 'l> {
     ghost use Rattle.c_written.specs.Opens.{is_around, is_first_branch};
     ghost use Rattle.c_written.specs.Stack.{held, item_at};
     ghost use Rattle.c_grammar.specs.Blocks.{Around, Head, Items, Open as SpecOpen, Reading, at, bare, begins_body, begins_update, braces_at, ends, in_head, is_atomic_line, is_else, is_end, is_headless, is_name, left, line_in_block, noted, opened, otherwise, plain, read_in, with_open, without_block};
-    ghost use Rattle.c_written.specs.Ahead.{next_of};
+    ghost use Rattle.c_terminals.specs.Ahead.{next_of};
     ghost use Rattle.c_terminals.specs.Seen.{seen, seen_all, seen_terminal};
     ghost use Rattle.c_written.specs.Passes.{IsRead, levels_of, reading, with_blocks};
 

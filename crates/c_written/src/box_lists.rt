@@ -7,8 +7,8 @@ ghost use Rattle.c_written.specs.Boxes.{texts};
 ghost use Rattle.c_written.specs.Spots.{all_kinds};
 
 use crate::line_forms::is_name;
-use crate::puts::is_among;
 use crate::spots::{Spot, opens_list};
+use c_terminals::is_among;
 use directives::{Lexeme, PlacedLexeme};
 use std::alloc::AllocError;
 

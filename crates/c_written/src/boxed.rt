@@ -7,20 +7,18 @@ ghost use Rattle.c_grammar.specs.Boxes.{at_begin, begins_bounds, boxed, boxed_it
 ghost use Rattle.directives.specs.Ahead.{seen_line};
 ghost use Rattle.directives.specs.Seen.{seen_lexeme};
 ghost use Rattle.directives.specs.Spells.{kinds_of};
-ghost use Rattle.c_written.specs.Ahead.{ahead};
+ghost use Rattle.c_terminals.specs.Ahead.{ahead};
 ghost use Rattle.c_written.specs.Boxes.{texts};
 ghost use Rattle.c_written.specs.Forms.{all_placed};
 ghost use Rattle.c_terminals.specs.Held.{seen_written, written_all};
 ghost use Rattle.c_terminals.specs.Seen.{seen, seen_all};
 ghost use Rattle.c_written.specs.Spots.{all_kinds};
 
-use crate::ahead::Ahead;
 use crate::box_lists::{Listing, add_listed};
 use crate::boxes::boxes_of;
 use crate::line_forms::is_sign;
 use crate::presence::{is_target, opens_part, target_column};
-use crate::puts::is_among;
-use c_terminals::{Terminal, Token, Written, WrittenTerminal};
+use c_terminals::{Ahead, Terminal, Token, Written, WrittenTerminal, is_among};
 use c_tokens::Sign;
 use directives::{Lexeme, LineTokens, PlacedLexeme, Word};
 use std::alloc::{AllocError, Global};
@@ -94,8 +92,8 @@ fn sectioned<'a>(
     Ok(put)
 }
 
-// Whether the name is declared by a token and the next one.
-fn is_declared(name: &[u8], token: Token<'_, '_>, rest: Ahead<'_, '_, '_>) -> bool
+/// Whether the name is declared by a token and the next one.
+pub fn is_declared(name: &[u8], token: Token<'_, '_>, rest: Ahead<'_, '_, '_>) -> bool
     ensures { result ≡ is_declared name.now (seen token.entry) (ahead rest.entry) }
 {
     let mut ahead = rest;
@@ -105,8 +103,8 @@ fn is_declared(name: &[u8], token: Token<'_, '_>, rest: Ahead<'_, '_, '_>) -> bo
     }
 }
 
-// The region goes on behind a brace that closes one of so many parts.
-fn goes_on(depth: usize, rest: Ahead<'_, '_, '_>) -> bool
+/// The region goes on behind a brace that closes one of so many parts.
+pub fn goes_on(depth: usize, rest: Ahead<'_, '_, '_>) -> bool
     ensures { result ≡ goes_on depth (ahead rest.entry) }
 {
     if depth > 1 {

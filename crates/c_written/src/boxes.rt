@@ -4,14 +4,12 @@ ghost use Rattle.std.specs.Prelude.{◌≡◌, [], not, ◌&&◌, IfOk, OnOk, fa
 ghost use Rattle.c_grammar.specs.Blocks.{bare};
 ghost use Rattle.c_grammar.specs.Boxes.{all_listed, boxes_of, ends_name, found, listed_on, nothing_found, only};
 ghost use Rattle.c_grammar.specs.Constants.{depth_behind};
-ghost use Rattle.c_written.specs.Ahead.{ahead};
+ghost use Rattle.c_terminals.specs.Ahead.{ahead};
 ghost use Rattle.c_written.specs.Boxes.{seen_found, texts};
 ghost use Rattle.c_terminals.specs.Seen.{seen, seen_all, seen_terminal};
 
-use crate::ahead::Ahead;
 use crate::box_lists::add_listed;
-use crate::names::Names;
-use c_terminals::{Terminal, Token};
+use c_terminals::{Ahead, Names, Terminal, Token};
 use c_tokens::Sign;
 use directives::Word;
 use std::alloc::{AllocError, Global};
@@ -51,9 +49,9 @@ impl<'a> Found<'a> {
     ghost use Rattle.std.specs.Prelude.{◌==◌};
     ghost use Rattle.c_grammar.specs.Boxes.{declared_at, declared_name, with_declared, nothing_found};
     ghost use Rattle.c_grammar.specs.LineRules.{is_among};
-    ghost use Rattle.c_written.specs.Ahead.{ahead};
+    ghost use Rattle.c_terminals.specs.Ahead.{ahead};
     ghost use Rattle.c_written.specs.Boxes.{seen_found};
-    ghost use Rattle.c_written.specs.Names.{seen_names};
+    ghost use Rattle.c_terminals.specs.Names.{seen_names};
     ghost use Rattle.c_terminals.specs.Seen.{seen, seen_terminal};
 
     fn new(alloc: Global) -> Found<'a>

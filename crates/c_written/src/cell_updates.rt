@@ -3,16 +3,15 @@
 ghost use Rattle.std.specs.Prelude.{◌≡◌, ◌<◌, ◌^◌, length, take};
 ghost use Rattle.std.specs.Option.{option_map};
 ghost use Rattle.c_grammar.specs.Updates.{again, again_at, changing, commutes, equal, has_update, is_assigned, is_by, place_len, sign_at, sign_of, update};
-ghost use Rattle.c_written.specs.Ahead.{ahead};
+ghost use Rattle.c_terminals.specs.Ahead.{ahead};
 ghost use Rattle.c_written.specs.CellUpdates.{rest_behind};
 ghost use Rattle.c_written.specs.Changes.{seen_change};
 ghost use Rattle.c_terminals.specs.Seen.{seen_terminal};
 
-use crate::ahead::Ahead;
 use crate::calls::index_len;
 use crate::heads::passed;
 use crate::operators::Change;
-use c_terminals::Terminal;
+use c_terminals::{Ahead, Terminal};
 use c_tokens::Sign;
 
 /// Whether updates by the operator commute.

@@ -3,14 +3,14 @@
 ghost use Rattle.std.specs.Prelude.{◌≡◌, IfOk};
 ghost use Rattle.std.specs.Option.{option_map};
 ghost use Rattle.c_grammar.specs.Blocks.{bare};
-ghost use Rattle.c_grammar.specs.Changes.{begin, first_of, in_full, is_boundary, is_last_return, is_name_closed, is_number_ended, limit_behind, limit_token};
+ghost use Rattle.c_grammar.specs.Changes.{begin, first_of, in_full, is_boundary, is_bracketed, is_last_return, is_name_closed, is_number_ended, is_pointed, limit_behind, limit_token, vector_len, words_len};
+ghost use Rattle.c_terminals.specs.Ahead.{ahead};
 ghost use Rattle.c_terminals.specs.Seen.{seen, seen_all, seen_terminal};
 ghost use Rattle.c_written.specs.Changes.{head_behind, seen_where};
 
-use crate::ahead::Ahead;
 use crate::operators::Change;
 use crate::targets::{is_sign, is_target, is_target_ended};
-use c_terminals::{Terminal, Token};
+use c_terminals::{Ahead, Terminal, Token};
 use c_tokens::Sign;
 use directives::Word;
 use std::alloc::{AllocError, Global};
@@ -88,6 +88,75 @@ fn is_last_return(rest: &[Token<'_, '_>]) -> bool
     }
 }
 
+/// Whether `*`, a name and a closing bracket come next.
+fn is_pointed(start: Ahead<'_, '_, '_>) -> bool
+    ensures { result ≡ is_pointed (ahead start.entry) }
+{
+    let mut ahead = start;
+    let Some(star) = ahead.next() else {
+        return false;
+    };
+    let Some(name) = ahead.next() else {
+        return false;
+    };
+    star.terminal.is_sign(Sign::Star)
+        && name.terminal.is_name()
+        && is_sign(ahead.next(), Sign::CloseParen)
+}
+
+/// Whether a name, `[]` and a closing bracket come next.
+fn is_bracketed(start: Ahead<'_, '_, '_>) -> bool
+    ensures { result ≡ is_bracketed (ahead start.entry) }
+{
+    let mut ahead = start;
+    let Some(name) = ahead.next() else {
+        return false;
+    };
+    name.terminal.is_name()
+        && is_sign(ahead.next(), Sign::OpenBracket)
+        && is_sign(ahead.next(), Sign::CloseBracket)
+        && is_sign(ahead.next(), Sign::CloseParen)
+}
+
+fn vector_len(start: Ahead<'_, '_, '_>) -> usize
+    ensures { result ≡ vector_len (ahead start.entry) }
+{
+    if is_pointed(start) {
+        return 6;
+    }
+    if is_bracketed(start) {
+        return 7;
+    }
+    0
+}
+
+/// How many tokens the words of the command have up to the bracket, behind the first type.
+fn words_len(rest: &[Token<'_, '_>]) -> usize
+    ensures { result ≡ words_len (bare (seen_all rest.now)) }
+{
+    let mut ahead = Ahead::new(rest);
+    let Some(count) = ahead.next() else {
+        return 0;
+    };
+    let Some(comma) = ahead.next() else {
+        return 0;
+    };
+    let Some(kind) = ahead.next() else {
+        return 0;
+    };
+    let Some(star) = ahead.next() else {
+        return 0;
+    };
+    if count.terminal.is_name()
+        && comma.terminal.is_sign(Sign::Comma)
+        && kind.terminal.is_named(b"char".as_slice())
+        && star.terminal.is_sign(Sign::Star)
+    {
+        return vector_len(ahead);
+    }
+    0
+}
+
 /// The limit with `<`, where a number and a semicolon come behind `<=`.
 fn limit_behind<'a, 'l>(rest: &[Token<'a, 'l>]) -> Option<Terminal<'a, 'l>>
     ensures { option_map seen_terminal result ≡ option_map limit_token (limit_behind (bare (seen_all rest.now))) }
@@ -134,7 +203,7 @@ impl<'a, 'l> Changes<'a, 'l> {
     ghost use Rattle.std.specs.Prelude.{◌≡◌, ◌∷◌, ◌++◌, ◌+◌, ◌&&◌, [], OnOk, Some, codes};
     ghost use Rattle.c_tokens.specs.declared.kind.Sign.TheVariants as sign;
     ghost use Rattle.c_grammar.specs.Blocks.{at, bare};
-    ghost use Rattle.c_grammar.specs.Changes.{ByNumber, ByOne, InHead, assigned, at_front, behind_front, by_kind, changed, grouped, in_group, in_head, in_state, is_empty, is_last_return, is_main, is_target, kept, kind_of, limit_behind, limited, one_at, outside};
+    ghost use Rattle.c_grammar.specs.Changes.{ByNumber, ByOne, InHead, assigned, at_front, behind_front, by_kind, changed, grouped, has_words, in_group, in_head, in_state, is_empty, is_last_return, is_main, is_target, kept, kind_of, limit_behind, limited, one_at, outside, without_words};
     ghost use Rattle.c_grammar.specs.Terminal.{Mark, Name, same};
     ghost use Rattle.c_terminals.specs.Seen.{seen, seen_all, seen_terminal};
     ghost use Rattle.c_written.specs.Changes.{IsGone, IsSameState, group_ended, passed, seen_change, seen_where, state_of, stepped, with_changes};
@@ -349,6 +418,29 @@ impl<'a, 'l> Changes<'a, 'l> {
         }
     }
 
+    /// Whether the token begins the words of the command.
+    fn has_words(&self, token: Token<'a, 'l>, rest: &[Token<'a, 'l>]) -> bool
+        ensures { result ≡ has_words (seen token.entry) (bare (seen_all rest.now)) (state_of self.now) }
+    {
+        token.terminal.is_word(Word::Int) && self.is_main() && words_len(rest) > 0
+    }
+
+    /// Writes `void` for the words of the command.
+    fn leave_words(
+        &mut self,
+        token: Token<'a, 'l>,
+        rest: &[Token<'a, 'l>],
+    ) -> Result<(), AllocError>
+        ensures { OnOk result (IsGone self.old self.new
+            (without_words (seen token.entry) (bare (seen_all rest.now)) (state_of self.old))) }
+    {
+        self.push(token.at(Terminal::Word(Word::Void)))?;
+        self.since.push(token)?;
+        self.place = Where::Outside;
+        self.left = words_len(rest);
+        Ok(())
+    }
+
     /// Whether the token closes the brackets of `main`, with nothing in them.
     fn closes_main(&self, terminal: Terminal<'a, 'l>) -> bool
         ensures { result ≡ (same (Mark sign.CloseParen) (seen_terminal terminal.entry)
@@ -387,6 +479,9 @@ impl<'a, 'l> Changes<'a, 'l> {
     {
         if token.terminal.is_word(Word::For) {
             return self.pass(token, Where::InHead(0));
+        }
+        if self.has_words(token, rest) {
+            return self.leave_words(token, rest);
         }
         if self.closes_main(token.terminal) {
             self.push(token.at(Terminal::Word(Word::Void)))?;

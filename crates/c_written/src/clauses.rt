@@ -7,19 +7,19 @@ ghost use Rattle.directives.specs.Ahead.{seen_line};
 ghost use Rattle.directives.specs.Seen.{seen_lexeme};
 ghost use Rattle.c_written.specs.Clauses.{seen_part, seen_place, seen_scope, seen_step};
 ghost use Rattle.c_written.specs.Forms.{all_placed};
-ghost use Rattle.c_written.specs.Names.{seen_names};
+ghost use Rattle.c_terminals.specs.Names.{seen_names};
 ghost use Rattle.c_written.specs.Values.{seen_values};
 
 use crate::line_forms::{is_name, is_sign};
-use crate::names::Names;
 use crate::values::Values;
+use c_terminals::Names;
 use c_tokens::Sign;
 use directives::{Lexeme, LineTokens, PlacedLexeme, same_lexeme};
 use std::alloc::{AllocError, Global};
 
 /// What the clauses of a line are read with.
 #[derive(Clone, Copy)]
-struct Scope<'v, 'a> {
+pub struct Scope<'v, 'a> {
     /// The names that are declared before.
     names: &'v Names<'a>,
     /// The arrays among them, with their lengths.
@@ -34,9 +34,9 @@ struct Scope<'v, 'a> {
 
 /// Where a token stands: how many brackets are open, and whether a clause ends before it.
 #[derive(Clone, Copy)]
-struct Place {
-    depth: usize,
-    ended: bool,
+pub struct Place {
+    pub depth: usize,
+    pub ended: bool,
 }
 
 /// What has been read of map items.
@@ -180,7 +180,7 @@ fn default_len(rest: &[PlacedLexeme<'_>]) -> Option<usize>
 }
 
 /// The same number, and one more where a comma stands behind the clause, if the line goes on with a clause or ends.
-fn with_comma(count: usize, rest: &[PlacedLexeme<'_>]) -> Option<usize>
+pub fn with_comma(count: usize, rest: &[PlacedLexeme<'_>]) -> Option<usize>
     requires { count < 2 ^ 63 }
     ensures { result ≡ with_comma count (all_placed rest.now) }
 {
@@ -278,12 +278,44 @@ fn type_step<'a>(rest: &[PlacedLexeme<'a>]) -> Step<'a>
     }
 }
 
+impl Place {
+    ghost use Rattle.std.specs.Prelude.{◌≡◌};
+    ghost use Rattle.c_grammar.specs.Clauses.{at_begin};
+    ghost use Rattle.c_written.specs.Clauses.{seen_place};
+
+    pub fn begin() -> Place
+        ensures { seen_place result ≡ at_begin }
+    {
+        Place {
+            depth: 0,
+            ended: false,
+        }
+    }
+}
+
 impl<'v, 'a> Scope<'v, 'a> {
-    ghost use Rattle.std.specs.Prelude.{◌≡◌, ◌≤◌, ◌+◌, length, IfSome};
+    ghost use Rattle.std.specs.Prelude.{◌≡◌, ◌≤◌, ◌+◌, [], length, IfSome};
     ghost use Rattle.c_grammar.specs.Clauses.{clause_len, clause_step, idle_len, list_len, may_stand, names_len, step_at};
+    ghost use Rattle.c_grammar.specs.Privates.{scope};
     ghost use Rattle.directives.specs.Seen.{seen_lexeme};
+    ghost use Rattle.c_terminals.specs.Names.{seen_names};
     ghost use Rattle.c_written.specs.Clauses.{seen_place, seen_scope, seen_step};
     ghost use Rattle.c_written.specs.Forms.{all_placed};
+    ghost use Rattle.c_written.specs.Values.{seen_values};
+
+    /// What clauses are read with that name these alone.
+    pub fn of_names(names: &'v Names<'a>, arrays: &'v Values<'a>) -> Scope<'v, 'a>
+        requires { seen_values arrays.now ≡ [] }
+        ensures { seen_scope result ≡ scope (seen_names names.now) }
+    {
+        Scope {
+            names,
+            arrays,
+            map_type: b"".as_slice(),
+            shares: false,
+            captures: false,
+        }
+    }
 
     /// Whether it is a declared name, of a scalar where only such may stand.
     fn may_stand(&self, scalar: bool, lexeme: Lexeme<'a>) -> bool
@@ -298,7 +330,7 @@ impl<'v, 'a> Scope<'v, 'a> {
     }
 
     /// How many tokens names and the bracket behind them are, and the bracket before.
-    fn names_len(&self, scalar: bool, rest: &[PlacedLexeme<'a>]) -> Option<usize>
+    pub fn names_len(&self, scalar: bool, rest: &[PlacedLexeme<'a>]) -> Option<usize>
         ensures { result ≡ names_len (seen_scope self.now) scalar 1 (all_placed rest.now) }
     {
         let mut count = 1;
@@ -388,7 +420,7 @@ impl<'v, 'a> Scope<'v, 'a> {
 }
 
 /// The place behind a token.
-fn place_after(lexeme: Lexeme<'_>, place: Place) -> Place
+pub fn place_after(lexeme: Lexeme<'_>, place: Place) -> Place
     requires { place.depth < 2 ^ 63 }
     ensures { seen_place result ≡ place_after (seen_lexeme lexeme.entry) (seen_place place) }
 {
@@ -511,10 +543,7 @@ fn clauses_behind<'v, 'a>(
     let mut clauses = Clauses {
         scope,
         done: Vec::from_slice(alloc, &words)?,
-        place: Place {
-            depth: 0,
-            ended: false,
-        },
+        place: Place::begin(),
         left: 0,
     };
     let mut rest = rest;

@@ -3,15 +3,13 @@
 ghost use Rattle.std.specs.Prelude.{◌≡◌, IfOk};
 ghost use Rattle.c_grammar.specs.Blocks.{bare};
 ghost use Rattle.c_grammar.specs.Counters.{Other, ends_name, found, is_set, is_type, nothing_found};
-ghost use Rattle.c_written.specs.Ahead.{ahead};
+ghost use Rattle.c_terminals.specs.Ahead.{ahead};
 ghost use Rattle.c_written.specs.Counters.{seen_before, seen_found};
 ghost use Rattle.c_terminals.specs.Seen.{seen, seen_all, seen_terminal};
 
-use crate::ahead::Ahead;
 use crate::boxes::depth_behind;
-use crate::names::Names;
 use crate::targets::is_sign;
-use c_terminals::{Terminal, Token};
+use c_terminals::{Ahead, Names, Terminal, Token};
 use c_tokens::Sign;
 use directives::Word;
 use std::alloc::{AllocError, Global};
@@ -49,7 +47,7 @@ fn is_type(terminal: Terminal<'_, '_>) -> bool
 }
 
 // Whether `=` follows.
-fn is_set(rest: Ahead<'_, '_, '_>) -> bool
+pub fn is_set(rest: Ahead<'_, '_, '_>) -> bool
     ensures { result ≡ is_set (ahead rest.entry) }
 {
     let mut ahead = rest;
@@ -180,7 +178,7 @@ impl<'a> Found<'a> {
     ghost use Rattle.std.specs.Prelude.{◌≡◌, ◌==◌, not, ◌&&◌, IfOk, OnOk};
     ghost use Rattle.c_grammar.specs.Blocks.{bare};
     ghost use Rattle.c_grammar.specs.Counters.{counts, declaration_len, found_at, is_bare, is_counter, list_len, named, nothing_found};
-    ghost use Rattle.c_written.specs.Ahead.{ahead};
+    ghost use Rattle.c_terminals.specs.Ahead.{ahead};
     ghost use Rattle.c_written.specs.Counters.{seen_before, seen_found};
     ghost use Rattle.c_terminals.specs.Seen.{seen, seen_all, seen_terminal};
 

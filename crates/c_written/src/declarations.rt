@@ -2,12 +2,11 @@
 
 ghost use Rattle.std.specs.Prelude.{◌≡◌, IfOk};
 ghost use Rattle.c_grammar.specs.Declarations.{Other, behind_other, is_given, settled};
-ghost use Rattle.c_written.specs.Ahead.{ahead};
+ghost use Rattle.c_terminals.specs.Ahead.{ahead};
 ghost use Rattle.c_written.specs.Declarations.{seen_before};
 ghost use Rattle.c_terminals.specs.Seen.{seen, seen_all};
 
-use crate::ahead::Ahead;
-use c_terminals::{Terminal, Token};
+use c_terminals::{Ahead, Terminal, Token};
 use c_tokens::Sign;
 use directives::Word;
 use std::alloc::{AllocError, Global};
@@ -51,7 +50,7 @@ fn behind_other(token: Token<'_, '_>) -> Before
 impl Before {
     ghost use Rattle.std.specs.Prelude.{◌≡◌};
     ghost use Rattle.c_grammar.specs.Declarations.{behind, is_int};
-    ghost use Rattle.c_written.specs.Ahead.{ahead};
+    ghost use Rattle.c_terminals.specs.Ahead.{ahead};
     ghost use Rattle.c_written.specs.Declarations.{seen_before};
     ghost use Rattle.c_terminals.specs.Seen.{seen};
 

@@ -6,9 +6,8 @@ ghost use Rattle.c_grammar.specs.Lexeme.{Uint64};
 ghost use Rattle.c_grammar.specs.Terminal.{Fixed, same};
 ghost use Rattle.c_terminals.specs.Seen.{seen, seen_all};
 
-use crate::ahead::Ahead;
 use crate::targets::is_sign;
-use c_terminals::{Terminal, Token};
+use c_terminals::{Ahead, Terminal, Token};
 use c_tokens::Sign;
 use directives::Word;
 use std::alloc::{AllocError, Global};
@@ -59,7 +58,7 @@ impl<'a, 'l> Definitions<'a, 'l> {
     ghost use Rattle.std.specs.Prelude.{◌≡◌, ◌++◌, ◌∷◌, [], false, MatchOption, OnOk};
     ghost use Rattle.c_grammar.specs.Blocks.{bare};
     ghost use Rattle.c_grammar.specs.Constants.{const_len, definition_len, depth_behind, enum_len, enumerators_len, is_among, is_free, with_global};
-    ghost use Rattle.c_written.specs.Ahead.{ahead};
+    ghost use Rattle.c_terminals.specs.Ahead.{ahead};
     ghost use Rattle.c_written.specs.Definitions.{names_of, with_definitions};
     ghost use Rattle.c_terminals.specs.Seen.{seen, seen_all, seen_terminal};
 

@@ -8,11 +8,10 @@ ghost use Rattle.c_terminals.specs.Seen.{seen_all};
 ghost use Rattle.c_written.specs.Values.{seen_values};
 ghost use Rattle.c_written.specs.Work.{seen_worked};
 
-use crate::ahead::Ahead;
 use crate::stack::Stack;
 use crate::values::Values;
 use crate::work::{Operator, Work};
-use c_terminals::{Terminal, Token};
+use c_terminals::{Ahead, Terminal, Token};
 use c_tokens::Sign;
 use std::alloc::{AllocError, Global};
 

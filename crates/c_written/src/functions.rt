@@ -6,20 +6,19 @@ ghost use Rattle.c_grammar.specs.Blocks.{bare};
 ghost use Rattle.c_grammar.specs.Lexeme.{Int};
 ghost use Rattle.c_grammar.specs.Terminal.{Fixed, same};
 ghost use Rattle.c_grammar.specs.Functions.{Outside, begins_function, declared_in, defined, expanded, has_function, has_value, is_assigned, is_assigning, is_main, is_specifier, is_static, is_step, is_type, main_follows, name_in, nothing_known, returned, specifies, value_at};
-ghost use Rattle.c_written.specs.Ahead.{ahead};
+ghost use Rattle.c_terminals.specs.Ahead.{ahead};
 ghost use Rattle.c_written.specs.Functions.{is_outside, seen_returned};
 ghost use Rattle.c_terminals.specs.Held.{written_all};
 ghost use Rattle.c_terminals.specs.Seen.{seen, seen_all, seen_terminal};
 
-use crate::ahead::Ahead;
 use crate::calls::{Function, Parameter, Scope, bare_len, called, put_tokens};
 use crate::changes::is_boundary;
 use crate::constants::worked;
-use crate::heads::{Declared, Headed, head_at};
+use crate::heads::{Declared, Gives, Headed, head_at};
 use crate::operators::Change;
 use crate::presence::guarded;
-use crate::puts::{Other, Put, Puts, is_among, unspelled};
-use c_terminals::{Terminal, Token, Written, borrowed, owned};
+use crate::puts::{Other, Put, Puts, unspelled};
+use c_terminals::{Ahead, Terminal, Token, Written, borrowed, is_among, owned};
 use c_tokens::Sign;
 use directives::Word;
 use std::alloc::{AllocError, Global};
@@ -63,7 +62,7 @@ fn is_specifier(terminal: Terminal<'_, '_>) -> bool
 fn is_type(terminal: Terminal<'_, '_>) -> bool
     ensures { result ≡ is_type (seen_terminal terminal.entry) }
 {
-    terminal.is_word(Word::Void) || terminal.is_word(Word::Uint64)
+    terminal.is_word(Word::Void) || terminal.is_word(Word::Uint64) || terminal.is_word(Word::Int)
 }
 
 fn specifies(start: Ahead<'_, '_, '_>) -> bool
@@ -191,8 +190,8 @@ impl<'a, 'l> Source<'a, 'l> {
     ghost use Rattle.c_grammar.specs.Blocks.{bare, is_directive};
     ghost use Rattle.c_grammar.specs.Constants.{is_among};
     ghost use Rattle.c_grammar.specs.Functions.{InBody, Onward, Outside, added, array_names, called, closed, function_with, in_body, is_main, known_names, line_in, most_known, most_names, names_in, outside, parameters_from, puts_from, raw_in, returned_by};
-    ghost use Rattle.c_written.specs.Ahead.{ahead};
-    ghost use Rattle.c_written.specs.Functions.{all_declared, all_parameters, functions_of, globals_of, known_in, place_in, puts_of, seen_function, seen_headed, seen_returned, with_source};
+    ghost use Rattle.c_terminals.specs.Ahead.{ahead};
+    ghost use Rattle.c_written.specs.Functions.{all_declared, all_parameters, functions_of, globals_of, known_in, place_in, puts_of, seen_function, seen_gives, seen_headed, seen_returned, with_source};
     ghost use Rattle.c_terminals.specs.Held.{written_all};
     ghost use Rattle.c_terminals.specs.Seen.{seen, seen_all};
 
@@ -353,24 +352,31 @@ impl<'a, 'l> Source<'a, 'l> {
     }
 
     // What is returned by the body that was read.
-    fn returned(&self, alloc: Global, valued: bool) -> Result<Option<Returned<'a, 'l>>, AllocError>
-        ensures { IfOk result (λ o. option_map seen_returned o ≡ returned_by valued (seen_all self.now.body.items)) }
+    fn returned(&self, alloc: Global, gives: Gives) -> Result<Option<Returned<'a, 'l>>, AllocError>
+        ensures { IfOk result (λ o. option_map seen_returned o ≡ returned_by (seen_gives gives) (seen_all self.now.body.items)) }
     {
-        if valued {
-            return returned_in(alloc, &self.body);
+        match gives {
+            Gives::NoValue => Ok(Some(Returned {
+                front: Vec::from_slice(alloc, &self.body)?,
+                value: Vec::new(alloc),
+            })),
+            Gives::AValue => returned_in(alloc, &self.body),
+            Gives::AStatus => match returned_in(alloc, &self.body)? {
+                Some(returned) => Ok(Some(Returned {
+                    front: returned.front,
+                    value: Vec::new(alloc),
+                })),
+                None => Ok(None),
+            },
         }
-        Ok(Some(Returned {
-            front: Vec::from_slice(alloc, &self.body)?,
-            value: Vec::new(alloc),
-        }))
     }
 
     // Behind the last brace of a body. What is no function stays as it is.
     fn close(&mut self, alloc: Global, head: &Headed<'a>) -> Result<(), AllocError>
-        ensures { OnOk result ((go : Onward) → written_all self.old.done.items ++ closed (known_in self.old) (seen_all self.old.raw.items) (added (known_in self.old) (seen_headed head.now) (returned_by head.now.valued (seen_all self.old.body.items))) go ≡
+        ensures { OnOk result ((go : Onward) → written_all self.old.done.items ++ closed (known_in self.old) (seen_all self.old.raw.items) (added (known_in self.old) (seen_headed head.now) (returned_by (seen_gives head.now.gives) (seen_all self.old.body.items))) go ≡
             written_all self.new.done.items ++ go (known_in self.new) (Outside true)) }
     {
-        if let Some(found) = self.returned(alloc, head.valued)? {
+        if let Some(found) = self.returned(alloc, head.gives)? {
             if self.add(alloc, head, &found)? {
                 return Ok(());
             }

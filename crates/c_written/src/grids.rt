@@ -5,19 +5,18 @@ ghost use Rattle.std.specs.Prelude.{◌≡◌, ◌<◌, ◌*◌, ◌^◌, ◌++�
 ghost use Rattle.std.specs.Option.{option_map};
 ghost use Rattle.c_grammar.specs.Functions.{index_len};
 ghost use Rattle.c_grammar.specs.Grids.{declared, declared_as, flat, is_row};
-ghost use Rattle.c_written.specs.Ahead.{ahead};
+ghost use Rattle.c_terminals.specs.Ahead.{ahead};
 ghost use Rattle.c_written.specs.Grids.{seen_array};
 ghost use Rattle.c_terminals.specs.Held.{written_all};
 ghost use Rattle.c_terminals.specs.Seen.{seen_all, seen_terminal};
 
-use crate::ahead::Ahead;
 use crate::calls::index_len;
 use crate::heads::passed;
 use crate::indices::{Ranges, has_second, loop_range, next_seven, second_len};
 use crate::row_sections::line_in_rows;
 use crate::stack::Stack;
 use crate::values::Values;
-use c_terminals::{Terminal, Token, Written, WrittenTerminal};
+use c_terminals::{Ahead, Terminal, Token, Written, WrittenTerminal};
 use c_tokens::Sign;
 use directives::Word;
 use std::alloc::{AllocError, Global};
@@ -147,7 +146,7 @@ impl<'a> Grids<'a> {
     ghost use Rattle.std.specs.Option.{IsSome, option_map};
     ghost use Rattle.c_grammar.specs.Blocks.{is_directive};
     ghost use Rattle.c_grammar.specs.Grids.{closing_on, declared, declared_on, flat_declaration, flat_line, named_on, row_ends, token_on, with_range};
-    ghost use Rattle.c_written.specs.Ahead.{ahead};
+    ghost use Rattle.c_terminals.specs.Ahead.{ahead};
     ghost use Rattle.c_written.specs.Grids.{GoesOn, HasNoted, HasPopped, HasPut, added_len, columns_of, once_or_twice, open_of, row_at, row_on, seen_row, twice_at, with_grids};
     ghost use Rattle.c_written.specs.Indices.{ranges_of};
     ghost use Rattle.c_terminals.specs.Seen.{seen, seen_all, seen_terminal};

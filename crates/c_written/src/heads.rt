@@ -3,12 +3,11 @@
 ghost use Rattle.std.specs.Prelude.{◌≡◌, ◌≤◌, ◌<◌, ◌+◌, ◌^◌, [], length, drop, IfOk, IfSome};
 ghost use Rattle.std.specs.Option.{option_map};
 ghost use Rattle.c_grammar.specs.Functions.{Begins, Wide, behind, behind_name, behind_rows, closing, columns, head_at, headed, is_qualifier, named, no_parameters, parameters, parameters_in};
-ghost use Rattle.c_written.specs.Ahead.{ahead};
-ghost use Rattle.c_written.specs.Functions.{all_declared, seen_headed, seen_sort, seen_step};
+ghost use Rattle.c_terminals.specs.Ahead.{ahead};
+ghost use Rattle.c_written.specs.Functions.{all_declared, seen_gives, seen_headed, seen_sort, seen_step};
 ghost use Rattle.c_terminals.specs.Seen.{seen, seen_terminal};
 
-use crate::ahead::Ahead;
-use c_terminals::{Terminal, Token};
+use c_terminals::{Ahead, Terminal, Token};
 use c_tokens::Sign;
 use directives::Word;
 use std::alloc::{AllocError, Global};
@@ -30,11 +29,21 @@ pub struct Declared<'a> {
     pub sort: Sort,
 }
 
+/// What a function gives.
+#[derive(Clone, Copy)]
+pub enum Gives {
+    NoValue,
+    /// A number of 64 bits.
+    AValue,
+    /// A number of the type `int`, which no call uses.
+    AStatus,
+}
+
 /// The head of a function that is defined.
 #[derive(Drop)]
 pub struct Headed<'a> {
     pub name: &'a [u8],
-    pub valued: bool,
+    pub gives: Gives,
     pub declared: Vec<Declared<'a>>,
     /// How many more tokens the head has, up to the brace.
     pub len: usize,
@@ -306,11 +315,11 @@ pub fn passed<'a, 'l, 's>(start: Ahead<'a, 'l, 's>, len: usize) -> Ahead<'a, 'l,
 
 fn function_head<'a>(
     alloc: Global,
-    valued: bool,
+    gives: Gives,
     start: Ahead<'a, '_, '_>,
 ) -> Result<Option<Headed<'a>>, AllocError>
     requires { length (ahead start) < 2 ^ 63 }
-    ensures { IfOk result (λ o. option_map seen_headed o ≡ headed valued (ahead start.entry)) }
+    ensures { IfOk result (λ o. option_map seen_headed o ≡ headed (seen_gives gives) (ahead start.entry)) }
 {
     let mut ahead = start;
     let Some(first) = ahead.next() else {
@@ -331,7 +340,7 @@ fn function_head<'a>(
     match passed(ahead, len).next() {
         Some(brace) if brace.terminal.is_sign(Sign::OpenBrace) => Ok(Some(Headed {
             name,
-            valued,
+            gives,
             declared,
             len: len + 3,
         })),
@@ -349,10 +358,13 @@ pub fn head_at<'a>(
     ensures { IfOk result (λ o. option_map seen_headed o ≡ head_at (seen token.entry).terminal (ahead rest.entry)) }
 {
     if token.terminal.is_word(Word::Void) {
-        return function_head(alloc, false, rest);
+        return function_head(alloc, Gives::NoValue, rest);
     }
     if token.terminal.is_word(Word::Uint64) {
-        return function_head(alloc, true, rest);
+        return function_head(alloc, Gives::AValue, rest);
+    }
+    if token.terminal.is_word(Word::Int) {
+        return function_head(alloc, Gives::AStatus, rest);
     }
     Ok(None)
 }

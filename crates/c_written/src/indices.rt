@@ -5,16 +5,15 @@ ghost use Rattle.std.specs.Option.{option_map};
 ghost use Rattle.c_grammar.specs.Terminal.{same};
 ghost use Rattle.c_grammar.specs.Functions.{index_len};
 ghost use Rattle.c_grammar.specs.Grids.{has_second, index_in, loop_range, second_len};
-ghost use Rattle.c_written.specs.Ahead.{ahead};
+ghost use Rattle.c_terminals.specs.Ahead.{ahead};
 ghost use Rattle.c_written.specs.Indices.{BeginsWith, bounds, ranges_of, seen_index};
 ghost use Rattle.c_written.specs.Ranges.{seen_range};
 ghost use Rattle.c_terminals.specs.Seen.{seen, seen_all, seen_terminal};
 
-use crate::ahead::Ahead;
 use crate::calls::index_len;
 use crate::heads::passed;
 use crate::range::Range;
-use c_terminals::{Terminal, Token};
+use c_terminals::{Ahead, Terminal, Token};
 use c_tokens::Sign;
 use std::alloc::{AllocError, Global};
 

@@ -1,7 +1,6 @@
 //! The tokens of a source with what C lets be left out.
 #![tactic(auto)]
 
-mod ahead;
 mod allocated;
 mod allocations;
 mod announced;
@@ -29,11 +28,15 @@ mod heads;
 mod indices;
 mod initial;
 mod line_forms;
-mod names;
+mod moves;
 mod nesting;
+mod noted;
 mod operators;
+mod pointed;
+mod pointers;
 mod presence;
 mod prints;
+mod privates;
 mod puts;
 mod range;
 mod reductions;

@@ -131,7 +131,7 @@ fn takes(words: &[PlacedLexeme<'_>], lexeme: Lexeme<'_>) -> bool
             || has(b"simd", words)
             || has(b"loop", words)
     } else {
-        is_name(lexeme, b"firstprivate")
+        is_name(lexeme, b"firstprivate") || is_name(lexeme, b"private")
     }
 }
 
@@ -296,8 +296,8 @@ fn inner_at<'a>(
     Ok(put)
 }
 
-// Adds the tokens of a line with others before its end.
-fn put_before_end<'a>(
+/// Adds the tokens of a line with others before its end.
+pub fn put_before_end<'a>(
     put: &mut Vec<PlacedLexeme<'a>>,
     others: &[PlacedLexeme<'a>],
     tokens: &[PlacedLexeme<'a>],

@@ -6,9 +6,8 @@ ghost use Rattle.c_grammar.specs.Blocks.{bare};
 ghost use Rattle.c_grammar.specs.Prints.{alone, begins_with, is_text, joined_text, one_text, printed, text_len};
 ghost use Rattle.c_terminals.specs.Seen.{seen, seen_all, seen_terminal};
 
-use crate::ahead::Ahead;
 use crate::targets::is_sign;
-use c_terminals::{Terminal, Token};
+use c_terminals::{Ahead, Terminal, Token};
 use c_tokens::Sign;
 use directives::Word;
 use std::alloc::{AllocError, Global};

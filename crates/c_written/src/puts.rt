@@ -1,11 +1,10 @@
 //! Names in the body of a function, and what stands for them.
 
-ghost use Rattle.std.specs.Prelude.{◌≡◌, drop, map, take};
-ghost use Rattle.c_grammar.specs.Constants.{is_among};
+ghost use Rattle.std.specs.Prelude.{◌≡◌, drop, take};
 ghost use Rattle.c_grammar.specs.Functions.{unspelled};
 
 use crate::spots::Spot;
-use c_terminals::{Terminal, Token, Written, WrittenTerminal};
+use c_terminals::{Terminal, Token, Written, WrittenTerminal, is_among};
 use directives::{Lexeme, LineTokens, PlacedLexeme};
 use std::alloc::{AllocError, Global};
 
@@ -48,18 +47,6 @@ pub enum Put<'a> {
 #[derive(Drop)]
 pub struct Puts<'a> {
     pub list: Vec<(&'a [u8], Put<'a>)>,
-}
-
-/// Whether it is one of the names.
-pub fn is_among(names: &[&[u8]], name: &[u8]) -> bool
-    ensures { result ≡ is_among (map (λ x. x.now) names.now) name.now }
-{
-    'names: for own in names {
-        if *own == name {
-            return true;
-        }
-    }
-    false
 }
 
 /// What a name is for which nothing stands: itself where all stay, or where it is known.

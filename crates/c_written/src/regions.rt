@@ -6,11 +6,10 @@ ghost use Rattle.c_grammar.specs.Updates.{are_summed, is_summed};
 ghost use Rattle.c_written.specs.Regions.{mentioned};
 ghost use Rattle.c_terminals.specs.Seen.{seen_all};
 
-use crate::ahead::Ahead;
 use crate::cell_updates::{again_at, is_by, update};
 use crate::changes::is_boundary;
 use crate::presence::{goes_on, opens_part};
-use c_terminals::Token;
+use c_terminals::{Ahead, Token};
 use c_tokens::Sign;
 
 /// A place in a region: how many parts are open, and whether a statement begins.

@@ -6,6 +6,7 @@ ghost use Rattle.c_grammar.specs.Allocations.{allocated};
 ghost use Rattle.c_grammar.specs.Blocks.{in_blocks, nothing_read, typed};
 ghost use Rattle.c_grammar.specs.Boxes.{announced, boxed};
 ghost use Rattle.c_grammar.specs.Changes.{begin, in_full};
+ghost use Rattle.c_grammar.specs.Choices.{chosen};
 ghost use Rattle.c_grammar.specs.Constants.{undefined, worked};
 ghost use Rattle.c_grammar.specs.Counters.{counted};
 ghost use Rattle.c_grammar.specs.Declarations.{Other, settled};
@@ -13,8 +14,11 @@ ghost use Rattle.c_grammar.specs.DeclaredFunctions.{undeclared};
 ghost use Rattle.c_grammar.specs.Functions.{expanded};
 ghost use Rattle.c_grammar.specs.Grids.{flat};
 ghost use Rattle.c_grammar.specs.Initial.{initialized, no_globals};
+ghost use Rattle.c_grammar.specs.Macros.{replaced};
 ghost use Rattle.c_grammar.specs.Nesting.{nested};
+ghost use Rattle.c_grammar.specs.Pointers.{pointed};
 ghost use Rattle.c_grammar.specs.Prints.{printed};
+ghost use Rattle.c_grammar.specs.Privates.{owned};
 ghost use Rattle.c_grammar.specs.Source.{item_of, text_of, written_out};
 ghost use Rattle.c_grammar.specs.Unset.{zeroed};
 ghost use Rattle.c_grammar.specs.Updates.{Outside, commuting};
@@ -34,10 +38,14 @@ use crate::functions::expanded;
 use crate::globals::initialized;
 use crate::grids::flat;
 use crate::nesting::nested;
+use crate::pointed::pointed;
 use crate::prints::printed;
+use crate::privates::owned;
 use crate::types::typed;
 use crate::unset::zeroed;
 use crate::updates::commuting;
+use c_choices::chosen;
+use c_macros::replaced;
 use c_terminals::{Written, WrittenTerminal, borrowed};
 use c_tokens::{Kind, Token, tokens};
 use directives::{LineTokens, word_of};
@@ -95,12 +103,13 @@ fn raw<'a>(alloc: Global, bytes: &'a [u8]) -> Result<Vec<Written<'a>>, AllocErro
 }
 
 /// The tokens with their combined constructs, calls of `printf`, types, blocks, declarations, names of loops and
-/// constants, and without the lines that declare functions.
+/// constants, and without the lines that declare functions and the clauses `private`.
 fn with_constants<'a>(alloc: Global, raw: &[Written<'a>]) -> Result<Vec<Written<'a>>, AllocError>
     ensures { IfOk result (λ v. written_all v.items ≡
-        worked [] [] 0 (settled Other (zeroed (counted (in_blocks nothing_read (undeclared false (typed 0 (printed 0 (nested (written_all raw.now)))))))))) }
+        worked [] [] 0 (settled Other (zeroed (owned (counted (in_blocks nothing_read (undeclared false (typed 0 (printed 0 (nested (replaced (written_all raw.now)))))))))))) }
 {
     let tokens = borrowed(alloc, raw)?;
+    let tokens = replaced(alloc, &tokens)?;
     let tokens = nested(alloc, &tokens)?;
     let tokens = borrowed(alloc, &tokens)?;
     let tokens = printed(alloc, &tokens)?;
@@ -108,19 +117,22 @@ fn with_constants<'a>(alloc: Global, raw: &[Written<'a>]) -> Result<Vec<Written<
     let tokens = undeclared(alloc, &tokens)?;
     let tokens = in_blocks(alloc, &tokens)?;
     let tokens = counted(alloc, &tokens)?;
+    let tokens = owned(alloc, &tokens)?;
+    let tokens = borrowed(alloc, &tokens)?;
     let tokens = zeroed(alloc, &tokens)?;
     let tokens = settled(alloc, &tokens)?;
     worked(alloc, &tokens)
 }
 
-/// The tokens without definitions, arrays of two dimensions, allocations and initializers, with the boxed scalars, the
-/// updates that commute, and with their changes in full.
-fn with_changes<'a>(alloc: Global, worked: &[Written<'a>]) -> Result<Vec<Written<'a>>, AllocError>
+/// The tokens without conditional operators, definitions, arrays of two dimensions, allocations and initializers, with the
+/// boxed scalars, the updates that commute, and with their changes in full.
+fn with_changes<'a>(alloc: Global, called: &[Written<'a>]) -> Result<Vec<Written<'a>>, AllocError>
     ensures { IfOk result (λ v. written_all v.items ≡
         announced (in_full begin 0 (initialized no_globals 0
-        (allocated (commuting Outside (boxed (flat [] [] [] 0 (undefined [] 0 0 (written_all worked.now))))))))) }
+        (allocated (commuting Outside (boxed (flat [] [] [] 0 (undefined [] 0 0 (chosen (written_all called.now)))))))))) }
 {
-    let tokens = borrowed(alloc, worked)?;
+    let tokens = borrowed(alloc, called)?;
+    let tokens = chosen(alloc, &tokens)?;
     let tokens = undefined(alloc, &tokens)?;
     let tokens = flat(alloc, &tokens)?;
     let tokens = borrowed(alloc, &tokens)?;
@@ -135,11 +147,13 @@ fn with_changes<'a>(alloc: Global, worked: &[Written<'a>]) -> Result<Vec<Written
     announced(alloc, &tokens)
 }
 
-/// The tokens with functions expanded.
+/// The tokens with the arrays of global pointers, and with functions expanded.
 fn with_calls<'a>(alloc: Global, worked: &[Written<'a>]) -> Result<Vec<Written<'a>>, AllocError>
-    ensures { IfOk result (λ v. written_all v.items ≡ expanded (written_all worked.now)) }
+    ensures { IfOk result (λ v. written_all v.items ≡ expanded (pointed (written_all worked.now))) }
 {
     let tokens = borrowed(alloc, worked)?;
+    let tokens = pointed(alloc, &tokens)?;
+    let tokens = borrowed(alloc, &tokens)?;
     expanded(alloc, &tokens)
 }
 

@@ -3,11 +3,10 @@
 ghost use Rattle.std.specs.Prelude.{◌≡◌, ◌<◌, ◌^◌, length, MatchOption, false};
 ghost use Rattle.c_grammar.specs.Blocks.{bare};
 ghost use Rattle.c_grammar.specs.Changes.{closes_index, is_mark, is_target, is_target_ended};
-ghost use Rattle.c_written.specs.Ahead.{ahead};
+ghost use Rattle.c_terminals.specs.Ahead.{ahead};
 ghost use Rattle.c_terminals.specs.Seen.{seen, seen_all};
 
-use crate::ahead::Ahead;
-use c_terminals::{Terminal, Token};
+use c_terminals::{Ahead, Terminal, Token};
 use c_tokens::Sign;
 
 /// Whether the tokens are a name, or one with brackets behind it, of which the last ends them.

@@ -5,8 +5,7 @@ ghost use Rattle.c_grammar.specs.Terminal.{Name, same};
 ghost use Rattle.c_grammar.specs.Blocks.{bare, is_long, longs, typed};
 ghost use Rattle.c_terminals.specs.Seen.{seen, seen_all, seen_terminal};
 
-use crate::ahead::Ahead;
-use c_terminals::{Terminal, Token};
+use c_terminals::{Ahead, Terminal, Token};
 use directives::Word;
 use std::alloc::{AllocError, Global};
 

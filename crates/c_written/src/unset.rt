@@ -2,14 +2,13 @@
 
 ghost use Rattle.std.specs.Prelude.{◌≡◌, ◌++◌, IfOk, OnOk};
 ghost use Rattle.c_grammar.specs.Unset.{is_unset, zero_for, zeroed};
-ghost use Rattle.c_written.specs.Ahead.{ahead};
+ghost use Rattle.c_terminals.specs.Ahead.{ahead};
 ghost use Rattle.c_written.specs.Counters.{seen_before};
 ghost use Rattle.c_terminals.specs.Seen.{seen, seen_all};
 
-use crate::ahead::Ahead;
 use crate::boxes::depth_behind;
 use crate::counters::Before;
-use c_terminals::{Terminal, Token};
+use c_terminals::{Ahead, Terminal, Token};
 use c_tokens::Sign;
 use std::alloc::{AllocError, Global};
 

@@ -9,13 +9,11 @@ ghost use Rattle.c_terminals.specs.Held.{seen_written, written_all};
 ghost use Rattle.c_terminals.specs.Seen.{seen, seen_all, seen_terminal};
 ghost use Rattle.c_written.specs.Updates.{line_put};
 
-use crate::ahead::Ahead;
 use crate::atomics::{atomic_line, is_atomic, mark_at};
 use crate::cell_updates::has_update;
-use crate::puts::is_among;
 use crate::reductions::{Construct, is_combined};
 use crate::regions::Place;
-use c_terminals::{Terminal, Token, Written, WrittenTerminal};
+use c_terminals::{Ahead, Terminal, Token, Written, WrittenTerminal, is_among};
 use directives::LineTokens;
 use std::alloc::{AllocError, Global};
 

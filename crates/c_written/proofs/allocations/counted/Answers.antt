@@ -2,7 +2,7 @@ use Rattle.std.proofs.Common.{◌≡◌, ◌∙◌, false, sym}
 use Rattle.std.specs.Prelude.{◌&&◌}
 use Rattle.c_grammar.specs.Allocations.{behind_size, is_ended}
 use Rattle.c_grammar.specs.Constants.{is_mark}
-use Rattle.c_written.specs.Ahead.{ahead}
+use Rattle.c_terminals.specs.Ahead.{ahead}
 use Rattle.c_terminals.specs.Seen.{seen}
 use Rattle.c_written.proofs.Counting.{counted_more, first_not, second_not}
 use Rattle.c_written.proofs.allocations.counted.Goals as goal

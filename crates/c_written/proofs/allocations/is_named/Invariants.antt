@@ -1,6 +1,6 @@
 use Rattle.std.proofs.Common.{◌≡◌, length}
 use Rattle.c_grammar.specs.Allocations.{is_named}
-use Rattle.c_written.specs.Ahead.{ahead}
+use Rattle.c_terminals.specs.Ahead.{ahead}
 use Rattle.c_written.proofs.allocations.is_named.Given as goal
 
 abbrev pub invariant-tokens : goal.invariant-tokens

@@ -1,6 +1,6 @@
 use Rattle.std.proofs.Common.{◌≡◌, length}
 use Rattle.c_grammar.specs.Allocations.{numbered}
-use Rattle.c_written.specs.Ahead.{ahead}
+use Rattle.c_terminals.specs.Ahead.{ahead}
 use Rattle.c_written.proofs.allocations.numbered.Given as goal
 
 abbrev pub invariant-numbers : goal.invariant-numbers

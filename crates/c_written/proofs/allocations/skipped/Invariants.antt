@@ -1,6 +1,6 @@
 use Rattle.std.proofs.Common.{◌≡◌, length, map}
 use Rattle.c_grammar.specs.Allocations.{skipped}
-use Rattle.c_written.specs.Ahead.{ahead}
+use Rattle.c_terminals.specs.Ahead.{ahead}
 use Rattle.c_terminals.specs.Seen.{seen_terminal}
 use Rattle.c_written.proofs.allocations.skipped.Given as goal
 

@@ -1,6 +1,6 @@
 use Rattle.std.proofs.Common.{◌≡◌, length, take}
 use Rattle.c_grammar.specs.Blocks.{bare, in_blocks, nothing_read}
-use Rattle.c_written.specs.Ahead.{next_of}
+use Rattle.c_terminals.specs.Ahead.{next_of}
 use Rattle.c_terminals.specs.Seen.{seen_all}
 use Rattle.c_written.specs.Passes.{with_blocks}
 use Rattle.c_written.proofs.blocks.in_blocks.Given as goal

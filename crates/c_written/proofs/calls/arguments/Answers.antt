@@ -7,7 +7,7 @@ use Rattle.c_grammar.specs.Texts.{Item}
 use Rattle.c_grammar.specs.Changes.{is_boundary, is_mark}
 use Rattle.c_grammar.specs.Blocks.{Items}
 use Rattle.c_grammar.specs.Functions.{arguments, closes, opens}
-use Rattle.c_written.specs.Ahead.{ahead}
+use Rattle.c_terminals.specs.Ahead.{ahead}
 use Rattle.c_terminals.specs.Seen.{seen, seen_all}
 use Rattle.c_terminals.proofs.Lists.{seen_more}
 use Rattle.c_written.proofs.CallSteps.{arguments_bounded, arguments_closed, arguments_end, arguments_more, arguments_next, arguments_opened, arguments_over, arguments_stopped}

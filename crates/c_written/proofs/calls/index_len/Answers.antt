@@ -1,6 +1,6 @@
 use Rattle.std.proofs.Common.{◌∙◌, length, ap, sym, arith}
 use Rattle.c_grammar.specs.Blocks.{Items}
-use Rattle.c_written.specs.Ahead.{ahead}
+use Rattle.c_terminals.specs.Ahead.{ahead}
 use Rattle.c_terminals.specs.Seen.{seen}
 use Rattle.c_written.proofs.CallSteps.{index_bounded, index_closed, index_end, index_more, index_opened, index_over}
 use Rattle.c_written.proofs.calls.index_len.Goals as goal

@@ -1,6 +1,6 @@
 use Rattle.std.proofs.Common.{◌≡◌, ◌+◌, ◌≤◌, length}
 use Rattle.c_grammar.specs.Functions.{index_len}
-use Rattle.c_written.specs.Ahead.{ahead}
+use Rattle.c_terminals.specs.Ahead.{ahead}
 use Rattle.c_written.proofs.calls.index_len.Given as goal
 
 abbrev pub invariant-tokens : goal.invariant-tokens

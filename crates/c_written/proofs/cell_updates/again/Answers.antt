@@ -1,5 +1,5 @@
 use Rattle.std.proofs.Common.{◌∙◌, None, Some, take, sym}
-use Rattle.c_written.specs.Ahead.{ahead}
+use Rattle.c_terminals.specs.Ahead.{ahead}
 use Rattle.c_terminals.specs.Seen.{seen}
 use Rattle.c_written.proofs.CellUpdating.{sign_again}
 use Rattle.c_written.proofs.cell_updates.again.Goals as goal

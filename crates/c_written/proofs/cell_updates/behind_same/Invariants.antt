@@ -1,5 +1,5 @@
 use Rattle.std.proofs.Common.{◌≡◌, take}
-use Rattle.c_written.specs.Ahead.{ahead}
+use Rattle.c_terminals.specs.Ahead.{ahead}
 use Rattle.c_written.specs.CellUpdates.{rest_behind}
 use Rattle.c_written.proofs.cell_updates.behind_same.Given as goal
 

@@ -3,7 +3,7 @@ use Rattle.std.proofs.lemmas.List.{length-map}
 use Rattle.directives.specs.Seen.{is_whole, seen_placed}
 use Rattle.directives.specs.Ahead.{seen_line}
 use Rattle.c_written.specs.Clauses.{seen_scope}
-use Rattle.c_written.specs.Names.{seen_names}
+use Rattle.c_terminals.specs.Names.{seen_names}
 use Rattle.c_written.specs.Values.{seen_values}
 use Rattle.c_written.proofs.Outcomes.{same_if_ok}
 use Rattle.c_written.proofs.WholeClauses.{whole_clauses, short_line, front_two}

@@ -1,7 +1,7 @@
 use Rattle.std.proofs.Common.{◌≡◌, length}
 use Rattle.c_grammar.specs.Blocks.{bare}
 use Rattle.c_grammar.specs.Counters.{Other, found, nothing_found}
-use Rattle.c_written.specs.Ahead.{ahead}
+use Rattle.c_terminals.specs.Ahead.{ahead}
 use Rattle.c_written.specs.Counters.{seen_before, seen_found}
 use Rattle.c_terminals.specs.Seen.{seen_all}
 use Rattle.c_written.proofs.counters.scanned.Given as goal

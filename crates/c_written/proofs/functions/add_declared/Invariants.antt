@@ -2,7 +2,7 @@ use Rattle.std.proofs.Common.{◌≡◌, ◌++◌, [], length, map}
 use Rattle.std.specs.Prelude.{if◌then◌else◌}
 use Rattle.c_grammar.specs.Blocks.{bare}
 use Rattle.c_grammar.specs.Functions.{declared_in, name_in}
-use Rattle.c_written.specs.Ahead.{ahead}
+use Rattle.c_terminals.specs.Ahead.{ahead}
 use Rattle.c_terminals.specs.Seen.{seen_all}
 use Rattle.c_written.proofs.functions.add_declared.Given as goal
 

@@ -1,5 +1,5 @@
 use Rattle.std.proofs.Common.{◌∙◌, sym}
-use Rattle.c_written.specs.Ahead.{ahead}
+use Rattle.c_terminals.specs.Ahead.{ahead}
 use Rattle.c_terminals.specs.Seen.{seen}
 use Rattle.c_written.proofs.Sourcing.{static_first}
 use Rattle.c_written.proofs.functions.has_function.Goals as goal

@@ -2,7 +2,7 @@ use Rattle.std.proofs.Common.{◌≡◌, length}
 use Rattle.std.specs.Prelude.{◌||◌}
 use Rattle.c_grammar.specs.Blocks.{bare}
 use Rattle.c_grammar.specs.Functions.{has_function, is_static}
-use Rattle.c_written.specs.Ahead.{ahead}
+use Rattle.c_terminals.specs.Ahead.{ahead}
 use Rattle.c_terminals.specs.Seen.{seen_all}
 use Rattle.c_written.proofs.functions.has_function.Given as goal
 

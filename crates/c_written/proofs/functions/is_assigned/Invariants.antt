@@ -1,7 +1,7 @@
 use Rattle.std.proofs.Common.{◌≡◌, ◌∷◌, length}
 use Rattle.c_grammar.specs.Blocks.{bare}
 use Rattle.c_grammar.specs.Functions.{is_assigned}
-use Rattle.c_written.specs.Ahead.{ahead}
+use Rattle.c_terminals.specs.Ahead.{ahead}
 use Rattle.c_terminals.specs.Seen.{seen, seen_all}
 use Rattle.c_written.proofs.functions.is_assigned.Given as goal
 

@@ -1,6 +1,6 @@
 use Rattle.std.proofs.Common.{◌∙◌, ◌++◌, ◌-◌, ap, sym, take}
 use Rattle.c_grammar.specs.Blocks.{Items}
-use Rattle.c_written.specs.Ahead.{ahead}
+use Rattle.c_terminals.specs.Ahead.{ahead}
 use Rattle.c_terminals.specs.Held.{written_all}
 use Rattle.c_terminals.specs.Seen.{seen}
 use Rattle.c_written.proofs.Flattening.{take_next}

@@ -1,5 +1,5 @@
 use Rattle.std.proofs.Common.{◌≡◌, drop}
-use Rattle.c_written.specs.Ahead.{ahead}
+use Rattle.c_terminals.specs.Ahead.{ahead}
 use Rattle.c_written.proofs.heads.passed.Given as goal
 
 abbrev pub invariant-tokens : goal.invariant-tokens

@@ -1,6 +1,6 @@
 use Rattle.std.proofs.Common.{◌≡◌, ◌+◌, length}
 use Rattle.c_grammar.specs.Grids.{index_from, index_in}
-use Rattle.c_written.specs.Ahead.{ahead}
+use Rattle.c_terminals.specs.Ahead.{ahead}
 use Rattle.c_written.specs.Indices.{ranges_of}
 use Rattle.c_written.specs.Ranges.{seen_range}
 use Rattle.c_written.proofs.indices.index_in.Given as goal

@@ -1,6 +1,6 @@
 use Rattle.std.proofs.Common.{◌∙◌, ◌+◌, ap, sym, arith, rules}
 use Rattle.c_grammar.specs.Initial.{list_initial}
-use Rattle.c_written.specs.Ahead.{ahead}
+use Rattle.c_terminals.specs.Ahead.{ahead}
 use Rattle.c_terminals.specs.Seen.{seen, seen_all}
 use Rattle.c_written.proofs.Setting.{list_more}
 use Rattle.c_written.proofs.initial.list_initial.Goals as goal

@@ -1,6 +1,6 @@
 use Rattle.std.proofs.Common.{◌≡◌, ◌+◌, ◌≤◌, length}
 use Rattle.c_grammar.specs.Changes.{closes_index}
-use Rattle.c_written.specs.Ahead.{ahead}
+use Rattle.c_terminals.specs.Ahead.{ahead}
 use Rattle.c_written.proofs.targets.closes_index.Given as goal
 
 abbrev pub invariant-tokens : goal.invariant-tokens

@@ -2,7 +2,7 @@ use Rattle.std.proofs.Common.{◌<◌, ◌^◌, ◌∙◌, List, ap, length, rul
 use Rattle.c_grammar.specs.Lexeme.{Placed}
 use Rattle.c_grammar.specs.Updates.{is_atomic, is_combined}
 use Rattle.directives.specs.Spells.{kinds_of}
-use Rattle.c_written.specs.Ahead.{ahead}
+use Rattle.c_terminals.specs.Ahead.{ahead}
 use Rattle.c_terminals.specs.Seen.{seen_all}
 use Rattle.c_written.proofs.CommutingLines.{atomic_put, combined_put}
 use Rattle.c_written.proofs.Summing.{few_tokens}

@@ -1,6 +1,6 @@
 use Rattle.std.proofs.Common.{◌∙◌, sym, ap}
 use Rattle.c_grammar.specs.Constants.{Names, is_among}
-use Rattle.c_written.proofs.Among.{all_names, among_is, among_not}
+use Rattle.c_terminals.proofs.Among.{all_names, among_is, among_not}
 use Rattle.c_written.proofs.allocated.Allocations.is_array.Goals as goal
 use Rattle.c_written.proofs.allocated.Allocations.is_array.Goals.{then-eq, else-eq}
 

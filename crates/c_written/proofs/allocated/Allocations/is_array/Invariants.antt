@@ -1,6 +1,6 @@
 use Rattle.std.proofs.Common.{◌≡◌, take}
 use Rattle.c_grammar.specs.Constants.{is_among}
-use Rattle.c_written.proofs.Among.{names_in}
+use Rattle.c_terminals.proofs.Among.{names_in}
 use Rattle.c_written.proofs.allocated.Allocations.is_array.Given as goal
 
 abbrev pub invariant-names : goal.invariant-names

@@ -1,6 +1,6 @@
 use Rattle.std.proofs.Common.{◌∙◌, ◌++◌, Bool, false, ap, sym}
 use Rattle.c_grammar.specs.Blocks.{Items, bare, in_blocks, plain, with_open}
-use Rattle.c_written.specs.Ahead.{next_of}
+use Rattle.c_terminals.specs.Ahead.{next_of}
 use Rattle.c_terminals.specs.Seen.{seen, seen_all}
 use Rattle.c_written.specs.Passes.{levels_of, reading}
 use Rattle.c_written.proofs.Blocking.{begins_is, begins_not, blocks_line, blocks_other, line_next, on_ok, parted_is, parted_not}

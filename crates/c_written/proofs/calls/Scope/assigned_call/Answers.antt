@@ -1,6 +1,6 @@
 use Rattle.std.proofs.Common.{◌≡◌, ◌∙◌, ◌+◌, ◌<◌, length, Some, sym, arith, rules}
 use Rattle.c_grammar.specs.Functions.{call, left_len}
-use Rattle.c_written.specs.Ahead.{ahead}
+use Rattle.c_terminals.specs.Ahead.{ahead}
 use Rattle.c_written.specs.Functions.{functions_of, globals_of, seen_expanded}
 use Rattle.c_terminals.specs.Seen.{seen_all}
 use Rattle.c_written.proofs.CallLefts.{left_called, left_more, left_short}

@@ -2,7 +2,8 @@ use Rattle.std.proofs.Common.{◌∙◌, List, ◌∷◌, map, ap}
 use Rattle.c_terminals.specs.declared.token.Terminal.{Terminal as Given}
 use Rattle.c_terminals.specs.Seen.{seen_terminal}
 use Rattle.c_written.specs.Past.{past_of}
-use Rattle.c_written.specs.Names.{seen_names, with_name}
+use Rattle.c_terminals.specs.Names.{seen_names}
+use Rattle.c_written.specs.Names.{with_name}
 use Rattle.c_written.specs.Values.{seen_values}
 use Rattle.c_written.specs.Constants.{with_constant}
 use Rattle.c_written.proofs.Blocking.{on_ok}

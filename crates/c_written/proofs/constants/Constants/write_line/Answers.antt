@@ -1,5 +1,5 @@
 use Rattle.directives.specs.Ahead.{seen_line}
-use Rattle.c_written.specs.Names.{seen_names}
+use Rattle.c_terminals.specs.Names.{seen_names}
 use Rattle.c_written.specs.Past.{past_of}
 use Rattle.c_written.specs.Values.{seen_values}
 use Rattle.c_written.specs.Constants.{behind}

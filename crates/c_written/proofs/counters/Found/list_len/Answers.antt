@@ -1,5 +1,5 @@
 use Rattle.std.proofs.Common.{rules, ◌≡◌, ◌∙◌, sym}
-use Rattle.c_written.specs.Ahead.{ahead}
+use Rattle.c_terminals.specs.Ahead.{ahead}
 use Rattle.c_written.specs.Counters.{seen_found}
 use Rattle.c_terminals.specs.Seen.{seen}
 use Rattle.c_written.proofs.Recounting.{list_goes}

@@ -2,7 +2,7 @@ use Rattle.std.proofs.Common.{◌≡◌, ◌∙◌, ◌+◌, ◌&&◌, None, Som
 use Rattle.std.specs.Prelude.{if◌then◌else◌}
 use Rattle.c_tokens.specs.declared.kind.Sign.TheVariants as sign
 use Rattle.c_grammar.specs.Constants.{enumerators_len, is_free, is_mark}
-use Rattle.c_written.specs.Ahead.{ahead}
+use Rattle.c_terminals.specs.Ahead.{ahead}
 use Rattle.c_written.specs.Definitions.{names_of}
 use Rattle.c_terminals.specs.Seen.{seen}
 use Rattle.c_written.proofs.Enumerating.{and_false, and_true, four_less, last_one, named_len, one_more}

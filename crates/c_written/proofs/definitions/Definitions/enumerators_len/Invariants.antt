@@ -1,6 +1,6 @@
 use Rattle.std.proofs.Common.{◌≡◌, ◌+◌, ◌≤◌, length}
 use Rattle.c_grammar.specs.Constants.{enumerators_len}
-use Rattle.c_written.specs.Ahead.{ahead}
+use Rattle.c_terminals.specs.Ahead.{ahead}
 use Rattle.c_written.specs.Definitions.{names_of}
 use Rattle.c_written.proofs.definitions.Definitions.enumerators_len.Given as goal
 

@@ -7,7 +7,7 @@ use Rattle.c_grammar.specs.Grids.{declared, flat_declaration}
 use Rattle.c_grammar.specs.Terminal.{Terminal, Num}
 use Rattle.c_grammar.specs.Texts.{Item}
 use Rattle.c_terminals.specs.declared.token.Token.{Token}
-use Rattle.c_written.specs.Ahead.{ahead}
+use Rattle.c_terminals.specs.Ahead.{ahead}
 use Rattle.c_written.specs.Grids.{HasPut}
 use Rattle.c_terminals.specs.Seen.{columns_in, seen}
 use Rattle.c_written.proofs.Flattening.{number_alone, put_more}

@@ -1,7 +1,7 @@
 use Rattle.std.proofs.Common.{◌∙◌, None, Some, ap, sym}
 use Rattle.std.specs.Option.{option_map}
 use Rattle.std.proofs.lemmas.Result.{on_ok_weaker}
-use Rattle.c_written.specs.Ahead.{ahead}
+use Rattle.c_terminals.specs.Ahead.{ahead}
 use Rattle.c_written.specs.Grids.{seen_row}
 use Rattle.c_terminals.specs.Seen.{seen}
 use Rattle.c_written.proofs.Flattening.{name_goes, row_goes}

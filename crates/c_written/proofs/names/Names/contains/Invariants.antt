@@ -1,7 +1,0 @@
-use Rattle.std.proofs.Common.{◌≡◌, take}
-use Rattle.c_grammar.specs.Constants.{is_among}
-use Rattle.c_written.proofs.Among.{names_in}
-use Rattle.c_written.proofs.names.Names.contains.Given as goal
-
-abbrev pub invariant-names : goal.invariant-names
-invariant-names l = l.found ≡ is_among (names_in (take l.own-index l.self.names.items)) l.name

@@ -1,0 +1,13 @@
+use Rattle.std.proofs.Common.{◌≡◌, ◌++◌, length}
+use Rattle.c_grammar.specs.Privates.{noted}
+use Rattle.c_terminals.specs.Held.{written_all}
+use Rattle.c_terminals.specs.Seen.{seen_all}
+use Rattle.c_written.specs.Boxes.{texts}
+use Rattle.c_written.proofs.noted.noted.Given as goal
+
+abbrev pub invariant-tokens : goal.invariant-tokens
+invariant-tokens l =
+    written_all l.done.items ++ noted (texts l.names) (seen_all l.rest) ≡ noted (texts l.names) (seen_all l.fn.tokens)
+
+abbrev pub decreases-tokens : goal.decreases-tokens
+decreases-tokens l = length l.rest

@@ -1,0 +1,16 @@
+use Rattle.std.proofs.Common.{◌≡◌, ◌+◌, ◌≤◌, [], length}
+use Rattle.c_grammar.specs.Blocks.{bare}
+use Rattle.c_grammar.specs.Privates.{declared}
+use Rattle.c_terminals.specs.Ahead.{ahead}
+use Rattle.c_terminals.specs.Names.{seen_names}
+use Rattle.c_terminals.specs.Seen.{seen_all}
+use Rattle.c_written.proofs.privates.declared.Given as goal
+
+abbrev pub invariant-tokens : goal.invariant-tokens
+invariant-tokens l = record {
+  same : declared (seen_names l.names) l.depth (ahead l.ahead) ≡ declared [] 0 (bare (seen_all l.tokens));
+  few : l.depth + length (ahead l.ahead) ≤ length (bare (seen_all l.tokens));
+}
+
+abbrev pub decreases-tokens : goal.decreases-tokens
+decreases-tokens l = length (ahead l.ahead)
