@@ -17,7 +17,13 @@ pub returns-in-Ok-clause-found : goal.returns-in-Ok-clause-found
 returns-in-Ok-clause-found c = grind (arith, spells)
 
 pub returns-in-Err-Fault-clause-fault : goal.returns-in-Err-Fault-clause-fault
-returns-in-Err-Fault-clause-fault c = grind (arith, is_first)
+returns-in-Err-Fault-clause-fault c =
+    let short : length c.args.bytes.now ≤ max_source = omega arith in
+    is_first c.args.bytes.now c.in-Err-Fault.fault short
+    (subst (λ (e : ReadError). Failed e (run begin start (items_of c.args.bytes.now))) c.in-Err-Fault.field-0-is c.in-Err-Fault.ensures.read)
 
 pub returns-in-Err-Fault-clause-unspelled : goal.returns-in-Err-Fault-clause-unspelled
-returns-in-Err-Fault-clause-unspelled c = grind (arith, no_text)
+returns-in-Err-Fault-clause-unspelled c =
+    let short : length c.args.bytes.now ≤ max_source = omega arith in
+    no_text c.args.bytes.now c.in-Err-Fault.fault short
+    (subst (λ (e : ReadError). Failed e (run begin start (items_of c.args.bytes.now))) c.in-Err-Fault.field-0-is c.in-Err-Fault.ensures.read)
