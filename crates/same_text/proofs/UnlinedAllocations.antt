@@ -9,7 +9,7 @@ use Rattle.c_grammar.specs.Texts.{Item}
 use Rattle.c_grammar.specs.Blocks.{Items, at, is_directive, bare}
 use Rattle.c_grammar.specs.Constants.{Names, is_among, is_mark, malloc_word, calloc_word}
 use Rattle.c_grammar.specs.Initial.{value_of}
-use Rattle.c_grammar.specs.Allocations.{guarded_reading, skipped, either, type_size, cell_size, open_size, behind_size, ends_call, is_ended, times, counted_on, counted, numbered_on, numbered, numbered_behind, first_number, product, Cells, told, asked, called, cast, or_all, Allocation, with_cells, allocates, allocation, declaration, is_named, frees, is_freed, Reading, nothing_read, passed, kept, entered, opened, closed, allotted, max_arrays, given_up, is_allowed, by_allocation, begins_main, at_statement, taken, next, all_read, joined, allocated}
+use Rattle.c_grammar.specs.Allocations.{guarded_reading, skipped, either, type_size, cell_size, open_size, behind_size, ends_call, is_ended, times, counted_on, counted, numbered_on, numbered, numbered_behind, first_number, product, Cells, told, asked, called, cast, or_all, Allocation, with_cells, allocates, allocation, declaration, is_named, freed_name, freed, is_one, is_freed, Reading, nothing_read, passed, kept, entered, opened, closed, allotted, max_arrays, given_up, is_allowed, by_allocation, begins_main, at_statement, taken, next, all_read, joined, allocated}
 use Rattle.same_text.specs.Laws.{unlined}
 use Rattle.c_grammar.specs.Presence.{guarded}
 use Rattle.same_text.proofs.UnlinedPresence.{guarded_unlined}
@@ -101,7 +101,7 @@ product_same x is =
 
 -- ---- allocations
 
-abbrev cells_unlined : Option Cells → Option Cells
+abbrev pub cells_unlined : Option Cells → Option Cells
 cells_unlined None = None
 cells_unlined (Some c) = Some (record { place = unlined c.place; number = c.number })
 
@@ -137,14 +137,14 @@ behind_cast_same x is =
     ap (called x) (ap (λ (o : Option Items). or_all o (all_unlined is)) (skipped_same cast is) ∙ all_same (skipped cast is) is)
     ∙ called_same x (or_all (skipped cast is) is)
 
-abbrev array_unlined : Allocation → Allocation
+abbrev pub array_unlined : Allocation → Allocation
 array_unlined a = record {
   name = a.name;
   named = unlined a.named;
   cells = record { place = unlined a.cells.place; number = a.cells.number };
 }
 
-abbrev allocation_unlined : Option Allocation → Option Allocation
+abbrev pub allocation_unlined : Option Allocation → Option Allocation
 allocation_unlined None = None
 allocation_unlined (Some a) = Some (array_unlined a)
 
@@ -153,7 +153,7 @@ cells_same : (x : List ℕ) (i : Item Terminal) (o : Option Cells) →
 cells_same x i None = refl
 cells_same x i (Some c) = refl
 
-allocates_same : (i : Item Terminal) (t : Terminal) (is : Items) →
+pub allocates_same : (i : Item Terminal) (t : Terminal) (is : Items) →
     allocates (unlined i) t (all_unlined is) ≡ allocation_unlined (allocates i t is)
 allocates_same i (Name x) is =
     ap (with_cells x (unlined i)) (behind_cast_same x is) ∙ cells_same x i (called x (or_all (skipped cast is) is))
@@ -185,24 +185,29 @@ named_same : (x : List ℕ) (is : Items) → is_named x (all_unlined is) ≡ is_
 named_same x [] = refl
 named_same x (i ∷ is) = ap (λ (b : Bool). same (Name x) i.terminal || b) (named_same x is)
 
-frees_same : (names : Names) (t : Terminal) (is : Items) → frees names t (all_unlined is) ≡ frees names t is
-frees_same names (Name x) is = ap (λ (b : Bool). is_among names x && not b) (named_same x is)
-frees_same names (Fixed w) is = refl
-frees_same names (Mark m) is = refl
-frees_same names (Num n) is = refl
-frees_same names (Line ts) is = refl
-frees_same names Unknown is = refl
-frees_same names Unworked is = refl
-frees_same names End is = refl
+freed_name_same : (t : Terminal) (is : Items) → freed_name t (all_unlined is) ≡ freed_name t is
+freed_name_same (Name x) is = ap (λ (b : Bool). cond b None (Some x)) (named_same x is)
+freed_name_same (Fixed w) is = refl
+freed_name_same (Mark m) is = refl
+freed_name_same (Num n) is = refl
+freed_name_same (Line ts) is = refl
+freed_name_same Unknown is = refl
+freed_name_same Unworked is = refl
+freed_name_same End is = refl
 
-freed_same : (names : Names) (f : Item Terminal) (is : Items) → is_freed names (unlined f) (all_unlined is) ≡ is_freed names f is
-freed_same names f [] = refl
-freed_same names f (o ∷ []) = refl
-freed_same names f (o ∷ x ∷ []) = refl
-freed_same names f (o ∷ x ∷ b ∷ []) = refl
-freed_same names f (o ∷ x ∷ b ∷ s ∷ is) =
-    ap (λ (c : Bool). same (Name (codes "free")) f.terminal && is_mark sign.OpenParen o && ends_call (b ∷ s ∷ is) && c)
-    (frees_same names x.terminal is)
+pub freed_same : (f : Item Terminal) (is : Items) → freed (unlined f) (all_unlined is) ≡ freed f is
+freed_same f [] = refl
+freed_same f (o ∷ []) = refl
+freed_same f (o ∷ x ∷ []) = refl
+freed_same f (o ∷ x ∷ b ∷ []) = refl
+freed_same f (o ∷ x ∷ b ∷ s ∷ is) =
+    ap (λ (n : Option (List ℕ)). cond
+    (same (Name (codes "free")) f.terminal && is_mark sign.OpenParen o && ends_call (b ∷ s ∷ is)) n None)
+    (freed_name_same x.terminal is)
+
+is_freed_same : (names : Names) (f : Item Terminal) (is : Items) →
+    is_freed names (unlined f) (all_unlined is) ≡ is_freed names f is
+is_freed_same names f is = ap (is_one names) (freed_same f is)
 
 -- ---- all tokens
 
@@ -257,7 +262,7 @@ statement_same i is (Some a) r =
     pick (is_allowed a r) _ (allotted i a r) (given_up i r) _ _ (allowed_same a r) (allotted_same i a r)
     (kept_same i (record r { inside = false }))
 statement_same i is None r =
-    pick (is_freed r.names i is) _ (opened i r) (kept i r) _ _ (freed_same r.names i is) (opened_same i r) (kept_same i r)
+    pick (is_freed r.names i is) _ (opened i r) (kept i r) _ _ (is_freed_same r.names i is) (opened_same i r) (kept_same i r)
 
 pub main_same : (i : Item Terminal) (is : Items) → begins_main (unlined i) (all_unlined is) ≡ begins_main i is
 main_same i [] = refl

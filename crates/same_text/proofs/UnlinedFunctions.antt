@@ -3,13 +3,13 @@ use Rattle.std.proofs.Common.{◌≡◌, ℕ, zero, suc, ◌+◌, ◌-◌, Bool,
 use Rattle.std.specs.Prelude.{◌&&◌, ◌||◌, not, nat_lt, codes}
 use Rattle.std.specs.Option.{option_map}
 use Rattle.c_tokens.specs.declared.kind.Sign.TheVariants as sign
-use Rattle.c_grammar.specs.Lexeme.{Uint64, Void}
+use Rattle.c_grammar.specs.Lexeme.{Int, Uint64, Void}
 use Rattle.c_grammar.specs.Terminal.{Terminal, Fixed, Mark, Name, Num, Line, Unknown, Unworked, End, same}
 use Rattle.c_grammar.specs.Texts.{Item}
 use Rattle.c_grammar.specs.Blocks.{Items, is_directive, bare}
 use Rattle.c_grammar.specs.Changes.{is_mark, is_boundary}
 use Rattle.c_grammar.specs.Constants.{Names, is_among, is_name, worked}
-use Rattle.c_grammar.specs.Functions.{array_names, Declared, Function, Functions, Head, Begins, Headed, Known, Onward, Others, Parameter, Parameters, Puts, Returned, Step, Goes, Adds, Closes, Stops, Where, Outside, InHead, InBody, added, called, closed, declared_in, declares, defined, expanded, function_with, has_function, has_value, head_at, headed, headed_by, headed_on, headed_or, in_body, in_head, is_assigned, is_assigning, is_main, is_specifier, is_static, is_step, is_type, known_names, line_in, may_be_added, most_known, most_lines, most_names, name_in, names_in, no_parameters, nothing_known, opens_body, other_name, out_of_body, outside, parameter_on, parameters, parameters_from, parameters_in, plain, put_all, puts_from, raw_in, returned, returned_by, specifies, token_in, unspelled, value_at, value_ended, behind, with_function, with_name}
+use Rattle.c_grammar.specs.Functions.{array_names, Declared, Function, Functions, Head, Begins, Headed, Known, Onward, Others, Parameter, Parameters, Puts, Returned, Step, Goes, Adds, Closes, Stops, Where, Outside, InHead, InBody, added, called, closed, declared_in, declares, defined, expanded, function_with, has_function, has_value, head_at, headed, headed_by, headed_on, headed_or, in_body, in_head, is_assigned, is_assigning, is_main, is_specifier, is_static, is_step, is_type, known_names, line_in, may_be_added, most_known, most_lines, most_names, name_in, names_in, no_parameters, nothing_known, opens_body, other_name, out_of_body, outside, parameter_on, parameters, parameters_from, parameters_in, plain, put_all, puts_from, raw_in, returned, returned_by, specifies, token_in, unspelled, value_at, value_ended, behind, with_function, with_name, Gives, NoValue, AValue, AStatus, without_value}
 use Rattle.same_text.specs.Laws.{unlined}
 use Rattle.c_grammar.specs.Presence.{guarded}
 use Rattle.same_text.proofs.UnlinedPresence.{guarded_unlined}
@@ -54,37 +54,39 @@ brace_same (i ∷ is) = refl
 opens_same : (k : ℕ) (is : Items) → opens_body k (all_unlined is) ≡ opens_body k is
 opens_same k is = ap (opens_body 0) (drop_unlined k is) ∙ brace_same (drop k is)
 
-on_same : (x : List ℕ) (valued : Bool) (is : Items) (o : Parameters) →
-    headed_on x valued (all_unlined is) o ≡ headed_on x valued is o
-on_same x valued is None = refl
-on_same x valued is (Some p) =
-    ap (λ (b : Bool). cond b (Some (record { name = x; valued = valued; declared = p.0; len = 3 + p.1 })) None)
+on_same : (x : List ℕ) (gives : Gives) (is : Items) (o : Parameters) →
+    headed_on x gives (all_unlined is) o ≡ headed_on x gives is o
+on_same x gives is None = refl
+on_same x gives is (Some p) =
+    ap (λ (b : Bool). cond b (Some (record { name = x; gives = gives; declared = p.0; len = 3 + p.1 })) None)
     (opens_same p.1 is)
 
-by_same : (t : Terminal) (valued : Bool) (o : Item Terminal) (is : Items) →
-    headed_by t valued (unlined o) (all_unlined is) ≡ headed_by t valued o is
-by_same (Name x) valued o is =
+by_same : (t : Terminal) (gives : Gives) (o : Item Terminal) (is : Items) →
+    headed_by t gives (unlined o) (all_unlined is) ≡ headed_by t gives o is
+by_same (Name x) gives o is =
     ap (λ (h : Option Headed). cond (is_mark sign.OpenParen o) h None)
-    (ap (λ (n : Option ℕ). headed_on x valued (all_unlined is) (parameters_in n (all_unlined is))) (none_same is)
-    ∙ ap (headed_on x valued (all_unlined is)) (all_same (no_parameters is) is)
-    ∙ on_same x valued is (parameters_in (no_parameters is) is))
-by_same (Fixed w) valued o is = refl
-by_same (Mark s) valued o is = refl
-by_same (Num n) valued o is = refl
-by_same (Line ts) valued o is = refl
-by_same Unknown valued o is = refl
-by_same Unworked valued o is = refl
-by_same End valued o is = refl
+    (ap (λ (n : Option ℕ). headed_on x gives (all_unlined is) (parameters_in n (all_unlined is))) (none_same is)
+    ∙ ap (headed_on x gives (all_unlined is)) (all_same (no_parameters is) is)
+    ∙ on_same x gives is (parameters_in (no_parameters is) is))
+by_same (Fixed w) gives o is = refl
+by_same (Mark s) gives o is = refl
+by_same (Num n) gives o is = refl
+by_same (Line ts) gives o is = refl
+by_same Unknown gives o is = refl
+by_same Unworked gives o is = refl
+by_same End gives o is = refl
 
-headed_same : (valued : Bool) (is : Items) → headed valued (all_unlined is) ≡ headed valued is
-headed_same valued [] = refl
-headed_same valued (x ∷ []) = refl
-headed_same valued (x ∷ o ∷ is) = by_same x.terminal valued o is
+headed_same : (gives : Gives) (is : Items) → headed gives (all_unlined is) ≡ headed gives is
+headed_same gives [] = refl
+headed_same gives (x ∷ []) = refl
+headed_same gives (x ∷ o ∷ is) = by_same x.terminal gives o is
 
 head_same : (t : Terminal) (is : Items) → head_at t (all_unlined is) ≡ head_at t is
 head_same t is =
-    ap₂ (λ (g h : Option Headed). cond (same (Fixed Void) t) g (cond (same (Fixed Uint64) t) h None))
-    (headed_same false is) (headed_same true is)
+    ap₂ (λ (g h : Option Headed). cond (same (Fixed Void) t) g (cond (same (Fixed Uint64) t) h
+    (cond (same (Fixed Int) t) (headed AStatus (all_unlined is)) None))) (headed_same NoValue is) (headed_same AValue is)
+    ∙ ap (λ (g : Option Headed). cond (same (Fixed Void) t) (headed NoValue is) (cond (same (Fixed Uint64) t) (headed AValue is)
+    (cond (same (Fixed Int) t) g None))) (headed_same AStatus is)
 
 -- ---- names
 
@@ -237,10 +239,15 @@ returned_same (i ∷ is) front =
     picked returned_unlined (same (Name (codes "return")) i.terminal) _ _ _ _ (value_same is front [])
     (ap (λ (v : Items). returned v (all_unlined is)) (more_unlined front i) ∙ returned_same is (front ++ i ∷ []))
 
-returned_by_same : (valued : Bool) (body : Items) →
-    ReturnsSame (returned_by valued (all_unlined body)) (returned_by valued body)
-returned_by_same true body = returned_same body []
-returned_by_same false body = refl
+without_same : (o o' : Option Returned) → ReturnsSame o' o → ReturnsSame (without_value o') (without_value o)
+without_same None o' h = ap without_value h
+without_same (Some r) o' h = ap without_value h
+
+returned_by_same : (gives : Gives) (body : Items) →
+    ReturnsSame (returned_by gives (all_unlined body)) (returned_by gives body)
+returned_by_same NoValue body = refl
+returned_by_same AValue body = returned_same body []
+returned_by_same AStatus body = without_same (returned [] body) (returned [] (all_unlined body)) (returned_same body [])
 
 -- ---- the source
 
@@ -314,8 +321,8 @@ module _ (go go' : Onward) (r : GoesSame go' go) where
       (out_of_body k h raw body depth i go)
   out_same k h raw body zero i =
       ap (λ (o : Option Known). closed (known_unlined k) (all_unlined raw) o go')
-      (ap (added (known_unlined k) h) (returned_by_same h.valued body) ∙ added_same k h (returned_by h.valued body))
-      ∙ closed_same k raw (added k h (returned_by h.valued body))
+      (ap (added (known_unlined k) h) (returned_by_same h.gives body) ∙ added_same k h (returned_by h.gives body))
+      ∙ closed_same k raw (added k h (returned_by h.gives body))
   out_same k h raw body (suc d) i = body_more k h raw body i d 0
 
   in_body_same : (k : Known) (h : Headed) (raw body : Items) (depth : ℕ) (i : Item Terminal) →

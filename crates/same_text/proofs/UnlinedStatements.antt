@@ -1,16 +1,16 @@
 -- Statements are written in full without a look at the lines of the tokens.
 use Rattle.std.proofs.Common.{◌≡◌, ℕ, Bool, true, false, cond, [], ◌∷◌, ◌++◌, Option, Some, None, refl, ap, ◌∙◌}
-use Rattle.std.specs.Prelude.{◌&&◌, codes}
+use Rattle.std.specs.Prelude.{◌&&◌, codes, nat_lt}
 use Rattle.c_tokens.specs.declared.kind.Sign.{Sign}
 use Rattle.c_tokens.specs.declared.kind.Sign.TheVariants as sign
-use Rattle.c_grammar.specs.Lexeme.{For, Void}
+use Rattle.c_grammar.specs.Lexeme.{For, Int, Void}
 use Rattle.c_grammar.specs.Terminal.{Terminal, Fixed, Mark, Name, same}
 use Rattle.c_grammar.specs.Texts.{Item}
 use Rattle.c_grammar.specs.Blocks.{Items, at}
-use Rattle.c_grammar.specs.Changes.{is_mark, Kind, With, ByNumber, ByOne, kind_of, is_target_ended, reversed, is_target, Outside, InHead, Grouped, Behind, State, Onward, is_boundary, in_state, kept, first_of, is_number_ended, is_ended, assigned, grouped, one_at, changed, at_front, by_target, is_empty, by_kind, is_main, is_last_return, outside}
+use Rattle.c_grammar.specs.Changes.{is_mark, Kind, With, ByNumber, ByOne, kind_of, is_target_ended, reversed, is_target, Outside, InHead, Grouped, Behind, State, Onward, is_boundary, in_state, kept, first_of, is_number_ended, is_ended, assigned, grouped, one_at, changed, at_front, by_target, is_empty, by_kind, is_main, is_last_return, has_words, words_len, outside}
 use Rattle.same_text.specs.Laws.{unlined}
 use Rattle.same_text.proofs.Unlined.{all_unlined, AreUnlined, either, one, some}
-use Rattle.same_text.proofs.UnlinedTargets.{target_ended_same, reversed_same, target_same, first_same, number_ended_same, ended_same, empty_same, main_same, return_same}
+use Rattle.same_text.proofs.UnlinedTargets.{target_ended_same, reversed_same, target_same, first_same, number_ended_same, ended_same, empty_same, main_same, return_same, words_same}
 
 abbrev pub state_unlined : State → State
 state_unlined s = record { place = s.place; since = all_unlined s.since }
@@ -87,10 +87,16 @@ module _ (go go' : Onward) (r : GoesSame go' go) where
       AreUnlined (outside (unlined i) (all_unlined is) (state_unlined s) go') (outside i is s go)
   outside_same i is s =
       either (same (Fixed For) i.terminal) _ _ _ _ _ refl (one i _ _ (r (in_state (InHead 0) []) 0))
+      (either (has_words i is s) _ _ _ _ _
+      (ap (λ (b : Bool). same (Fixed Int) i.terminal && b && nat_lt 0 (words_len (all_unlined is))) (main_same s.since)
+      ∙ ap (λ (k : ℕ). same (Fixed Int) i.terminal && is_main s.since && nat_lt 0 k) (words_same is))
+      (one (at i (Fixed Void)) (go (in_state Outside (i ∷ s.since)) (words_len is)) _
+      (ap (λ (k : ℕ). go' (in_state Outside (unlined i ∷ all_unlined s.since)) k) (words_same is)
+      ∙ r (in_state Outside (i ∷ s.since)) (words_len is)))
       (either (is_mark sign.CloseParen i && is_main s.since) _ _ _ _ _
       (ap (λ (b : Bool). is_mark sign.CloseParen i && b) (main_same s.since))
       (one (at i (Fixed Void)) (kept i s go) _ (kept_same i s))
       (either (same (Name (codes "return")) i.terminal && is_empty s.since && is_last_return is) _ _ _ _ _
       (ap (λ (b : Bool). same (Name (codes "return")) i.terminal && b && is_last_return (all_unlined is)) (empty_same s.since)
       ∙ ap (λ (b : Bool). same (Name (codes "return")) i.terminal && is_empty s.since && b) (return_same is))
-      (r s 2) (kind_same i (kind_of i.terminal) is s)))
+      (r s 2) (kind_same i (kind_of i.terminal) is s))))

@@ -1,11 +1,11 @@
 -- What is assigned, and what follows, is found without a look at the lines of the tokens.
-use Rattle.std.proofs.Common.{◌≡◌, ℕ, ◌+◌, ◌-◌, Bool, true, false, cond, [], ◌∷◌, refl, ap, ◌∙◌}
-use Rattle.std.specs.Prelude.{◌&&◌, ◌||◌, not, nat_le}
+use Rattle.std.proofs.Common.{◌≡◌, ℕ, ◌+◌, ◌-◌, Bool, true, false, cond, [], ◌∷◌, refl, ap, ap₂, ◌∙◌}
+use Rattle.std.specs.Prelude.{◌&&◌, ◌||◌, codes, not, nat_le}
 use Rattle.c_tokens.specs.declared.kind.Sign.TheVariants as sign
-use Rattle.c_grammar.specs.Terminal.{Terminal}
+use Rattle.c_grammar.specs.Terminal.{Terminal, Name, same}
 use Rattle.c_grammar.specs.Texts.{Item}
 use Rattle.c_grammar.specs.Blocks.{Items}
-use Rattle.c_grammar.specs.Changes.{is_mark, is_name, closes_index, is_target_ended, reversed, is_cell, is_target, first_of, is_number_ended, is_ended, is_empty, is_main, is_last_return, closes_head, is_name_closed, limit_behind}
+use Rattle.c_grammar.specs.Changes.{is_mark, is_name, closes_index, is_target_ended, reversed, is_cell, is_target, first_of, is_number_ended, is_ended, is_empty, is_main, is_last_return, closes_head, is_name_closed, limit_behind, is_pointed, is_bracketed, vector_len, words_len}
 use Rattle.same_text.specs.Laws.{unlined}
 use Rattle.same_text.proofs.Unlined.{all_unlined}
 
@@ -86,6 +86,34 @@ return_same (n ∷ s ∷ b ∷ i ∷ is) = refl
 pub head_closed_same : (is : Items) → closes_head (all_unlined is) ≡ closes_head is
 head_closed_same [] = refl
 head_closed_same (i ∷ is) = refl
+
+pointed_same : (is : Items) → is_pointed (all_unlined is) ≡ is_pointed is
+pointed_same [] = refl
+pointed_same (p ∷ []) = refl
+pointed_same (p ∷ x ∷ []) = refl
+pointed_same (p ∷ x ∷ b ∷ is) = refl
+
+bracketed_same : (is : Items) → is_bracketed (all_unlined is) ≡ is_bracketed is
+bracketed_same [] = refl
+bracketed_same (x ∷ []) = refl
+bracketed_same (x ∷ o ∷ []) = refl
+bracketed_same (x ∷ o ∷ c ∷ []) = refl
+bracketed_same (x ∷ o ∷ c ∷ b ∷ is) = refl
+
+vector_same : (is : Items) → vector_len (all_unlined is) ≡ vector_len is
+vector_same is =
+    ap₂ (λ (p b : Bool). cond p 6 (cond b 7 0)) (pointed_same is) (bracketed_same is)
+
+-- the words of the command
+pub words_same : (is : Items) → words_len (all_unlined is) ≡ words_len is
+words_same [] = refl
+words_same (x ∷ []) = refl
+words_same (x ∷ c ∷ []) = refl
+words_same (x ∷ c ∷ t ∷ []) = refl
+words_same (x ∷ c ∷ t ∷ p ∷ is) =
+    ap (λ (n : ℕ). cond
+    (is_name x.terminal && is_mark sign.Comma c && same (Name (codes "char")) t.terminal && is_mark sign.Star p) n 0)
+    (vector_same is)
 
 pub name_closed_same : (is : Items) → is_name_closed (all_unlined is) ≡ is_name_closed is
 name_closed_same [] = refl

@@ -7,25 +7,33 @@ use Rattle.c_grammar.specs.Blocks.{Items, nothing_read, in_blocks, typed}
 use Rattle.c_grammar.specs.Changes.{begin, in_full}
 use Rattle.c_grammar.specs.Constants.{undefined, worked}
 use Rattle.c_grammar.specs.Functions.{expanded}
+use Rattle.c_grammar.specs.Pointers.{pointed}
+use Rattle.c_grammar.specs.Choices.{chosen}
 use Rattle.c_grammar.specs.Grids.{flat}
 use Rattle.c_grammar.specs.Counters.{counted}
+use Rattle.c_grammar.specs.Privates.{owned}
 use Rattle.c_grammar.specs.Unset.{zeroed}
 use Rattle.c_grammar.specs.Declarations.{Other, settled}
 use Rattle.c_grammar.specs.Updates.{Outside, commuting}
 use Rattle.c_grammar.specs.Initial.{initialized, no_globals}
 use Rattle.c_grammar.specs.Nesting.{nested}
+use Rattle.c_grammar.specs.Macros.{replaced}
 use Rattle.c_grammar.specs.DeclaredFunctions.{undeclared}
 use Rattle.c_grammar.specs.Prints.{printed}
 use Rattle.c_grammar.specs.Source.{written_out}
 use Rattle.erasure.proofs.Spelled.{kinds_in}
 use Rattle.same_text.proofs.Unlined.{all_unlined, AreUnlined, typed_unlined, blocks_unlined}
 use Rattle.same_text.proofs.UnlinedNesting.{nested_unlined}
+use Rattle.same_text.proofs.UnlinedMacros.{replaced_unlined}
 use Rattle.same_text.proofs.UnlinedDeclaredFunctions.{undeclared_unlined}
 use Rattle.same_text.proofs.UnlinedPrints.{printed_unlined}
 use Rattle.same_text.proofs.UnlinedConstants.{worked_unlined}
 use Rattle.same_text.proofs.UnlinedFunctions.{expanded_unlined}
+use Rattle.same_text.proofs.UnlinedPointers.{pointed_unlined}
+use Rattle.same_text.proofs.UnlinedChoices.{chosen_unlined}
 use Rattle.same_text.proofs.UnlinedGrids.{flat_unlined}
 use Rattle.same_text.proofs.UnlinedCounters.{counted_unlined, zeroed_unlined}
+use Rattle.same_text.proofs.UnlinedPrivates.{owned_unlined}
 use Rattle.same_text.proofs.UnlinedDeclarations.{settled_unlined}
 use Rattle.same_text.proofs.UnlinedBoxes.{announced_unlined, boxed_unlined}
 use Rattle.same_text.proofs.UnlinedUpdates.{commuting_unlined}
@@ -46,35 +54,44 @@ later_unlined is =
 
 written_unlined : (is : Items) → AreUnlined (written_out (all_unlined is)) (written_out is)
 written_unlined is =
-    let n : Items = nested is in
+    let m : Items = replaced is in
+    let n : Items = nested m in
     let p : Items = printed 0 n in
     let a : Items = typed 0 p in
     let u : Items = undeclared false a in
     let b : Items = in_blocks nothing_read u in
     let l : Items = counted b in
-    let d : Items = settled Other (zeroed l) in
+    let o : Items = owned l in
+    let d : Items = settled Other (zeroed o) in
     let c : Items = worked [] [] 0 d in
-    let f : Items = expanded c in
+    let q : Items = pointed c in
+    let e : Items = expanded q in
+    let f : Items = chosen e in
     let g : Items = flat [] [] [] 0 (undefined [] 0 0 f) in
     let later : Items → Items = λ js. announced (in_full begin 0 (initialized no_globals 0 (allocated js))) in
     let since_boxes : Items → Items = λ js. later (commuting Outside js) in
     let since_updates : Items → Items = λ js. since_boxes (boxed js) in
     let since_grids : Items → Items = λ js. since_updates (flat [] [] [] 0 js) in
     let since_defined : Items → Items = λ js. since_grids (undefined [] 0 0 js) in
-    let since_declared : Items → Items = λ js. since_defined (expanded (worked [] [] 0 js)) in
+    let since_declared : Items → Items = λ js. since_defined (chosen (expanded (pointed (worked [] [] 0 js)))) in
     let since_zeroed : Items → Items = λ js. since_declared (settled Other js) in
-    let since_blocks : Items → Items = λ js. since_zeroed (zeroed (counted js)) in
+    let since_counted : Items → Items = λ js. since_zeroed (zeroed (owned js)) in
+    let since_blocks : Items → Items = λ js. since_counted (counted js) in
     let since_typed : Items → Items = λ js. since_blocks (in_blocks nothing_read (undeclared false js)) in
-    ap (λ (js : Items). since_typed (typed 0 (printed 0 js))) (nested_unlined is)
+    ap (λ (js : Items). since_typed (typed 0 (printed 0 (nested js)))) (replaced_unlined is)
+    ∙ ap (λ (js : Items). since_typed (typed 0 (printed 0 js))) (nested_unlined m)
     ∙ ap (λ (js : Items). since_typed (typed 0 js)) (printed_unlined n 0)
     ∙ ap since_typed (typed_unlined p 0)
     ∙ ap (λ (js : Items). since_blocks (in_blocks nothing_read js)) (undeclared_unlined a false)
     ∙ ap since_blocks (blocks_unlined u nothing_read)
-    ∙ ap (λ (js : Items). since_zeroed (zeroed js)) (counted_unlined b)
-    ∙ ap since_zeroed (zeroed_unlined l)
-    ∙ ap since_declared (settled_unlined (zeroed l) Other)
-    ∙ ap (λ (js : Items). since_defined (expanded js)) (worked_unlined d [] [] 0)
-    ∙ ap since_defined (expanded_unlined c)
+    ∙ ap since_counted (counted_unlined b)
+    ∙ ap (λ (js : Items). since_zeroed (zeroed js)) (owned_unlined l)
+    ∙ ap since_zeroed (zeroed_unlined o)
+    ∙ ap since_declared (settled_unlined (zeroed o) Other)
+    ∙ ap (λ (js : Items). since_defined (chosen (expanded (pointed js)))) (worked_unlined d [] [] 0)
+    ∙ ap (λ (js : Items). since_defined (chosen (expanded js))) (pointed_unlined c)
+    ∙ ap (λ (js : Items). since_defined (chosen js)) (expanded_unlined q)
+    ∙ ap since_defined (chosen_unlined e)
     ∙ ap since_grids (undefined_unlined f [] 0 0)
     ∙ ap since_updates (flat_unlined (undefined [] 0 0 f) [] [] [] 0)
     ∙ ap since_boxes (boxed_unlined g)
