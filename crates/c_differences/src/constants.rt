@@ -5,7 +5,7 @@ use base::tree::Place;
 use c_tokens::{Kind, Sign, Token, Tokens};
 use std::alloc::{AllocError, Global};
 
-// A constant, and the type of its number in C.
+// A constant or a macro, and the type of its numbers in C.
 #[derive(Clone, Copy)]
 struct Constant<'a> {
     name: &'a [u8],
@@ -49,17 +49,31 @@ fn type_of_name(constants: &[Constant<'_>], name: &[u8]) -> Option<Type> {
     None
 }
 
+// The type of a number, or of a constant; of another token that of the smallest numbers.
+fn type_of_token(bytes: &[u8], constants: &[Constant<'_>], token: &Token) -> Type {
+    match token.kind {
+        Kind::Number(n) => type_of_text(text_of(bytes, token), n),
+        Kind::Name => type_of_name(constants, text_of(bytes, token)).unwrap_or(Type::Int),
+        _ => Type::Int,
+    }
+}
+
+// The common type of the numbers and the constants of a text.
+fn type_of_all(bytes: &[u8], constants: &[Constant<'_>]) -> Type {
+    let mut ctype = Type::Int;
+    'tokens: for token in Tokens::new(bytes) {
+        ctype = ctype.common(type_of_token(bytes, constants, &token));
+    }
+    ctype
+}
+
 // The common type of the numbers and the constants of an expression, up to the bracket that closes its first one.
 fn type_of_group(bytes: &[u8], constants: &[Constant<'_>], tokens: Tokens<'_>) -> Type {
     let mut ctype = Type::Int;
     let mut depth = 0u32;
     'tokens: for token in tokens {
+        ctype = ctype.common(type_of_token(bytes, constants, &token));
         match token.kind {
-            Kind::Number(n) => ctype = ctype.common(type_of_text(text_of(bytes, &token), n)),
-            Kind::Name => {
-                let named = type_of_name(constants, text_of(bytes, &token));
-                ctype = ctype.common(named.unwrap_or(Type::Int));
-            }
             Kind::Sign(Sign::OpenParen) => depth = depth.saturating_add(1),
             Kind::Sign(Sign::CloseParen) => depth = depth.saturating_sub(1),
             _ => {}
@@ -86,6 +100,16 @@ fn definition_on(line: &[u8]) -> Option<(&[u8], &[u8])> {
     ))
 }
 
+// What stands behind the first closing bracket.
+fn behind_bracket(text: &[u8]) -> &[u8] {
+    'tokens: for token in Tokens::new(text) {
+        if let Kind::Sign(Sign::CloseParen) = token.kind {
+            return text.get(token.last.saturating_add(1)..).unwrap_or(&[]);
+        }
+    }
+    &[]
+}
+
 impl<'a> Numbers<'a> {
     /// The numbers of a source.
     pub fn new(alloc: Global, bytes: &'a [u8]) -> Result<Numbers<'a>, AllocError> {
@@ -107,10 +131,14 @@ impl<'a> Numbers<'a> {
         Ok(())
     }
 
-    // The constant of a line.
+    // The constant of a line, or the macro, whose numbers stand at the place of its name where it is used.
     fn define_on(&mut self, token: Token) -> Result<(), AllocError> {
         let line = text_of(self.bytes, &token);
         if let Some((name, text)) = definition_on(line) {
+            if text.first() == Some(&b'(') {
+                let ctype = type_of_all(behind_bracket(text), &self.constants);
+                return self.add(name, ctype);
+            }
             let ctype = type_of_group(text, &self.constants, Tokens::new(text));
             self.add(name, ctype)?;
         }

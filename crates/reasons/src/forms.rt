@@ -28,7 +28,8 @@ const CONSTANT: &str =
 const ENUMERATION: &str =
     "an enumeration is `enum { A = NUM, B = NUM };` before `main`: each of its names has a value, a constant expression";
 
-const POINTER: &str = "there are no pointers: an array is a global, `uint64_t A[4];`";
+const POINTER: &str =
+    "there are no pointers: an array is a global, `uint64_t A[4];`, or `uint64_t *A;` that `main` assigns once, `A = malloc(4 * sizeof(uint64_t));`";
 
 const ALLOCATION: &str =
     "an array is a global, `uint64_t A[4];`, or `main` allocates it, outside of its blocks, with a number of cells that is a product of constants: `uint64_t *A = malloc(4 * sizeof(uint64_t));`";
@@ -309,7 +310,9 @@ fn foreign_byte(around: &Around<'_>) -> Option<&'static str> {
         return Some("a directive stands on one line: join its lines");
     }
     if word == "?" {
-        return Some("there is no `? :`: write `if (c) { x = a; } else { x = b; }`");
+        return Some(
+            "`? :` stands in the value or on the left of an assignment, in an initializer in a block, and in what is printed: elsewhere write `if (c) { x = a; } else { x = b; }`",
+        );
     }
     if word == "\"" || word == "'" {
         return Some("there are no texts: `print(e);` writes a number");

@@ -1,7 +1,8 @@
 // Which form is read where a line that begins with `#` has another one.
 
 use crate::around::Around;
-use crate::forms::{PARTS, is_one_of};
+use crate::forms::{PARTS, Telling, is_one_of, with_help};
+use base::fault::ReadCode;
 
 /// What a bound of a section is.
 pub const BOUND: &str =
@@ -31,7 +32,7 @@ fn behind_name(rest: &[u8]) -> &[u8] {
 fn definition(rest: &[u8]) -> &'static str {
     let behind = behind_name(rest);
     if behind.first() == Some(&b'(') {
-        return "no macro with parameters is read: write its text in each place of its name";
+        return "of a macro with parameters the text is one of C's tokens with its brackets closed, and each use has as many arguments: where one macro is not so, none is read";
     }
     if behind.trim_ascii().is_empty() {
         return "a constant has a value, `#define N 8`: take the line away, or write one";
@@ -61,8 +62,18 @@ pub fn unknown_directive(around: &Around<'_>) -> Option<&'static str> {
     None
 }
 
-/// Of what is no clause.
-pub fn unknown_clause(around: &Around<'_>) -> Option<&'static str> {
+/// Of what is no clause. The word `target` stands for a clause that is missing on its line.
+pub fn no_clause(around: &Around<'_>) -> Telling {
+    if around.word == "target" {
+        return Telling {
+            said: "has turns that share a scalar which each of them assigns before all else",
+            help: "name the scalar on this line, `private(t)`, or declare it in the loop",
+        };
+    }
+    with_help(ReadCode::UnknownClause, unknown_clause(around))
+}
+
+fn unknown_clause(around: &Around<'_>) -> Option<&'static str> {
     let word = around.word;
     if word == "," {
         return Some("a comma stands between two clauses alone: take it away");
@@ -83,6 +94,11 @@ pub fn unknown_clause(around: &Around<'_>) -> Option<&'static str> {
     if around.is_behind(b"atomic".as_slice()) {
         return Some(
             "behind `atomic` or `atomic update` stands a statement that changes one cell: `A[e] op= x;`, `A[e]++;` or `A[e] = A[e] op x;`",
+        );
+    }
+    if word == "private" {
+        return Some(
+            "`private` is left out where the loop declares its names, or assigns a scalar before all else that is declared before it without a value, `uint64_t t;`",
         );
     }
     if is_one_of(word, &SHARING) {

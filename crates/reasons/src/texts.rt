@@ -63,7 +63,7 @@ fn telling_of(bytes: &[u8], code: ReadCode, around: &Around<'_>) -> Telling {
         ReadCode::ClauseCount => forms::clause_count(around),
         ReadCode::Unexpected => with_help(code, unexpected(bytes, around)),
         ReadCode::UnknownDirective => with_help(code, lines::unknown_directive(around)),
-        ReadCode::UnknownClause => with_help(code, lines::unknown_clause(around)),
+        ReadCode::UnknownClause => lines::no_clause(around),
         ReadCode::BadBound => with_help(code, lines::bad_bound(around)),
         _ => with_help(code, None),
     }
