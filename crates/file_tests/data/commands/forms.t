@@ -75,9 +75,9 @@ forms/else_alone.c:3:8: help: an `else` stands right behind the body of an `if`
 [1]
 $ ompc explain forms/choice.c
 forms/choice.c:3:7: error: `?` begins no token [E101]
-    3 | x = x ? 1 : 2;
+    3 | if (x ? 1 : 2) { x = 3; }
       |       ^
-forms/choice.c:3:7: help: there is no `? :`: write `if (c) { x = a; } else { x = b; }`
+forms/choice.c:3:7: help: `? :` stands in the value or on the left of an assignment, in an initializer in a block, and in what is printed: elsewhere write `if (c) { x = a; } else { x = b; }`
 ! E101 line 3 column 7
 [1]
 
@@ -214,14 +214,14 @@ $ ompc explain forms/pointer.c
 forms/pointer.c:1:10: error: `*` cannot stand here [E102]
     1 | uint64_t *p;
       |          ^
-forms/pointer.c:1:10: help: there are no pointers: an array is a global, `uint64_t A[4];`
+forms/pointer.c:1:10: help: there are no pointers: an array is a global, `uint64_t A[4];`, or `uint64_t *A;` that `main` assigns once, `A = malloc(4 * sizeof(uint64_t));`
 ! E102 line 1 column 10
 [1]
 $ ompc explain forms/address.c
 forms/address.c:3:5: error: `&` cannot stand here [E102]
     3 | x = &y;
       |     ^
-forms/address.c:3:5: help: there are no pointers: an array is a global, `uint64_t A[4];`
+forms/address.c:3:5: help: there are no pointers: an array is a global, `uint64_t A[4];`, or `uint64_t *A;` that `main` assigns once, `A = malloc(4 * sizeof(uint64_t));`
 ! E102 line 3 column 5
 [1]
 $ ompc explain forms/constant.c
@@ -363,9 +363,9 @@ forms/macro.c:1:2: help: a constant is defined once, as a number, a constant or 
 [1]
 $ ompc explain forms/macro_with_parameters.c
 forms/macro_with_parameters.c:1:2: error: `define` begins no directive that is read [E201]
-    1 | #define N(x) 4
+    1 | #define N(x) #x
       |  ^~~~~~
-forms/macro_with_parameters.c:1:2: help: no macro with parameters is read: write its text in each place of its name
+forms/macro_with_parameters.c:1:2: help: of a macro with parameters the text is one of C's tokens with its brackets closed, and each use has as many arguments: where one macro is not so, none is read
 ! E201 line 1 column 2
 [1]
 $ ompc explain forms/no_value.c

@@ -52,3 +52,36 @@ pointer_read_too_early.c:14:1: help: this change is accepted
 +    #pragma omp target update from(cells[0:4])
 ! E506 item 3 cells[0]
 [1]
+
+# global pointers, functions that give a status, the words of main
+$ ompc run global_pointers.c
+0
+$ ompc list global_pointers.c
+0 host
+1 target unordered to a[0:8] to b[0:64] tofrom c[0:8]
+2 host
+$ ompc explain global_pointer_not_mapped.c
+global_pointer_not_mapped.c:22:15: error: the target uses `b`, a pointer in C, which it names in no `map` clause, and b[0:64] is not on device 0 [E509]
+   22 |   #pragma omp target map(to: a[0:C]) map(tofrom: c[0:C]) device(0)
+      |               ^~~~~~
+global_pointer_not_mapped.c:27:17: note: `b` is used here: a target maps no pointer by itself
+   27 |         c[i] += b[j + i * C] * a[j];
+      |                 ^~~~~~~~~~~~
+global_pointer_not_mapped.c:22:15: help: name it on this line, as by `map(tofrom: b[0:64])`, or enter it before
+   22 |   #pragma omp target map(to: a[0:C]) map(tofrom: c[0:C]) device(0)
+      |               ^~~~~~
+global_pointer_not_mapped.c:22:1: help: this change is accepted
+--- global_pointer_not_mapped.c
++++ global_pointer_not_mapped.c
+@@ -22 +22 @@
+-  #pragma omp target map(to: a[0:C]) map(tofrom: c[0:C]) device(0)
++  #pragma omp target map(to: a[0:C]) map(tofrom: c[0:C], b[0:64]) device(0)
+! E509 item 1 b[0]
+[1]
+$ ompc explain global_pointer_given_twice.c
+global_pointer_given_twice.c:1:10: error: `*` cannot stand here [E102]
+    1 | uint64_t *a;
+      |          ^
+global_pointer_given_twice.c:1:10: help: there are no pointers: an array is a global, `uint64_t A[4];`, or `uint64_t *A;` that `main` assigns once, `A = malloc(4 * sizeof(uint64_t));`
+! E102 line 1 column 10
+[1]

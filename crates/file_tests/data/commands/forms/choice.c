@@ -1,4 +1,4 @@
 uint64_t x;
 int main(void) {
-x = x ? 1 : 2;
+if (x ? 1 : 2) { x = 3; }
 }

@@ -1,4 +1,4 @@
-#define N(x) 4
+#define N(x) #x
 int main(void) {
 
 }

@@ -1,0 +1,6 @@
+uint64_t A[8];
+int main(void) {
+uint64_t t;
+#pragma omp target teams distribute parallel for
+for (int i = 0; i < 8; i++) { t = A[i]; A[i] = t * t; }
+}
