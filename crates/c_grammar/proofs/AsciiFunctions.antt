@@ -35,7 +35,7 @@ all_low [] e = tt
 all_low (b ∷ bs) e =
     let h = both_true (nat_lt b 128) (list_all (λ b. nat_lt b 128) bs) e in (low_byte b h.0, all_low bs h.1)
 
-take_low : (n : ℕ) (bs : List ℕ) → AreLow bs → AreLow (take n bs)
+pub take_low : (n : ℕ) (bs : List ℕ) → AreLow bs → AreLow (take n bs)
 take_low zero bs h = tt
 take_low (suc n) [] h = tt
 take_low (suc n) (b ∷ bs) h = (h.0, take_low n bs h.1)

@@ -1,6 +1,6 @@
--- Where arrays of two dimensions are written out, no name changes.
+-- Where arrays of two dimensions and of three are written out, no name changes.
 use Rattle.std.proofs.Common.{ℕ, zero, suc, ◌*◌, Bool, true, false, cond, [], ◌∷◌, take, drop, Option, Some, None}
-use Rattle.std.specs.Prelude.{◌&&◌}
+use Rattle.std.specs.Prelude.{◌&&◌, ◌||◌}
 use Rattle.c_tokens.specs.declared.kind.Sign.TheVariants as sign
 use Rattle.c_grammar.specs.Lexeme.{Uint64}
 use Rattle.c_grammar.specs.Terminal.{Terminal, Fixed, Mark, Name, Num, Line, Unknown, Unworked, End, same}
@@ -32,25 +32,25 @@ declared_text gs rs os i is None go h p r = (h, r _ _ _ _)
 declared_text gs rs os i is (Some d) go h p r =
     (h, both_text (flat_declaration (d.rows * d.columns) is) _ (declaration_text (d.rows * d.columns) is p) (r _ _ _ _))
 
-grid_text : (gs : Grids) (rs : Ranges) (os : Open) (i : Item Terminal) (is : Items) (m : Option ℕ) (go : Onward) →
-    IsAsciiTerminal i.terminal → AreItemsText is → AreText go → AreItemsText (grid_on gs rs os i is m go)
-grid_text gs rs os i [] m go h p r = (h, r _ _ _ _)
-grid_text gs rs os i (o ∷ is) None go h p r = (h, r _ _ _ _)
-grid_text gs rs os i (o ∷ is) (Some m) go h p r =
+grid_text : (deep : Bool) (gs : Grids) (rs : Ranges) (os : Open) (i : Item Terminal) (is : Items) (m : Option ℕ) (go : Onward) →
+    IsAsciiTerminal i.terminal → AreItemsText is → AreText go → AreItemsText (grid_on deep gs rs os i is m go)
+grid_text deep gs rs os i [] m go h p r = (h, r _ _ _ _)
+grid_text deep gs rs os i (o ∷ is) None go h p r = (h, r _ _ _ _)
+grid_text deep gs rs os i (o ∷ is) (Some m) go h p r =
     chosen_text (is_mark sign.OpenBracket o && has_second rs m (o ∷ is) (index_len 0 0 (o ∷ is))) _ _
     (h, both_text (row_begins m o) (go gs rs (Some m ∷ os) 1) (p.0, (tt, (tt, (tt, tt)))) (r _ _ _ _))
-    (chosen_text (is_mark sign.OpenBracket o && is_row (o ∷ is) (index_len 0 0 (o ∷ is))) _ _ (h, (h, r _ _ _ _)) (h, r _ _ _ _))
+    (chosen_text (is_mark sign.OpenBracket o && (deep || is_row (o ∷ is) (index_len 0 0 (o ∷ is)))) _ _ (h, (h, r _ _ _ _)) (h, r _ _ _ _))
 
-named_text : (gs : Grids) (rs : Ranges) (os : Open) (i : Item Terminal) (t : Terminal) (is : Items) (go : Onward) →
-    IsAsciiTerminal i.terminal → AreItemsText is → AreText go → AreItemsText (named_on gs rs os i t is go)
-named_text gs rs os i (Name x) is go h p r = grid_text gs rs os i is (value_of gs x) go h p r
-named_text gs rs os i (Line ts) is go h p r = (h, r _ _ _ _)
-named_text gs rs os i (Fixed w) is go h p r = (h, r _ _ _ _)
-named_text gs rs os i (Mark s) is go h p r = (h, r _ _ _ _)
-named_text gs rs os i (Num n) is go h p r = (h, r _ _ _ _)
-named_text gs rs os i Unknown is go h p r = (h, r _ _ _ _)
-named_text gs rs os i Unworked is go h p r = (h, r _ _ _ _)
-named_text gs rs os i End is go h p r = (h, r _ _ _ _)
+named_text : (deep : Bool) (gs : Grids) (rs : Ranges) (os : Open) (i : Item Terminal) (t : Terminal) (is : Items) (go : Onward) →
+    IsAsciiTerminal i.terminal → AreItemsText is → AreText go → AreItemsText (named_on deep gs rs os i t is go)
+named_text deep gs rs os i (Name x) is go h p r = grid_text deep gs rs os i is (value_of gs x) go h p r
+named_text deep gs rs os i (Line ts) is go h p r = (h, r _ _ _ _)
+named_text deep gs rs os i (Fixed w) is go h p r = (h, r _ _ _ _)
+named_text deep gs rs os i (Mark s) is go h p r = (h, r _ _ _ _)
+named_text deep gs rs os i (Num n) is go h p r = (h, r _ _ _ _)
+named_text deep gs rs os i Unknown is go h p r = (h, r _ _ _ _)
+named_text deep gs rs os i Unworked is go h p r = (h, r _ _ _ _)
+named_text deep gs rs os i End is go h p r = (h, r _ _ _ _)
 
 added_text : (gs : Grids) (rs : Ranges) (os : Open) (i : Item Terminal) (is : Items) (k : Option ℕ) (go : Onward) →
     IsAsciiTerminal i.terminal → AreItemsText is → AreText go → AreItemsText (added_on gs rs os i is k go)
@@ -65,18 +65,18 @@ closing_text gs rs [] i is go h p r = (h, r _ _ _ _)
 closing_text gs rs (None ∷ os) i is go h p r = (h, r _ _ _ _)
 closing_text gs rs (Some m ∷ os) i is go h p r = added_text gs rs os i is (second_len rs m is) go h p r
 
-token_text : (gs : Grids) (rs : Ranges) (os : Open) (i : Item Terminal) (is : Items) (go : Onward) →
-    IsAsciiTerminal i.terminal → AreItemsText is → AreText go → AreItemsText (token_on gs rs os i is go)
-token_text gs rs os i is go h p r =
-    chosen_text (same (Fixed Uint64) i.terminal) _ _ (declared_text gs rs os i is (declared is) go h p r)
+token_text : (deep : Bool) (gs : Grids) (rs : Ranges) (os : Open) (i : Item Terminal) (is : Items) (go : Onward) →
+    IsAsciiTerminal i.terminal → AreItemsText is → AreText go → AreItemsText (token_on deep gs rs os i is go)
+token_text deep gs rs os i is go h p r =
+    chosen_text (same (Fixed Uint64) i.terminal) _ _ (declared_text gs rs os i is (declared deep is) go h p r)
     (chosen_text (is_mark sign.OpenBracket i) _ _ (h, r _ _ _ _)
     (chosen_text (is_mark sign.CloseBracket i) _ _ (closing_text gs rs os i is go h p r)
-    (named_text gs rs os i i.terminal is go h p r)))
+    (named_text deep gs rs os i i.terminal is go h p r)))
 
-on_text : (k : ℕ) (gs : Grids) (rs : Ranges) (os : Open) (i : Item Terminal) (is : Items) (go : Onward) →
-    IsAsciiTerminal i.terminal → AreItemsText is → AreText go → AreItemsText (flat_on gs rs os k i is go)
-on_text zero gs rs os i is go h p r = token_text gs rs os i is go h p r
-on_text (suc k) gs rs os i is go h p r = r _ _ _ _
+on_text : (deep : Bool) (k : ℕ) (gs : Grids) (rs : Ranges) (os : Open) (i : Item Terminal) (is : Items) (go : Onward) →
+    IsAsciiTerminal i.terminal → AreItemsText is → AreText go → AreItemsText (flat_on deep gs rs os k i is go)
+on_text deep zero gs rs os i is go h p r = token_text deep gs rs os i is go h p r
+on_text deep (suc k) gs rs os i is go h p r = r _ _ _ _
 
 row_line_text : (gs : Grids) (i : Item Terminal) (t : Terminal) → IsAsciiTerminal i.terminal →
     IsAsciiTerminal (flat_line gs i t).terminal
@@ -93,10 +93,10 @@ row_line_text gs i Unknown h = h
 row_line_text gs i Unworked h = h
 row_line_text gs i End h = h
 
-pub flat_text : (is : Items) (gs : Grids) (rs : Ranges) (os : Open) (k : ℕ) → AreItemsText is →
-    AreItemsText (flat gs rs os k is)
-flat_text [] gs rs os k h = tt
-flat_text (i ∷ is) gs rs os k h =
-    chosen_text (is_directive i.terminal) _ _ (row_line_text gs i i.terminal h.0, flat_text is gs rs os k h.1)
-    (on_text k gs rs os i (bare is) (λ gs rs os k. flat gs rs os k is) h.0 (bare_text is h.1)
-    (λ gs rs os k. flat_text is gs rs os k h.1))
+pub flat_text : (is : Items) (deep : Bool) (gs : Grids) (rs : Ranges) (os : Open) (k : ℕ) → AreItemsText is →
+    AreItemsText (flat deep gs rs os k is)
+flat_text [] deep gs rs os k h = tt
+flat_text (i ∷ is) deep gs rs os k h =
+    chosen_text (is_directive i.terminal) _ _ (row_line_text gs i i.terminal h.0, flat_text is deep gs rs os k h.1)
+    (on_text deep k gs rs os i (bare is) (λ gs rs os k. flat deep gs rs os k is) h.0 (bare_text is h.1)
+    (λ gs rs os k. flat_text is deep gs rs os k h.1))

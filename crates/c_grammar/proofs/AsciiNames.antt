@@ -39,7 +39,10 @@ use Rattle.c_grammar.specs.Source.{text_of, word_or_name, kind_terminal, on_line
 use Rattle.c_grammar.specs.AsciiNames.{IsAsciiTerminal, AreAscii, terminals_of}
 use Rattle.c_grammar.specs.Functions.{expanded}
 use Rattle.c_grammar.specs.Pointers.{pointed}
+use Rattle.c_grammar.specs.Loops.{looped}
+use Rattle.c_grammar.specs.Structs.{in_rows}
 use Rattle.c_grammar.specs.Choices.{chosen}
+use Rattle.c_grammar.specs.Conditions.{decided}
 use Rattle.c_grammar.specs.Grids.{flat}
 use Rattle.c_grammar.specs.Counters.{counted}
 use Rattle.c_grammar.specs.Privates.{owned}
@@ -48,7 +51,10 @@ use Rattle.c_grammar.specs.Declarations.{Other, settled}
 use Rattle.c_grammar.specs.Updates.{Outside, commuting}
 use Rattle.c_grammar.proofs.AsciiTokens.{AreItemsText, chosen_text, both_text, bare_text}
 use Rattle.c_grammar.proofs.AsciiNesting.{nested_text}
+use Rattle.c_grammar.proofs.AsciiLoops.{looped_text}
+use Rattle.c_grammar.proofs.AsciiStructs.{rows_text}
 use Rattle.c_grammar.proofs.AsciiChoices.{chosen_text as choices_text}
+use Rattle.c_grammar.proofs.AsciiConditions.{decided_text}
 use Rattle.c_grammar.proofs.AsciiMacros.{AreLexemesText, AreWholeText, IsLexemeText, IsLineText, replaced_text}
 use Rattle.c_grammar.proofs.AsciiGrids.{flat_text}
 use Rattle.c_grammar.proofs.AsciiCounters.{counted_text, zeroed_text}
@@ -695,27 +701,33 @@ written_text is h =
     let own : Items = replaced is in
     let calls : Items = printed 0 (nested own) in
     let types : Items = typed 0 calls in
-    let whole : Items = in_blocks nothing_read (undeclared false types) in
+    let rows : Items = in_rows types in
+    let whole : Items = in_blocks nothing_read (undeclared false rows) in
     let loops : Items = counted whole in
     let private : Items = owned loops in
     let known : Items = settled Other (zeroed private) in
     let numbered : Items = worked [] [] 0 known in
     let arrays : Items = pointed numbered in
-    let branched : Items = chosen (expanded arrays) in
+    let decisions : Items = decided (expanded arrays) in
+    let ended : Items = looped decisions in
+    let branched : Items = chosen ended in
     let plain : Items = undefined [] 0 0 branched in
-    let flattened : Items = flat [] [] [] 0 plain in
+    let cubes : Items = flat true [] [] [] 0 plain in
+    let flattened : Items = flat false [] [] [] 0 cubes in
     let boxes : Items = boxed flattened in
     let cells : Items = commuting Outside boxes in
     announced_text (changes.in_full changes.begin 0 (initialized no_globals 0 (allocated cells)))
     (full_text (initialized no_globals 0 (allocated cells)) changes.begin 0 tt
     (initialized_text (allocated cells) no_globals 0 (tt, tt)
-    (allocated_text cells (commuting_text boxes Outside (boxed_text flattened (flat_text plain [] [] [] 0
-    (undefined_text branched [] 0 0
-    (choices_text (expanded arrays) (expanded_text (λ is h. worked_text is [] [] 0 h) arrays
+    (allocated_text cells (commuting_text boxes Outside (boxed_text flattened
+    (flat_text cubes false [] [] [] 0 (flat_text plain true [] [] [] 0 (undefined_text branched [] 0 0
+    (choices_text ended (looped_text decisions (decided_text (expanded arrays)
+    (expanded_text (λ is h. worked_text is [] [] 0 h) arrays
     (pointed_text numbered (worked_text known [] [] 0 (settled_text (zeroed private) Other (zeroed_text private
     (owned_text loops (counted_text whole
-    (blocks_text (undeclared false types) nothing_read (undeclared_text types false
-    (typed_text calls 0 (printed_text (nested own) 0 (nested_text own (replaced_text is h)))))))))))))))))))))
+    (blocks_text (undeclared false rows) nothing_read (undeclared_text rows false
+    (rows_text types (typed_text calls 0
+    (printed_text (nested own) 0 (nested_text own (replaced_text is h)))))))))))))))))))))))))
 
 all_but : (is : Items) (e : Item Terminal) → AreItemsText (is ++ e ∷ []) → AreItemsText is
 all_but [] e h = tt

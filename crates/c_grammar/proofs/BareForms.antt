@@ -25,7 +25,10 @@ use Rattle.c_grammar.specs.Initial as globals
 use Rattle.c_grammar.specs.Initial.{Globals, Initial, initialized, no_globals}
 use Rattle.c_grammar.specs.Functions.{expanded}
 use Rattle.c_grammar.specs.Pointers.{pointed}
+use Rattle.c_grammar.specs.Loops.{looped}
+use Rattle.c_grammar.specs.Structs.{in_rows}
 use Rattle.c_grammar.specs.Choices.{chosen}
+use Rattle.c_grammar.specs.Conditions.{decided}
 use Rattle.c_grammar.specs.Grids.{flat}
 use Rattle.c_grammar.specs.Updates.{Outside, commuting}
 use Rattle.c_grammar.specs.Allocations.{allocated}
@@ -41,7 +44,10 @@ use Rattle.c_grammar.proofs.BareCounters.{counted_bare, zeroed_bare}
 use Rattle.c_grammar.proofs.BarePointers.{pointed_bare}
 use Rattle.c_grammar.proofs.BarePrivates.{owned_bare}
 use Rattle.c_grammar.proofs.BareDeclarations.{settled_bare}
+use Rattle.c_grammar.proofs.BareLoops.{looped_bare}
+use Rattle.c_grammar.proofs.BareStructs.{rows_bare}
 use Rattle.c_grammar.proofs.BareChoices.{chosen_bare}
+use Rattle.c_grammar.proofs.BareConditions.{decided_bare}
 use Rattle.c_grammar.proofs.BareGrids.{flat_bare}
 use Rattle.c_grammar.proofs.BareUpdates.{commuting_bare}
 use Rattle.c_grammar.proofs.BareTokens.{IsPlain, ArePlain, IsBare, either, one, some, either_plain, plain_bare, same_bare, both_plain}
@@ -584,41 +590,51 @@ written_bare is =
     let n : Items = nested m in
     let p : Items = printed 0 n in
     let a : Items = typed 0 p in
-    let u : Items = undeclared false a in
+    let s : Items = in_rows a in
+    let u : Items = undeclared false s in
     let b : Items = in_blocks nothing_read u in
     let l : Items = counted b in
     let o : Items = owned l in
     let d : Items = settled Other (zeroed o) in
     let c : Items = worked [] [] 0 d in
     let q : Items = pointed c in
-    let f : Items = expanded q in
+    let y : Items = expanded q in
+    let e : Items = decided y in
+    let f : Items = looped e in
     let x : Items = chosen f in
-    let g : Items = flat [] [] [] 0 (undefined [] 0 0 x) in
+    let r : Items = flat true [] [] [] 0 (undefined [] 0 0 x) in
+    let g : Items = flat false [] [] [] 0 r in
     let later : Items → Items = λ js. announced (changes.in_full changes.begin 0 (initialized no_globals 0 (allocated js))) in
     let since_updates : Items → Items = λ js. later (commuting Outside js) in
     let since_boxes : Items → Items = λ js. since_updates (boxed js) in
-    let since_grids : Items → Items = λ js. since_boxes (flat [] [] [] 0 js) in
+    let since_rows : Items → Items = λ js. since_boxes (flat false [] [] [] 0 js) in
+    let since_grids : Items → Items = λ js. since_rows (flat true [] [] [] 0 js) in
     let since_defined : Items → Items = λ js. since_grids (undefined [] 0 0 js) in
-    let since_declared : Items → Items = λ js. since_defined (chosen (expanded (pointed (worked [] [] 0 js)))) in
+    let since_declared : Items → Items = λ js. since_defined (chosen (looped (decided (expanded (pointed (worked [] [] 0 js)))))) in
     let since_zeroed : Items → Items = λ js. since_declared (settled Other js) in
     let since_counted : Items → Items = λ js. since_zeroed (zeroed (owned js)) in
     let since_blocks : Items → Items = λ js. since_counted (counted js) in
-    let since_typed : Items → Items = λ js. since_blocks (in_blocks nothing_read (undeclared false js)) in
+    let since_structs : Items → Items = λ js. since_blocks (in_blocks nothing_read (undeclared false js)) in
+    let since_typed : Items → Items = λ js. since_structs (in_rows js) in
     ap (λ (js : Items). since_typed (typed 0 (printed 0 (nested js)))) (replaced_bare is)
     ∙ ap (λ (js : Items). since_typed (typed 0 (printed 0 js))) (nested_bare m)
     ∙ ap (λ (js : Items). since_typed (typed 0 js)) (printed_bare n 0)
     ∙ ap since_typed (typed_bare p 0)
-    ∙ ap (λ (js : Items). since_blocks (in_blocks nothing_read js)) (undeclared_bare a false)
+    ∙ ap since_structs (rows_bare a)
+    ∙ ap (λ (js : Items). since_blocks (in_blocks nothing_read js)) (undeclared_bare s false)
     ∙ ap since_blocks (blocks_bare u nothing_read)
     ∙ ap since_counted (counted_bare b)
     ∙ ap (λ (js : Items). since_zeroed (zeroed js)) (owned_bare l)
     ∙ ap since_zeroed (zeroed_bare o)
     ∙ ap since_declared (settled_bare (zeroed o) Other)
-    ∙ ap (λ (js : Items). since_defined (chosen (expanded (pointed js)))) (worked_bare d [] [] 0)
-    ∙ ap (λ (js : Items). since_defined (chosen (expanded js))) (pointed_bare c)
-    ∙ ap (λ (js : Items). since_defined (chosen js)) (expanded_bare (λ js. worked_bare js [] [] 0) q)
+    ∙ ap (λ (js : Items). since_defined (chosen (looped (decided (expanded (pointed js)))))) (worked_bare d [] [] 0)
+    ∙ ap (λ (js : Items). since_defined (chosen (looped (decided (expanded js))))) (pointed_bare c)
+    ∙ ap (λ (js : Items). since_defined (chosen (looped (decided js)))) (expanded_bare (λ js. worked_bare js [] [] 0) q)
+    ∙ ap (λ (js : Items). since_defined (chosen (looped js))) (decided_bare y)
+    ∙ ap (λ (js : Items). since_defined (chosen js)) (looped_bare e)
     ∙ ap since_defined (chosen_bare f)
     ∙ ap since_grids (undefined_bare x [] 0 0)
-    ∙ ap since_boxes (flat_bare (undefined [] 0 0 x) [] [] [] 0)
+    ∙ ap since_rows (flat_bare (undefined [] 0 0 x) true [] [] [] 0)
+    ∙ ap since_boxes (flat_bare r false [] [] [] 0)
     ∙ ap since_updates (boxed_bare g)
     ∙ ap later (commuting_bare (boxed g)) ∙ later_bare (commuting Outside (boxed g))

@@ -5,7 +5,7 @@ use Rattle.c_tokens.specs.declared.kind.Sign.TheVariants as sign
 use Rattle.c_grammar.specs.Lexeme.{Lexeme, Signed, Worded, Ended, Placed, same}
 use Rattle.c_grammar.specs.LineRules.{is_among}
 use Rattle.c_grammar.specs.Expressions.{Values, value_of}
-use Rattle.c_grammar.specs.LineForms.{is_sign, is_worded, all_at}
+use Rattle.c_grammar.specs.LineForms.{is_sign, is_worded, begins_word, all_at}
 
 -- what the clauses of a line are read with
 pub record Scope : Type 0 where
@@ -17,6 +17,8 @@ pub record Scope : Type 0 where
   -- whether it has threads, which share what is not their own; whether it captures scalars
   pub shares : Bool
   pub captures : Bool
+  -- whether it may be done later
+  pub defers : Bool
 
 -- ---- the directive
 
@@ -46,6 +48,10 @@ abbrev pub has_body : List Placed → Bool
 has_body ps =
     not (first_word (codes "data") ps || first_word (codes "enter") ps || first_word (codes "exit") ps || first_word (codes "update") ps)
 
+abbrev pub has_nowait : List Placed → Bool
+has_nowait [] = false
+has_nowait (p ∷ ps) = same (Worded (codes "nowait")) p.lexeme || has_nowait ps
+
 -- by the tokens behind the words pragma omp
 abbrev pub scope_of : List (List ℕ) → Values → List Placed → Scope
 scope_of names arrays ps = record {
@@ -54,6 +60,7 @@ scope_of names arrays ps = record {
   map_type = type_for (behind_first ps);
   shares = first_word (codes "target") ps && has_threads (behind_first ps);
   captures = first_word (codes "target") ps && has_body (behind_first ps);
+  defers = has_nowait ps;
 }
 
 -- ---- the clauses that are left out
@@ -82,12 +89,40 @@ default_len (x ∷ c ∷ ps) =
     if same (Worded (codes "shared")) x.lexeme && is_sign sign.CloseParen c.lexeme then Some 3 else None
 default_len _ = None
 
+abbrev pub is_word_at : List ℕ → Placed → Bool
+is_word_at x p = same (Worded x) p.lexeme
+
+-- what is used without a map item is mapped so where no kind of variables is named, or this kind: arrays are anyway, and a
+-- scalar that the host cannot change meanwhile is seen alike
+abbrev pub maps_so : Scope → Placed → Bool
+maps_so s w = is_word_at (codes "default") w || (is_word_at (codes "tofrom") w && not s.defers)
+
+abbrev pub maps_kind_so : Scope → Placed → Placed → Bool
+maps_kind_so s w k =
+    (is_word_at (codes "default") w && is_worded k.lexeme) ||
+    (is_word_at (codes "tofrom") w && (is_word_at (codes "aggregate") k || (is_word_at (codes "scalar") k && not s.defers))) ||
+    (is_word_at (codes "firstprivate") w && is_word_at (codes "scalar") k)
+
+abbrev pub is_any_kind : Scope → List Placed → Bool
+is_any_kind s (w ∷ c ∷ ps) = maps_so s w && is_sign sign.CloseParen c.lexeme
+is_any_kind s ps = false
+
+abbrev pub is_one_kind : Scope → List Placed → Bool
+is_one_kind s (w ∷ c ∷ k ∷ e ∷ ps) =
+    maps_kind_so s w k && is_sign sign.Colon c.lexeme && is_sign sign.CloseParen e.lexeme
+is_one_kind s ps = false
+
+-- behind the bracket of defaultmap: what says what holds anyway
+abbrev pub map_len : Scope → List Placed → Option ℕ
+map_len s ps = if is_any_kind s ps then Some 3 else (if is_one_kind s ps then Some 5 else None)
+
 -- behind the bracket of the clause with this word
 abbrev pub list_len : Scope → Lexeme → List Placed → Option ℕ
 list_len s t ps =
     if s.shares && same (Worded (codes "default")) t then default_len ps
     else (if s.shares && same (Worded (codes "shared")) t then names_len s false 1 ps
-    else (if s.captures && same (Worded (codes "firstprivate")) t then names_len s true 1 ps else None))
+    else (if s.captures && same (Worded (codes "firstprivate")) t then names_len s true 1 ps
+    else (if s.captures && same (Worded (codes "defaultmap")) t then map_len s ps else None)))
 
 abbrev pub clause_len : Scope → List Placed → Option ℕ
 clause_len s (p ∷ o ∷ ps) = if is_sign sign.OpenParen o.lexeme then list_len s p.lexeme ps else None
@@ -95,7 +130,7 @@ clause_len s _ = None
 
 abbrev pub begins_clause : List Placed → Bool
 begins_clause [] = false
-begins_clause (p ∷ ps) = same (Worded (codes "nowait")) p.lexeme || (is_worded p.lexeme && first_sign sign.OpenParen ps)
+begins_clause (p ∷ ps) = same (Worded (codes "nowait")) p.lexeme || (begins_word p.lexeme && first_sign sign.OpenParen ps)
 
 -- a clause of k tokens behind its word, and the comma behind it; the line goes on with a clause, or ends
 abbrev pub with_comma : ℕ → List Placed → Option ℕ

@@ -69,6 +69,10 @@ array_length = sign_is sign.OpenBracket ∷ AnyName ∷ Is (Fixed Uint64) ∷ []
 abbrev pub row_length : List Shape
 row_length = sign_is sign.OpenBracket ∷ sign_is sign.CloseBracket ∷ AnyNumber ∷ array_length
 
+-- the same with [ NUM ] before the last bracket
+abbrev pub inner_length : List Shape
+inner_length = sign_is sign.OpenBracket ∷ sign_is sign.CloseBracket ∷ AnyNumber ∷ row_length
+
 -- for ( uint64_t NAME =, then NUM ; NAME <, then NUM ; NAME +=
 abbrev pub loop_first : List Shape
 loop_first = sign_is sign.Equal ∷ AnyName ∷ Is (Fixed Uint64) ∷ sign_is sign.OpenParen ∷ Is (Fixed For) ∷ []
@@ -156,8 +160,8 @@ wants_factor ts =
 -- behind these tokens a constant expression may stand
 abbrev pub wants_expression : List Terminal → Bool
 wants_expression ts =
-    ends_with constant_value ts || ends_with array_length ts || ends_with row_length ts || ends_with loop_first ts || ends_with (loop_limit sign.Less) ts ||
-    ends_with (loop_limit sign.LessEqual) ts || ends_with (loop_step sign.Less) ts || ends_with (loop_step sign.LessEqual) ts ||
+    ends_with constant_value ts || ends_with array_length ts || ends_with row_length ts || ends_with inner_length ts || ends_with loop_first ts ||
+    ends_with (loop_limit sign.Less) ts || ends_with (loop_limit sign.LessEqual) ts || ends_with (loop_step sign.Less) ts || ends_with (loop_step sign.LessEqual) ts ||
     enumerated_value ts || behind_changing ts || ends_with cell_count ts
 
 -- or, behind an operator of which the right side is a number, and where malloc is asked for a product, one in brackets

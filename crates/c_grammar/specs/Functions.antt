@@ -57,9 +57,10 @@ pub record Declared : Type 0 where
 pub data Head : Type 0 where
   Begins Typed IntTyped Starred : Head
   Named : (x : List ℕ) (sort : Sort) → Head
+  -- in brackets, before their number and behind it
   Opened Sized : (x : List ℕ) → Head
-  -- behind the first brackets; in second ones, before their number and behind it
-  Rows Second Wide : (x : List ℕ) → Head
+  -- behind brackets; in others behind those, before their number
+  Rows Inner : (x : List ℕ) → Head
 
 -- the parameter goes on, another one follows, it was the last one, or it is none
 pub data Step : Type 0 where
@@ -86,10 +87,10 @@ abbrev pub closing : List ℕ → Terminal → Step
 closing x t = if same (Mark sign.CloseBracket) t then Goes (Rows x) else Stops
 
 abbrev pub behind_rows : List ℕ → Terminal → Step
-behind_rows x t = if same (Mark sign.OpenBracket) t then Goes (Second x) else behind_name x Array t
+behind_rows x t = if same (Mark sign.OpenBracket) t then Goes (Inner x) else behind_name x Array t
 
 abbrev pub columns : List ℕ → Terminal → Step
-columns x t = if is_number t then Goes (Wide x) else Stops
+columns x t = if is_number t then Goes (Sized x) else Stops
 
 abbrev pub behind : Head → Terminal → Step
 behind Begins t =
@@ -103,8 +104,7 @@ behind (Named x sort) t = behind_name x sort t
 behind (Opened x) t = if is_number t then Goes (Sized x) else closing x t
 behind (Sized x) t = closing x t
 behind (Rows x) t = behind_rows x t
-behind (Second x) t = columns x t
-behind (Wide x) t = if same (Mark sign.CloseBracket) t then Goes (Named x Array) else Stops
+behind (Inner x) t = columns x t
 
 abbrev pub Parameters : Type 0
 Parameters = Option (List Declared × ℕ)
@@ -587,7 +587,7 @@ most_lines = 16
 
 -- a function may know so many names
 abbrev pub most_known : ℕ
-most_known = 1024
+most_known = 1026
 
 -- what is known outside of functions, which of the names that no source can spell comes next, and for how many tokens
 -- there is room
@@ -597,8 +597,12 @@ pub record Known : Type 0 where
   pub next : ℕ
   pub room : ℕ
 
+-- words of C that a body may have, which are names here
+abbrev pub words : Names
+words = codes "while" ∷ codes "continue" ∷ []
+
 abbrev pub nothing_known : Known
-nothing_known = record { functions = []; globals = []; next = 1; room = most_expanded }
+nothing_known = record { functions = []; globals = words; next = 1; room = most_expanded }
 
 -- the front of the body, and what is returned at its end
 pub record Returned : Type 0 where

@@ -1,5 +1,6 @@
 -- Arrays of two dimensions: the rows lie one behind the other. A second subscript has to be surely within its row, by the
--- numbers and the names of loops that it is made of.
+-- numbers and the names of loops that it is made of. Of an array of three dimensions the first two are made one in the same
+-- way, and what is left is one of two.
 use Rattle.std.specs.Prelude.{ℕ, zero, suc, ◌+◌, ◌-◌, ◌*◌, Bool, true, false, not, ◌&&◌, ◌||◌, ◌==◌, nat_le, nat_lt, if◌then◌else◌, List, [], ◌∷◌, ◌++◌, map, take, drop, Option, Some, None, is_some}
 use Rattle.std.specs.Str.{bytes_eq}
 use Rattle.c_tokens.specs.declared.kind.Sign.TheVariants as sign
@@ -134,7 +135,7 @@ abbrev pub with_range : Items → Ranges → Ranges
 with_range [] rs = rs
 with_range (x ∷ is) rs = named_range (loop_range (x ∷ is)) rs x.terminal
 
--- behind the type: NAME [ NUM ] [ NUM ]
+-- behind the type: NAME [ NUM ] [ NUM ], and, where arrays of three dimensions are looked for, one more bracket
 pub record Declared : Type 0 where
   pub name : List ℕ
   pub rows : ℕ
@@ -145,11 +146,16 @@ declared_as (Name x) (Num (Some n)) (Num (Some m)) =
     if nat_lt (n * m) 18446744073709551616 then Some (record { name = x; rows = n; columns = m }) else None
 declared_as t u v = None
 
-abbrev pub declared : Items → Option Declared
-declared (x ∷ o ∷ n ∷ c ∷ p ∷ m ∷ d ∷ is) =
-    if is_mark sign.OpenBracket o && is_mark sign.CloseBracket c && is_mark sign.OpenBracket p && is_mark sign.CloseBracket d
+abbrev pub opens_index : Items → Bool
+opens_index [] = false
+opens_index (i ∷ is) = is_mark sign.OpenBracket i
+
+abbrev pub declared : Bool → Items → Option Declared
+declared deep (x ∷ o ∷ n ∷ c ∷ p ∷ m ∷ d ∷ is) =
+    if is_mark sign.OpenBracket o && is_mark sign.CloseBracket c && is_mark sign.OpenBracket p && is_mark sign.CloseBracket d &&
+    (not deep || opens_index is)
     then declared_as x.terminal n.terminal m.terminal else None
-declared is = None
+declared deep is = None
 
 -- the declaration of an array of one dimension with as many cells
 abbrev pub flat_declaration : ℕ → Items → Items
@@ -170,28 +176,25 @@ abbrev pub has_second : Ranges → ℕ → Items → Option ℕ → Bool
 has_second rs m is None = false
 has_second rs m is (Some k) = is_some (second_len rs m (drop k is))
 
-abbrev pub opens_index : Items → Bool
-opens_index [] = false
-opens_index (i ∷ is) = is_mark sign.OpenBracket i
-
 -- no second subscript follows the first one
 abbrev pub is_row : Items → Option ℕ → Bool
 is_row is None = false
 is_row is (Some k) = not (opens_index (drop k is))
 
--- a row by itself is no cell: its name stands twice, which is a fault there
-abbrev pub grid_on : Grids → Ranges → Open → Item Terminal → Items → Option ℕ → Onward → Items
-grid_on gs rs os i [] m go = i ∷ go gs rs os 0
-grid_on gs rs os i (o ∷ is) None go = i ∷ go gs rs os 0
-grid_on gs rs os i (o ∷ is) (Some m) go =
+-- a row by itself is no cell: its name stands twice, which is a fault there. So it does where two of three dimensions are made
+-- one and the second subscript may leave its own, since the first two by themselves could else be taken for both of two
+abbrev pub grid_on : Bool → Grids → Ranges → Open → Item Terminal → Items → Option ℕ → Onward → Items
+grid_on deep gs rs os i [] m go = i ∷ go gs rs os 0
+grid_on deep gs rs os i (o ∷ is) None go = i ∷ go gs rs os 0
+grid_on deep gs rs os i (o ∷ is) (Some m) go =
     if is_mark sign.OpenBracket o && has_second rs m (o ∷ is) (index_len 0 0 (o ∷ is))
     then i ∷ (row_begins m o ++ go gs rs (Some m ∷ os) 1)
-    else (if is_mark sign.OpenBracket o && is_row (o ∷ is) (index_len 0 0 (o ∷ is))
+    else (if is_mark sign.OpenBracket o && (deep || is_row (o ∷ is) (index_len 0 0 (o ∷ is)))
     then i ∷ i ∷ go gs rs os 0 else i ∷ go gs rs os 0)
 
-abbrev pub named_on : Grids → Ranges → Open → Item Terminal → Terminal → Items → Onward → Items
-named_on gs rs os i (Name x) is go = grid_on gs rs os i is (value_of gs x) go
-named_on gs rs os i t is go = i ∷ go gs rs os 0
+abbrev pub named_on : Bool → Grids → Ranges → Open → Item Terminal → Terminal → Items → Onward → Items
+named_on deep gs rs os i (Name x) is go = grid_on deep gs rs os i is (value_of gs x) go
+named_on deep gs rs os i t is go = i ∷ go gs rs os 0
 
 -- the second subscript, with what closes it, is added
 abbrev pub row_ends : Item Terminal → ℕ → Items → Items
@@ -208,15 +211,15 @@ closing_on gs rs [] i is go = i ∷ go gs rs [] 0
 closing_on gs rs (None ∷ os) i is go = i ∷ go gs rs os 0
 closing_on gs rs (Some m ∷ os) i is go = added_on gs rs os i is (second_len rs m is) go
 
-abbrev pub token_on : Grids → Ranges → Open → Item Terminal → Items → Onward → Items
-token_on gs rs os i is go =
-    if same (Fixed Uint64) i.terminal then declared_on gs rs os i is (declared is) go
+abbrev pub token_on : Bool → Grids → Ranges → Open → Item Terminal → Items → Onward → Items
+token_on deep gs rs os i is go =
+    if same (Fixed Uint64) i.terminal then declared_on gs rs os i is (declared deep is) go
     else (if is_mark sign.OpenBracket i then i ∷ go gs rs (None ∷ os) 0
-    else (if is_mark sign.CloseBracket i then closing_on gs rs os i is go else named_on gs rs os i i.terminal is go))
+    else (if is_mark sign.CloseBracket i then closing_on gs rs os i is go else named_on deep gs rs os i i.terminal is go))
 
-abbrev pub flat_on : Grids → Ranges → Open → ℕ → Item Terminal → Items → Onward → Items
-flat_on gs rs os (suc k) i is go = go gs rs os k
-flat_on gs rs os zero i is go = token_on gs rs os i is go
+abbrev pub flat_on : Bool → Grids → Ranges → Open → ℕ → Item Terminal → Items → Onward → Items
+flat_on deep gs rs os (suc k) i is go = go gs rs os k
+flat_on deep gs rs os zero i is go = token_on deep gs rs os i is go
 
 -- ---- directive lines
 
@@ -256,6 +259,10 @@ term_in_rows m p (Numbered n) = record { lexeme = Numbered (scaled m n); column 
 term_in_rows m p (Worded x) = all_at p.column (Numbered (Some m) ∷ Signed sign.Star ∷ []) ++ p ∷ []
 term_in_rows m p t = p ∷ []
 
+-- a token behind a section, which begins no whole row. The bracket of another section stands twice, which is a fault there
+abbrev pub no_row : Placed → List Placed
+no_row p = if is_sign sign.OpenBracket p.lexeme then p ∷ p ∷ [] else p ∷ []
+
 abbrev pub OnRows : Type 0
 OnRows = At → List Placed
 
@@ -266,7 +273,7 @@ row_token gs (Within m false) p ts go = p ∷ go (bound_at m p.lexeme)
 row_token gs (Named m) p ts go =
     p ∷ go (if is_sign sign.OpenBracket p.lexeme then Within m true else name_at gs p.lexeme)
 row_token gs (Behind m) p ts go =
-    if is_whole_row m (p.lexeme ∷ ts) then go (Left 4) else p ∷ go (name_at gs p.lexeme)
+    if is_whole_row m (p.lexeme ∷ ts) then go (Left 4) else no_row p ++ go (name_at gs p.lexeme)
 row_token gs at p ts go = p ∷ go (name_at gs p.lexeme)
 
 -- the tokens of a line, on which a section of an array with rows is one of rows
@@ -281,9 +288,10 @@ flat_line gs i t = i
 
 -- ---- all of them
 
--- the tokens with arrays of one dimension, of which k more are left out
-abbrev pub flat : Grids → Ranges → Open → ℕ → Items → Items
-flat gs rs os k [] = []
-flat gs rs os k (i ∷ is) =
-    if is_directive i.terminal then flat_line gs i i.terminal ∷ flat gs rs os k is
-    else flat_on gs rs os k i (bare is) (λ gs rs os k. flat gs rs os k is)
+-- the tokens with arrays of one dimension in the place of those of two, or, where it is deep, of two in the place of those of
+-- three; k more are left out
+abbrev pub flat : Bool → Grids → Ranges → Open → ℕ → Items → Items
+flat deep gs rs os k [] = []
+flat deep gs rs os k (i ∷ is) =
+    if is_directive i.terminal then flat_line gs i i.terminal ∷ flat deep gs rs os k is
+    else flat_on deep gs rs os k i (bare is) (λ gs rs os k. flat deep gs rs os k is)

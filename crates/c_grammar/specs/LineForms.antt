@@ -4,7 +4,7 @@ use Rattle.std.specs.Prelude.{ℕ, zero, suc, ◌-◌, Bool, true, false, not, �
 use Rattle.std.specs.Str.{bytes_eq}
 use Rattle.c_tokens.specs.declared.kind.Sign.{Sign}
 use Rattle.c_tokens.specs.declared.kind.Sign.TheVariants as sign
-use Rattle.c_grammar.specs.Lexeme.{Lexeme, Signed, Worded, Numbered, Placed, same}
+use Rattle.c_grammar.specs.Lexeme.{Lexeme, Reserved, Signed, Worded, Numbered, If, Placed, same}
 use Rattle.c_grammar.specs.Expressions.{Values, value_of, Nothing, Worked, Number, Fault, expression, as_items}
 
 abbrev pub is_sign : Sign → Lexeme → Bool
@@ -13,6 +13,10 @@ is_sign s t = same (Signed s) t
 abbrev pub is_worded : Lexeme → Bool
 is_worded (Worded x) = true
 is_worded _ = false
+
+-- a clause may begin by it
+abbrev pub begins_word : Lexeme → Bool
+begins_word t = is_worded t || same (Reserved If) t
 
 abbrev pub word_for : List ℕ → Option ℕ → Lexeme
 word_for x None = Worded x
@@ -76,7 +80,7 @@ begins_number past =
 
 abbrev pub begins_with_word : List Placed → Bool
 begins_with_word [] = false
-begins_with_word (p ∷ ps) = is_worded p.lexeme
+begins_with_word (p ∷ ps) = begins_word p.lexeme
 
 -- a comma between two clauses
 abbrev pub is_separator : List Lexeme → Lexeme → List Placed → Bool

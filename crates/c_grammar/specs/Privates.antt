@@ -45,7 +45,7 @@ declared xs d (i ∷ is) =
 
 -- what clauses are read with that name these alone
 abbrev pub scope : Names → Scope
-scope xs = record { names = xs; arrays = []; map_type = []; shares = false; captures = false }
+scope xs = record { names = xs; arrays = []; map_type = []; shares = false; captures = false; defers = false }
 
 -- how many tokens stand behind the word of a clause with such names
 abbrev pub private_len : Scope → List Placed → Option ℕ
