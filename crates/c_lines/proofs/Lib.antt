@@ -1,0 +1,3 @@
+pub mod Feeds
+pub mod Lengths
+pub mod Others
