@@ -8,3 +8,5 @@ mod parts;
 mod statements;
 
 pub use choices::chosen;
+pub use kinds::{brackets_behind, closes, is_boundary, is_setting};
+pub use statements::next_tokens;

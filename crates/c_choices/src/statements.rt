@@ -131,7 +131,7 @@ fn statement_len(start: Ahead<'_, '_, '_>) -> Option<usize>
 }
 
 /// The next tokens, so many of them.
-fn next_tokens<'a, 'l>(
+pub fn next_tokens<'a, 'l>(
     alloc: Global,
     start: Ahead<'a, 'l, '_>,
     count: usize,

@@ -5,7 +5,7 @@ use Rattle.std.proofs.lemmas.Bool.Decides.{nat_tests}
 use Rattle.base.specs.declared.fault.ReadCode.TheVariants.{UnknownByte, BadNumber, TooMany}
 use Rattle.c_tokens.specs.declared.kind.Sign.{Sign}
 use Rattle.c_grammar.specs.Lexeme.{Lexeme, Reserved, Signed, Worded, Numbered, Strange, Ended, Placed, same}
-use Rattle.c_grammar.specs.LineRules.{is_question, max_name, line_wrong}
+use Rattle.c_grammar.specs.LineRules.{is_stray, max_name, line_wrong}
 use Rattle.c_grammar.specs.LineMachine.{line_first_wrong}
 use Rattle.c_expressions.specs.Lines.{pragma, omp, misfit_on, words_misfit}
 
@@ -27,11 +27,11 @@ pub own_short : (t : Lexeme) (x : List ℕ) → t ≡ Worded x → length x ≤ 
 unfolding line_first_wrong line_wrong
 own_short t x e h = (let short : nat_lt max_name (length x) ≡ false = grind (arith, nat_tests) in rw (e, short) refl)
 
-pub own_question : (t : Lexeme) (s : Sign) → t ≡ Signed s → is_question s ≡ true → line_first_wrong t ≡ Some UnknownByte
+pub own_stray : (t : Lexeme) (s : Sign) → t ≡ Signed s → is_stray s ≡ true → line_first_wrong t ≡ Some UnknownByte
 unfolding line_first_wrong line_wrong
-own_question t s e h = rw (e, h) refl
+own_stray t s e h = rw (e, h) refl
 
-pub own_sign : (t : Lexeme) (s : Sign) → t ≡ Signed s → is_question s ≡ false → line_first_wrong t ≡ None
+pub own_sign : (t : Lexeme) (s : Sign) → t ≡ Signed s → is_stray s ≡ false → line_first_wrong t ≡ None
 unfolding line_first_wrong line_wrong
 own_sign t s e h = rw (e, h) refl
 

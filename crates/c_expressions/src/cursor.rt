@@ -11,7 +11,7 @@ use base::tree::Place;
 use c_terminals::Written;
 use c_tokens::Sign;
 use c_tokens::limits::MAX_NAME;
-use directives::{Word, is_directive, lower};
+use directives::{Word, is_directive, lower, sign_number};
 
 #[derive(Clone, Copy)]
 pub struct Cursor<'a, 'l> {
@@ -117,7 +117,7 @@ impl<'a, 'l> Cursor<'a, 'l> {
         ensures { result ≡ same (Mark sign) (first_item self.now).terminal }
     {
         match self.peek() {
-            Terminal::Sign(next) => next == sign,
+            Terminal::Sign(next) => sign_number(next) == sign_number(sign),
             _ => false,
         }
     }

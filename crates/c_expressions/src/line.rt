@@ -2,7 +2,7 @@
 
 ghost use Rattle.std.specs.Prelude.{◌≡◌};
 ghost use Rattle.std.specs.Option.{option_map};
-ghost use Rattle.c_grammar.specs.LineRules.{is_question};
+ghost use Rattle.c_grammar.specs.LineRules.{is_stray};
 ghost use Rattle.c_grammar.specs.LineMachine.{line_first_wrong};
 ghost use Rattle.directives.specs.Ahead.{seen_line};
 ghost use Rattle.directives.specs.Seen.{seen_lexeme, seen_placed};
@@ -20,17 +20,17 @@ pub struct Misfit {
     pub column: usize,
 }
 
-fn is_question(sign: Sign) -> bool
-    ensures { result ≡ is_question sign }
+fn is_stray(sign: Sign) -> bool
+    ensures { result ≡ is_stray sign }
 {
     match sign {
-        Sign::Question => true,
+        Sign::Question | Sign::Dot => true,
         _ => false,
     }
 }
 
 /// The code that a token has wherever it stands.
-#[tactic(auto, using(crate::proofs::Words::own_strange, crate::proofs::Words::own_bad, crate::proofs::Words::own_long, crate::proofs::Words::own_short, crate::proofs::Words::own_question, crate::proofs::Words::own_sign, crate::proofs::Words::own_other))]
+#[tactic(auto, using(crate::proofs::Words::own_strange, crate::proofs::Words::own_bad, crate::proofs::Words::own_long, crate::proofs::Words::own_short, crate::proofs::Words::own_stray, crate::proofs::Words::own_sign, crate::proofs::Words::own_other))]
 fn own_code(lexeme: Lexeme<'_>) -> Option<ReadCode>
     ensures { result ≡ line_first_wrong (seen_lexeme lexeme.entry) }
 {
@@ -38,7 +38,7 @@ fn own_code(lexeme: Lexeme<'_>) -> Option<ReadCode>
         Lexeme::Strange => Some(ReadCode::UnknownByte),
         Lexeme::BadNumber => Some(ReadCode::BadNumber),
         Lexeme::Sign(sign) => {
-            if is_question(sign) {
+            if is_stray(sign) {
                 Some(ReadCode::UnknownByte)
             } else {
                 None

@@ -3,7 +3,7 @@
 ghost use Rattle.std.specs.Prelude.{◌≡◌};
 
 use c_tokens::Sign;
-use directives::{LineTokens, Word, is_directive};
+use directives::{LineTokens, Word, is_directive, sign_number};
 
 #[derive(Clone, Copy)]
 pub enum Terminal<'a, 'l> {
@@ -39,7 +39,7 @@ impl<'a, 'l> Terminal<'a, 'l> {
         ensures { result ≡ same (Mark sign) (seen_terminal self.entry) }
     {
         match self {
-            Terminal::Sign(own) => own == sign,
+            Terminal::Sign(own) => sign_number(own) == sign_number(sign),
             _ => false,
         }
     }

@@ -86,7 +86,7 @@ long_only : (l : Bool) → (if l || false then Some TooMany else None) ≡ first
 long_only true = refl
 long_only false = refl
 
--- a sign may be a question mark
+-- a sign may be a question mark or a dot
 strange_only : (l : Bool) →
     (if l || false then Some UnknownByte else None) ≡ first_some (if l then Some UnknownByte else None) None
 strange_only true = refl

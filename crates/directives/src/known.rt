@@ -97,7 +97,9 @@ pub fn own_code(lexeme: Lexeme<'_>) -> Option<ReadCode>
     ensures { result ≡ own_code (seen_lexeme lexeme.entry) }
 {
     match lexeme {
-        Lexeme::Strange | Lexeme::Sign(Sign::Question) => Some(ReadCode::UnknownByte),
+        Lexeme::Strange | Lexeme::Sign(Sign::Question | Sign::Dot) => {
+            Some(ReadCode::UnknownByte)
+        }
         Lexeme::BadNumber => Some(ReadCode::BadNumber),
         Lexeme::Name(name) => {
             if name.len() > MAX_NAME {

@@ -24,7 +24,7 @@ pub use code::lower;
 pub use fault::{DirectiveFault, LineFault};
 pub use first_words::{is_atomic, is_directive, is_directive_at};
 pub use heads::{read_directive, read_directive_in};
-pub use lexeme::{Lexeme, PlacedLexeme, same_lexeme};
+pub use lexeme::{Lexeme, PlacedLexeme, same_lexeme, sign_number};
 pub use lexemes::Lexemes;
 pub use line_tokens::LineTokens;
 pub use tree::{

@@ -1,0 +1,3 @@
+pub mod Innermost
+pub mod Stepping
+pub mod Passing
