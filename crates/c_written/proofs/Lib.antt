@@ -23,6 +23,8 @@ pub mod LoopHeads
 pub mod Assigning
 pub mod Passing
 pub mod RawTokens
+pub mod Negating
+pub mod Deciding
 pub mod Noting
 pub mod Working
 pub mod Declaring

@@ -7,7 +7,7 @@ use Rattle.c_tokens.specs.declared.kind.Sign.TheVariants as sign
 use Rattle.c_grammar.specs.Blocks.{is_directive}
 use Rattle.c_grammar.specs.Constants.{behind_two, front_two, with_tokens}
 use Rattle.c_grammar.specs.Expressions.{value_of}
-use Rattle.c_grammar.specs.Grids.{At, Elsewhere, Named, Within, Behind, Left, Grids, OnRows, bound_at, flat_line, in_rows, is_whole_row, name_at, row_token, scaled, term_in_rows}
+use Rattle.c_grammar.specs.Grids.{At, Elsewhere, Named, Within, Behind, Left, Grids, OnRows, bound_at, flat_line, in_rows, is_whole_row, name_at, no_row, row_token, scaled, term_in_rows}
 use Rattle.c_grammar.specs.Lexeme.{Lexeme, Reserved, Signed, Worded, Numbered, Strange, Ended, Placed}
 use Rattle.c_grammar.specs.LineForms.{is_sign}
 use Rattle.c_grammar.specs.Lines.{is_omp}
@@ -27,10 +27,10 @@ use Rattle.c_written.proofs.Putting.{all_well, well_kinds}
 
 -- ---- what is written for a token, and where the next one stands
 
-chosen : (b : Bool) (p : Placed) (m : ℕ) (n : At) (go : OnRows) →
-    (if b then go (Left m) else p ∷ go n) ≡ (if b then [] else p ∷ []) ++ go (if b then Left m else n)
-chosen true p m n go = refl
-chosen false p m n go = refl
+chosen : (b : Bool) (ps : List Placed) (m : ℕ) (n : At) (go : OnRows) →
+    (if b then go (Left m) else ps ++ go n) ≡ (if b then [] else ps) ++ go (if b then Left m else n)
+chosen true ps m n go = refl
+chosen false ps m n go = refl
 
 pub token_parts : (gs : Grids) (at : At) (p : Placed) (ts : List Lexeme) (go : OnRows) →
     row_token gs at p ts go ≡ put_at at p ts ++ go (next_at gs at p.lexeme ts)
@@ -38,7 +38,7 @@ token_parts gs Elsewhere p ts go = refl
 token_parts gs (Named m) p ts go = refl
 token_parts gs (Within m true) p ts go = refl
 token_parts gs (Within m false) p ts go = refl
-token_parts gs (Behind m) p ts go = chosen (is_whole_row m (p.lexeme ∷ ts)) p 4 (name_at gs p.lexeme) go
+token_parts gs (Behind m) p ts go = chosen (is_whole_row m (p.lexeme ∷ ts)) (no_row p) 4 (name_at gs p.lexeme) go
 token_parts gs (Left zero) p ts go = refl
 token_parts gs (Left (suc k)) p ts go = refl
 
@@ -175,18 +175,35 @@ term_whole m p over out (Signed s) same e g = one_whole over p out (ap (λ (t : 
 term_whole m p over out Strange same e g = one_whole over p out (ap (λ (t : Lexeme). ends_well t over) same ∙ e) g
 term_whole m p over out Ended same e g = one_whole over p out (ap (λ (t : Lexeme). ends_well t over) same ∙ e) g
 
+-- a bracket that opens ends no line
+goes_on : (t : Lexeme) (over : Bool) → is_sign sign.OpenBracket t ≡ true → ends_well t over ≡ true → ends_well t false ≡ true
+goes_on (Reserved w) over e h = absurd cc
+goes_on (Signed s) over e h = refl
+goes_on (Worded x) over e h = absurd cc
+goes_on (Numbered n) over e h = absurd cc
+goes_on Strange over e h = absurd cc
+goes_on Ended over e h = absurd cc
+
+no_row_whole : (over : Bool) (p : Placed) (out : List Placed) → ends_well p.lexeme over ≡ true → Follows over out →
+    is_whole (no_row p ++ out) ≡ true
+no_row_whole over p out e g = go (is_sign sign.OpenBracket p.lexeme) refl
+  where
+    go : (b : Bool) → is_sign sign.OpenBracket p.lexeme ≡ b → is_whole (cond b (p ∷ p ∷ []) (p ∷ []) ++ out) ≡ true
+    go true f = whole_more p (p ∷ out) (goes_on p.lexeme over f e) (one_whole over p out e g)
+    go false f = one_whole over p out e g
+
 put_whole : (at : At) (p : Placed) (ts : List Lexeme) (out : List Placed) → ends_well p.lexeme (is_empty ts) ≡ true →
     left_of at ≤ length ts → Follows (is_empty ts) out → is_whole (put_at at p ts ++ out) ≡ true
 put_whole Elsewhere p ts out e h g = one_whole (is_empty ts) p out e g
 put_whole (Named m) p ts out e h g = one_whole (is_empty ts) p out e g
 put_whole (Within m true) p ts out e h g = term_whole m p (is_empty ts) out p.lexeme refl e g
 put_whole (Within m false) p ts out e h g = one_whole (is_empty ts) p out e g
-put_whole (Behind m) p [] out e h g = one_whole true p out e g
+put_whole (Behind m) p [] out e h g = no_row_whole true p out e g
 put_whole (Behind m) p (t ∷ ts) out e h g = go (is_whole_row m (p.lexeme ∷ t ∷ ts))
   where
-    go : (b : Bool) → is_whole (cond b [] (p ∷ []) ++ out) ≡ true
+    go : (b : Bool) → is_whole (cond b [] (no_row p) ++ out) ≡ true
     go true = g
-    go false = whole_more p out e g
+    go false = no_row_whole false p out e g
 put_whole (Left zero) p ts out e h g = one_whole (is_empty ts) p out e g
 put_whole (Left (suc k)) p [] out e h g = absurd (omega (arith, h))
 put_whole (Left (suc k)) p (t ∷ ts) out e h g = g

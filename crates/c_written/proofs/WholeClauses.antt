@@ -6,7 +6,7 @@ use Rattle.c_tokens.specs.declared.kind.Sign.TheVariants as sign
 use Rattle.c_grammar.specs.Lexeme.{Lexeme, Signed, Worded, Ended, Placed, same}
 use Rattle.c_grammar.specs.Expressions.{Values}
 use Rattle.c_grammar.specs.LineForms.{is_sign}
-use Rattle.c_grammar.specs.Clauses.{Scope, Place, Step, Keep, LeaveOut, PutType, BeforeName, are_items, at_begin, begins_clause, clause_len, clause_step, clauses_from, clauses_in_full, default_len, idle_len, is_idle, leave_or, list_len, may_stand, names_len, place_after, put_step, scope_of, step_at, type_step, up_to_next, with_comma}
+use Rattle.c_grammar.specs.Clauses.{BeforeName, Keep, LeaveOut, Place, PutType, Scope, Step, are_items, at_begin, begins_clause, clause_len, clause_step, clauses_from, clauses_in_full, default_len, idle_len, is_any_kind, is_idle, is_one_kind, leave_or, list_len, map_len, may_stand, names_len, place_after, put_step, scope_of, step_at, type_step, up_to_next, with_comma}
 use Rattle.directives.specs.declared.lexeme.PlacedLexeme.{PlacedLexeme}
 use Rattle.directives.specs.Seen.{ends_well, is_whole, seen_placed}
 use Rattle.c_written.proofs.WholeBounds.{both, whole_front, whole_behind}
@@ -39,14 +39,35 @@ default_within (x ∷ c ∷ ps) n e =
     by_test (same (Worded (codes "shared")) x.lexeme && is_sign sign.CloseParen c.lexeme) (Some 3) None (Some n)
     (n ≤ 1 + length (x ∷ c ∷ ps)) (λ _ f. (let three : 3 ≡ n = cc in omega (arith, three))) (λ _ f. absurd cc) e
 
+any_within : (s : Scope) (ps : List Placed) → is_any_kind s ps ≡ true → 2 ≤ length ps
+any_within s [] e = absurd cc
+any_within s (w ∷ []) e = absurd cc
+any_within s (w ∷ c ∷ ps) e = omega arith
+
+one_within : (s : Scope) (ps : List Placed) → is_one_kind s ps ≡ true → 4 ≤ length ps
+one_within s [] e = absurd cc
+one_within s (w ∷ []) e = absurd cc
+one_within s (w ∷ c ∷ []) e = absurd cc
+one_within s (w ∷ c ∷ k ∷ []) e = absurd cc
+one_within s (w ∷ c ∷ k ∷ d ∷ ps) e = omega arith
+
+map_within : (s : Scope) (ps : List Placed) (n : ℕ) → map_len s ps ≡ Some n → n ≤ 1 + length ps
+map_within s ps n e =
+    by_test (is_any_kind s ps) (Some 3) _ (Some n) (n ≤ 1 + length ps)
+    (λ g f. (let three : 3 ≡ n = cc in let two = any_within s ps g in omega (arith, three, two)))
+    (λ _ f. by_test (is_one_kind s ps) (Some 5) None (Some n) (n ≤ 1 + length ps)
+    (λ g h. (let five : 5 ≡ n = cc in let four = one_within s ps g in omega (arith, five, four))) (λ _ h. absurd cc) f) e
+
 pub list_within : (s : Scope) (t : Lexeme) (ps : List Placed) (n : ℕ) → list_len s t ps ≡ Some n → n ≤ 1 + length ps
 list_within s t ps n e =
     by_test (s.shares && same (Worded (codes "default")) t) (default_len ps) _ (Some n) (n ≤ 1 + length ps)
     (λ _ f. default_within ps n f)
     (λ _ f. by_test (s.shares && same (Worded (codes "shared")) t) (names_len s false 1 ps) _ (Some n) (n ≤ 1 + length ps)
     (λ _ g. names_within s false ps 1 n g)
-    (λ _ g. by_test (s.captures && same (Worded (codes "firstprivate")) t) (names_len s true 1 ps) None (Some n) (n ≤ 1 + length ps)
-    (λ _ h. names_within s true ps 1 n h) (λ _ h. absurd cc) g) f) e
+    (λ _ g. by_test (s.captures && same (Worded (codes "firstprivate")) t) (names_len s true 1 ps) _ (Some n) (n ≤ 1 + length ps)
+    (λ _ h. names_within s true ps 1 n h)
+    (λ _ h. by_test (s.captures && same (Worded (codes "defaultmap")) t) (map_len s ps) None (Some n) (n ≤ 1 + length ps)
+    (λ _ j. map_within s ps n j) (λ _ j. absurd cc) h) g) f) e
 
 pub clause_within : (s : Scope) (ps : List Placed) (n : ℕ) → clause_len s ps ≡ Some n → n + 1 ≤ length ps
 clause_within s [] n e = absurd cc

@@ -22,6 +22,7 @@ seen_scope s = record {
   map_type = s.map_type.now;
   shares = s.shares;
   captures = s.captures;
+  defers = s.defers;
 }
 
 abbrev pub seen_place : GivenPlace → Place

@@ -51,8 +51,7 @@ seen_head (heads.Named d) = functions.Named d.name.now (seen_sort d.sort)
 seen_head (heads.Opened x) = functions.Opened x.now
 seen_head (heads.Sized x) = functions.Sized x.now
 seen_head (heads.Rows x) = functions.Rows x.now
-seen_head (heads.Second x) = functions.Second x.now
-seen_head (heads.Wide x) = functions.Wide x.now
+seen_head (heads.Inner x) = functions.Inner x.now
 
 abbrev pub seen_step : Step → functions.Step
 seen_step (steps.Goes h) = functions.Goes (seen_head h)

@@ -1,5 +1,5 @@
--- Arrays of two dimensions, from what has been read.
-use Rattle.std.specs.Prelude.{◌≡◌, ℕ, Bool, false, ◌&&◌, ◌++◌, [], ◌∷◌, drop, Option, Some, None, if◌then◌else◌}
+-- Arrays of several dimensions, from what has been read.
+use Rattle.std.specs.Prelude.{◌≡◌, ℕ, Bool, false, ◌&&◌, ◌||◌, ◌++◌, [], ◌∷◌, drop, Option, Some, None, if◌then◌else◌}
 use Rattle.c_tokens.specs.declared.kind.Sign.TheVariants as sign
 use Rattle.c_grammar.specs.Terminal.{Terminal, Name}
 use Rattle.c_grammar.specs.Texts.{Item}
@@ -27,8 +27,8 @@ abbrev pub open_of : Given → Open
 open_of g = held g.brackets
 
 -- what is written in the end, where these tokens follow
-abbrev pub with_grids : Given → Items → Items
-with_grids g is = written_all g.done.items ++ flat (columns_of g) (ranges_of g.ranges) (open_of g) g.left is
+abbrev pub with_grids : Bool → Given → Items → Items
+with_grids deep g is = written_all g.done.items ++ flat deep (columns_of g) (ranges_of g.ranges) (open_of g) g.left is
 
 -- what is written from the old goes on from the new, whatever follows
 abbrev pub GoesOn : Given → (Grids → Ranges → Open → Onward → Items) → Given → Type 0
@@ -78,15 +78,15 @@ abbrev pub row_at : Grids → Ranges → Terminal → Items → Option Row
 row_at gs rs (Name x) is = row_of rs (value_of gs x) is
 row_at gs rs t is = None
 
--- a row by itself begins behind a name
-abbrev pub twice_of : Option ℕ → Items → Bool
-twice_of None is = false
-twice_of (Some m) [] = false
-twice_of (Some m) (o ∷ is) = is_mark sign.OpenBracket o && is_row (o ∷ is) (index_len 0 0 (o ∷ is))
+-- a row by itself begins behind a name, or any subscript of three dimensions
+abbrev pub twice_of : Bool → Option ℕ → Items → Bool
+twice_of deep None is = false
+twice_of deep (Some m) [] = false
+twice_of deep (Some m) (o ∷ is) = is_mark sign.OpenBracket o && (deep || is_row (o ∷ is) (index_len 0 0 (o ∷ is)))
 
-abbrev pub twice_at : Grids → Terminal → Items → Bool
-twice_at gs (Name x) is = twice_of (value_of gs x) is
-twice_at gs t is = false
+abbrev pub twice_at : Bool → Grids → Terminal → Items → Bool
+twice_at deep gs (Name x) is = twice_of deep (value_of gs x) is
+twice_at deep gs t is = false
 
 abbrev pub once_or_twice : Item Terminal → Bool → Items
 once_or_twice i twice = if twice then i ∷ i ∷ [] else i ∷ []

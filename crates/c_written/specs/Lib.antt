@@ -12,6 +12,9 @@ pub mod Atomics
 pub mod CellUpdates
 pub mod Declarations
 pub mod Definitions
+pub mod Conditions
+pub mod Ifs
+pub mod Decided
 pub mod Constants
 pub mod Counters
 pub mod Globals

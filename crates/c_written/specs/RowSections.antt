@@ -2,7 +2,7 @@
 use Rattle.std.specs.Prelude.{suc, true, List, [], ◌∷◌, if◌then◌else◌}
 use Rattle.c_tokens.specs.declared.kind.Sign.TheVariants as sign
 use Rattle.c_grammar.specs.Grids as grids
-use Rattle.c_grammar.specs.Grids.{Elsewhere, Named, Within, Behind, Left, Grids, bound_at, is_whole_row, name_at, term_in_rows}
+use Rattle.c_grammar.specs.Grids.{Elsewhere, Named, Within, Behind, Left, Grids, bound_at, is_whole_row, name_at, no_row, term_in_rows}
 use Rattle.c_grammar.specs.Lexeme.{Lexeme, Placed}
 use Rattle.c_grammar.specs.LineForms.{is_sign}
 use Rattle.c_written.specs.declared.row_sections.At.{At}
@@ -19,7 +19,7 @@ seen_at (given.Left k) = Left k
 abbrev pub put_at : grids.At → Placed → List Lexeme → List Placed
 put_at (Left (suc k)) p ts = []
 put_at (Within m true) p ts = term_in_rows m p p.lexeme
-put_at (Behind m) p ts = if is_whole_row m (p.lexeme ∷ ts) then [] else p ∷ []
+put_at (Behind m) p ts = if is_whole_row m (p.lexeme ∷ ts) then [] else no_row p
 put_at at p ts = p ∷ []
 
 -- behind a token, before others

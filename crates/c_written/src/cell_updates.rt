@@ -13,6 +13,7 @@ use crate::heads::passed;
 use crate::operators::Change;
 use c_terminals::{Ahead, Terminal};
 use c_tokens::Sign;
+use directives::sign_number;
 
 /// Whether updates by the operator commute.
 pub fn commutes(op: Sign) -> bool
@@ -65,7 +66,7 @@ fn equal(left: Terminal<'_, '_>, right: Terminal<'_, '_>) -> bool
     match (left, right) {
         (Terminal::Number(a), Terminal::Number(b)) => a == b,
         (Terminal::Word(v), Terminal::Word(w)) => v.number() == w.number(),
-        (Terminal::Sign(r), Terminal::Sign(s)) => r == s,
+        (Terminal::Sign(r), Terminal::Sign(s)) => sign_number(r) == sign_number(s),
         (Terminal::Name(x), Terminal::Name(y)) => x == y,
         _ => false,
     }
@@ -148,7 +149,7 @@ pub fn is_by(op: Sign, other: Option<Sign>) -> bool
     ensures { result ≡ is_by op other }
 {
     match other {
-        Some(own) => op == own && commutes(op),
+        Some(own) => sign_number(op) == sign_number(own) && commutes(op),
         None => false,
     }
 }

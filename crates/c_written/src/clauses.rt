@@ -1,8 +1,8 @@
 //! A directive line with the map types that its clauses leave out, and without the clauses that say what holds anyway.
 
 ghost use Rattle.std.specs.Prelude.{◌≡◌, ◌<◌, ◌^◌, ◌++◌, IfOk, map};
-ghost use Rattle.c_grammar.specs.Clauses.{after_item, at_begin, begins_clause, behind_first, BeforeName, are_items, clauses_from, clauses_in_full, default_len, first_sign, first_word, has_body, has_threads, part_after, place_after, scope_of, type_for, type_step, with_comma};
-ghost use Rattle.c_grammar.specs.LineForms.{is_worded};
+ghost use Rattle.c_grammar.specs.Clauses.{after_item, at_begin, begins_clause, behind_first, BeforeName, are_items, clauses_from, clauses_in_full, default_len, first_sign, first_word, has_body, has_nowait, has_threads, part_after, place_after, scope_of, type_for, type_step, with_comma};
+ghost use Rattle.c_grammar.specs.LineForms.{begins_word, is_worded};
 ghost use Rattle.directives.specs.Ahead.{seen_line};
 ghost use Rattle.directives.specs.Seen.{seen_lexeme};
 ghost use Rattle.c_written.specs.Clauses.{seen_part, seen_place, seen_scope, seen_step};
@@ -14,7 +14,7 @@ use crate::line_forms::{is_name, is_sign};
 use crate::values::Values;
 use c_terminals::Names;
 use c_tokens::Sign;
-use directives::{Lexeme, LineTokens, PlacedLexeme, same_lexeme};
+use directives::{Lexeme, LineTokens, PlacedLexeme, Word, same_lexeme};
 use std::alloc::{AllocError, Global};
 
 /// What the clauses of a line are read with.
@@ -30,6 +30,8 @@ pub struct Scope<'v, 'a> {
     shares: bool,
     /// Whether the line captures scalars.
     captures: bool,
+    /// Whether it may be done later.
+    defers: bool,
 }
 
 /// Where a token stands: how many brackets are open, and whether a clause ends before it.
@@ -119,6 +121,19 @@ fn has_body(rest: &[PlacedLexeme<'_>]) -> bool
         || first_word(rest, b"update".as_slice()))
 }
 
+fn has_nowait(tokens: &[PlacedLexeme<'_>]) -> bool
+    ensures { result ≡ has_nowait (all_placed tokens.now) }
+{
+    let mut rest = tokens;
+    'tokens: while let [placed, behind @ ..] = rest {
+        if is_name(placed.lexeme, b"nowait".as_slice()) {
+            return true;
+        }
+        rest = behind;
+    }
+    false
+}
+
 /// What the clauses are read with on a line with these tokens behind `pragma omp`.
 fn scope_of<'v, 'a>(
     names: &'v Names<'a>,
@@ -135,6 +150,7 @@ fn scope_of<'v, 'a>(
         map_type: type_for(behind),
         shares: is_target && has_threads(behind),
         captures: is_target && has_body(behind),
+        defers: has_nowait(rest),
     }
 }
 
@@ -149,13 +165,20 @@ fn is_worded(lexeme: Lexeme<'_>) -> bool
     }
 }
 
+/// Whether a clause may begin by it.
+pub fn begins_word(lexeme: Lexeme<'_>) -> bool
+    ensures { result ≡ begins_word (seen_lexeme lexeme.entry) }
+{
+    is_worded(lexeme) || same_lexeme(Lexeme::Reserved(Word::If), lexeme)
+}
+
 fn begins_clause(rest: &[PlacedLexeme<'_>]) -> bool
     ensures { result ≡ begins_clause (all_placed rest.now) }
 {
     match rest {
         [first, behind @ ..] => {
             is_name(first.lexeme, b"nowait".as_slice())
-                || (is_worded(first.lexeme) && first_sign(behind, Sign::OpenParen))
+                || (begins_word(first.lexeme) && first_sign(behind, Sign::OpenParen))
         }
         [] => false,
     }
@@ -295,9 +318,9 @@ impl Place {
 
 impl<'v, 'a> Scope<'v, 'a> {
     ghost use Rattle.std.specs.Prelude.{◌≡◌, ◌≤◌, ◌+◌, [], length, IfSome};
-    ghost use Rattle.c_grammar.specs.Clauses.{clause_len, clause_step, idle_len, list_len, may_stand, names_len, step_at};
+    ghost use Rattle.c_grammar.specs.Clauses.{clause_len, clause_step, idle_len, is_any_kind, is_one_kind, list_len, map_len, maps_kind_so, maps_so, may_stand, names_len, step_at};
     ghost use Rattle.c_grammar.specs.Privates.{scope};
-    ghost use Rattle.directives.specs.Seen.{seen_lexeme};
+    ghost use Rattle.directives.specs.Seen.{seen_lexeme, seen_placed};
     ghost use Rattle.c_terminals.specs.Names.{seen_names};
     ghost use Rattle.c_written.specs.Clauses.{seen_place, seen_scope, seen_step};
     ghost use Rattle.c_written.specs.Forms.{all_placed};
@@ -314,6 +337,7 @@ impl<'v, 'a> Scope<'v, 'a> {
             map_type: b"".as_slice(),
             shares: false,
             captures: false,
+            defers: false,
         }
     }
 
@@ -351,6 +375,63 @@ impl<'v, 'a> Scope<'v, 'a> {
         None
     }
 
+    /// Whether what is used without a map item is mapped so anyway.
+    fn maps_so(&self, word: PlacedLexeme<'a>) -> bool
+        ensures { result ≡ maps_so (seen_scope self.now) (seen_placed word.entry) }
+    {
+        is_name(word.lexeme, b"default".as_slice())
+            || (is_name(word.lexeme, b"tofrom".as_slice()) && !self.defers)
+    }
+
+    /// Whether variables of a kind are.
+    fn maps_kind_so(&self, word: PlacedLexeme<'a>, kind: PlacedLexeme<'a>) -> bool
+        ensures { result ≡ maps_kind_so (seen_scope self.now) (seen_placed word.entry) (seen_placed kind.entry) }
+    {
+        let scalars = is_name(kind.lexeme, b"scalar".as_slice());
+        (is_name(word.lexeme, b"default".as_slice()) && is_worded(kind.lexeme))
+            || (is_name(word.lexeme, b"tofrom".as_slice())
+                && (is_name(kind.lexeme, b"aggregate".as_slice()) || (scalars && !self.defers)))
+            || (is_name(word.lexeme, b"firstprivate".as_slice()) && scalars)
+    }
+
+    // `so)`
+    fn is_any_kind(&self, rest: &[PlacedLexeme<'a>]) -> bool
+        ensures { result ≡ is_any_kind (seen_scope self.now) (all_placed rest.now) }
+    {
+        match rest {
+            [word, bracket, ..] => self.maps_so(*word) && is_sign(bracket.lexeme, Sign::CloseParen),
+            _ => false,
+        }
+    }
+
+    // `so: kind)`
+    fn is_one_kind(&self, rest: &[PlacedLexeme<'a>]) -> bool
+        ensures { result ≡ is_one_kind (seen_scope self.now) (all_placed rest.now) }
+    {
+        match rest {
+            [word, colon, kind, bracket, ..] => {
+                self.maps_kind_so(*word, *kind)
+                    && is_sign(colon.lexeme, Sign::Colon)
+                    && is_sign(bracket.lexeme, Sign::CloseParen)
+            }
+            _ => false,
+        }
+    }
+
+    /// How many tokens the brackets behind `defaultmap` and what stands in them are.
+    fn map_len(&self, rest: &[PlacedLexeme<'a>]) -> Option<usize>
+        ensures { result ≡ map_len (seen_scope self.now) (all_placed rest.now) }
+    {
+        if self.is_any_kind(rest) {
+            return Some(3);
+        }
+        if self.is_one_kind(rest) {
+            Some(5)
+        } else {
+            None
+        }
+    }
+
     /// How many tokens are behind the word of a clause that says what holds anyway, by that word.
     fn list_len(&self, word: Lexeme<'a>, rest: &[PlacedLexeme<'a>]) -> Option<usize>
         ensures { result ≡ list_len (seen_scope self.now) (seen_lexeme word.entry) (all_placed rest.now) }
@@ -362,7 +443,10 @@ impl<'v, 'a> Scope<'v, 'a> {
             return self.names_len(false, rest);
         }
         if self.captures && is_name(word, b"firstprivate".as_slice()) {
-            self.names_len(true, rest)
+            return self.names_len(true, rest);
+        }
+        if self.captures && is_name(word, b"defaultmap".as_slice()) {
+            self.map_len(rest)
         } else {
             None
         }

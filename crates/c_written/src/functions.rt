@@ -5,7 +5,7 @@ ghost use Rattle.std.specs.Option.{option_map};
 ghost use Rattle.c_grammar.specs.Blocks.{bare};
 ghost use Rattle.c_grammar.specs.Lexeme.{Int};
 ghost use Rattle.c_grammar.specs.Terminal.{Fixed, same};
-ghost use Rattle.c_grammar.specs.Functions.{Outside, begins_function, declared_in, defined, expanded, has_function, has_value, is_assigned, is_assigning, is_main, is_specifier, is_static, is_step, is_type, main_follows, name_in, nothing_known, returned, specifies, value_at};
+ghost use Rattle.c_grammar.specs.Functions.{Outside, begins_function, declared_in, defined, expanded, has_function, has_value, is_assigned, is_assigning, is_main, is_specifier, is_static, is_step, is_type, main_follows, name_in, nothing_known, returned, specifies, value_at, words};
 ghost use Rattle.c_terminals.specs.Ahead.{ahead};
 ghost use Rattle.c_written.specs.Functions.{is_outside, seen_returned};
 ghost use Rattle.c_terminals.specs.Held.{written_all};
@@ -29,7 +29,7 @@ const MOST_EXPANDED: usize = 131_072;
 
 const MOST_LINES: usize = 16;
 
-const MOST_KNOWN: usize = 1024;
+const MOST_KNOWN: usize = 1026;
 
 // Where a token stands.
 #[derive(Drop)]
@@ -583,13 +583,23 @@ fn follows_main(behind: &[Token<'_, '_>]) -> bool
     }
 }
 
+/// Words of C that a body may have, which are names here.
+fn words<'a>(alloc: Global) -> Result<Vec<&'a [u8]>, AllocError>
+    ensures { IfOk result (λ v. map (λ x. x.now) v.items ≡ words) }
+{
+    let mut words = Vec::new(alloc);
+    words.push(b"while".as_slice())?;
+    words.push(b"continue".as_slice())?;
+    Ok(words)
+}
+
 fn defined<'a>(alloc: Global, tokens: &[Token<'a, '_>]) -> Result<Vec<Written<'a>>, AllocError>
     ensures { IfOk result (λ v. written_all v.items ≡ defined nothing_known (Outside true) (seen_all tokens.now)) }
 {
     let mut source = Source {
         done: Vec::new(alloc),
         scope: Scope {
-            globals: Vec::new(alloc),
+            globals: words(alloc)?,
             functions: Vec::new(alloc),
         },
         next: 1,

@@ -1,10 +1,10 @@
 //! Arrays of two dimensions, written out as arrays of one: the rows lie one behind the other, in what is done and on
-//! directive lines.
+//! directive lines. So are the first two dimensions of arrays of three.
 
 ghost use Rattle.std.specs.Prelude.{◌≡◌, ◌<◌, ◌*◌, ◌^◌, ◌++◌, [], length, take, IfOk, IfSome, OnOk};
 ghost use Rattle.std.specs.Option.{option_map};
 ghost use Rattle.c_grammar.specs.Functions.{index_len};
-ghost use Rattle.c_grammar.specs.Grids.{declared, declared_as, flat, is_row};
+ghost use Rattle.c_grammar.specs.Grids.{declared, declared_as, flat, is_row, opens_index};
 ghost use Rattle.c_terminals.specs.Ahead.{ahead};
 ghost use Rattle.c_written.specs.Grids.{seen_array};
 ghost use Rattle.c_terminals.specs.Held.{written_all};
@@ -21,7 +21,7 @@ use c_tokens::Sign;
 use directives::Word;
 use std::alloc::{AllocError, Global};
 
-/// An array of two dimensions.
+/// An array with rows.
 #[derive(Clone, Copy)]
 struct Array<'a> {
     name: &'a [u8],
@@ -29,9 +29,10 @@ struct Array<'a> {
     columns: u64,
 }
 
-// Behind the type: NAME [ NUM ] [ NUM ], with fewer than 2^64 cells.
-fn declared<'a>(start: Ahead<'a, '_, '_>) -> Option<Array<'a>>
-    ensures value { option_map seen_array result ≡ declared (ahead start.entry) }
+// Behind the type: NAME [ NUM ] [ NUM ], with fewer than 2^64 cells, and, where three dimensions are looked for, one more
+// bracket.
+fn declared<'a>(deep: bool, start: Ahead<'a, '_, '_>) -> Option<Array<'a>>
+    ensures value { option_map seen_array result ≡ declared deep (ahead start.entry) }
     ensures cells { IfSome result (λ d. d.rows * d.columns < 2 ^ 64) }
 {
     let array = next_seven(start)?;
@@ -43,6 +44,9 @@ fn declared<'a>(start: Ahead<'a, '_, '_>) -> Option<Array<'a>>
     if !array.fifth.terminal.is_sign(Sign::OpenBracket)
         || !array.seventh.terminal.is_sign(Sign::CloseBracket)
     {
+        return None;
+    }
+    if deep && !opens_index(passed(start, 7)) {
         return None;
     }
     declared_as(
@@ -95,17 +99,25 @@ fn put_next<'a>(
     Ok(())
 }
 
+// Whether a subscript comes next.
+fn opens_index(start: Ahead<'_, '_, '_>) -> bool
+    ensures { result ≡ opens_index (ahead start.entry) }
+{
+    let mut ahead = start;
+    match ahead.next() {
+        Some(next) => next.terminal.is_sign(Sign::OpenBracket),
+        None => false,
+    }
+}
+
 // Whether a first subscript comes next, and no second one behind it.
 fn is_row(start: Ahead<'_, '_, '_>) -> bool
     requires { length (ahead start) < 2 ^ 63 }
     ensures { result ≡ is_row (ahead start.entry) (index_len 0 0 (ahead start.entry)) }
 {
-    let Some(len) = index_len(start) else {
-        return false;
-    };
-    match passed(start, len).next() {
-        Some(next) => !next.terminal.is_sign(Sign::OpenBracket),
-        None => true,
+    match index_len(start) {
+        Some(len) => !opens_index(passed(start, len)),
+        None => false,
     }
 }
 
@@ -192,7 +204,7 @@ impl<'a> Grids<'a> {
 
     /// The declaration of an array of one dimension with as many cells.
     fn put_declaration(&mut self, start: Ahead<'a, '_, '_>, cells: u64) -> Result<(), AllocError>
-        requires { IsSome (declared (ahead start)) }
+        requires { IsSome (declared false (ahead start)) }
         ensures { OnOk result (HasPut self.old (flat_declaration cells (ahead start.entry)) self.new) }
     {
         let Some(array) = next_seven(start) else {
@@ -205,13 +217,18 @@ impl<'a> Grids<'a> {
     }
 
     /// The word of a type, and what it declares.
-    fn declare(&mut self, token: Token<'a, '_>, start: Ahead<'a, '_, '_>) -> Result<(), AllocError>
+    fn declare(
+        &mut self,
+        deep: bool,
+        token: Token<'a, '_>,
+        start: Ahead<'a, '_, '_>,
+    ) -> Result<(), AllocError>
         requires { self.old.left ≡ 0 }
         ensures { OnOk result (GoesOn self.old (λ gs rs os.
-            declared_on gs rs os (seen token.entry) (ahead start.entry) (declared (ahead start.entry))) self.new) }
+            declared_on gs rs os (seen token.entry) (ahead start.entry) (declared deep (ahead start.entry))) self.new) }
     {
         self.put(token)?;
-        match declared(start) {
+        match declared(deep, start) {
             None => self.note_range(start),
             Some(array) => {
                 self.put_declaration(start, array.cells())?;
@@ -243,10 +260,10 @@ impl<'a> Grids<'a> {
         None
     }
 
-    /// Whether it is the name of an array with rows, and a row by itself begins.
-    fn names_row(&self, token: Token<'a, '_>, start: Ahead<'a, '_, '_>) -> bool
+    /// Whether it is the name of an array with rows, and a row by itself begins, or any subscript of three dimensions.
+    fn names_row(&self, deep: bool, token: Token<'a, '_>, start: Ahead<'a, '_, '_>) -> bool
         requires { length (ahead start) < 2 ^ 63 }
-        ensures { result ≡ twice_at (columns_of self.now) (seen token.entry).terminal (ahead start.entry) }
+        ensures { result ≡ twice_at deep (columns_of self.now) (seen token.entry).terminal (ahead start.entry) }
     {
         let Terminal::Name(name) = token.terminal else {
             return false;
@@ -256,18 +273,23 @@ impl<'a> Grids<'a> {
         }
         let mut ahead = start;
         match ahead.next() {
-            Some(open) => open.terminal.is_sign(Sign::OpenBracket) && is_row(start),
+            Some(open) => open.terminal.is_sign(Sign::OpenBracket) && (deep || is_row(start)),
             None => false,
         }
     }
 
     /// A token by itself. The name of a row stands twice, so that a fault is found there.
-    fn put_name(&mut self, token: Token<'a, '_>, start: Ahead<'a, '_, '_>) -> Result<(), AllocError>
+    fn put_name(
+        &mut self,
+        deep: bool,
+        token: Token<'a, '_>,
+        start: Ahead<'a, '_, '_>,
+    ) -> Result<(), AllocError>
         requires { length (ahead start) < 2 ^ 63 }
         ensures { OnOk result (HasPut self.old
-            (once_or_twice (seen token.entry) (twice_at (columns_of self.old) (seen token.entry).terminal (ahead start.entry))) self.new) }
+            (once_or_twice (seen token.entry) (twice_at deep (columns_of self.old) (seen token.entry).terminal (ahead start.entry))) self.new) }
     {
-        if self.names_row(token, start) {
+        if self.names_row(deep, token, start) {
             self.put(token)?;
         }
         self.put(token)
@@ -334,14 +356,19 @@ impl<'a> Grids<'a> {
     }
 
     /// A token that is not left out.
-    fn read(&mut self, token: Token<'a, '_>, start: Ahead<'a, '_, '_>) -> Result<(), AllocError>
+    fn read(
+        &mut self,
+        deep: bool,
+        token: Token<'a, '_>,
+        start: Ahead<'a, '_, '_>,
+    ) -> Result<(), AllocError>
         requires begun { self.old.left ≡ 0 }
         requires few { length (ahead start) < 2 ^ 63 }
         ensures { OnOk result
-            (GoesOn self.old (λ gs rs os. token_on gs rs os (seen token.entry) (ahead start.entry)) self.new) }
+            (GoesOn self.old (λ gs rs os. token_on deep gs rs os (seen token.entry) (ahead start.entry)) self.new) }
     {
         if token.terminal.is_word(Word::Uint64) {
-            return self.declare(token, start);
+            return self.declare(deep, token, start);
         }
         if token.terminal.is_sign(Sign::OpenBracket) {
             self.put(token)?;
@@ -353,14 +380,19 @@ impl<'a> Grids<'a> {
         }
         match self.row(token, start) {
             Some(row) => self.begin_row(token, row),
-            None => self.put_name(token, start),
+            None => self.put_name(deep, token, start),
         }
     }
 
     /// The next token, before others.
-    fn take(&mut self, token: Token<'a, '_>, rest: &[Token<'a, '_>]) -> Result<(), AllocError>
+    fn take(
+        &mut self,
+        deep: bool,
+        token: Token<'a, '_>,
+        rest: &[Token<'a, '_>],
+    ) -> Result<(), AllocError>
         ensures { OnOk result
-            (with_grids self.old (seen token.entry ∷ seen_all rest.now) ≡ with_grids self.new (seen_all rest.now)) }
+            (with_grids deep self.old (seen token.entry ∷ seen_all rest.now) ≡ with_grids deep self.new (seen_all rest.now)) }
     {
         if token.terminal.is_directive() {
             return self.put_line(token);
@@ -369,13 +401,18 @@ impl<'a> Grids<'a> {
             self.left -= 1;
             return Ok(());
         }
-        self.read(token, Ahead::new(rest))
+        self.read(deep, token, Ahead::new(rest))
     }
 }
 
-/// The tokens with arrays of one dimension in the place of those of two.
-pub fn flat<'a>(alloc: Global, tokens: &[Token<'a, '_>]) -> Result<Vec<Written<'a>>, AllocError>
-    ensures { IfOk result (λ v. written_all v.items ≡ flat [] [] [] 0 (seen_all tokens.now)) }
+/// The tokens with arrays of one dimension in the place of those of two, or, where it is deep, of two in the place of those
+/// of three.
+pub fn flat<'a>(
+    alloc: Global,
+    deep: bool,
+    tokens: &[Token<'a, '_>],
+) -> Result<Vec<Written<'a>>, AllocError>
+    ensures { IfOk result (λ v. written_all v.items ≡ flat deep [] [] [] 0 (seen_all tokens.now)) }
 {
     let mut grids = Grids {
         alloc,
@@ -387,7 +424,7 @@ pub fn flat<'a>(alloc: Global, tokens: &[Token<'a, '_>]) -> Result<Vec<Written<'
     };
     let mut rest = tokens;
     'tokens: while let [token, behind @ ..] = rest {
-        grids.take(*token, behind)?;
+        grids.take(deep, *token, behind)?;
         rest = behind;
     }
     Ok(grids.done)

@@ -2,7 +2,7 @@
 
 ghost use Rattle.std.specs.Prelude.{◌≡◌, ◌≤◌, ◌<◌, ◌+◌, ◌^◌, [], length, drop, IfOk, IfSome};
 ghost use Rattle.std.specs.Option.{option_map};
-ghost use Rattle.c_grammar.specs.Functions.{Begins, Wide, behind, behind_name, behind_rows, closing, columns, head_at, headed, is_qualifier, named, no_parameters, parameters, parameters_in};
+ghost use Rattle.c_grammar.specs.Functions.{Begins, behind, behind_name, behind_rows, closing, columns, head_at, headed, is_qualifier, named, no_parameters, parameters, parameters_in};
 ghost use Rattle.c_terminals.specs.Ahead.{ahead};
 ghost use Rattle.c_written.specs.Functions.{all_declared, seen_gives, seen_headed, seen_sort, seen_step};
 ghost use Rattle.c_terminals.specs.Seen.{seen, seen_terminal};
@@ -58,14 +58,14 @@ enum Head<'a> {
     IntTyped,
     Starred,
     Named(Declared<'a>),
+    /// In brackets, before their number.
     Opened(&'a [u8]),
-    Sized(&'a [u8]),
-    /// Behind the first brackets.
-    Rows(&'a [u8]),
-    /// In second brackets, before their number.
-    Second(&'a [u8]),
     /// Behind this number.
-    Wide(&'a [u8]),
+    Sized(&'a [u8]),
+    /// Behind brackets.
+    Rows(&'a [u8]),
+    /// In others behind those, before their number.
+    Inner(&'a [u8]),
 }
 
 #[derive(Clone, Copy)]
@@ -122,7 +122,7 @@ fn behind_rows<'a>(name: &'a [u8], terminal: Terminal<'a, '_>) -> Step<'a>
     ensures { seen_step result ≡ behind_rows name.now (seen_terminal terminal.entry) }
 {
     if terminal.is_sign(Sign::OpenBracket) {
-        return Step::Goes(Head::Second(name));
+        return Step::Goes(Head::Inner(name));
     }
     let sort = Sort::Array;
     behind_name(Declared { name, sort }, terminal)
@@ -132,17 +132,7 @@ fn columns<'a>(name: &'a [u8], terminal: Terminal<'a, '_>) -> Step<'a>
     ensures { seen_step result ≡ columns name.now (seen_terminal terminal.entry) }
 {
     if terminal.is_number() {
-        return Step::Goes(Head::Wide(name));
-    }
-    Step::Stops
-}
-
-fn closing_second<'a>(name: &'a [u8], terminal: Terminal<'a, '_>) -> Step<'a>
-    ensures { seen_step result ≡ behind (Wide name.now) (seen_terminal terminal.entry) }
-{
-    if terminal.is_sign(Sign::CloseBracket) {
-        let sort = Sort::Array;
-        return Step::Goes(Head::Named(Declared { name, sort }));
+        return Step::Goes(Head::Sized(name));
     }
     Step::Stops
 }
@@ -225,8 +215,7 @@ impl<'a> Head<'a> {
             }
             Head::Sized(name) => closing(name, terminal),
             Head::Rows(name) => behind_rows(name, terminal),
-            Head::Second(name) => columns(name, terminal),
-            Head::Wide(name) => closing_second(name, terminal),
+            Head::Inner(name) => columns(name, terminal),
         }
     }
 }

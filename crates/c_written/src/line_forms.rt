@@ -13,6 +13,7 @@ ghost use Rattle.c_written.specs.Lines.{no_end, unended};
 ghost use Rattle.c_written.specs.Values.{seen_values};
 ghost use Rattle.c_written.specs.Work.{seen_worked};
 
+use crate::clauses::begins_word;
 use crate::expressions::{Worked, expression};
 use crate::stack::Stack;
 use crate::values::Values;
@@ -326,10 +327,7 @@ impl<'v, 'a> Forms<'v, 'a> {
             return false;
         }
         match rest {
-            [next, ..] => match next.lexeme {
-                Lexeme::Name(_) => true,
-                _ => false,
-            },
+            [next, ..] => begins_word(next.lexeme),
             [] => false,
         }
     }

@@ -83,7 +83,7 @@ fn may_follow(word: Lexeme<'_>, next: Lexeme<'_>) -> bool
     }
 }
 
-fn has(word: &[u8], tokens: &[PlacedLexeme<'_>]) -> bool
+pub fn has(word: &[u8], tokens: &[PlacedLexeme<'_>]) -> bool
     ensures { result ≡ has word.now (all_kinds tokens.now) }
 {
     let mut rest = tokens;

@@ -48,7 +48,7 @@ fn add_declared<'a>(
 }
 
 // The names that the statement declares that begins there.
-fn declared<'a>(alloc: Global, tokens: &[Token<'a, '_>]) -> Result<Names<'a>, AllocError>
+pub fn declared<'a>(alloc: Global, tokens: &[Token<'a, '_>]) -> Result<Names<'a>, AllocError>
     ensures { IfOk result (λ n. seen_names n ≡ declared [] 0 (bare (seen_all tokens.now))) }
 {
     let mut names = Names::new(alloc);

@@ -141,7 +141,8 @@ fn put_term<'a>(
     Ok(())
 }
 
-// Puts a token, before others, as it stands there.
+// Puts a token, before others, as it stands there. The bracket of a section that is no whole row stands twice, so that a
+// fault is found there.
 fn put_token<'a>(
     done: &mut Vec<PlacedLexeme<'a>>,
     at: At,
@@ -165,6 +166,9 @@ fn put_token<'a>(
         At::Behind(columns) => {
             if is_whole_row(columns, token.lexeme, behind) {
                 return Ok(());
+            }
+            if is_sign(token.lexeme, Sign::OpenBracket) {
+                done.push(token)?;
             }
         }
         _ => {}

@@ -2,7 +2,7 @@
 
 ghost use Rattle.std.specs.Prelude.{◌≡◌, ◌+◌, ◌<◌, ◌^◌, ◌∷◌, List, length, map, drop, true};
 ghost use Rattle.c_grammar.specs.Terminal.{Terminal as SpecTerminal};
-ghost use Rattle.c_grammar.specs.Constants.{ends_with, constant_value, array_length, row_length, loop_first, loop_limit, loop_step, in_enumeration, enumerated_value, behind_divider, behind_changing, behind_cell_size, behind_open_size, behind_type_size, cell_count, first_factor, in_factors, wants_expression, wants_factor, wanted};
+ghost use Rattle.c_grammar.specs.Constants.{ends_with, constant_value, array_length, row_length, inner_length, loop_first, loop_limit, loop_step, in_enumeration, enumerated_value, behind_divider, behind_changing, behind_cell_size, behind_open_size, behind_type_size, cell_count, first_factor, in_factors, wants_expression, wants_factor, wanted};
 ghost use Rattle.c_written.specs.Past.{past_of, seen_shape};
 ghost use Rattle.c_terminals.specs.Seen.{seen_terminal};
 
@@ -108,6 +108,26 @@ fn at_row_length(past: &Stack<Terminal<'_, '_>>) -> bool
     let shapes = [
         open,
         Shape::Sign(Sign::CloseBracket),
+        Shape::Number,
+        open,
+        Shape::Name,
+        Shape::Word(Word::Uint64),
+    ];
+    ends_with(past, 0, &shapes)
+}
+
+/// Whether `uint64_t NAME [ NUM ] [ NUM ] [` stands before.
+fn at_inner_length(past: &Stack<Terminal<'_, '_>>) -> bool
+    ensures { result ≡ ends_with inner_length (past_of past.now) }
+{
+    let open = Shape::Sign(Sign::OpenBracket);
+    let close = Shape::Sign(Sign::CloseBracket);
+    let shapes = [
+        open,
+        close,
+        Shape::Number,
+        open,
+        close,
         Shape::Number,
         open,
         Shape::Name,
@@ -361,6 +381,7 @@ fn wants_expression(past: &Stack<Terminal<'_, '_>>) -> bool
     at_constant_value(past, 0)
         || at_array_length(past, 0)
         || at_row_length(past)
+        || at_inner_length(past)
         || at_loop_first(past)
         || at_loop_limit(past, Sign::Less)
         || at_loop_limit(past, Sign::LessEqual)

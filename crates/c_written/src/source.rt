@@ -1,12 +1,13 @@
 //! The written tokens of a source.
 
-ghost use Rattle.std.specs.Prelude.{◌≡◌, ◌≤◌, ◌^◌, IfOk, [], false, map};
+ghost use Rattle.std.specs.Prelude.{◌≡◌, ◌≤◌, ◌^◌, IfOk, [], false, map, true};
 ghost use Rattle.c_tokens.specs.Text.{tokens_of};
 ghost use Rattle.c_grammar.specs.Allocations.{allocated};
 ghost use Rattle.c_grammar.specs.Blocks.{in_blocks, nothing_read, typed};
 ghost use Rattle.c_grammar.specs.Boxes.{announced, boxed};
 ghost use Rattle.c_grammar.specs.Changes.{begin, in_full};
 ghost use Rattle.c_grammar.specs.Choices.{chosen};
+ghost use Rattle.c_grammar.specs.Conditions.{decided};
 ghost use Rattle.c_grammar.specs.Constants.{undefined, worked};
 ghost use Rattle.c_grammar.specs.Counters.{counted};
 ghost use Rattle.c_grammar.specs.Declarations.{Other, settled};
@@ -14,12 +15,14 @@ ghost use Rattle.c_grammar.specs.DeclaredFunctions.{undeclared};
 ghost use Rattle.c_grammar.specs.Functions.{expanded};
 ghost use Rattle.c_grammar.specs.Grids.{flat};
 ghost use Rattle.c_grammar.specs.Initial.{initialized, no_globals};
+ghost use Rattle.c_grammar.specs.Loops.{looped};
 ghost use Rattle.c_grammar.specs.Macros.{replaced};
 ghost use Rattle.c_grammar.specs.Nesting.{nested};
 ghost use Rattle.c_grammar.specs.Pointers.{pointed};
 ghost use Rattle.c_grammar.specs.Prints.{printed};
 ghost use Rattle.c_grammar.specs.Privates.{owned};
 ghost use Rattle.c_grammar.specs.Source.{item_of, text_of, written_out};
+ghost use Rattle.c_grammar.specs.Structs.{in_rows};
 ghost use Rattle.c_grammar.specs.Unset.{zeroed};
 ghost use Rattle.c_grammar.specs.Updates.{Outside, commuting};
 ghost use Rattle.c_terminals.specs.Held.{columns_held, seen_held, written_all};
@@ -31,6 +34,7 @@ use crate::boxed::boxed;
 use crate::changes::in_full;
 use crate::constants::worked;
 use crate::counted::counted;
+use crate::decided::decided;
 use crate::declarations::settled;
 use crate::declared_functions::undeclared;
 use crate::definitions::undefined;
@@ -45,7 +49,9 @@ use crate::types::typed;
 use crate::unset::zeroed;
 use crate::updates::commuting;
 use c_choices::chosen;
+use c_loops::looped;
 use c_macros::replaced;
+use c_structs::in_rows;
 use c_terminals::{Written, WrittenTerminal, borrowed};
 use c_tokens::{Kind, Token, tokens};
 use directives::{LineTokens, word_of};
@@ -102,11 +108,11 @@ fn raw<'a>(alloc: Global, bytes: &'a [u8]) -> Result<Vec<Written<'a>>, AllocErro
     Ok(written)
 }
 
-/// The tokens with their combined constructs, calls of `printf`, types, blocks, declarations, names of loops and
-/// constants, and without the lines that declare functions and the clauses `private`.
+/// The tokens with their combined constructs, calls of `printf`, types, structs as rows, blocks, declarations, names of loops
+/// and constants, and without the lines that declare functions and the clauses `private`.
 fn with_constants<'a>(alloc: Global, raw: &[Written<'a>]) -> Result<Vec<Written<'a>>, AllocError>
     ensures { IfOk result (λ v. written_all v.items ≡
-        worked [] [] 0 (settled Other (zeroed (owned (counted (in_blocks nothing_read (undeclared false (typed 0 (printed 0 (nested (replaced (written_all raw.now)))))))))))) }
+        worked [] [] 0 (settled Other (zeroed (owned (counted (in_blocks nothing_read (undeclared false (in_rows (typed 0 (printed 0 (nested (replaced (written_all raw.now))))))))))))) }
 {
     let tokens = borrowed(alloc, raw)?;
     let tokens = replaced(alloc, &tokens)?;
@@ -114,6 +120,7 @@ fn with_constants<'a>(alloc: Global, raw: &[Written<'a>]) -> Result<Vec<Written<
     let tokens = borrowed(alloc, &tokens)?;
     let tokens = printed(alloc, &tokens)?;
     let tokens = typed(alloc, &tokens)?;
+    let tokens = in_rows(alloc, &tokens)?;
     let tokens = undeclared(alloc, &tokens)?;
     let tokens = in_blocks(alloc, &tokens)?;
     let tokens = counted(alloc, &tokens)?;
@@ -124,17 +131,24 @@ fn with_constants<'a>(alloc: Global, raw: &[Written<'a>]) -> Result<Vec<Written<
     worked(alloc, &tokens)
 }
 
-/// The tokens without conditional operators, definitions, arrays of two dimensions, allocations and initializers, with the
-/// boxed scalars, the updates that commute, and with their changes in full.
+/// The tokens without clauses `if`, loops that end by a condition, conditional operators, definitions, arrays of several
+/// dimensions, allocations and initializers, with the boxed scalars, the updates that commute, and with their changes in
+/// full.
 fn with_changes<'a>(alloc: Global, called: &[Written<'a>]) -> Result<Vec<Written<'a>>, AllocError>
     ensures { IfOk result (λ v. written_all v.items ≡
         announced (in_full begin 0 (initialized no_globals 0
-        (allocated (commuting Outside (boxed (flat [] [] [] 0 (undefined [] 0 0 (chosen (written_all called.now)))))))))) }
+        (allocated (commuting Outside (boxed (flat false [] [] [] 0 (flat true [] [] [] 0 (undefined [] 0 0
+        (chosen (looped (decided (written_all called.now))))))))))))) }
 {
     let tokens = borrowed(alloc, called)?;
+    let tokens = decided(alloc, &tokens)?;
+    let tokens = borrowed(alloc, &tokens)?;
+    let tokens = looped(alloc, &tokens)?;
     let tokens = chosen(alloc, &tokens)?;
     let tokens = undefined(alloc, &tokens)?;
-    let tokens = flat(alloc, &tokens)?;
+    let tokens = flat(alloc, true, &tokens)?;
+    let tokens = borrowed(alloc, &tokens)?;
+    let tokens = flat(alloc, false, &tokens)?;
     let tokens = borrowed(alloc, &tokens)?;
     let tokens = boxed(alloc, &tokens)?;
     let tokens = borrowed(alloc, &tokens)?;

@@ -1,4 +1,4 @@
-use Rattle.std.proofs.Common.{◌≡◌, ◌∙◌, ◌∷◌, [], List, ℕ, Some, ap, subst, sym}
+use Rattle.std.proofs.Common.{◌≡◌, ◌∙◌, ◌∷◌, [], List, ℕ, Some, ap, false, subst, sym}
 use Rattle.std.specs.Option.{is_some}
 use Rattle.std.proofs.lemmas.Result.{on_ok_weaker}
 use Rattle.c_grammar.specs.Blocks.{Items}
@@ -22,7 +22,7 @@ returns c =
     let all = c.in-Some.ensures.all in
     let alone : columns_in s.third.terminal ≡ [] =
     number_alone _ (seen s.first).terminal (seen s.sixth).terminal s.third.terminal
-    (ap (λ (is : Items). is_some (declared is)) (sym all) ∙ c.requires) in
+    (ap (λ (is : Items). is_some (declared false is)) (sym all) ∙ c.requires) in
     let number : Item Terminal = seen s.third in
     let cells : seen c.at.result ≡ with_terminal number (Num (Some c.args.cells)) =
     c.at.ensures

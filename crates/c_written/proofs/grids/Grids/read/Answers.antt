@@ -10,7 +10,7 @@ use Rattle.c_written.proofs.grids.Grids.read.Goals as goal
 pub returns-in-Some : goal.returns-in-Some
 returns-in-Some c =
     on_ok_weaker c.begin_row.result
-    (row_goes c.args.self.now c.begin_row.new.self (seen c.args.token) (ahead c.args.start) (Some (seen_row c.in-Some.row))
+    (row_goes c.args.deep c.args.self.now c.begin_row.new.self (seen c.args.token) (ahead c.args.start) (Some (seen_row c.in-Some.row))
     (sym c.is_word.ensures ∙ c.if-is_word.false) (sym c.is_sign.ensures ∙ c.if-is_sign.false)
     (sym c.is_sign-2.ensures ∙ c.if-is_sign-2.false)
     (ap (λ o. option_map seen_row o) (sym c.in-Some.is) ∙ c.row.ensures))
@@ -19,7 +19,7 @@ returns-in-Some c =
 pub returns-in-None : goal.returns-in-None
 returns-in-None c =
     on_ok_weaker c.put_name.result
-    (λ h. row_goes c.args.self.now c.put_name.new.self (seen c.args.token) (ahead c.args.start) None
+    (λ h. row_goes c.args.deep c.args.self.now c.put_name.new.self (seen c.args.token) (ahead c.args.start) None
     (sym c.is_word.ensures ∙ c.if-is_word.false) (sym c.is_sign.ensures ∙ c.if-is_sign.false)
     (sym c.is_sign-2.ensures ∙ c.if-is_sign-2.false)
     (ap (λ o. option_map seen_row o) (sym c.in-None.is) ∙ c.row.ensures)

@@ -16,17 +16,17 @@ returns-then-is_directive c =
     let old = c.args.self.now in
     let i = seen c.args.token in
     let is = seen_all c.args.rest.now in
-    let go : Onward = λ gs rs os k. flat gs rs os k is in
+    let go : Onward = λ gs rs os k. flat c.args.deep gs rs os k is in
     on_ok_weaker c.put_line.result
     (λ h. ap (λ (js : Items). written_all old.done.items ++ js)
-    (flat_directive _ _ _ _ i is (sym c.is_directive.ensures ∙ c.if-is_directive.true))
+    (flat_directive _ _ _ _ _ i is (sym c.is_directive.ensures ∙ c.if-is_directive.true))
     ∙ put_goes old c.put_line.new.self (flat_line (columns_of old) i i.terminal) h go)
     c.put_line.ensures
 
 pub returns-then-self-gt0 : goal.returns-then-self-gt0
 returns-then-self-gt0 c =
     ap (λ (js : Items). written_all c.args.self.now.done.items ++ js)
-    (flat_left _ _ _ _ _ _ (sym c.is_directive.ensures ∙ c.if-is_directive.false) c.if-self-gt0.true)
+    (flat_left _ _ _ _ _ _ _ (sym c.is_directive.ensures ∙ c.if-is_directive.false) c.if-self-gt0.true)
 
 pub read-requires-clause-few : goal.read-requires-clause-few
 read-requires-clause-few c =
@@ -40,11 +40,11 @@ returns c =
     let old = c.args.self.now in
     let i = seen c.args.token in
     let is = seen_all c.args.rest.now in
-    let go : Onward = λ gs rs os k. flat gs rs os k is in
-    let on = token_on (columns_of old) (ranges_of old.ranges) (open_of old) i in
+    let go : Onward = λ gs rs os k. flat c.args.deep gs rs os k is in
+    let on = token_on c.args.deep (columns_of old) (ranges_of old.ranges) (open_of old) i in
     on_ok_weaker c.read.result
     (λ h. ap (λ (js : Items). written_all old.done.items ++ js)
-    (flat_token _ _ _ _ i is (sym c.is_directive.ensures ∙ c.if-is_directive.false)
+    (flat_token _ _ _ _ _ i is (sym c.is_directive.ensures ∙ c.if-is_directive.false)
     (omega (arith, c.if-self-gt0.false))
     ∙ ap (λ (js : Items). on js go) (sym c.new.ensures))
     ∙ h go)
