@@ -1,8 +1,9 @@
 // Declarations, by their tokens. None is looked for beyond its text: a name that is declared twice is what it is first.
 
+use crate::rows::Sides;
 use c_tokens::{Kind, Sign, Token, Tokens};
 
-fn text_of<'t>(text: &'t [u8], token: &Token) -> &'t [u8] {
+pub fn text_of<'t>(text: &'t [u8], token: &Token) -> &'t [u8] {
     match text.get(token.first..token.last.saturating_add(1)) {
         None => &[],
         Some(bytes) => bytes,
@@ -73,46 +74,62 @@ fn constant(text: &[u8], name: &[u8]) -> Option<u64> {
 
 // What has been read of the declaration of an array with rows.
 #[derive(Clone, Copy)]
-enum Read<'t> {
+enum Read {
     Nothing,
     Type,
     Name,
     Length,
     Lengths,
-    Columns,
-    Last(&'t [u8]),
+    Second,
 }
 
 // Behind one more token.
-fn read_on<'t>(read: Read<'t>, token: &Token, word: &'t [u8], name: &[u8]) -> Read<'t> {
+fn read_on(read: Read, token: &Token, word: &[u8], name: &[u8]) -> Read {
     let sign = token.kind;
     match read {
         Read::Type if word == name => Read::Name,
         Read::Name if matches!(sign, Kind::Sign(Sign::OpenBracket)) => Read::Length,
         Read::Length if !matches!(sign, Kind::Sign(Sign::CloseBracket)) => Read::Length,
         Read::Length => Read::Lengths,
-        Read::Lengths if matches!(sign, Kind::Sign(Sign::OpenBracket)) => Read::Columns,
-        Read::Columns => Read::Last(word),
+        Read::Lengths if matches!(sign, Kind::Sign(Sign::OpenBracket)) => Read::Second,
         _ if is_type(word) || matches!(sign, Kind::Sign(Sign::Comma)) => Read::Type,
         _ => Read::Nothing,
     }
 }
 
-/// How many cells a row has of an array that is declared with two lengths, of which the second one is a number or the
-/// name of a constant.
-pub fn columns_of(text: &[u8], name: &[u8]) -> Option<u64> {
+// Where the second length of an array that is declared with two or more begins, behind its bracket.
+fn second_at(text: &[u8], name: &[u8]) -> Option<usize> {
     let mut read = Read::Nothing;
     'tokens: for token in Tokens::new(text) {
-        let word = text_of(text, &token);
-        if let Read::Last(length) = read {
-            if !matches!(token.kind, Kind::Sign(Sign::CloseBracket)) {
-                return None;
-            }
-            let mut numbers = Tokens::new(length);
-            let own = numbers.next_token()?;
-            return number_of(&own).or(constant(text, length));
+        read = read_on(read, &token, text_of(text, &token), name);
+        if matches!(read, Read::Second) {
+            return Some(token.last.saturating_add(1));
         }
-        read = read_on(read, &token, word, name);
     }
     None
+}
+
+// The length in brackets, behind the first of them: a number or the name of a constant of a text. Of that text these are
+// the last tokens.
+fn length_in(text: &[u8], last: &[u8], tokens: &mut Tokens<'_>) -> Option<u64> {
+    let token = tokens.next_token()?;
+    let close = tokens.next_token()?;
+    if !matches!(close.kind, Kind::Sign(Sign::CloseBracket)) {
+        return None;
+    }
+    number_of(&token).or(constant(text, text_of(last, &token)))
+}
+
+/// The lengths of an array that is declared with two or three, but the first one. Each is a number or the name of a
+/// constant.
+pub fn sides_of(text: &[u8], name: &[u8]) -> Option<Sides> {
+    let last = text.get(second_at(text, name)?..)?;
+    let mut tokens = Tokens::new(last);
+    let second = length_in(text, last, &mut tokens)?;
+    let behind = tokens.next_token()?;
+    let third = match behind.kind {
+        Kind::Sign(Sign::OpenBracket) => Some(length_in(text, last, &mut tokens)?),
+        _ => None,
+    };
+    Some(Sides { second, third })
 }

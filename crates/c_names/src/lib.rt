@@ -1,8 +1,10 @@
-//! How arrays are declared in the text of a source: as pointers, and with how many cells in a row.
+//! How arrays are declared in the text of a source: as pointers, with which lengths, and by structs.
 #![tactic(auto)]
 
 mod declared;
 mod rows;
+mod structs;
 
-pub use declared::{columns_of, is_pointer};
-pub use rows::{Cell, Rows, cell_of, rows_of};
+pub use declared::{is_pointer, sides_of};
+pub use rows::{Cell, Rows, Sides, cell_of, cell_text, rows_of, rows_text};
+pub use structs::members_of;

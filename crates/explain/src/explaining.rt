@@ -6,6 +6,7 @@ ghost use Rattle.base.specs.Items.{plan};
 ghost use Rattle.explain.specs.Explained.{SpellsAccepted};
 ghost use Rattle.pipeline.specs.Checking.{IsRefused, IsSilent, IsUnaccepted};
 
+use crate::lines::place_told;
 use crate::telling::all_told;
 use crate::warnings::warnings_of;
 use base::fault::{CheckFault, OutlineFault, ReadFault, SourceFault};
@@ -33,11 +34,12 @@ pub enum Form {
     Dot,
 }
 
-/// The name of a file, its bytes, and the form of the report.
+/// The name of a file, its text, the same with its lines joined, and the form of the report.
 #[derive(Clone, Copy)]
 struct Report<'a> {
     alloc: Global,
     file: &'a str,
+    source: &'a [u8],
     bytes: &'a [u8],
     form: Form,
 }
@@ -51,10 +53,10 @@ fn with_end(text: String) -> Result<Vec<u8>, AllocError> {
 impl Report<'_> {
     fn text(&self, told: &Told) -> Result<Vec<u8>, AllocError> {
         match self.form {
-            Form::Text => as_text(self.alloc, self.file, self.bytes, told, false),
-            Form::Coloured => as_text(self.alloc, self.file, self.bytes, told, true),
-            Form::Json => with_end(as_json(self.alloc, self.file, self.bytes, told)?),
-            Form::Sarif => with_end(as_sarif(self.alloc, self.file, self.bytes, told)?),
+            Form::Text => as_text(self.alloc, self.file, self.source, told, false),
+            Form::Coloured => as_text(self.alloc, self.file, self.source, told, true),
+            Form::Json => with_end(as_json(self.alloc, self.file, self.source, told)?),
+            Form::Sarif => with_end(as_sarif(self.alloc, self.file, self.source, told)?),
             Form::Dot => self.message(told),
         }
     }
@@ -67,8 +69,10 @@ impl Report<'_> {
         }
     }
 
-    fn write<W: Write>(&self, told: &Told, out: &mut W) -> io::Result<()> {
-        let text = self.text(told)?;
+    fn write<W: Write>(&self, told: Told, out: &mut W) -> io::Result<()> {
+        let mut told = told;
+        place_told(self.alloc, self.source, self.bytes, &mut told)?;
+        let text = self.text(&told)?;
         out.write_all(&text)
     }
 
@@ -81,7 +85,7 @@ impl Report<'_> {
     ) -> io::Result<()> {
         let mut told = told?;
         told.warnings = warnings_of(self.alloc, self.bytes, program)?;
-        self.write(&told, out)
+        self.write(told, out)
     }
 
     // A program as a graph.
@@ -124,7 +128,7 @@ impl Report<'_> {
     ) -> io::Result<()> {
         let mut told = Told::new(self.alloc);
         told.diagnoses.push(diagnosis?)?;
-        self.write(&told, out)
+        self.write(told, out)
     }
 }
 
@@ -194,10 +198,12 @@ fn explain_items<W: Write>(
 
 /// Reads a source, checks its program, and writes why it is refused, or that it is accepted. The fault is the one that
 /// `check_source` answers, and what is written tells of it; why a program is not accepted is written to `err` besides,
-/// in one line. Where what is to be told cannot be written, or there is no memory for it, that is answered.
+/// in one line. Where what is to be told cannot be written, or there is no memory for it, that is answered. The bytes are
+/// those of the source with its lines joined that go on behind a backslash; what is written shows the source.
 pub fn explain_source<W: Write, E: Write>(
     alloc: Global,
     file: &str,
+    source: &[u8],
     bytes: &[u8],
     form: Form,
     out: &mut W,
@@ -210,6 +216,7 @@ pub fn explain_source<W: Write, E: Write>(
     let report = Report {
         alloc,
         file,
+        source,
         bytes,
         form,
     };

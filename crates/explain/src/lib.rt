@@ -3,12 +3,14 @@
 #![tactic(auto)]
 
 mod explaining;
+mod lines;
 mod remedy;
 mod telling;
 mod warnings;
 mod weights;
 
 pub use explaining::{Form, explain_source};
+pub use lines::place_told;
 pub use remedy::seek;
 pub use rendering::Remedy;
 pub use telling::all_told;

@@ -355,7 +355,7 @@ pub fn with_other_direction(
     Ok(Some(spliced(alloc, line, span, other)?))
 }
 
-/// A section as it is written, with another length; none where it has no length, or two dimensions.
+/// A section as it is written, with another length; none where it has no length, or several dimensions.
 pub fn with_length(alloc: Global, text: &str, length: u64) -> Result<Option<String>, AllocError> {
     let bytes = text.as_bytes();
     let mut brackets = 0usize;

@@ -21,11 +21,13 @@ mod presence;
 mod search;
 mod sections;
 mod sent;
+mod split;
 mod stores;
 mod tidy;
 mod view;
 mod words;
 
 pub use bare::without_directives;
-pub use edits::Edit;
+pub use edits::{Edit, edits_of};
 pub use search::{MOST_CHECKS, MOST_STEPS, Mended, Sought, mend, mend_within, seek_within};
+pub use split::split_as;

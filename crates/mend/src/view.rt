@@ -6,7 +6,7 @@ use crate::stores::stores_to;
 use crate::words::item_around;
 use base::item::{Cell, Item, ItemKind, MapItem, MapKind, Section};
 use base::tree::{ArrayId, DeviceId, Place, Program};
-use c_names::{cell_of, columns_of, is_pointer};
+use c_names::{cell_of, is_pointer, rows_text, sides_of};
 use outline::Outlined;
 use ranges::{Footprint, FootprintFault, footprint};
 use std::alloc::{AllocError, Global};
@@ -87,12 +87,13 @@ impl<'v> View<'v> {
     // Some of an array's cells, or, where it has rows, all rows that have one of them.
     fn part_text(&self, name: &str, section: Section) -> Result<String, AllocError> {
         let end = section.first.saturating_add(section.length);
-        if let Some(columns) = columns_of(self.text, name.as_bytes())
-            && let Some(first) = cell_of(section.first, columns)
-            && let Some(last) = cell_of(end.saturating_sub(1), columns)
+        if let Some(sides) = sides_of(self.text, name.as_bytes())
+            && let Some(first) = cell_of(section.first, sides.cells())
+            && let Some(last) = cell_of(end.saturating_sub(1), sides.cells())
         {
             let count = last.row.saturating_sub(first.row).saturating_add(1);
-            return format!(in self.alloc; "{name}[{}:{count}][0:{columns}]", first.row);
+            let rows = rows_text(self.alloc, first.row, count, sides)?;
+            return format!(in self.alloc; "{name}{rows}");
         }
         format!(in self.alloc; "{name}[{}:{}]", section.first, section.length)
     }

@@ -141,15 +141,47 @@ impl Scene<'_> {
         add(notes, Weight::Help, place_of(entry), message)
     }
 
+    // Where a target, which needs no more than the block has, maps all of an array that none of its clauses names.
+    fn help_unnamed(
+        &self,
+        item: &Item,
+        map: &MapItem,
+        entered: &Entered,
+        access: &Access,
+        notes: &mut Vec<Note>,
+    ) -> Result<(), AllocError> {
+        let (name, first, length) = (
+            word_at(self.bytes, access.place),
+            entered.section.first,
+            entered.section.length,
+        );
+        let all = self.section_text(&map.section)?;
+        let message = format!(in self.alloc;
+            "write `map(tofrom: {name}[{first}:{length}])` on this line, which maps all of {all} without it"
+        )?;
+        let place = if self.is_implicit(item, map) {
+            item.place
+        } else {
+            place_of(map)
+        };
+        add(notes, Weight::Help, place, message)
+    }
+
     fn help_in_part(
         &self,
         refusal: &Refusal,
+        item: &Item,
         map: &MapItem,
         entered: &Entered,
         notes: &mut Vec<Note>,
     ) -> Result<(), AllocError> {
         if let Some(needed) = self.touched_outside(refusal, &entered.section)? {
             return self.help_wider(map, entered, &needed, notes);
+        }
+        if self.sides_of(self.name_of(map.section.array)).is_none()
+            && let Some(access) = self.unnamed_access(item, map)?
+        {
+            return self.help_unnamed(item, map, entered, &access, notes);
         }
         let (section, block) = (
             self.section_text(&map.section)?,
@@ -172,7 +204,7 @@ impl Scene<'_> {
         let message = self.in_part_text(item, map, &entered)?;
         let mut notes = Vec::new(self.alloc);
         self.note_entry(entered, item.device.number, &mut notes)?;
-        self.help_in_part(refusal, map, &entered, &mut notes)?;
+        self.help_in_part(refusal, item, map, &entered, &mut notes)?;
         self.at(refusal, place_of(map), &item.loops.values, message, notes)
     }
 
@@ -399,11 +431,22 @@ impl Scene<'_> {
         }
     }
 
-    // Where a target uses an array that is a pointer in C, and that none of its clauses names.
+    // Whether a map item stands for an array that is a pointer in C, and that no clause of its target names.
+    fn is_pointer(&self, item: &Item, map: &MapItem) -> bool {
+        matches!(item.kind, ItemKind::Target) && word_at(self.bytes, place_of(map)) == "target"
+    }
+
+    // Where a target uses such an array.
     fn pointer_access(&self, item: &Item, map: &MapItem) -> Result<Option<Access>, AllocError> {
-        let is_implied = matches!(item.kind, ItemKind::Target)
-            && word_at(self.bytes, place_of(map)) == "target";
-        if !is_implied {
+        if !self.is_pointer(item, map) {
+            return Ok(None);
+        }
+        self.access(item, Wanted::Any(map.section.array))
+    }
+
+    // Where a target uses an array that none of its clauses names.
+    fn unnamed_access(&self, item: &Item, map: &MapItem) -> Result<Option<Access>, AllocError> {
+        if !self.is_pointer(item, map) && !self.is_implicit(item, map) {
             return Ok(None);
         }
         self.access(item, Wanted::Any(map.section.array))
@@ -434,7 +477,7 @@ impl Scene<'_> {
         self.note_elsewhere(refusal, device, &mut notes)?;
         let length = map.section.length;
         let help = format!(in self.alloc;
-            "name it on this line, as by `map(tofrom: {name}[0:{length}])`, or enter it before"
+            "write `map(tofrom: {name}[0:{length}])` on this line, or enter it before"
         )?;
         add(&mut notes, Weight::Help, place, help)?;
         self.at(refusal, place, &item.loops.values, message, notes)

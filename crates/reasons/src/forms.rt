@@ -41,13 +41,13 @@ const LOCAL: &str =
     "a declaration in a block is of scalars, with values or without: `uint64_t a = 0, b;`";
 
 const LENGTH: &str =
-    "an array is `uint64_t A[NUM];` or `uint64_t A[NUM][NUM];`, each NUM a constant expression";
+    "an array is `uint64_t A[NUM];`, `uint64_t A[NUM][NUM];` or `uint64_t A[NUM][NUM][NUM];`, each NUM a constant expression";
 
 const ROW: &str =
-    "a second subscript is surely within its row: a sum or a difference of numbers, names of loops and products of these";
+    "a second or third subscript is surely within its dimension: a sum or a difference of numbers, names of loops and products of these";
 
 const ROW_ALONE: &str =
-    "an array of two dimensions has both subscripts, `A[i][j]`, the second one surely within its row: numbers, names of loops, sums and products of these";
+    "an array of several dimensions has all subscripts, `A[i][j]`, each but the first one surely within its dimension: numbers, names of loops, sums and products of these";
 
 const FUNCTION: &str =
     "a function stands before `main`, `void f(uint64_t *a, uint64_t n) { .. }` or `uint64_t f(uint64_t n) { .. return e; }`, and is called as a statement, `f(A, 8);`, or as all of a right side, `x = f(8);`";
@@ -64,7 +64,13 @@ const TYPES: [&str; 16] = [
 ];
 
 // Words of C that begin a jump or a loop.
-const JUMPS: [&str; 7] = ["while", "do", "break", "continue", "goto", "switch", "case"];
+const JUMPS: [&str; 5] = ["do", "break", "goto", "switch", "case"];
+
+const WHILE: &str =
+    "`while (c) { .. }` is read where a name in `c` is bounded, `k < NUM` alone or with `&&`, and one statement of the block makes it larger, `k++;` or `k += NUM;`, which nothing else in it changes; or write `for (uint64_t i = 0; i < NUM; i += 1) { if (c) { .. } }`";
+
+const CONTINUE: &str =
+    "`continue;` is read at the end of an `if` without `else` that stands in the block of a `for` itself: elsewhere write what follows in an `else`";
 
 /// The parts of a combined construct.
 pub const PARTS: [&str; 6] = ["teams", "distribute", "parallel", "for", "simd", "loop"];
@@ -245,7 +251,7 @@ fn misused(naming: Naming, around: &Around<'_>) -> Option<Telling> {
             help: BOUND,
         }),
         Naming::Array if around.next == b'[' => Some(Telling {
-            said: "has one subscript here, and two in its declaration",
+            said: "has more subscripts in its declaration, or one here that may leave its dimension",
             help: ROW_ALONE,
         }),
         Naming::Array => Some(Telling {
@@ -268,6 +274,16 @@ fn misused(naming: Naming, around: &Around<'_>) -> Option<Telling> {
     }
 }
 
+// A loop or a jump of C that is not read there.
+fn jump(word: &str) -> Option<&'static str> {
+    match word {
+        "while" => Some(WHILE),
+        "continue" => Some(CONTINUE),
+        _ if is_one_of(word, &JUMPS) => Some(LOOP),
+        _ => None,
+    }
+}
+
 // A word of C that is not read.
 fn foreign(around: &Around<'_>) -> Option<&'static str> {
     let word = around.word;
@@ -276,8 +292,8 @@ fn foreign(around: &Around<'_>) -> Option<&'static str> {
             "take it away: `main` ends at its last brace, before which `return 0;` may stand",
         );
     }
-    if is_one_of(word, &JUMPS) {
-        return Some(LOOP);
+    if let Some(form) = jump(word) {
+        return Some(form);
     }
     if let Some(form) = foreign_type(word) {
         return Some(form);
@@ -307,7 +323,9 @@ pub fn undeclared(naming: Naming, around: &Around<'_>) -> Telling {
 fn foreign_byte(around: &Around<'_>) -> Option<&'static str> {
     let word = around.word;
     if word == "\\" {
-        return Some("a directive stands on one line: join its lines");
+        return Some(
+            "a line that begins with `#` goes on where nothing but a line feed stands behind the backslash",
+        );
     }
     if word == "?" {
         return Some(

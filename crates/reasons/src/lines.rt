@@ -101,6 +101,11 @@ fn unknown_clause(around: &Around<'_>) -> Option<&'static str> {
             "`private` is left out where the loop declares its names, or assigns a scalar before all else that is declared before it without a value, `uint64_t t;`",
         );
     }
+    if word == "if" {
+        return Some(
+            "a condition is one of constants, `if(N > 8)`, for the directive, a part of it (`parallel: `, `teams: `, `simd: `) or all; where it is 0 the host runs the statement behind the line, in order, so that nothing may stand there of `nowait`, `depend`, `private`, `reduction` and `loop`, no part may hold, and no scalar from outside be assigned that no `map` clause names",
+        );
+    }
     if is_one_of(word, &SHARING) {
         return Some(
             "arrays are shared, scalars captured and locals private without a clause: `default(shared)`, `shared` of names that are declared before the line and `firstprivate` of such scalars are read, on the constructs that take them",

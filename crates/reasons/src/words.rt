@@ -5,7 +5,7 @@ use crate::ends::block_end;
 use crate::scene::Scene;
 use base::item::{Cell, Depend, Item, ItemKind, MapItem, MapKind, Section};
 use base::tree::{DependKind, Place};
-use c_names::{cell_of, columns_of, is_pointer, rows_of};
+use c_names::{Sides, cell_text, is_pointer, rows_of, rows_text, sides_of};
 use history::Side;
 use std::alloc::{AllocError, Global};
 
@@ -98,9 +98,9 @@ fn turn_value_text(alloc: Global, level: usize, turn: &Turn) -> Result<String, A
 }
 
 impl Scene<'_> {
-    // How many cells a row has of an array with rows.
-    fn columns_of(&self, name: &str) -> Option<u64> {
-        columns_of(self.bytes, name.as_bytes())
+    // The lengths of the rows of an array with rows.
+    pub fn sides_of(&self, name: &str) -> Option<Sides> {
+        sides_of(self.bytes, name.as_bytes())
     }
 
     pub fn cell_text(&self, cell: Cell) -> Result<String, AllocError> {
@@ -110,26 +110,26 @@ impl Scene<'_> {
 
     // A cell of an array, by its row where there are rows.
     fn index_text(&self, name: &str, index: u64) -> Result<String, AllocError> {
-        if let Some(columns) = self.columns_of(name)
-            && let Some(cell) = cell_of(index, columns)
-        {
-            return format!(in self.alloc; "{name}[{}][{}]", cell.row, cell.column);
-        }
-        format!(in self.alloc; "{name}[{index}]")
+        let Some(sides) = self.sides_of(name) else {
+            return format!(in self.alloc; "{name}[{index}]");
+        };
+        let cell = cell_text(self.alloc, index, sides)?;
+        format!(in self.alloc; "{name}{cell}")
     }
 
     pub fn section_text(&self, section: &Section) -> Result<String, AllocError> {
         let name = self.name_of(section.array);
-        match self.columns_of(name) {
+        match self.sides_of(name) {
             None => format!(in self.alloc; "{name}[{}:{}]", section.first, section.length),
-            Some(columns) => self.rows_text(name, section, columns),
+            Some(sides) => self.rows_text(name, section, sides),
         }
     }
 
     // A section of an array with rows; the first and the last of its cells where these are no whole rows.
-    fn rows_text(&self, name: &str, section: &Section, columns: u64) -> Result<String, AllocError> {
-        if let Some(rows) = rows_of(section.first, section.length, columns) {
-            return format!(in self.alloc; "{name}[{}:{}][0:{columns}]", rows.first, rows.count);
+    fn rows_text(&self, name: &str, section: &Section, sides: Sides) -> Result<String, AllocError> {
+        if let Some(rows) = rows_of(section.first, section.length, sides.cells()) {
+            let rows = rows_text(self.alloc, rows.first, rows.count, sides)?;
+            return format!(in self.alloc; "{name}{rows}");
         }
         let last = section
             .first

@@ -16,12 +16,15 @@ mod UnlinedChanges
 mod UnlinedCalls
 mod UnlinedFunctions
 mod UnlinedPointers
+mod UnlinedStructs
 mod UnlinedChoices
+mod UnlinedLoops
 mod UnlinedGrids
 mod UnlinedDeclarations
 mod UnlinedCounters
 mod UnlinedMoves
 mod UnlinedPrivates
+mod UnlinedConditions
 mod UnlinedUpdates
 mod UnlinedBoxes
 mod UnlinedTexts

@@ -36,7 +36,7 @@ one_unlined : (i : Item Terminal) (is : Items) (xs : Names) → with_declared (u
 one_unlined i [] xs = refl
 one_unlined i (j ∷ is) xs = refl
 
-declared_unlined : (is : Items) (xs : Names) (d : ℕ) → declared xs d (all_unlined is) ≡ declared xs d is
+pub declared_unlined : (is : Items) (xs : Names) (d : ℕ) → declared xs d (all_unlined is) ≡ declared xs d is
 declared_unlined [] xs d = refl
 declared_unlined (i ∷ is) xs d =
     let ys : Names = with_declared i is xs in

@@ -1,5 +1,5 @@
 -- Tokens are written out without a look at their lines.
-use Rattle.std.proofs.Common.{◌≡◌, false, List, [], ◌∷◌, refl, sym, ap, ◌∙◌}
+use Rattle.std.proofs.Common.{◌≡◌, false, true, List, [], ◌∷◌, refl, sym, ap, ◌∙◌}
 use Rattle.c_grammar.specs.Terminal.{Terminal}
 use Rattle.c_grammar.specs.Allocations.{allocated}
 use Rattle.c_grammar.specs.Boxes.{announced, boxed}
@@ -8,7 +8,10 @@ use Rattle.c_grammar.specs.Changes.{begin, in_full}
 use Rattle.c_grammar.specs.Constants.{undefined, worked}
 use Rattle.c_grammar.specs.Functions.{expanded}
 use Rattle.c_grammar.specs.Pointers.{pointed}
+use Rattle.c_grammar.specs.Loops.{looped}
+use Rattle.c_grammar.specs.Structs.{in_rows}
 use Rattle.c_grammar.specs.Choices.{chosen}
+use Rattle.c_grammar.specs.Conditions.{decided}
 use Rattle.c_grammar.specs.Grids.{flat}
 use Rattle.c_grammar.specs.Counters.{counted}
 use Rattle.c_grammar.specs.Privates.{owned}
@@ -30,7 +33,10 @@ use Rattle.same_text.proofs.UnlinedPrints.{printed_unlined}
 use Rattle.same_text.proofs.UnlinedConstants.{worked_unlined}
 use Rattle.same_text.proofs.UnlinedFunctions.{expanded_unlined}
 use Rattle.same_text.proofs.UnlinedPointers.{pointed_unlined}
+use Rattle.same_text.proofs.UnlinedLoops.{looped_unlined}
+use Rattle.same_text.proofs.UnlinedStructs.{rows_unlined}
 use Rattle.same_text.proofs.UnlinedChoices.{chosen_unlined}
+use Rattle.same_text.proofs.UnlinedConditions.{decided_unlined}
 use Rattle.same_text.proofs.UnlinedGrids.{flat_unlined}
 use Rattle.same_text.proofs.UnlinedCounters.{counted_unlined, zeroed_unlined}
 use Rattle.same_text.proofs.UnlinedPrivates.{owned_unlined}
@@ -58,7 +64,8 @@ written_unlined is =
     let n : Items = nested m in
     let p : Items = printed 0 n in
     let a : Items = typed 0 p in
-    let u : Items = undeclared false a in
+    let s : Items = in_rows a in
+    let u : Items = undeclared false s in
     let b : Items = in_blocks nothing_read u in
     let l : Items = counted b in
     let o : Items = owned l in
@@ -66,34 +73,43 @@ written_unlined is =
     let c : Items = worked [] [] 0 d in
     let q : Items = pointed c in
     let e : Items = expanded q in
-    let f : Items = chosen e in
-    let g : Items = flat [] [] [] 0 (undefined [] 0 0 f) in
+    let y : Items = decided e in
+    let x : Items = looped y in
+    let f : Items = chosen x in
+    let r : Items = flat true [] [] [] 0 (undefined [] 0 0 f) in
+    let g : Items = flat false [] [] [] 0 r in
     let later : Items → Items = λ js. announced (in_full begin 0 (initialized no_globals 0 (allocated js))) in
     let since_boxes : Items → Items = λ js. later (commuting Outside js) in
     let since_updates : Items → Items = λ js. since_boxes (boxed js) in
-    let since_grids : Items → Items = λ js. since_updates (flat [] [] [] 0 js) in
+    let since_rows : Items → Items = λ js. since_updates (flat false [] [] [] 0 js) in
+    let since_grids : Items → Items = λ js. since_rows (flat true [] [] [] 0 js) in
     let since_defined : Items → Items = λ js. since_grids (undefined [] 0 0 js) in
-    let since_declared : Items → Items = λ js. since_defined (chosen (expanded (pointed (worked [] [] 0 js)))) in
+    let since_declared : Items → Items = λ js. since_defined (chosen (looped (decided (expanded (pointed (worked [] [] 0 js)))))) in
     let since_zeroed : Items → Items = λ js. since_declared (settled Other js) in
     let since_counted : Items → Items = λ js. since_zeroed (zeroed (owned js)) in
     let since_blocks : Items → Items = λ js. since_counted (counted js) in
-    let since_typed : Items → Items = λ js. since_blocks (in_blocks nothing_read (undeclared false js)) in
+    let since_structs : Items → Items = λ js. since_blocks (in_blocks nothing_read (undeclared false js)) in
+    let since_typed : Items → Items = λ js. since_structs (in_rows js) in
     ap (λ (js : Items). since_typed (typed 0 (printed 0 (nested js)))) (replaced_unlined is)
     ∙ ap (λ (js : Items). since_typed (typed 0 (printed 0 js))) (nested_unlined m)
     ∙ ap (λ (js : Items). since_typed (typed 0 js)) (printed_unlined n 0)
     ∙ ap since_typed (typed_unlined p 0)
-    ∙ ap (λ (js : Items). since_blocks (in_blocks nothing_read js)) (undeclared_unlined a false)
+    ∙ ap since_structs (rows_unlined a)
+    ∙ ap (λ (js : Items). since_blocks (in_blocks nothing_read js)) (undeclared_unlined s false)
     ∙ ap since_blocks (blocks_unlined u nothing_read)
     ∙ ap since_counted (counted_unlined b)
     ∙ ap (λ (js : Items). since_zeroed (zeroed js)) (owned_unlined l)
     ∙ ap since_zeroed (zeroed_unlined o)
     ∙ ap since_declared (settled_unlined (zeroed o) Other)
-    ∙ ap (λ (js : Items). since_defined (chosen (expanded (pointed js)))) (worked_unlined d [] [] 0)
-    ∙ ap (λ (js : Items). since_defined (chosen (expanded js))) (pointed_unlined c)
-    ∙ ap (λ (js : Items). since_defined (chosen js)) (expanded_unlined q)
-    ∙ ap since_defined (chosen_unlined e)
+    ∙ ap (λ (js : Items). since_defined (chosen (looped (decided (expanded (pointed js)))))) (worked_unlined d [] [] 0)
+    ∙ ap (λ (js : Items). since_defined (chosen (looped (decided (expanded js))))) (pointed_unlined c)
+    ∙ ap (λ (js : Items). since_defined (chosen (looped (decided js)))) (expanded_unlined q)
+    ∙ ap (λ (js : Items). since_defined (chosen (looped js))) (decided_unlined e)
+    ∙ ap (λ (js : Items). since_defined (chosen js)) (looped_unlined y)
+    ∙ ap since_defined (chosen_unlined x)
     ∙ ap since_grids (undefined_unlined f [] 0 0)
-    ∙ ap since_updates (flat_unlined (undefined [] 0 0 f) [] [] [] 0)
+    ∙ ap since_rows (flat_unlined (undefined [] 0 0 f) true [] [] [] 0)
+    ∙ ap since_updates (flat_unlined r false [] [] [] 0)
     ∙ ap since_boxes (boxed_unlined g)
     ∙ ap later (commuting_unlined (boxed g) Outside) ∙ later_unlined (commuting Outside (boxed g))
 

@@ -159,7 +159,7 @@ pub fn program_page(alloc: Global, file: &str, scene: &Scene<'_>) -> Result<Vec<
     let shown = bars_of(alloc, scene, &lines)?;
     add_rules(&mut page, &scene.timeline.bars, &shown)?;
     add_lights(&mut page, alloc, items)?;
-    add_body(&mut page, file, scene.bytes, items, scene.told, LEGEND)?;
+    add_body(&mut page, file, scene.text, items, scene.told, LEGEND)?;
     add_table(&mut page, scene, &lines)?;
     add_end(&mut page, scene.told)?;
     Ok(page.into_bytes())

@@ -42,6 +42,9 @@ impl LoopNames {
 /// A program, what is told of it, and its table.
 #[derive(Clone, Copy)]
 pub struct Scene<'a> {
+    /// The text as it stands.
+    pub text: &'a [u8],
+    /// The text with its lines joined.
     pub bytes: &'a [u8],
     pub outlined: &'a Outlined<'a>,
     pub timeline: &'a Timeline,

@@ -11,7 +11,7 @@ use crate::scene::{LoopNames, Scene, arrays_of, kept_of};
 use base::fault::{CheckFault, OutlineFault, ReadFault, SourceFault};
 use base::tree::Program;
 use c_read::read_program;
-use explain::{all_told, warnings_of};
+use explain::{all_told, place_told, warnings_of};
 use mapcheck::check;
 use outline::{Outlined, outline};
 use pipeline::tell;
@@ -22,11 +22,12 @@ use std::io;
 use std::io::Write;
 use timeline::timeline_of;
 
-/// The name of a file, and its bytes.
+/// The name of a file, its text, and the same with its lines joined.
 #[derive(Clone, Copy)]
 struct Source<'a> {
     alloc: Global,
     file: &'a str,
+    text: &'a [u8],
     bytes: &'a [u8],
 }
 
@@ -38,6 +39,7 @@ impl Source<'_> {
         let kept = kept_of(self.alloc, told)?;
         let arrays = arrays_of(self.alloc, outlined, &timeline, told)?;
         let scene = Scene {
+            text: self.text,
             bytes: self.bytes,
             outlined,
             timeline: &timeline,
@@ -57,6 +59,7 @@ impl Source<'_> {
     ) -> io::Result<()> {
         let mut told = told?;
         told.warnings = warnings_of(self.alloc, self.bytes, outlined.program())?;
+        place_told(self.alloc, self.text, self.bytes, &mut told)?;
         let page = self.page(outlined, &told)?;
         out.write_all(&page)
     }
@@ -72,7 +75,8 @@ impl Source<'_> {
     ) -> io::Result<()> {
         let mut told = Told::new(self.alloc);
         told.diagnoses.push(diagnosis?)?;
-        let page = source_page(self.alloc, self.file, self.bytes, &told)?;
+        place_told(self.alloc, self.text, self.bytes, &mut told)?;
+        let page = source_page(self.alloc, self.file, self.text, &told)?;
         out.write_all(&page)
     }
 }
@@ -144,10 +148,12 @@ fn view_items<W: Write>(
 
 /// Reads a source, checks its program, and writes its page. The fault is the one that `check_source` answers; why a
 /// program is not accepted is written to `err` besides, in one line. Where the page cannot be written, or there is no
-/// memory for it, that is answered.
+/// memory for it, that is answered. The bytes are those of the text with its lines joined that go on behind a backslash;
+/// the page shows the text.
 pub fn view_source<W: Write, E: Write>(
     alloc: Global,
     file: &str,
+    text: &[u8],
     bytes: &[u8],
     out: &mut W,
     err: &mut E,
@@ -156,7 +162,12 @@ pub fn view_source<W: Write, E: Write>(
     ensures fault { IfErr result (λ f. IsRefused bytes.now f) }
     ensures silent { IsSilent result (E.contents err.old) (E.contents err.new) }
 {
-    let source = Source { alloc, file, bytes };
+    let source = Source {
+        alloc,
+        file,
+        text,
+        bytes,
+    };
     let program = match read_program(alloc, bytes) {
         Ok(program) => program,
         Err(fault) => return view_text(&source, fault, out),
