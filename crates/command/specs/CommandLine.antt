@@ -69,7 +69,8 @@ abbrev pub run : Shape
 run = command (codes "run") (file ∷ workers ∷ capacity ∷ flag (codes "log") ∷ flag (codes "maps") ∷ flag (codes "finals") ∷ [])
 
 abbrev pub step : Shape
-step = command (codes "step") (file ∷ text_option (codes "choices") ∷ capacity ∷ flag (codes "fine") ∷ text_option (codes "turns") ∷ flag (codes "maps") ∷ [])
+step = command (codes "step") (file ∷ text_option (codes "choices") ∷ capacity ∷ flag (codes "fine") ∷ text_option (codes "turns") ∷ flag (codes "maps") ∷
+    text_option (codes "choice-runs") ∷ [])
 
 -- the words are a command's name and its arguments; without any there is help
 abbrev pub ompc : App
@@ -135,6 +136,7 @@ pub record IsStep (rows : List Row) (s : Step) : Type 0 where
   pub fine : IsFlag (one_of (codes "fine") rows) s.fine
   pub turns : s.turns.now ≡ text_in (codes "turns") rows
   pub maps : IsFlag (one_of (codes "maps") rows) s.maps
+  pub choice_runs : s.choice_runs.now ≡ text_in (codes "choice-runs") rows
 
 -- the form of a report that has this name
 abbrev pub format_named : Text → Option Format

@@ -73,6 +73,8 @@ pub struct Run<'a> {
 pub struct Step<'a> {
     pub file: &'a str,
     pub choices: &'a str,
+    /// Choices behind these, in runs of equal ones.
+    pub choice_runs: &'a str,
     pub capacity: u64,
     /// Whether each load, store, copied cell and action on a table is an event, and programs that are not accepted run too.
     pub fine: bool,

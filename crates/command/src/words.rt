@@ -93,6 +93,17 @@ fn choices_arg<'a>(alloc: Global) -> Arg<'a>
         )
 }
 
+fn choice_runs_arg<'a>(alloc: Global) -> Arg<'a>
+    ensures { IsArg (text_option (codes "choice-runs")) result }
+{
+    Arg::new(alloc, "choice-runs")
+        .long("choice-runs")
+        .value_name("LIST")
+        .help(
+            "choices behind these: numbers separated by commas, with `*` and how often it is meant behind a number",
+        )
+}
+
 fn turns_arg<'a>(alloc: Global) -> Arg<'a>
     ensures { IsArg (text_option (codes "turns")) result }
 {
@@ -179,7 +190,8 @@ fn step_command<'a>(alloc: Global) -> Result<Command<'a>, AllocError>
     let command = with_arg(command, capacity_arg(alloc));
     let command = with_arg(command, fine_arg(alloc));
     let command = with_arg(command, turns_arg(alloc));
-    with_arg(command, maps_arg(alloc))
+    let command = with_arg(command, maps_arg(alloc));
+    with_arg(command, choice_runs_arg(alloc))
 }
 
 fn check_command<'a>(alloc: Global) -> Result<Command<'a>, AllocError>
@@ -322,6 +334,7 @@ fn step_of<'a>(given: &ArgMatches<'a>) -> Step<'a>
         capacity: number_of(given, "capacity", DEFAULT_CAPACITY),
         fine: given.get_flag("fine"),
         turns: text_of(given, "turns"),
+        choice_runs: text_of(given, "choice-runs"),
         maps: given.get_flag("maps"),
     }
 }

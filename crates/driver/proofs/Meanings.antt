@@ -9,9 +9,9 @@ use Rattle.erased_meaning.specs.Laws.{ErasedTextRuns}
 use Rattle.erasure.specs.Erased.{erased_text}
 use Rattle.pipeline.specs.Source.{IsPlainAnswer}
 use Rattle.pipeline.proofs.Runs.{Shows, plain_answer}
-use Rattle.driver.specs.declared.perform.Next.TheVariants.{Choices, Workers}
-use Rattle.driver.specs.declared.perform.Way.{Way}
-use Rattle.driver.specs.declared.perform.Way.TheVariants.{Checked, Fine}
+use Rattle.driver.specs.declared.running.Next.TheVariants.{Choices, Workers}
+use Rattle.driver.specs.declared.running.Way.{Way}
+use Rattle.driver.specs.declared.running.Way.TheVariants.{Checked, Fine}
 use Rattle.driver.specs.Printed.{answers_of}
 
 shows : (way : Way) (capacity : ℕ) (input : List ℕ) (p : Program) (a : Answer) → answers_of way capacity input p a → IsAccepted (plan p) → Shows p input a

@@ -8,8 +8,9 @@ use Rattle.base.specs.declared.fault.SourceFault.{SourceFault}
 use Rattle.base.specs.declared.fault.SourceFault.TheVariants.{Read, Outline, Check, Run}
 use Rattle.c_read.specs.Spells.{Spells}
 use Rattle.pipeline.specs.Checking.{IsRefused}
-use Rattle.driver.specs.declared.perform.Ending.{Ending}
-use Rattle.driver.specs.declared.perform.Ending.TheVariants as ending
+use Rattle.c_lines.specs.Spliced.{spliced}
+use Rattle.driver.specs.declared.ending.Ending.{Ending}
+use Rattle.driver.specs.declared.ending.Ending.TheVariants as ending
 use Rattle.driver.specs.Statuses.{ending_of, status_of}
 use Rattle.base.specs.Items.{plan}
 use Rattle.base.specs.Limits.{most_items}
@@ -81,7 +82,7 @@ handed_up P (Ok x) e is h = absurd is
 handed_up P (Err y) e is h = subst (IsRefusalBy P) (sym is) h
 
 -- a refusal of the bytes that were found is one of the source
-pub of_refused : {X : Type 0} (r : Result X Ending) (source : Option (List ℕ)) (found bytes : List ℕ) → IfSome source (λ xs. found ≡ xs) → bytes ≡ found
+pub of_refused : {X : Type 0} (r : Result X Ending) (source : Option (List ℕ)) (found bytes : List ℕ) → IfSome source (λ xs. found ≡ spliced xs) → bytes ≡ found
     → IfErr r (IsRefusalBy (IsRefused bytes)) → IfErr r (IsRefusalBy (IsRefusedOf true source))
 of_refused (Ok x) source found bytes are same h = tt
 of_refused (Err e) source found bytes are same h = by_wider (IsRefused bytes) (IsRefusedOf true source) e (λ f is. (

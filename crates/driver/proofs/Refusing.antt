@@ -1,8 +1,8 @@
 -- How an ending with the status of a refusal is one.
 use Rattle.std.proofs.Common.{◌≡◌}
 use Rattle.base.specs.declared.fault.SourceFault.{SourceFault}
-use Rattle.driver.specs.declared.perform.Ending.{Ending}
-use Rattle.driver.specs.declared.perform.Ending.TheVariants as ending
+use Rattle.driver.specs.declared.ending.Ending.{Ending}
+use Rattle.driver.specs.declared.ending.Ending.TheVariants as ending
 use Rattle.driver.specs.Refused.{IsRefusal, IsRefusalBy}
 use Rattle.driver.specs.Statuses.{status_of}
 

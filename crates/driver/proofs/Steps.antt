@@ -4,10 +4,10 @@ use Rattle.std.specs.Prelude.{Result, Ok, Err, IfOk}
 use Rattle.base.specs.declared.tree.Program.{Program}
 use Rattle.base.specs.declared.item.Answer.{Answer}
 use Rattle.numbers.specs.Numbers.{choices_of}
-use Rattle.driver.specs.declared.perform.Next.TheVariants.{Choices, Workers}
-use Rattle.driver.specs.declared.perform.Way.{Way}
-use Rattle.driver.specs.declared.perform.Way.TheVariants.{Checked, Fine}
-use Rattle.driver.specs.Printed.{IsPrinted, IsReadAnswer, IsStepped, OfSource, accepted_by, answers_of, by_actions, by_list, stepped}
+use Rattle.driver.specs.declared.running.Next.TheVariants.{Choices, Workers}
+use Rattle.driver.specs.declared.running.Way.{Way}
+use Rattle.driver.specs.declared.running.Way.TheVariants.{Checked, Fine}
+use Rattle.driver.specs.Printed.{AreChoices, IsPrinted, IsReadAnswer, IsStepped, OfSource, accepted_by, answers_of, by_actions, by_list, stepped}
 use Rattle.driver.specs.Refused.{is_checked}
 use Rattle.driver.specs.Stepping.{IsStepWay}
 
@@ -39,11 +39,11 @@ printed_way true maps choices turns capacity (Checked (Workers workers)) bytes k
 printed_way false maps choices turns capacity (Checked (Workers workers)) bytes known old new is h = absurd is
 
 -- a step is done where its way has printed
-pub done_way : {E : Type 0} (r : Result ℕ E) (source : Option (List ℕ)) (fine maps : Bool) (text choices order turns : List ℕ) (capacity : ℕ) (way : Way) (known old new : Option (List ℕ))
-    → choices_of text ≡ Some choices → choices_of order ≡ Some turns → IsStepWay fine choices turns way
+pub done_way : {E : Type 0} (r : Result ℕ E) (source : Option (List ℕ)) (fine maps : Bool) (text runs choices order turns : List ℕ) (capacity : ℕ) (way : Way) (known old new : Option (List ℕ))
+    → AreChoices text runs choices → choices_of order ≡ Some turns → IsStepWay fine choices turns way
     → IfOk r (λ s. s ≡ 0 → OfSource source (λ bytes. IsPrinted (answers_of way capacity) true maps false bytes known old new))
-    → IfOk r (λ s. s ≡ 0 → OfSource source (λ bytes. IsStepped fine maps text order capacity bytes known old new))
-done_way (Ok s) source fine maps text choices order turns capacity way known old new spelled ordered is h = λ zero.
+    → IfOk r (λ s. s ≡ 0 → OfSource source (λ bytes. IsStepped fine maps text runs order capacity bytes known old new))
+done_way (Ok s) source fine maps text runs choices order turns capacity way known old new spelled ordered is h = λ zero.
     let found = h zero in
     record {
       bytes = found.bytes;
@@ -56,4 +56,4 @@ done_way (Ok s) source fine maps text choices order turns capacity way known old
         printed = printed_way fine maps choices turns capacity way found.bytes known old new is found.holds;
       };
     }
-done_way (Err e) source fine maps text choices order turns capacity way known old new spelled ordered is h = tt
+done_way (Err e) source fine maps text runs choices order turns capacity way known old new spelled ordered is h = tt

@@ -6,6 +6,7 @@ use Rattle.base.specs.declared.item.Answer.{Answer}
 use Rattle.base.specs.Accepted.{IsAccepted}
 use Rattle.base.specs.Items.{plan}
 use Rattle.c_read.specs.Spells.{Spells}
+use Rattle.c_lines.specs.Spliced.{spliced}
 use Rattle.erasure.specs.Erased.{erased_text}
 use Rattle.pipeline.specs.Source.{Answers, IsAcceptedAnswer, IsPlainAnswer, by_choices, on_threads}
 use Rattle.pipeline.specs.Checking.{IsChecked}
@@ -13,14 +14,14 @@ use Rattle.pipeline.specs.Listing.{IsListed}
 use Rattle.explain.specs.Explained.{SpellsAccepted}
 use Rattle.report.specs.Runs.{log_bytes, finals_bytes}
 use Rattle.maps.specs.Maps.{run_maps_bytes}
-use Rattle.numbers.specs.Numbers.{input_of, choices_of}
+use Rattle.numbers.specs.Numbers.{input_of, choices_of, runs_of}
 use Rattle.command.specs.CommandLine.{AskedBy}
 use Rattle.command.specs.declared.request.Request.{Request}
 use Rattle.command.specs.declared.request.Request.TheVariants.{Run, Step, Check, Explain, Fix, Witness, View, List as Items}
-use Rattle.driver.specs.declared.perform.Next.{Next}
-use Rattle.driver.specs.declared.perform.Next.TheVariants.{Choices, Workers}
-use Rattle.driver.specs.declared.perform.Way.{Way}
-use Rattle.driver.specs.declared.perform.Way.TheVariants.{Checked, Fine}
+use Rattle.driver.specs.declared.running.Next.{Next}
+use Rattle.driver.specs.declared.running.Next.TheVariants.{Choices, Workers}
+use Rattle.driver.specs.declared.running.Way.{Way}
+use Rattle.driver.specs.declared.running.Way.TheVariants.{Checked, Fine}
 use Rattle.stepper.specs.Answering.{IsFineAnswer}
 use Rattle.mend.specs.Mends.{IsMend}
 use Rattle.witness.specs.declared.trial.Witness.{Witness as FoundWitness}
@@ -86,18 +87,26 @@ abbrev pub stepped : Bool → List ℕ → List ℕ → ℕ → List ℕ → Ans
 stepped true choices turns capacity = by_actions choices turns capacity
 stepped false choices turns capacity = accepted_by (by_list choices capacity)
 
--- a run by the choices of a text, with its log; the other text is the order of turns
-pub record IsStepped (fine maps : Bool) (text order : List ℕ) (capacity : ℕ) (bytes : List ℕ) (known old new : Option (List ℕ)) : Type 0 where
+-- the choices of a text, and behind them those of a text in which they stand in runs
+pub record AreChoices (text runs choices : List ℕ) : Type 0 where
+  pub first : List ℕ
+  pub are_first : choices_of text ≡ Some first
+  pub others : List ℕ
+  pub are_others : runs_of runs ≡ Some others
+  pub both : choices ≡ first ++ others
+
+-- a run by the choices of two texts, with its log; the last text is the order of turns
+pub record IsStepped (fine maps : Bool) (text runs order : List ℕ) (capacity : ℕ) (bytes : List ℕ) (known old new : Option (List ℕ)) : Type 0 where
   pub choices : List ℕ
-  pub are_choices : choices_of text ≡ Some choices
+  pub are_choices : AreChoices text runs choices
   pub turns : List ℕ
   pub are_turns : choices_of order ≡ Some turns
   pub printed : IsPrinted (stepped fine choices turns capacity) true maps false bytes known old new
 
--- a text that spells an accepted program, and differs from the bytes in directives alone
+-- a text that, with its lines joined, spells an accepted program, and differs from the bytes in directives alone
 pub record IsFixed (bytes : List ℕ) (old new : Option (List ℕ)) : Type 0 where
   pub text : List ℕ
-  pub mend : IsMend bytes text
+  pub mend : IsMend bytes (spliced text)
   pub written : Appends old new text
 
 -- choices by which the program that the bytes spell, run action by action, prints something else than the program that
@@ -113,7 +122,7 @@ pub record IsWitnessed (name bytes : List ℕ) (known old new : Option (List ℕ
 -- what a request prints of the bytes of a source
 abbrev pub IsDone : Request → List ℕ → Option (List ℕ) → Option (List ℕ) → Option (List ℕ) → Type 0
 IsDone (Run run) bytes known old new = IsPrinted (accepted_by (by_workers run.capacity)) run.log run.maps run.finals bytes known old new
-IsDone (Step step) bytes known old new = IsStepped step.fine step.maps step.choices.now step.turns.now step.capacity bytes known old new
+IsDone (Step step) bytes known old new = IsStepped step.fine step.maps step.choices.now step.choice_runs.now step.turns.now step.capacity bytes known old new
 IsDone (Check name) bytes known old new = IsChecked bytes old new
 IsDone (Items name) bytes known old new = IsListed bytes old new
 IsDone (Explain explain) bytes known old new = SpellsAccepted bytes
@@ -147,10 +156,11 @@ file_of (Fix name) = name.now
 file_of (Witness name) = name.now
 file_of (View name) = name.now
 
--- that is so of the bytes of a source, which are these where they are known
+-- that is so of the bytes of a source, with its lines joined that begin with # and go on behind a backslash; where those of
+-- the source are known, it is these
 pub record OfSource (source : Option (List ℕ)) (P : List ℕ → Type 0) : Type 0 where
   pub bytes : List ℕ
-  pub are : IfSome source (λ xs. bytes ≡ xs)
+  pub are : IfSome source (λ xs. bytes ≡ spliced xs)
   pub holds : P bytes
 
 -- that is so where the request that the words ask for is no report

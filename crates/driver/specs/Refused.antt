@@ -11,10 +11,10 @@ use Rattle.pipeline.specs.Checking.{IsRefused}
 use Rattle.command.specs.CommandLine.{AskedBy}
 use Rattle.command.specs.declared.request.Request.{Request}
 use Rattle.command.specs.declared.request.Request.TheVariants as request
-use Rattle.driver.specs.declared.perform.Ending.{Ending}
-use Rattle.driver.specs.declared.perform.Ending.TheVariants as ending
-use Rattle.driver.specs.declared.perform.Way.{Way}
-use Rattle.driver.specs.declared.perform.Way.TheVariants.{Checked, Fine}
+use Rattle.driver.specs.declared.ending.Ending.{Ending}
+use Rattle.driver.specs.declared.ending.Ending.TheVariants as ending
+use Rattle.driver.specs.declared.running.Way.{Way}
+use Rattle.driver.specs.declared.running.Way.TheVariants.{Checked, Fine}
 use Rattle.driver.specs.Statuses.{source_status}
 use Rattle.driver.specs.Printed.{KnownSources, OfSource, file_of}
 

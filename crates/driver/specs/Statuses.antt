@@ -10,8 +10,8 @@ use Rattle.clap.specs.declared.error.kind.ErrorKind.TheVariants as kind
 use Rattle.report.specs.declared.faults.Misuse.TheVariants as misuse
 use Rattle.base.specs.declared.fault.RunFault.TheVariants as run
 use Rattle.report.specs.Faults.{fault_line, misuse_line, run_line}
-use Rattle.driver.specs.declared.perform.Ending.{Ending}
-use Rattle.driver.specs.declared.perform.Ending.TheVariants as ending
+use Rattle.driver.specs.declared.ending.Ending.{Ending}
+use Rattle.driver.specs.declared.ending.Ending.TheVariants as ending
 
 -- a refused program has 1, want of memory and a run that stopped have 3
 abbrev pub source_status : SourceFault → ℕ

@@ -6,7 +6,8 @@ ghost use Rattle.driver.specs.Printed.{OfSource};
 ghost use Rattle.driver.specs.Refused.{IsRefusalBy, IsRefusedOf};
 ghost use Rattle.driver.specs.Statuses.{status_of};
 
-use crate::perform::{DONE, Ending, FAILED, Sources, bytes_of, ending_of};
+use crate::ending::{DONE, Ending, FAILED, ending_of};
+use crate::sources::{Sources, texts_of};
 use command::{Color, Explain, Format};
 use explain::{Form, explain_source};
 use std::alloc::Global;
@@ -53,8 +54,16 @@ pub(crate) fn do_explain<'a, S: Sources, W: Write, E: Write>(
         return Err(Ending::BadColor);
     };
     let form = form_of(format, has_colours(color, terminal));
-    let bytes = bytes_of(sources, asked.file)?;
-    match explain_source(alloc, asked.file, &bytes, form, out, err) {
+    let texts = texts_of(alloc, sources, asked.file)?;
+    match explain_source(
+        alloc,
+        asked.file,
+        &texts.source,
+        &texts.bytes,
+        form,
+        out,
+        err,
+    ) {
         Ok(Ok(())) => Ok(DONE),
         Ok(Err(_)) => Ok(FAILED),
         Err(fault) => Err(ending_of(fault)),

@@ -1,8 +1,15 @@
 //! The commands of `ompc`: from the words of a command line to what it prints and its status.
 #![tactic(auto)]
 
+mod checked;
+mod ending;
 mod explained;
+mod fixed;
 mod perform;
+mod running;
+mod sources;
 mod viewed;
+mod witnessed;
 
-pub use perform::{SourceError, Sources, drive};
+pub use perform::drive;
+pub use sources::{SourceError, Sources};

@@ -6,7 +6,8 @@ ghost use Rattle.driver.specs.Printed.{OfSource};
 ghost use Rattle.driver.specs.Refused.{IsRefusalBy, IsRefusedOf};
 ghost use Rattle.driver.specs.Statuses.{status_of};
 
-use crate::perform::{DONE, Ending, FAILED, Sources, bytes_of, ending_of};
+use crate::ending::{DONE, Ending, FAILED, ending_of};
+use crate::sources::{Sources, texts_of};
 use std::alloc::Global;
 use std::io::Write;
 use view::view_source;
@@ -25,8 +26,8 @@ pub(crate) fn do_view<'a, S: Sources, W: Write, E: Write>(
     ensures misused { IfErr result (λ e. status_of e ≡ 2 → S.known sources.old name.now ≡ None) }
     ensures done { IfOk result (λ s. s ≡ 0 → OfSource (S.known sources.old name.now) SpellsAccepted) }
 {
-    let bytes = bytes_of(sources, name)?;
-    match view_source(alloc, name, &bytes, out, err) {
+    let texts = texts_of(alloc, sources, name)?;
+    match view_source(alloc, name, &texts.source, &texts.bytes, out, err) {
         Ok(Ok(())) => Ok(DONE),
         Ok(Err(_)) => Ok(FAILED),
         Err(fault) => Err(ending_of(fault)),

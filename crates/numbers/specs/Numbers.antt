@@ -1,6 +1,6 @@
 -- The numbers that a text spells.
-use Rattle.std.specs.Prelude.{ℕ, ◌+◌, ◌-◌, ◌*◌, ◌^◌, Bool, true, false, ◌||◌, ◌&&◌, if◌then◌else◌, ◌==◌, nat_lt, nat_le, List, [], ◌∷◌, length, filter, Option, Some, None, option_map, option_and_then}
-use Rattle.std.specs.List.{list_all, slice_split}
+use Rattle.std.specs.Prelude.{ℕ, zero, suc, ◌+◌, ◌-◌, ◌*◌, ◌^◌, Bool, true, false, not, ◌||◌, ◌&&◌, if◌then◌else◌, ◌==◌, nat_lt, nat_le, List, [], ◌∷◌, ◌++◌, length, take, drop, filter, Option, Some, None, option_map, option_and_then}
+use Rattle.std.specs.List.{list_all, prefix_len, slice_split}
 
 -- the digits 0 to 9
 abbrev pub is_digit : ℕ → Bool
@@ -54,3 +54,53 @@ input_of bytes = if nat_le (length (words bytes)) 1048576 then numbers_below (2 
 unfoldable pub choices_of : List ℕ → Option (List ℕ)
 choices_of [] = Some []
 choices_of (b ∷ bs) = numbers_below (2 ^ 32) (slice_split is_comma (b ∷ bs))
+
+-- ---- choices in runs
+
+-- what does not stand between a number and how often it is meant
+abbrev pub is_no_star : ℕ → Bool
+is_no_star b = not (b == 42)
+
+-- so often the number
+abbrev pub repeated : ℕ → ℕ → List ℕ
+repeated zero n = []
+repeated (suc k) n = n ∷ repeated k n
+
+-- how often, behind the number
+abbrev pub times_in : List ℕ → Option ℕ
+times_in [] = Some 1
+times_in (s ∷ text) = number_below (2 ^ 32) text
+
+abbrev pub run_of : Option ℕ → Option ℕ → Option (List ℕ)
+run_of None k = None
+run_of (Some n) None = None
+run_of (Some n) (Some k) = Some (repeated k n)
+
+-- a number, or a number and how often it is meant
+abbrev pub run_in : List ℕ → Option (List ℕ)
+run_in text =
+    let k = prefix_len is_no_star text in
+    run_of (number_below (2 ^ 32) (take k text)) (times_in (drop k text))
+
+-- the most choices that runs stand for
+abbrev pub most_choices : ℕ
+most_choices = 16777216
+
+-- behind the choices of runs before, where there are no more in all than there may be
+abbrev pub then_run : List ℕ → Option (List ℕ) → Option (List ℕ)
+then_run ns None = None
+then_run ns (Some ms) = if nat_le (length ns + length ms) most_choices then Some (ns ++ ms) else None
+
+abbrev pub runs_on : Option (List ℕ) → (List ℕ → Option (List ℕ)) → Option (List ℕ)
+runs_on None go = None
+runs_on (Some ns) go = go ns
+
+-- the choices of runs behind others
+abbrev pub runs_behind : List ℕ → List (List ℕ) → Option (List ℕ)
+runs_behind ns [] = Some ns
+runs_behind ns (t ∷ ts) = runs_on (then_run ns (run_in t)) (λ ns. runs_behind ns ts)
+
+-- runs of equal choices between commas, or no text
+unfoldable pub runs_of : List ℕ → Option (List ℕ)
+runs_of [] = Some []
+runs_of (b ∷ bs) = runs_behind [] (slice_split is_comma (b ∷ bs))

@@ -1,12 +1,13 @@
 -- Texts that are written piece by piece.
-use Rattle.std.proofs.Common.{◌≡◌, ℕ, ◌+◌, ◌<◌, ◌≤◌, ◌==◌, Bool, true, false, List, [], ◌∷◌, ◌++◌, length, drop, get_or, Option, refl, sym, ap, ◌∙◌, subst, append_assoc, append-nil}
+use Rattle.std.proofs.Common.{◌≡◌, ℕ, ◌+◌, ◌<◌, ◌≤◌, ◌==◌, Bool, true, false, List, [], ◌∷◌, ◌++◌, length, drop, get_or, Option, refl, sym, ap, ◌∙◌, subst, append_assoc, append-nil, arith}
 use Rattle.std.specs.Prelude.{Result, Ok, Err, OnOk, if◌then◌else◌, codes, decimal}
 use Rattle.std.proofs.lemmas.List.{at_drop_all, at_drop_more}
+use Rattle.std.proofs.lemmas.Bool.Decides.{nat_tests}
 use Rattle.std.specs.Io.KnownBytes.{Appends}
 use Rattle.std.proofs.KnownBytes.{Appends-nil, Appends-trans}
 use Rattle.base.specs.declared.item.Answer.{Answer}
 use Rattle.witness.specs.declared.trial.Witness.{Witness}
-use Rattle.witness.specs.Texts.{comma_list, end_bytes, list_option, prefixed, turns_line, witness_bytes}
+use Rattle.witness.specs.Texts.{comma_list, difference_bytes, difference_from, difference_line, end_bytes, front_line, list_option, order_line, prefixed, run_bytes, runs_from, runs_list, runs_option, turns_line, witness_bytes}
 
 -- what is appended is the front of a text of which the rest is still to be written
 pub record IsFront (old new : Option (List ℕ)) (all rest : List ℕ) : Type 0 where
@@ -54,7 +55,7 @@ pub prefixed_ends : (word : List ℕ) (begins : Bool) (xs : List ℕ) (k : ℕ) 
 prefixed_ends word begins xs k h = at_drop_all (λ (ys : List ℕ). prefixed word begins ys) xs k h
 
 -- one text behind another
-then_on : {X E : Type 0} (r : Result X E) (a b c : Option (List ℕ)) (front rest : List ℕ) → Appends a b front → OnOk r (Appends b c rest)
+pub then_on : {X E : Type 0} (r : Result X E) (a b c : Option (List ℕ)) (front rest : List ℕ) → Appends a b front → OnOk r (Appends b c rest)
     → OnOk r (Appends a c (front ++ rest))
 then_on (Ok x) a b c front rest f h = Appends-trans a b c front rest f h
 then_on (Err e) a b c front rest f h = tt
@@ -80,40 +81,102 @@ line_written r a b c d xs h s1 s2 s3 =
     (then_on r a b d (codes "turns") (comma_list (codes " ") xs ++ codes "\n") s1
     (then_on r b c d (comma_list (codes " ") xs) (codes "\n") s2 s3))
 
-pub all_written : {X E : Type 0} (r : Result X E) (a b c d e f g h i j k : Option (List ℕ))
-    (name : List ℕ) (w : Witness) (plain : Answer) (first second third fourth word out call : List ℕ) → first ≡ w.choices.items → second ≡ w.turns.items → third ≡ w.choices.items
-    → fourth ≡ w.turns.items → word ≡ codes "erased output " → out ≡ plain.out.items → call ≡ codes "ompc step --fine " ++ name
-    → Appends a b (codes "choices") → Appends b c (comma_list (codes " ") first) → Appends c d (codes "\n") → Appends d e (turns_line second)
-    → Appends e f (end_bytes w.end) → Appends f g (prefixed word true out) → Appends g h call → Appends h i (list_option (codes " --choices") third)
-    → Appends i j (list_option (codes " --turns") fourth) → OnOk r (Appends j k (codes "\n")) → OnOk r (Appends a k (witness_bytes name w plain))
-all_written r a b c d e f g h i j k name w plain first second third fourth word out call e1 e2 e3 e4 e5 e6 e7 s1 s2 s3 s4 s5 s6 s7 s8 s9 s10 =
+same : (n : ℕ) → (n == n) ≡ true
+same n = grind (arith, nat_tests)
+
+-- a number more of runs: the same one, and another
+pub runs_same : (n k m : ℕ) (ms : List ℕ) → m ≡ n → runs_from n k (m ∷ ms) ≡ runs_from n (k + 1) ms
+runs_same n k m ms e = rw (e, same n) refl
+
+pub runs_other : (n k m : ℕ) (ms : List ℕ) → (m == n) ≡ false → runs_from n k (m ∷ ms) ≡ run_bytes n k ++ (codes "," ++ runs_from m 1 ms)
+runs_other n k m ms e = rw e refl
+
+pub front_alike : (a b : Option (List ℕ)) (all rest left : List ℕ) → IsFront a b all rest → rest ≡ left → IsFront a b all left
+front_alike a b all rest left f e = subst (λ (xs : List ℕ). IsFront a b all xs) e f
+
+-- what is left is written last
+pub front_ends : {X E : Type 0} (r : Result X E) (a b c : Option (List ℕ)) (all rest : List ℕ) → IsFront a b all rest → OnOk r (Appends b c rest)
+    → OnOk r (Appends a c all)
+front_ends (Ok x) a b c all rest f w =
+    subst (λ (xs : List ℕ). Appends a c xs) f.whole (Appends-trans a b c f.told rest f.appended w)
+front_ends (Err e) a b c all rest f w = tt
+
+runs_bytes : (word xs : List ℕ) → false ≡ (length xs == 0) → word ++ runs_list xs ≡ runs_option word xs
+runs_bytes word [] h = cc
+runs_bytes word (x ∷ xs) h = refl
+
+pub runs_written : {X E : Type 0} (r : Result X E) (a b c : Option (List ℕ)) (word xs : List ℕ) → false ≡ (length xs == 0) → Appends a b word
+    → OnOk r (Appends b c (runs_list xs)) → OnOk r (Appends a c (runs_option word xs))
+runs_written r a b c word xs h f s =
+    subst (λ (text : List ℕ). OnOk r (Appends a c text)) (runs_bytes word xs h) (then_on r a b c word (runs_list xs) f s)
+
+-- a byte more that two texts have in common
+pub common_byte : (n b : ℕ) (own other xs ys left right : List ℕ) → left ≡ b ∷ xs → right ≡ b ∷ ys → (b == 10) ≡ false
+    → difference_from n own other left right ≡ difference_from n own other xs ys
+common_byte n b own other xs ys left right e f h = rw (e, f, same b, h) refl
+
+pub common_feed : (n b : ℕ) (own other xs ys left right : List ℕ) → left ≡ b ∷ xs → right ≡ b ∷ ys → b ≡ 10
+    → difference_from n own other left right ≡ difference_from (n + 1) xs ys xs ys
+common_feed n b own other xs ys left right e f h = rw (e, f, h) refl
+
+pub difference_written : {X E : Type 0} (r : Result X E) (a b c d e f : Option (List ℕ)) (n : ℕ) (own other head : List ℕ)
+    → head ≡ codes "first difference line " ++ (decimal n ++ codes ": ") → Appends a b head → Appends b c (front_line own)
+    → Appends c d (codes ", erased ") → Appends d e (front_line other) → OnOk r (Appends e f (codes "\n"))
+    → OnOk r (Appends a f (difference_bytes n own other))
+difference_written r a b c d e f n own other head is s1 s2 s3 s4 s5 =
+    let from4 : List ℕ = front_line other ++ codes "\n" in
+    let from3 : List ℕ = codes ", erased " ++ from4 in
+    let from2 : List ℕ = front_line own ++ from3 in
+    let r4 : OnOk r (Appends d f from4) = then_on r d e f (front_line other) (codes "\n") s4 s5 in
+    let r3 : OnOk r (Appends c f from3) = then_on r c d f (codes ", erased ") from4 s3 r4 in
+    let r2 : OnOk r (Appends b f from2) = then_on r b c f (front_line own) from3 s2 r3 in
+    subst (λ (xs : List ℕ). OnOk r (Appends a f xs))
+    (ap (λ (xs : List ℕ). xs ++ from2) is
+    ∙ (append_assoc (codes "first difference line ") (decimal n ++ codes ": ") from2
+    ∙ ap (λ (xs : List ℕ). codes "first difference line " ++ xs) (append_assoc (decimal n) (codes ": ") from2)))
+    (then_on r a b f head from2 s1 r2)
+
+pub all_written : {X E : Type 0} (r : Result X E) (z a b c d e f g u h i j k : Option (List ℕ))
+    (name : List ℕ) (w : Witness) (plain : Answer) (c1 t1 c2 t2 word o1 o2 call c3 t3 : List ℕ) → c1 ≡ w.choices.items → t1 ≡ w.turns.items
+    → c2 ≡ w.choices.items → t2 ≡ w.turns.items → word ≡ codes "erased output " → o1 ≡ plain.out.items → o2 ≡ plain.out.items
+    → call ≡ codes "ompc step --fine " ++ name → c3 ≡ w.choices.items → t3 ≡ w.turns.items
+    → Appends z a (order_line c1 t1) → Appends a b (codes "choices") → Appends b c (runs_list c2) → Appends c d (codes "\n") → Appends d e (turns_line t2)
+    → Appends e f (end_bytes w.end) → Appends f g (prefixed word true o1) → Appends g u (difference_line w.end o2) → Appends u h call
+    → Appends h i (runs_option (codes " --choice-runs") c3) → Appends i j (list_option (codes " --turns") t3) → OnOk r (Appends j k (codes "\n"))
+    → OnOk r (Appends z k (witness_bytes name w plain))
+all_written r z a b c d e f g u h i j k name w plain c1 t1 c2 t2 word o1 o2 call c3 t3 e1 e2 e3 e4 e5 e6 e7 is e9 e10 p0 s1 p2 s3 p4 s5 p6 p7 s8 p9 p10 s11 =
     let list : List ℕ = w.choices.items in
     let order : List ℕ = w.turns.items in
-    let t2 : Appends b c (comma_list (codes " ") list) = subst (λ (xs : List ℕ). Appends b c (comma_list (codes " ") xs)) e1 s2 in
-    let t4 : Appends d e (turns_line order) = subst (λ (xs : List ℕ). Appends d e (turns_line xs)) e2 s4 in
-    let t6 : Appends f g (prefixed (codes "erased output ") true out) = subst (λ (xs : List ℕ). Appends f g (prefixed xs true out)) e5 s6 in
-    let u6 : Appends f g (prefixed (codes "erased output ") true plain.out.items) =
-    subst (λ (xs : List ℕ). Appends f g (prefixed (codes "erased output ") true xs)) e6 t6 in
-    let t7 : Appends g h (codes "ompc step --fine " ++ name) = subst (λ (xs : List ℕ). Appends g h xs) e7 s7 in
-    let t8 : Appends h i (list_option (codes " --choices") list) =
-    subst (λ (xs : List ℕ). Appends h i (list_option (codes " --choices") xs)) e3 s8 in
-    let t9 : Appends i j (list_option (codes " --turns") order) =
-    subst (λ (xs : List ℕ). Appends i j (list_option (codes " --turns") xs)) e4 s9 in
+    let s0 : Appends z a (order_line list order) =
+    subst (λ (xs : List ℕ). Appends z a (order_line list xs)) e2 (subst (λ (xs : List ℕ). Appends z a (order_line xs t1)) e1 p0) in
+    let s2 : Appends b c (runs_list list) = subst (λ (xs : List ℕ). Appends b c (runs_list xs)) e3 p2 in
+    let s4 : Appends d e (turns_line order) = subst (λ (xs : List ℕ). Appends d e (turns_line xs)) e4 p4 in
+    let s6 : Appends f g (prefixed (codes "erased output ") true plain.out.items) =
+    subst (λ (xs : List ℕ). Appends f g (prefixed (codes "erased output ") true xs)) e6 (subst (λ (xs : List ℕ). Appends f g (prefixed xs true o1)) e5 p6) in
+    let s7 : Appends g u (difference_line w.end plain.out.items) = subst (λ (xs : List ℕ). Appends g u (difference_line w.end xs)) e7 p7 in
+    let s9 : Appends h i (runs_option (codes " --choice-runs") list) = subst (λ (xs : List ℕ). Appends h i (runs_option (codes " --choice-runs") xs)) e9 p9 in
+    let s10 : Appends i j (list_option (codes " --turns") order) = subst (λ (xs : List ℕ). Appends i j (list_option (codes " --turns") xs)) e10 p10 in
+    let t8 : Appends u h (codes "ompc step --fine " ++ name) = subst (λ (xs : List ℕ). Appends u h xs) is s8 in
     let from9 : List ℕ = list_option (codes " --turns") order ++ codes "\n" in
-    let from8 : List ℕ = list_option (codes " --choices") list ++ from9 in
+    let from8 : List ℕ = runs_option (codes " --choice-runs") list ++ from9 in
     let from7 : List ℕ = codes "ompc step --fine " ++ (name ++ from8) in
-    let from6 : List ℕ = prefixed (codes "erased output ") true plain.out.items ++ from7 in
-    let from5 : List ℕ = end_bytes w.end ++ from6 in
-    let from4 : List ℕ = turns_line order ++ from5 in
-    let from3 : List ℕ = codes "\n" ++ from4 in
-    let r9 : OnOk r (Appends i k from9) = then_on r i j k (list_option (codes " --turns") order) (codes "\n") t9 s10 in
-    let r8 : OnOk r (Appends h k from8) = then_on r h i k (list_option (codes " --choices") list) from9 t8 r9 in
-    let r7 : OnOk r (Appends g k from7) =
-    subst (λ (xs : List ℕ). OnOk r (Appends g k xs)) (append_assoc (codes "ompc step --fine ") name from8)
-    (then_on r g h k (codes "ompc step --fine " ++ name) from8 t7 r8) in
-    let r6 : OnOk r (Appends f k from6) = then_on r f g k (prefixed (codes "erased output ") true plain.out.items) from7 u6 r7 in
-    let r5 : OnOk r (Appends e k from5) = then_on r e f k (end_bytes w.end) from6 s5 r6 in
-    let r4 : OnOk r (Appends d k from4) = then_on r d e k (turns_line order) from5 t4 r5 in
-    let r3 : OnOk r (Appends c k from3) = then_on r c d k (codes "\n") from4 s3 r4 in
-    let r2 : OnOk r (Appends b k (comma_list (codes " ") list ++ from3)) = then_on r b c k (comma_list (codes " ") list) from3 t2 r3 in
-    then_on r a b k (codes "choices") (comma_list (codes " ") list ++ from3) s1 r2
+    let from6 : List ℕ = difference_line w.end plain.out.items ++ from7 in
+    let from5 : List ℕ = prefixed (codes "erased output ") true plain.out.items ++ from6 in
+    let from4 : List ℕ = end_bytes w.end ++ from5 in
+    let from3 : List ℕ = turns_line order ++ from4 in
+    let from2 : List ℕ = codes "\n" ++ from3 in
+    let from1 : List ℕ = runs_list list ++ from2 in
+    let from0 : List ℕ = codes "choices" ++ from1 in
+    let r10 : OnOk r (Appends i k from9) = then_on r i j k (list_option (codes " --turns") order) (codes "\n") s10 s11 in
+    let r9 : OnOk r (Appends h k from8) = then_on r h i k (runs_option (codes " --choice-runs") list) from9 s9 r10 in
+    let r8 : OnOk r (Appends u k from7) =
+    subst (λ (xs : List ℕ). OnOk r (Appends u k xs)) (append_assoc (codes "ompc step --fine ") name from8)
+    (then_on r u h k (codes "ompc step --fine " ++ name) from8 t8 r9) in
+    let r7 : OnOk r (Appends g k from6) = then_on r g u k (difference_line w.end plain.out.items) from7 s7 r8 in
+    let r6 : OnOk r (Appends f k from5) = then_on r f g k (prefixed (codes "erased output ") true plain.out.items) from6 s6 r7 in
+    let r5 : OnOk r (Appends e k from4) = then_on r e f k (end_bytes w.end) from5 s5 r6 in
+    let r4 : OnOk r (Appends d k from3) = then_on r d e k (turns_line order) from4 s4 r5 in
+    let r3 : OnOk r (Appends c k from2) = then_on r c d k (codes "\n") from3 s3 r4 in
+    let r2 : OnOk r (Appends b k from1) = then_on r b c k (runs_list list) from2 s2 r3 in
+    let r1 : OnOk r (Appends a k from0) = then_on r a b k (codes "choices") from1 s1 r2 in
+    then_on r z a k (order_line list order) from0 s0 r1

@@ -1,5 +1,6 @@
 -- A witness as text.
-use Rattle.std.specs.Prelude.{ℕ, ◌==◌, Bool, true, if◌then◌else◌, List, [], ◌∷◌, ◌++◌, codes, decimal}
+use Rattle.std.specs.Prelude.{ℕ, ◌+◌, ◌==◌, Bool, true, not, if◌then◌else◌, List, [], ◌∷◌, ◌++◌, take, codes, decimal}
+use Rattle.std.specs.List.{prefix_len}
 use Rattle.base.specs.declared.item.Answer.{Answer}
 use Rattle.witness.specs.declared.trial.Ended.{Ended}
 use Rattle.witness.specs.declared.trial.Ended.TheVariants.{Absent, Done}
@@ -15,6 +16,54 @@ abbrev pub prefixed : List ℕ → Bool → List ℕ → List ℕ
 prefixed word begins [] = []
 prefixed word begins (b ∷ bs) = (if begins then word else []) ++ b ∷ prefixed word (b == 10) bs
 
+-- a number, and behind a star how often it stands where that is more than once
+abbrev pub run_bytes : ℕ → ℕ → List ℕ
+run_bytes n k = decimal n ++ (if k == 1 then [] else codes "*" ++ decimal k)
+
+-- numbers behind k times n: equal ones that follow each other are written once
+abbrev pub runs_from : ℕ → ℕ → List ℕ → List ℕ
+runs_from n k [] = run_bytes n k
+runs_from n k (m ∷ ms) =
+    if m == n then runs_from n (k + 1) ms else run_bytes n k ++ (codes "," ++ runs_from m 1 ms)
+
+-- behind a blank; nothing where there are none
+abbrev pub runs_list : List ℕ → List ℕ
+runs_list [] = []
+runs_list (n ∷ ns) = codes " " ++ runs_from n 1 ns
+
+abbrev pub runs_option : List ℕ → List ℕ → List ℕ
+runs_option word [] = []
+runs_option word (n ∷ ns) = word ++ runs_list (n ∷ ns)
+
+-- what is said where the run by no choices differs: later items need not go first
+abbrev pub order_line : List ℕ → List ℕ → List ℕ
+order_line [] [] = codes "in program order\n"
+order_line choices turns = []
+
+abbrev pub is_no_feed : ℕ → Bool
+is_no_feed b = not (b == 10)
+
+-- the line at the front
+abbrev pub front_line : List ℕ → List ℕ
+front_line [] = codes "nothing"
+front_line (b ∷ bs) = take (prefix_len is_no_feed (b ∷ bs)) (b ∷ bs)
+
+abbrev pub difference_bytes : ℕ → List ℕ → List ℕ → List ℕ
+difference_bytes n own other =
+    codes "first difference line " ++ (decimal n ++ (codes ": " ++ (front_line own ++ (codes ", erased " ++ (front_line other ++ codes "\n")))))
+
+-- the first lines that differ of two texts that are alike up to the n-th line, which begins with own and other, and up to these
+-- bytes of it
+abbrev pub difference_from : ℕ → List ℕ → List ℕ → List ℕ → List ℕ → List ℕ
+difference_from n own other (x ∷ xs) (y ∷ ys) =
+    if x == y then (if x == 10 then difference_from (n + 1) xs ys xs ys else difference_from n own other xs ys)
+    else difference_bytes n own other
+difference_from n own other xs ys = difference_bytes n own other
+
+abbrev pub difference_line : Ended → List ℕ → List ℕ
+difference_line (Done a) plain = difference_from 1 a.out.items plain a.out.items plain
+difference_line Absent plain = []
+
 abbrev pub end_bytes : Ended → List ℕ
 end_bytes (Done a) = prefixed (codes "output ") true a.out.items
 end_bytes Absent = codes "stopped F4\n"
@@ -28,12 +77,14 @@ abbrev pub turns_line : List ℕ → List ℕ
 turns_line [] = []
 turns_line (n ∷ ns) = codes "turns" ++ (comma_list (codes " ") (n ∷ ns) ++ codes "\n")
 
--- the choices and the order of turns, both outputs, and the command that makes the run again
+-- the choices and the order of turns, both outputs, their first difference, and the command that makes the run again
 abbrev pub witness_bytes : List ℕ → Witness → Answer → List ℕ
 witness_bytes name w plain =
-    codes "choices" ++ (comma_list (codes " ") w.choices.items ++ (codes "\n" ++ (turns_line w.turns.items ++ (end_bytes w.end
-    ++ (prefixed (codes "erased output ") true plain.out.items ++ (codes "ompc step --fine " ++ (name
-    ++ (list_option (codes " --choices") w.choices.items ++ (list_option (codes " --turns") w.turns.items ++ codes "\n")))))))))
+    order_line w.choices.items w.turns.items ++ (codes "choices" ++ (runs_list w.choices.items ++ (codes "\n"
+    ++ (turns_line w.turns.items ++ (end_bytes w.end ++ (prefixed (codes "erased output ") true plain.out.items
+    ++ (difference_line w.end plain.out.items ++ (codes "ompc step --fine " ++ (name
+    ++ (runs_option (codes " --choice-runs") w.choices.items ++ (list_option (codes " --turns") w.turns.items
+    ++ codes "\n")))))))))))
 
 -- that no run of an accepted program differs, and that none of the 512 tries does
 abbrev pub accepted_line : List ℕ

@@ -1,8 +1,9 @@
 // A witness as text.
 
-ghost use Rattle.std.specs.Prelude.{◌++◌, ◌∷◌, [], OnOk, codes, if◌then◌else◌, true};
+ghost use Rattle.std.specs.Prelude.{◌≡◌, ◌≤◌, ◌++◌, ◌∷◌, [], List, MatchOption, OnOk, codes, if◌then◌else◌, length, true, ℕ};
+ghost use Rattle.std.specs.List.{prefix_len};
 ghost use Rattle.std.specs.Io.KnownBytes.{Appends};
-ghost use Rattle.witness.specs.Texts.{accepted_line, comma_list, end_bytes, list_option, none_line, prefixed, turns_line, witness_bytes};
+ghost use Rattle.witness.specs.Texts.{accepted_line, comma_list, difference_bytes, difference_from, difference_line, end_bytes, is_no_feed, front_line, list_option, none_line, order_line, prefixed, run_bytes, runs_list, runs_option, turns_line, witness_bytes};
 
 use crate::search::MOST_TRIES;
 use crate::trial::{Ended, Witness};
@@ -20,6 +21,143 @@ fn list_text<W: Write>(list: &[u32], out: &mut W) -> io::Result<()>
         before = ",";
     }
     Ok(())
+}
+
+// A number, and how often it stands where that is more than once.
+fn run_text<W: Write>(number: u32, times: usize, out: &mut W) -> io::Result<()>
+    ensures { OnOk result (Appends (W.contents out.old) (W.contents out.new) (run_bytes number times)) }
+{
+    write!(out, "{number}")?;
+    if times != 1 {
+        write!(out, "*{times}")?;
+    }
+    Ok(())
+}
+
+fn first_of(list: &[u32]) -> Option<(u32, &[u32])>
+    ensures { MatchOption result (list.now ≡ []) (λ t. list.now ≡ t.0 ∷ t.1.now) }
+{
+    match list {
+        [] => None,
+        [first, behind @ ..] => Some((*first, behind)),
+    }
+}
+
+// The numbers with commas between them, equal ones that follow each other once, and a blank before the first.
+fn runs_text<W: Write>(list: &[u32], out: &mut W) -> io::Result<()>
+    ensures { OnOk result (Appends (W.contents out.old) (W.contents out.new) (runs_list list.now)) }
+{
+    let Some((first, behind)) = first_of(list) else {
+        return Ok(());
+    };
+    write!(out, " ")?;
+    let (mut number, mut times) = (first, 1usize);
+    let mut rest = behind;
+    'numbers: while let Some((next, more)) = first_of(rest) {
+        if next == number {
+            times += 1;
+        } else {
+            run_text(number, times, out)?;
+            write!(out, ",")?;
+            (number, times) = (next, 1);
+        }
+        rest = more;
+    }
+    run_text(number, times, out)
+}
+
+// An option that gives such a list; nothing where that is empty.
+fn runs_option<W: Write>(word: &str, list: &[u32], out: &mut W) -> io::Result<()>
+    ensures { OnOk result (Appends (W.contents out.old) (W.contents out.new) (runs_option word.now list.now)) }
+{
+    if list.is_empty() {
+        return Ok(());
+    }
+    write!(out, "{word}")?;
+    runs_text(list, out)
+}
+
+// That the run by no choices differs.
+fn order_line<W: Write>(choices: &[u32], turns: &[u32], out: &mut W) -> io::Result<()>
+    ensures { OnOk result (Appends (W.contents out.old) (W.contents out.new) (order_line choices.now turns.now)) }
+{
+    match (choices, turns) {
+        ([], []) => writeln!(out, "in program order"),
+        _ => Ok(()),
+    }
+}
+
+// How many bytes stand before the first line feed.
+fn feed_at(text: &[u8]) -> usize
+    ensures value { result ≡ prefix_len is_no_feed text.now }
+    ensures within { result ≤ length text.now }
+{
+    text.iter().take_while(|b| **b != b'\n').count()
+}
+
+// The line at the front.
+fn line_text<W: Write>(text: &[u8], out: &mut W) -> io::Result<()>
+    ensures { OnOk result (Appends (W.contents out.old) (W.contents out.new) (front_line text.now)) }
+{
+    if text.is_empty() {
+        return out.write_all(b"nothing".as_slice());
+    }
+    let (line, _) = text.split_at(feed_at(text));
+    out.write_all(line)
+}
+
+// The lines at the front of both, of this number.
+fn difference_text<W: Write>(line: usize, own: &[u8], other: &[u8], out: &mut W) -> io::Result<()>
+    ensures { OnOk result (Appends (W.contents out.old) (W.contents out.new) (difference_bytes line own.now other.now)) }
+{
+    write!(out, "first difference line {line}: ")?;
+    line_text(own, out)?;
+    write!(out, ", erased ")?;
+    line_text(other, out)?;
+    writeln!(out)
+}
+
+// The byte that both begin with, and what follows it in each; nothing where they begin with no such byte.
+fn both_next<'l, 'r>(left: &'l [u8], right: &'r [u8]) -> Option<(u8, &'l [u8], &'r [u8])>
+    ensures { MatchOption result ((n : ℕ) (own other : List ℕ) → difference_from n own other left.now right.now ≡ difference_bytes n own other) (λ t. (left.now ≡ t.0 ∷ t.1.now) × (right.now ≡ t.0 ∷ t.2.now)) }
+{
+    match left {
+        [] => None,
+        [a, more @ ..] => match right {
+            [] => None,
+            [b, others @ ..] => {
+                if *a == *b {
+                    Some((*a, more, others))
+                } else {
+                    None
+                }
+            }
+        },
+    }
+}
+
+// The first lines that differ.
+fn first_difference<W: Write>(own: &[u8], other: &[u8], out: &mut W) -> io::Result<()>
+    ensures { OnOk result (Appends (W.contents out.old) (W.contents out.new) (difference_from 1 own.now other.now own.now other.now)) }
+{
+    let (mut line, mut here, mut there) = (1usize, own, other);
+    let (mut left, mut right) = (own, other);
+    'bytes: while let Some((byte, more, others)) = both_next(left, right) {
+        (left, right) = (more, others);
+        if byte == b'\n' {
+            (line, here, there) = (line + 1, more, others);
+        }
+    }
+    difference_text(line, here, there, out)
+}
+
+fn difference_line<W: Write>(end: &Ended, plain: &[u8], out: &mut W) -> io::Result<()>
+    ensures { OnOk result (Appends (W.contents out.old) (W.contents out.new) (difference_line end.now plain.now)) }
+{
+    match end {
+        Ended::Done(answer) => first_difference(&answer.out, plain, out),
+        Ended::Absent => Ok(()),
+    }
 }
 
 // A byte, with a word before it where a line begins.
@@ -76,8 +214,8 @@ fn turns_line<W: Write>(turns: &[u32], out: &mut W) -> io::Result<()>
     writeln!(out)
 }
 
-/// Writes a witness: the choices and the order of turns, what their run prints, what the source prints without its
-/// directives, and a command that makes the run of the source of that name again. An error of the writer is answered, and
+/// Writes a witness: whether it is the run in program order, the choices and the order of turns, what their run prints,
+/// what the source prints without its directives, the first line that differs, and a command that makes the run of the source of that name again. An error of the writer is answered, and
 /// ends the text.
 pub fn witness_text<W: Write>(
     name: &str,
@@ -87,14 +225,16 @@ pub fn witness_text<W: Write>(
 ) -> io::Result<()>
     ensures { OnOk result (Appends (W.contents out.old) (W.contents out.new) (witness_bytes name.now witness.now plain.now)) }
 {
+    order_line(&witness.choices, &witness.turns, out)?;
     write!(out, "choices")?;
-    list_text(&witness.choices, out)?;
+    runs_text(&witness.choices, out)?;
     writeln!(out)?;
     turns_line(&witness.turns, out)?;
     end_text(&witness.end, out)?;
     lines_text(b"erased output ".as_slice(), &plain.out, out)?;
+    difference_line(&witness.end, &plain.out, out)?;
     write!(out, "ompc step --fine {name}")?;
-    list_option(" --choices", &witness.choices, out)?;
+    runs_option(" --choice-runs", &witness.choices, out)?;
     list_option(" --turns", &witness.turns, out)?;
     writeln!(out)
 }

@@ -11,6 +11,9 @@ returns c =
     (flag (codes "fine")) two c.fine_arg.ensures in
     let four = c.with_arg-command-4.ensures (command (codes "step") (file ∷ text_option (codes "choices") ∷ capacity ∷ flag (codes "fine") ∷ []))
     (text_option (codes "turns")) three c.turns_arg.ensures in
-    c.with_arg.ensures (command (codes "step")
+    let five = c.with_arg-command-5.ensures (command (codes "step")
     (file ∷ text_option (codes "choices") ∷ capacity ∷ flag (codes "fine") ∷ text_option (codes "turns") ∷ []))
-    (flag (codes "maps")) four c.maps_arg.ensures
+    (flag (codes "maps")) four c.maps_arg.ensures in
+    c.with_arg.ensures (command (codes "step")
+    (file ∷ text_option (codes "choices") ∷ capacity ∷ flag (codes "fine") ∷ text_option (codes "turns") ∷ flag (codes "maps") ∷ []))
+    (text_option (codes "choice-runs")) five c.choice_runs_arg.ensures

@@ -11,4 +11,5 @@ returns c = record {
   fine = flag_is (found_of c.args.given.now) (codes "fine") c.get_flag.result c.get_flag.ensures.value c.get_flag.ensures.other;
   turns = c.text_of-3.ensures;
   maps = flag_is (found_of c.args.given.now) (codes "maps") c.get_flag-2.result c.get_flag-2.ensures.value c.get_flag-2.ensures.other;
+  choice_runs = c.text_of-4.ensures;
 }

@@ -13,8 +13,8 @@ returns-clause-refused g c =
     subst (IsRefusalBy (IsRefusedOf true source)) (sym c.ending_of.ensures)
     (told (IsRefusedOf true source) c.in-Err.fault (
       tt,
-      of_source source (λ bytes. IsRefused bytes c.in-Err.fault) c.in_ok-bytes.bytes.items
-          c.deref.result.now c.in_ok-bytes.ensures.bytes c.deref.ensures.value c.in-Err.ensures.fault,
+      of_source source (λ bytes. IsRefused bytes c.in-Err.fault) c.in_ok-texts.texts.bytes.items
+          c.deref-2.result.now c.in_ok-texts.ensures.bytes c.deref-2.ensures.value c.in-Err.ensures.fault,
     ))
 
 pub returns-clause-misused : goal.returns-clause-misused
