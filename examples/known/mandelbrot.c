@@ -12,20 +12,21 @@ int main() {
   #pragma omp target data map(alloc: image)
   {
     for (size_t block = 0; block < PIXELS / BLOCK; block++) {
-      #pragma omp target teams distribute parallel for nowait depend(out: image[BLOCK * block:BLOCK])
+      #pragma omp target teams distribute parallel for nowait \
+          depend(out: image[BLOCK * block:BLOCK])
       for (size_t k = 0; k < BLOCK; k++) {
         uint64_t cx = (BLOCK * block + k) % WIDTH, cy = (BLOCK * block + k) / WIDTH;
         uint64_t zx = 0, zy = 0, n = 0;
-        for (size_t it = 0; it < MOST; it++)
-          if (zx + zy < 200) {
-            uint64_t t = (zx * zx + zy) / 16 + cx;
-            zy = zx * zy / 8 + cy;
-            zx = t;
-            n++;
-          }
+        while (n < MOST && zx + zy < 200) {
+          uint64_t t = (zx * zx + zy) / 16 + cx;
+          zy = zx * zy / 8 + cy;
+          zx = t;
+          n++;
+        }
         image[BLOCK * block + k] = n;
       }
-      #pragma omp target update from(image[BLOCK * block:BLOCK]) nowait depend(in: image[BLOCK * block:BLOCK])
+      #pragma omp target update from(image[BLOCK * block:BLOCK]) nowait \
+          depend(in: image[BLOCK * block:BLOCK])
     }
     #pragma omp taskwait
   }

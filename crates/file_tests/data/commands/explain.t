@@ -92,9 +92,9 @@ mapped_in_part.c:6:1: error: the implicit `map(tofrom: A[0:8])` overlaps A[0:4],
 mapped_in_part.c:3:36: note: A[0:4] is on device 0 since item 0, which entered it here
     3 | #pragma omp target data map(alloc: A[0:4])
       |                                    ^~~~~~
-mapped_in_part.c:6:1: help: name A[0:4] here, or a section inside it; or enter all of A[0:8] there
-    6 | for (uint64_t i = 0; i < 4; i += 1) { A[i] = i + 5; }
-      | ^~~
+mapped_in_part.c:5:1: help: write `map(tofrom: A[0:4])` on this line, which maps all of A[0:8] without it
+    5 | #pragma omp target
+      | ^~~~~~~~~~~~~~~~~~
 mapped_in_part.c:5:1: help: this change is accepted
 --- mapped_in_part.c
 +++ mapped_in_part.c

@@ -47,7 +47,7 @@ $ ompc explain forms/while_loop.c
 forms/while_loop.c:2:1: error: `while` is not declared here [E103]
     2 | while (1) { }
       | ^~~~~
-forms/while_loop.c:2:1: help: a loop counts upwards, `for (uint64_t i = NUM; i < NUM; i += NUM) { .. }`, also with `int i`, with `i <= NUM` and with `i++`, each NUM a constant expression; `int i;` before it, in a block, lets it begin with `i = NUM`
+forms/while_loop.c:2:1: help: `while (c) { .. }` is read where a name in `c` is bounded, `k < NUM` alone or with `&&`, and one statement of the block makes it larger, `k++;` or `k += NUM;`, which nothing else in it changes; or write `for (uint64_t i = 0; i < NUM; i += 1) { if (c) { .. } }`
 ! E103 line 2 column 1
 [1]
 $ ompc explain forms/declaration_as_body.c
@@ -189,18 +189,18 @@ forms/local_array.c:2:11: error: `[` cannot stand here [E102]
 forms/local_array.c:2:11: help: arrays are global: declare it before `main`
 ! E102 line 2 column 11
 [1]
-$ ompc explain forms/three_dimensions.c
-forms/three_dimensions.c:1:17: error: `[` cannot stand here [E102]
-    1 | uint64_t A[4][4][4];
-      |                 ^
-forms/three_dimensions.c:1:17: help: an array is `uint64_t A[NUM];` or `uint64_t A[NUM][NUM];`, each NUM a constant expression
-! E102 line 1 column 17
+$ ompc explain forms/four_dimensions.c
+forms/four_dimensions.c:1:20: error: `[` cannot stand here [E102]
+    1 | uint64_t A[4][4][4][4];
+      |                    ^
+forms/four_dimensions.c:1:20: help: an array is `uint64_t A[NUM];`, `uint64_t A[NUM][NUM];` or `uint64_t A[NUM][NUM][NUM];`, each NUM a constant expression
+! E102 line 1 column 20
 [1]
 $ ompc explain forms/scalar_as_length.c
 forms/scalar_as_length.c:2:12: error: `n` cannot stand here [E102]
     2 | uint64_t A[n];
       |            ^
-forms/scalar_as_length.c:2:12: help: an array is `uint64_t A[NUM];` or `uint64_t A[NUM][NUM];`, each NUM a constant expression
+forms/scalar_as_length.c:2:12: help: an array is `uint64_t A[NUM];`, `uint64_t A[NUM][NUM];` or `uint64_t A[NUM][NUM][NUM];`, each NUM a constant expression
 ! E102 line 2 column 12
 [1]
 $ ompc explain forms/no_cell.c
@@ -447,9 +447,9 @@ forms/comma.c:3:19: help: a comma stands between two clauses alone: take it away
 [1]
 $ ompc explain forms/two_lines.c
 forms/two_lines.c:3:20: error: `\` begins no token [E101]
-    3 | #pragma omp target \
+    3 | #pragma omp target \ 
       |                    ^
-forms/two_lines.c:3:20: help: a directive stands on one line: join its lines
+forms/two_lines.c:3:20: help: a line that begins with `#` goes on where nothing but a line feed stands behind the backslash
 ! E101 line 3 column 20
 [1]
 $ ompc explain forms/block_on_the_line.c
@@ -640,20 +640,34 @@ forms/many_terms.c:3:48: error: `1` is one term too many: a bound has at most 8 
 forms/many_terms.c:3:48: help: add the numbers up
 ! E110 line 3 column 48
 [1]
-# arrays of two dimensions
+# arrays of two and three dimensions
 $ ompc explain forms/row_by_itself.c
-forms/row_by_itself.c:3:5: error: `A` has one subscript here, and two in its declaration [E103]
+forms/row_by_itself.c:3:5: error: `A` has more subscripts in its declaration, or one here that may leave its dimension [E103]
     3 | x = A[1] + 1;
       |     ^~~~
-forms/row_by_itself.c:3:5: help: an array of two dimensions has both subscripts, `A[i][j]`, the second one surely within its row: numbers, names of loops, sums and products of these
+forms/row_by_itself.c:3:5: help: an array of several dimensions has all subscripts, `A[i][j]`, each but the first one surely within its dimension: numbers, names of loops, sums and products of these
 ! E103 line 3 column 5
 [1]
 $ ompc explain forms/column_of_a_scalar.c
 forms/column_of_a_scalar.c:3:5: error: `[` cannot stand here [E102]
     3 | A[1][x] = 1;
       |     ^
-forms/column_of_a_scalar.c:3:5: help: a second subscript is surely within its row: a sum or a difference of numbers, names of loops and products of these
+forms/column_of_a_scalar.c:3:5: help: a second or third subscript is surely within its dimension: a sum or a difference of numbers, names of loops and products of these
 ! E102 line 3 column 5
+[1]
+$ ompc explain forms/two_of_three_subscripts.c
+forms/two_of_three_subscripts.c:3:5: error: `A` has more subscripts in its declaration, or one here that may leave its dimension [E103]
+    3 | x = A[1][1] + 1;
+      |     ^~~~~~~
+forms/two_of_three_subscripts.c:3:5: help: an array of several dimensions has all subscripts, `A[i][j]`, each but the first one surely within its dimension: numbers, names of loops, sums and products of these
+! E103 line 3 column 5
+[1]
+$ ompc explain forms/third_subscript.c
+forms/third_subscript.c:3:41: error: `[` cannot stand here [E102]
+    3 | for (uint64_t k = 0; k < 8; k++) A[1][1][k + 1] = 1;
+      |                                         ^
+forms/third_subscript.c:3:41: help: a second or third subscript is surely within its dimension: a sum or a difference of numbers, names of loops and products of these
+! E102 line 3 column 41
 [1]
 # updates in any order
 $ ompc explain forms/atomic_store.c

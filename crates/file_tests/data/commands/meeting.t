@@ -48,6 +48,7 @@ erased output 15
 erased output 39
 erased output 82
 erased output 125
+first difference line 3: 14, erased 15
 ompc step --fine sweep_in_place.c --turns 1
 
 # a sum in one cell
@@ -320,6 +321,7 @@ choices
 turns 1
 output 15
 erased output 16
+first difference line 1: 15, erased 16
 ompc step --fine sum_in_one_cell.c --turns 1
 
 # a product of a matrix and a vector: the turns of the outer loop alone are independent
@@ -367,6 +369,7 @@ output 214
 erased output 52
 erased output 133
 erased output 214
+first difference line 1: 42, erased 52
 ompc step --fine product_collapsed.c --turns 1
 
 # the turns of the loop inside alone are
@@ -418,4 +421,5 @@ erased output 2
 erased output 3
 erased output 6
 erased output 11
+first difference line 1: 17, erased 2
 ompc step --fine rows_one_after_another.c --turns 1

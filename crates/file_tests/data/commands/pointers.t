@@ -7,7 +7,7 @@ pointer_without_map.c:5:13: error: the target uses `a`, a pointer in C, which it
 pointer_without_map.c:6:38: note: `a` is used here: a target maps no pointer by itself
     6 |     for (uint64_t i = 0; i < n; i++) a[i] *= 2;
       |                                      ^~~~
-pointer_without_map.c:5:13: help: name it on this line, as by `map(tofrom: a[0:8])`, or enter it before
+pointer_without_map.c:5:13: help: write `map(tofrom: a[0:8])` on this line, or enter it before
     5 | #pragma omp target teams distribute parallel for
       |             ^~~~~~
 pointer_without_map.c:5:1: help: this change is accepted
@@ -67,7 +67,7 @@ global_pointer_not_mapped.c:22:15: error: the target uses `b`, a pointer in C, w
 global_pointer_not_mapped.c:27:17: note: `b` is used here: a target maps no pointer by itself
    27 |         c[i] += b[j + i * C] * a[j];
       |                 ^~~~~~~~~~~~
-global_pointer_not_mapped.c:22:15: help: name it on this line, as by `map(tofrom: b[0:64])`, or enter it before
+global_pointer_not_mapped.c:22:15: help: write `map(tofrom: b[0:64])` on this line, or enter it before
    22 |   #pragma omp target map(to: a[0:C]) map(tofrom: c[0:C]) device(0)
       |               ^~~~~~
 global_pointer_not_mapped.c:22:1: help: this change is accepted

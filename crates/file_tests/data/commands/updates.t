@@ -104,4 +104,5 @@ output 4
 erased output 10
 erased output 3
 erased output 6
+first difference line 3: 4, erased 6
 ompc step --fine bits_without_atomic.c --turns 3,3,3

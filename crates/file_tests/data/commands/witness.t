@@ -1,13 +1,69 @@
-# choices by which a program prints something else than without directives
+# choices by which a program prints something else than without directives, in runs of equal ones
 $ ompc witness lost_addition.c
-choices 0,0,0,0,0,0,1,0,1,1,1
+choices 0*6,1,0,1*3
 output 1
 erased output 2
-ompc step --fine lost_addition.c --choices 0,0,0,0,0,0,1,0,1,1,1
+first difference line 1: 1, erased 2
+ompc step --fine lost_addition.c --choice-runs 0*6,1,0,1*3
+$ ompc step --fine lost_addition.c --choices 0,0,0 --choice-runs 0*3,1,0*1,1*003
+1
+open 0
+step 0
+step 0
+close 0
+gen 1
+open 1
+gen 2
+step 1
+open 2
+step 2
+step 2
+step 1
+step 1
+step 1
+close 1
+step 2
+step 2
+close 2
+wait 3
+open 4
+step 4
+close 4
+open 5
+step 5
+close 5
+end
+
+# such runs that are none, and choices that are too many
+$ ompc step double.c --choice-runs 1*
+! bad choices
+[2]
+$ ompc step double.c --choice-runs *2
+! bad choices
+[2]
+$ ompc step double.c --choice-runs 1*2*3
+! bad choices
+[2]
+$ ompc step double.c --choice-runs 1,,2
+! bad choices
+[2]
+$ ompc step double.c --choice-runs 0*16777215,1,1
+! bad choices
+[2]
+$ ompc step double.c --choice-runs 4294967296
+! bad choices
+[2]
+$ ompc step double.c --choices , --choice-runs ,
+! bad choices
+[2]
+
+# the run in program order is wrong
 $ ompc witness update_forgotten.c
+in program order
 choices
 output 0
 erased output 7
+first difference line 1: 0, erased 7
 ompc step --fine update_forgotten.c
 
 # an order of turns: both load the cell before the first stores it; the last turn stores before the one before it
@@ -16,6 +72,7 @@ choices
 turns 1
 output 1
 erased output 2
+first difference line 1: 1, erased 2
 ompc step --fine added_in_two_turns.c --turns 1
 $ ompc step --fine added_in_two_turns.c --turns 1
 1
@@ -43,6 +100,7 @@ choices
 turns 7
 output 0
 erased output 1
+first difference line 1: 0, erased 1
 ompc step --fine one_cell_of_two_turns.c --turns 7
 
 # none is found, and none is looked for

@@ -1,6 +1,6 @@
 uint64_t A[4];
 int main(void) {
-#pragma omp target \
+#pragma omp target \ 
  map(to: A)
 { }
 }

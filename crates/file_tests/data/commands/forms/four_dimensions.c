@@ -1,0 +1,4 @@
+uint64_t A[4][4][4][4];
+int main(void) {
+
+}

@@ -1,4 +1,0 @@
-uint64_t A[4][4][4];
-int main(void) {
-
-}
