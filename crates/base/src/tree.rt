@@ -153,10 +153,11 @@ impl Default for Term {
     }
 }
 
-/// A bound of a section, the sum of its terms.
+/// A bound of a section: the sum of its terms, less the sum of those that are taken away from it.
 #[derive(Drop)]
 pub struct Bound {
     pub terms: SmallVec<Term, 2>,
+    pub less: SmallVec<Term, 2>,
 }
 
 /// A section as it is written. With no bounds it is the whole array.

@@ -7,12 +7,13 @@ use Rattle.c_grammar.specs.LineGrammar as line
 use Rattle.c_grammar.specs.Source.{nth}
 use Rattle.directives.specs.declared.tree.Term.{Term}
 use Rattle.directives.specs.declared.tree.Term.TheVariants.{Literal, Variable, Product}
+use Rattle.directives.specs.declared.tree.SignedTerm.{SignedTerm}
 use Rattle.directives.specs.declared.tree.Bound.{Bound}
 use Rattle.directives.specs.declared.tree.Section.{Section}
 use Rattle.directives.specs.declared.tree.Sections.{Sections}
 use Rattle.directives.specs.Cursor.{Items}
 use Rattle.directives.specs.Reading.{IsAt, Fits}
-use Rattle.directives.specs.Trees.{Spelling, sign_mark, each_behind, term_of, bound_of, bounds_of, section_of, sections_of, term_marks, bound_marks, second_marks, bounds_marks, section_marks, sections_marks}
+use Rattle.directives.specs.Trees.{Spelling, sign_mark, each_behind, term_of, signed_of, bound_of, bounds_of, section_of, sections_of, term_marks, terms_marks, bound_marks, second_marks, bounds_marks, section_marks, sections_marks}
 use Rattle.c_constructs.specs.Sections.{Given, given, given_one}
 use Rattle.c_constructs.specs.Written.{Written, written, written_more}
 
@@ -28,16 +29,14 @@ len_term (Literal n) = refl
 len_term (Variable x) = refl
 len_term (Product n x) = refl
 
-len_terms : (ts : List Term) → length (each_behind sign.Plus term_marks ts) ≡ length
-    (line.more_terms (map term_of ts))
+len_terms : (ts : List SignedTerm) → length (terms_marks ts) ≡ length (line.more_terms (map signed_of ts))
 len_terms [] = refl
-len_terms (t ∷ ts) = ap (λ (n : ℕ). suc n) (len_two (term_marks t) (each_behind sign.Plus term_marks ts)
-    (line.term (term_of t)) (line.more_terms (map term_of ts)) (len_term t) (len_terms ts))
+len_terms (t ∷ ts) = ap (λ (n : ℕ). suc n) (len_two (term_marks t.term) (terms_marks ts)
+    (line.term (term_of t.term)) (line.more_terms (map signed_of ts)) (len_term t.term) (len_terms ts))
 
 len_bound : (b : Bound) → length (bound_marks b) ≡ length (line.bound (bound_of b))
-len_bound b = len_two (term_marks b.first) (each_behind sign.Plus term_marks b.more.items)
-    (line.term (term_of b.first)) (line.more_terms (map term_of b.more.items)) (len_term b.first)
-    (len_terms b.more.items)
+len_bound b = len_two (term_marks b.first) (terms_marks b.more.items) (line.term (term_of b.first))
+    (line.more_terms (map signed_of b.more.items)) (len_term b.first) (len_terms b.more.items)
 
 len_one : {A : Type 0} (xs : List A) (x : A) (ys : List A) → length ((xs ++ x ∷ []) ++ ys) ≡ length xs + suc (length ys)
 len_one xs x ys = ap length (append_assoc xs (x ∷ []) ys) ∙ length-append xs (x ∷ ys)

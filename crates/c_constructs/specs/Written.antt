@@ -44,8 +44,26 @@ AreTerms names [] [] = Unit {0}
 AreTerms names (t ∷ ts) (p ∷ ps) = IsTerm names t p × AreTerms names ts ps
 AreTerms names _ _ = ⊥
 
-abbrev pub IsBound : Names → line.Bound → Bound → Type 0
-IsBound names b c = AreTerms names (b.0 ∷ b.1) c.terms.items
+abbrev pub added_first : line.TermSign → line.Term → List line.Term → List line.Term
+added_first line.Added t ts = t ∷ ts
+added_first line.Taken t ts = ts
+
+abbrev pub taken_first : line.TermSign → line.Term → List line.Term → List line.Term
+taken_first line.Added t ts = ts
+taken_first line.Taken t ts = t ∷ ts
+
+-- the terms that are added, and those that are taken away
+abbrev pub added : List line.SignedTerm → List line.Term
+added [] = []
+added (t ∷ ts) = added_first t.0 t.1 (added ts)
+
+abbrev pub taken : List line.SignedTerm → List line.Term
+taken [] = []
+taken (t ∷ ts) = taken_first t.0 t.1 (taken ts)
+
+pub record IsBound (names : Names) (b : line.Bound) (c : Bound) : Type 0 where
+  pub terms : AreTerms names (b.0 ∷ added b.1) c.terms.items
+  pub less : AreTerms names (taken b.1) c.less.items
 
 abbrev pub AreBounds : Names → Option (line.Bound × line.Bound) → Option (Bound × Bound) → Type 0
 AreBounds names None None = Unit {0}

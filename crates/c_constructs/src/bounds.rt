@@ -1,7 +1,10 @@
 //! The bounds of a section.
 
-ghost use Rattle.std.specs.Prelude.{◌≡◌, ◌++◌, IfOk};
+ghost use Rattle.std.specs.Prelude.{◌≡◌, ◌∷◌, [], ◌++◌, IfOk, OnOk};
+ghost use Rattle.c_grammar.specs.LineGrammar as line;
+ghost use Rattle.c_expressions.specs.Means.{Names};
 ghost use Rattle.c_expressions.specs.Scopes.{names_of};
+ghost use Rattle.directives.specs.Kinds.{seen_sign};
 ghost use Rattle.directives.specs.Names.{Uses, bound_names, term_names};
 ghost use Rattle.directives.specs.Reading.{Outcome};
 ghost use Rattle.directives.specs.Trees.{bound_of, term_of};
@@ -11,8 +14,9 @@ ghost use Rattle.c_constructs.specs.Written.{IsBound, IsTerm};
 use crate::names::loop_level;
 use base::tree;
 use c_expressions::Scope;
-use directives::{Bound, DirectiveFault, Term};
+use directives::{Bound, DirectiveFault, Term, TermSign};
 use smallvec::SmallVec;
+use std::alloc::AllocError;
 
 /// What a term of a bound means.
 #[tactic(auto, using(directives::proofs::Outcomes::on_from))]
@@ -30,6 +34,18 @@ pub fn term(scope: &Scope<'_>, term: &Term<'_>) -> Result<tree::Term, DirectiveF
     }
 }
 
+/// Puts one more term to those of a bound.
+fn put_term(read: &mut tree::Bound, sign: TermSign, term: tree::Term) -> Result<(), AllocError>
+    ensures { OnOk result ((names : Names) (b : line.Bound) (t : line.Term) → IsBound names b read.old → IsTerm names t term →
+        IsBound names (b.0, b.1 ++ (seen_sign sign, t) ∷ []) read.new) }
+{
+    match sign {
+        TermSign::Added => read.terms.push(term)?,
+        TermSign::Taken => read.less.push(term)?,
+    }
+    Ok(())
+}
+
 /// What a bound means.
 #[tactic(auto, using(directives::proofs::Outcomes::on_from, crate::proofs::NameSteps::all_read))]
 pub fn bound(scope: &Scope<'_>, bound: &Bound<'_>) -> Result<tree::Bound, DirectiveFault>
@@ -37,12 +53,15 @@ pub fn bound(scope: &Scope<'_>, bound: &Bound<'_>) -> Result<tree::Bound, Direct
         (fault_in scope.now us) }
     ensures means { IfOk result (λ b. IsBound (names_of scope.now) (bound_of bound.now) b) }
 {
-    let mut terms = SmallVec::new(scope.alloc);
     let first = term(scope, &bound.first)?;
-    terms.push(first)?;
+    let mut read = tree::Bound {
+        terms: SmallVec::new(scope.alloc),
+        less: SmallVec::new(scope.alloc),
+    };
+    read.terms.push(first)?;
     'terms: for more in &bound.more {
-        let next = term(scope, more)?;
-        terms.push(next)?;
+        let next = term(scope, &more.term)?;
+        put_term(&mut read, more.sign, next)?;
     }
-    Ok(tree::Bound { terms })
+    Ok(read)
 }

@@ -81,6 +81,41 @@ impl<'a, 'w> Stream<'a, 'w> {
         self.pass(Wanted::Sign(Sign::Equal));
     }
 
+    /// Goes past the brace with which a body begins.
+    pub fn opens(&mut self) {
+        self.pass(Wanted::Sign(Sign::OpenBrace));
+    }
+
+    /// Whether the name that stands next stands again before the next semicolon.
+    pub fn stores_own(&self) -> bool {
+        let mut first = None;
+        'tokens: for token in self.tokens.iter() {
+            match (&token.terminal, first) {
+                (WrittenTerminal::Sign(Sign::Semicolon), _) => return false,
+                (WrittenTerminal::Name(name), None) => first = Some(*name),
+                (WrittenTerminal::Name(name), Some(own)) => {
+                    if *name == own {
+                        return true;
+                    }
+                }
+                _ => {}
+            }
+        }
+        false
+    }
+
+    /// Whether the statement that stands next is the last one of a body with an `else` behind it.
+    pub fn has_else(&self) -> bool {
+        let mut rest = self.tokens;
+        'tokens: while let [token, behind @ ..] = rest {
+            rest = behind;
+            if Wanted::Sign(Sign::Semicolon).is(&token.terminal) {
+                return is_before_else(behind);
+            }
+        }
+        false
+    }
+
     pub fn unary(&mut self, op: UnaryOp) -> Place {
         self.pass(Wanted::Sign(match op {
             UnaryOp::Not => Sign::Bang,
@@ -112,6 +147,16 @@ impl<'a, 'w> Stream<'a, 'w> {
             DivideOp::Quotient => Sign::Slash,
             DivideOp::Remainder => Sign::Percent,
         }))
+    }
+}
+
+fn is_before_else(tokens: &[Written<'_>]) -> bool {
+    match tokens {
+        [brace, word, ..] => match (&brace.terminal, &word.terminal) {
+            (WrittenTerminal::Sign(Sign::CloseBrace), WrittenTerminal::Word(Word::Else)) => true,
+            _ => false,
+        },
+        _ => false,
     }
 }
 

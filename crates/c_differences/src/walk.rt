@@ -289,13 +289,41 @@ impl Walk<'_, '_> {
 
     // An update: the cell, and behind the sign `=` the cell again, the operator and the value.
     fn update(&mut self, op: CombineOp, subscript: &Expr, value: &Expr) -> Result<(), AllocError> {
+        let Some(op) = operator_of(op) else {
+            return self.extreme(subscript, value);
+        };
         self.of_cell(subscript)?;
         self.stream.assigns();
         self.of_cell(subscript)?;
-        if let Some(op) = operator_of(op) {
-            self.stream.binary(op);
-        }
+        self.stream.binary(op);
         self.expr(value)?;
+        Ok(())
+    }
+
+    // The cell, and behind the sign `=` the cell again.
+    fn own_store(&mut self, subscript: &Expr) -> Result<(), AllocError> {
+        self.of_cell(subscript)?;
+        self.stream.assigns();
+        self.of_cell(subscript)?;
+        Ok(())
+    }
+
+    // An `if` that stores the value where the cell's number is less, or greater. The value is told where it is stored.
+    fn extreme(&mut self, subscript: &Expr, value: &Expr) -> Result<(), AllocError> {
+        self.stream.opens();
+        let stores_own = self.stream.stores_own();
+        let others = !stores_own && self.stream.has_else();
+        if stores_own {
+            self.own_store(subscript)?;
+            self.stream.opens();
+        }
+        self.of_cell(subscript)?;
+        self.stream.assigns();
+        self.expr(value)?;
+        if others {
+            self.stream.opens();
+            self.own_store(subscript)?;
+        }
         Ok(())
     }
 

@@ -40,23 +40,27 @@ use Rattle.c_grammar.specs.AsciiNames.{IsAsciiTerminal, AreAscii, terminals_of}
 use Rattle.c_grammar.specs.Functions.{expanded}
 use Rattle.c_grammar.specs.Pointers.{pointed}
 use Rattle.c_grammar.specs.Loops.{looped}
+use Rattle.c_grammar.specs.Triangles.{rectangular}
 use Rattle.c_grammar.specs.Structs.{in_rows}
 use Rattle.c_grammar.specs.Choices.{chosen}
 use Rattle.c_grammar.specs.Conditions.{decided}
 use Rattle.c_grammar.specs.Grids.{flat}
 use Rattle.c_grammar.specs.Counters.{counted}
 use Rattle.c_grammar.specs.Privates.{owned}
+use Rattle.c_grammar.specs.Lasting.{lasting}
 use Rattle.c_grammar.specs.Unset.{zeroed}
 use Rattle.c_grammar.specs.Declarations.{Other, settled}
 use Rattle.c_grammar.specs.Updates.{Outside, commuting}
 use Rattle.c_grammar.proofs.AsciiTokens.{AreItemsText, chosen_text, both_text, bare_text}
 use Rattle.c_grammar.proofs.AsciiNesting.{nested_text}
 use Rattle.c_grammar.proofs.AsciiLoops.{looped_text}
+use Rattle.c_grammar.proofs.AsciiTriangles.{rectangular_text}
 use Rattle.c_grammar.proofs.AsciiStructs.{rows_text}
 use Rattle.c_grammar.proofs.AsciiChoices.{chosen_text as choices_text}
 use Rattle.c_grammar.proofs.AsciiConditions.{decided_text}
 use Rattle.c_grammar.proofs.AsciiMacros.{AreLexemesText, AreWholeText, IsLexemeText, IsLineText, replaced_text}
 use Rattle.c_grammar.proofs.AsciiGrids.{flat_text}
+use Rattle.c_grammar.proofs.AsciiLasting.{lasting_text}
 use Rattle.c_grammar.proofs.AsciiCounters.{counted_text, zeroed_text}
 use Rattle.c_grammar.proofs.AsciiPrivates.{owned_text}
 use Rattle.c_grammar.proofs.AsciiDeclarations.{settled_text}
@@ -705,12 +709,14 @@ written_text is h =
     let whole : Items = in_blocks nothing_read (undeclared false rows) in
     let loops : Items = counted whole in
     let private : Items = owned loops in
-    let known : Items = settled Other (zeroed private) in
+    let constant : Items = lasting private in
+    let known : Items = settled Other (zeroed constant) in
     let numbered : Items = worked [] [] 0 known in
     let arrays : Items = pointed numbered in
     let decisions : Items = decided (expanded arrays) in
     let ended : Items = looped decisions in
-    let branched : Items = chosen ended in
+    let straight : Items = rectangular ended in
+    let branched : Items = chosen straight in
     let plain : Items = undefined [] 0 0 branched in
     let cubes : Items = flat true [] [] [] 0 plain in
     let flattened : Items = flat false [] [] [] 0 cubes in
@@ -721,13 +727,13 @@ written_text is h =
     (initialized_text (allocated cells) no_globals 0 (tt, tt)
     (allocated_text cells (commuting_text boxes Outside (boxed_text flattened
     (flat_text cubes false [] [] [] 0 (flat_text plain true [] [] [] 0 (undefined_text branched [] 0 0
-    (choices_text ended (looped_text decisions (decided_text (expanded arrays)
+    (choices_text straight (rectangular_text ended (looped_text decisions (decided_text (expanded arrays)
     (expanded_text (λ is h. worked_text is [] [] 0 h) arrays
-    (pointed_text numbered (worked_text known [] [] 0 (settled_text (zeroed private) Other (zeroed_text private
-    (owned_text loops (counted_text whole
+    (pointed_text numbered (worked_text known [] [] 0 (settled_text (zeroed constant) Other (zeroed_text constant
+    (lasting_text private (owned_text loops (counted_text whole
     (blocks_text (undeclared false rows) nothing_read (undeclared_text rows false
     (rows_text types (typed_text calls 0
-    (printed_text (nested own) 0 (nested_text own (replaced_text is h)))))))))))))))))))))))))
+    (printed_text (nested own) 0 (nested_text own (replaced_text is h)))))))))))))))))))))))))))
 
 all_but : (is : Items) (e : Item Terminal) → AreItemsText (is ++ e ∷ []) → AreItemsText is
 all_but [] e h = tt

@@ -5,7 +5,7 @@ use Rattle.c_grammar.specs.Lexeme.{Lexeme}
 use Rattle.c_grammar.specs.Terminal.{Terminal, Fixed, Mark, Name, Num, Line, Unknown, Unworked, End}
 use Rattle.c_grammar.specs.Texts.{Item}
 use Rattle.c_grammar.specs.Blocks.{Items, is_directive}
-use Rattle.c_grammar.specs.Updates.{Region, Outside, Inside, OnRegion, behind, commuting, directive_on, is_atomic, is_combined, is_named, line_on, marked}
+use Rattle.c_grammar.specs.Updates.{Region, Outside, Inside, OnRegion, behind, commuting, directive_on, has_extreme, is_atomic, is_changed, is_combined, is_compare, line_on, marked}
 use Rattle.c_grammar.specs.AsciiNames.{IsAsciiTerminal}
 use Rattle.c_grammar.proofs.AsciiTokens.{AreItemsText, chosen_text}
 
@@ -15,7 +15,8 @@ AreText go = (r : Region) → AreItemsText (go r)
 line_text : (i : Item Terminal) (ts : List Lexeme) (is : Items) (r : Region) (go : OnRegion) → IsAsciiTerminal i.terminal →
     AreText go → AreItemsText (line_on i ts is r go)
 line_text i ts is r go h k =
-    chosen_text (is_combined ts) _ _ (tt, k _) (chosen_text (is_atomic ts) _ _ (tt, k r) (h, k r))
+    chosen_text (is_combined ts) _ _ (tt, k _) (chosen_text (is_atomic ts) _ _ (tt, k r)
+    (chosen_text (is_compare ts && has_extreme is) _ _ (tt, k r) (h, k r)))
 
 directive_text : (i : Item Terminal) (t : Terminal) (is : Items) (r : Region) (go : OnRegion) → IsAsciiTerminal i.terminal →
     AreText go → AreItemsText (directive_on i t is r go)
@@ -32,7 +33,7 @@ marked_text : (r : Region) (i : Item Terminal) (is : Items) (go : OnRegion) → 
     AreItemsText (marked r i is go)
 marked_text Outside i is go h k = (h, k Outside)
 marked_text (Inside xs d starts) i is go h k =
-    chosen_text (starts && is_named xs i.terminal) _ _ (tt, (h, k (behind xs d i is))) (h, k (behind xs d i is))
+    chosen_text (starts && is_changed xs i is) _ _ (tt, (h, k (behind xs d i is))) (h, k (behind xs d i is))
 
 pub commuting_text : (is : Items) (r : Region) → AreItemsText is → AreItemsText (commuting r is)
 commuting_text [] r h = tt

@@ -14,6 +14,7 @@ use Rattle.c_grammar.specs.Macros.{replaced}
 use Rattle.c_grammar.specs.DeclaredFunctions.{undeclared}
 use Rattle.c_grammar.specs.Counters.{counted}
 use Rattle.c_grammar.specs.Privates.{owned}
+use Rattle.c_grammar.specs.Lasting.{lasting}
 use Rattle.c_grammar.specs.Unset.{zeroed}
 use Rattle.c_grammar.specs.Declarations.{Other, settled}
 use Rattle.c_grammar.specs.Prints.{is_text, text_len, alone, print_at, print_on, printed}
@@ -26,6 +27,7 @@ use Rattle.c_grammar.specs.Initial.{Globals, Initial, initialized, no_globals}
 use Rattle.c_grammar.specs.Functions.{expanded}
 use Rattle.c_grammar.specs.Pointers.{pointed}
 use Rattle.c_grammar.specs.Loops.{looped}
+use Rattle.c_grammar.specs.Triangles.{rectangular}
 use Rattle.c_grammar.specs.Structs.{in_rows}
 use Rattle.c_grammar.specs.Choices.{chosen}
 use Rattle.c_grammar.specs.Conditions.{decided}
@@ -40,11 +42,13 @@ use Rattle.c_grammar.proofs.BareNesting.{nested_bare}
 use Rattle.c_grammar.proofs.BareMacros.{replaced_bare}
 use Rattle.c_grammar.proofs.BareDeclaredFunctions.{undeclared_bare}
 use Rattle.c_grammar.proofs.BareFunctions.{expanded_bare}
+use Rattle.c_grammar.proofs.BareLasting.{lasting_bare}
 use Rattle.c_grammar.proofs.BareCounters.{counted_bare, zeroed_bare}
 use Rattle.c_grammar.proofs.BarePointers.{pointed_bare}
 use Rattle.c_grammar.proofs.BarePrivates.{owned_bare}
 use Rattle.c_grammar.proofs.BareDeclarations.{settled_bare}
 use Rattle.c_grammar.proofs.BareLoops.{looped_bare}
+use Rattle.c_grammar.proofs.BareTriangles.{rectangular_bare}
 use Rattle.c_grammar.proofs.BareStructs.{rows_bare}
 use Rattle.c_grammar.proofs.BareChoices.{chosen_bare}
 use Rattle.c_grammar.proofs.BareConditions.{decided_bare}
@@ -595,13 +599,15 @@ written_bare is =
     let b : Items = in_blocks nothing_read u in
     let l : Items = counted b in
     let o : Items = owned l in
-    let d : Items = settled Other (zeroed o) in
+    let w : Items = lasting o in
+    let d : Items = settled Other (zeroed w) in
     let c : Items = worked [] [] 0 d in
     let q : Items = pointed c in
     let y : Items = expanded q in
     let e : Items = decided y in
     let f : Items = looped e in
-    let x : Items = chosen f in
+    let h : Items = rectangular f in
+    let x : Items = chosen h in
     let r : Items = flat true [] [] [] 0 (undefined [] 0 0 x) in
     let g : Items = flat false [] [] [] 0 r in
     let later : Items → Items = λ js. announced (changes.in_full changes.begin 0 (initialized no_globals 0 (allocated js))) in
@@ -610,9 +616,10 @@ written_bare is =
     let since_rows : Items → Items = λ js. since_boxes (flat false [] [] [] 0 js) in
     let since_grids : Items → Items = λ js. since_rows (flat true [] [] [] 0 js) in
     let since_defined : Items → Items = λ js. since_grids (undefined [] 0 0 js) in
-    let since_declared : Items → Items = λ js. since_defined (chosen (looped (decided (expanded (pointed (worked [] [] 0 js)))))) in
+    let since_declared : Items → Items = λ js.
+    since_defined (chosen (rectangular (looped (decided (expanded (pointed (worked [] [] 0 js))))))) in
     let since_zeroed : Items → Items = λ js. since_declared (settled Other js) in
-    let since_counted : Items → Items = λ js. since_zeroed (zeroed (owned js)) in
+    let since_counted : Items → Items = λ js. since_zeroed (zeroed (lasting (owned js))) in
     let since_blocks : Items → Items = λ js. since_counted (counted js) in
     let since_structs : Items → Items = λ js. since_blocks (in_blocks nothing_read (undeclared false js)) in
     let since_typed : Items → Items = λ js. since_structs (in_rows js) in
@@ -624,15 +631,17 @@ written_bare is =
     ∙ ap (λ (js : Items). since_blocks (in_blocks nothing_read js)) (undeclared_bare s false)
     ∙ ap since_blocks (blocks_bare u nothing_read)
     ∙ ap since_counted (counted_bare b)
-    ∙ ap (λ (js : Items). since_zeroed (zeroed js)) (owned_bare l)
-    ∙ ap since_zeroed (zeroed_bare o)
-    ∙ ap since_declared (settled_bare (zeroed o) Other)
-    ∙ ap (λ (js : Items). since_defined (chosen (looped (decided (expanded (pointed js)))))) (worked_bare d [] [] 0)
-    ∙ ap (λ (js : Items). since_defined (chosen (looped (decided (expanded js))))) (pointed_bare c)
-    ∙ ap (λ (js : Items). since_defined (chosen (looped (decided js)))) (expanded_bare (λ js. worked_bare js [] [] 0) q)
-    ∙ ap (λ (js : Items). since_defined (chosen (looped js))) (decided_bare y)
-    ∙ ap (λ (js : Items). since_defined (chosen js)) (looped_bare e)
-    ∙ ap since_defined (chosen_bare f)
+    ∙ ap (λ (js : Items). since_zeroed (zeroed (lasting js))) (owned_bare l)
+    ∙ ap (λ (js : Items). since_zeroed (zeroed js)) (lasting_bare o)
+    ∙ ap since_zeroed (zeroed_bare w)
+    ∙ ap since_declared (settled_bare (zeroed w) Other)
+    ∙ ap (λ (js : Items). since_defined (chosen (rectangular (looped (decided (expanded (pointed js))))))) (worked_bare d [] [] 0)
+    ∙ ap (λ (js : Items). since_defined (chosen (rectangular (looped (decided (expanded js)))))) (pointed_bare c)
+    ∙ ap (λ (js : Items). since_defined (chosen (rectangular (looped (decided js))))) (expanded_bare (λ js. worked_bare js [] [] 0) q)
+    ∙ ap (λ (js : Items). since_defined (chosen (rectangular (looped js)))) (decided_bare y)
+    ∙ ap (λ (js : Items). since_defined (chosen (rectangular js))) (looped_bare e)
+    ∙ ap (λ (js : Items). since_defined (chosen js)) (rectangular_bare f)
+    ∙ ap since_defined (chosen_bare h)
     ∙ ap since_grids (undefined_bare x [] 0 0)
     ∙ ap since_rows (flat_bare (undefined [] 0 0 x) true [] [] [] 0)
     ∙ ap since_boxes (flat_bare r false [] [] [] 0)

@@ -8,7 +8,7 @@ use Rattle.c_grammar.specs.Blocks.{Items, bare, is_directive}
 use Rattle.c_grammar.specs.Constants.{with_tokens}
 use Rattle.c_grammar.specs.Expressions.{placed_of}
 use Rattle.c_grammar.specs.Lines.{is_omp}
-use Rattle.c_grammar.specs.Updates.{Region, Outside, Inside, OnRegion, atomic_tokens, behind, commuting, directive_on, has_update, is_atomic, is_combined, is_named, line_on, mark_at, marked, reduced, summed}
+use Rattle.c_grammar.specs.Updates.{Region, Outside, Inside, OnRegion, atomic_tokens, behind, commuting, directive_on, has_extreme, has_update, is_atomic, is_changed, is_combined, is_compare, line_on, mark_at, marked, reduced, summed}
 use Rattle.c_grammar.proofs.BarePresence.{omp_stays}
 
 mark_is_line : (i : Item Terminal) → is_directive (mark_at i).terminal ≡ true
@@ -26,13 +26,21 @@ line_bare i ts is r go e f h k = first (is_combined ts)
     put : (ps : List Placed) (q : Region) → bare (with_tokens i ts ps ∷ go q) ≡ bare is
     put ps q = rw (omp_stays i ts ps h) (k q)
 
-    second : (b : Bool) → bare (cond b (with_tokens i ts (atomic_tokens (has_update (bare is)) (placed_of ts i.columns)) ∷ go r) (i ∷ go r)) ≡ bare is
+    third : (b : Bool) → bare (cond b (with_tokens i ts (atomic_tokens true (placed_of ts i.columns)) ∷ go r) (i ∷ go r)) ≡ bare is
+    third true = put (atomic_tokens true (placed_of ts i.columns)) r
+    third false = rw f (k r)
+
+    second : (b : Bool) → bare
+        (cond b (with_tokens i ts (atomic_tokens (has_update (bare is)) (placed_of ts i.columns)) ∷ go r)
+        (cond (is_compare ts && has_extreme is) (with_tokens i ts (atomic_tokens true (placed_of ts i.columns)) ∷ go r) (i ∷ go r)))
+        ≡ bare is
     second true = put (atomic_tokens (has_update (bare is)) (placed_of ts i.columns)) r
-    second false = rw f (k r)
+    second false = third (is_compare ts && has_extreme is)
 
     first : (b : Bool) → bare
         (cond b (with_tokens i ts (reduced ts is 0 (placed_of ts i.columns)) ∷ go (Inside (summed ts is ts) 0 false))
-        (cond (is_atomic ts) (with_tokens i ts (atomic_tokens (has_update (bare is)) (placed_of ts i.columns)) ∷ go r) (i ∷ go r)))
+        (cond (is_atomic ts) (with_tokens i ts (atomic_tokens (has_update (bare is)) (placed_of ts i.columns)) ∷ go r)
+        (cond (is_compare ts && has_extreme is) (with_tokens i ts (atomic_tokens true (placed_of ts i.columns)) ∷ go r) (i ∷ go r))))
         ≡ bare is
     first true = put (reduced ts is 0 (placed_of ts i.columns)) (Inside (summed ts is ts) 0 false)
     first false = second (is_atomic ts)
@@ -51,7 +59,7 @@ directive_bare i End is r go e f k = absurd cc
 marked_bare : (r : Region) (i : Item Terminal) (is : Items) (go : OnRegion) → is_directive i.terminal ≡ false → Keeps is go →
     bare (marked r i is go) ≡ i ∷ bare is
 marked_bare Outside i is go f k = rw f (ap (λ (js : Items). i ∷ js) (k Outside))
-marked_bare (Inside xs d starts) i is go f k = step (starts && is_named xs i.terminal)
+marked_bare (Inside xs d starts) i is go f k = step (starts && is_changed xs i is)
   where
     same : bare (i ∷ go (behind xs d i is)) ≡ i ∷ bare is
     same = rw f (ap (λ (js : Items). i ∷ js) (k (behind xs d i is)))

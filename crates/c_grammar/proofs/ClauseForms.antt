@@ -144,7 +144,7 @@ two_commas_behind : written (codes "#pragma omp target parallel for shared(A),, 
 unfolding number_of hex_number_of number_piece sign_one sign_two sign_three changing_sign sign_at piece_at comment_end_from is_include after tokens_from word_of is_omp expression line_from clauses_from worked in_blocks typed printed undefined all_read initialized in_full run enter breaks wrong sort_of advance place_code first_broken first_wrong kind_of holds is_atomic is_target depth_of collapse_from uses_of uses_from line_fault line_breaks line_wrong line_enter line_advance line_place line_first_broken line_first_wrong piece_on_line lexemes_from
 two_commas_behind = refl
 
-other_defaults : written (codes "#pragma omp target parallel for default(none) default(shared, shared) private(n)") ≡ words (codes "#pragma omp target parallel for default(none) default(shared, shared) private(n)")
+other_defaults : written (codes "#pragma omp target parallel for default(private) default(shared, shared) private(n)") ≡ words (codes "#pragma omp target parallel for default(private) default(shared, shared) private(n)")
 unfolding number_of hex_number_of number_piece sign_one sign_two sign_three changing_sign sign_at piece_at comment_end_from is_include after tokens_from word_of is_omp expression line_from clauses_from worked in_blocks typed printed undefined all_read initialized in_full run enter breaks wrong sort_of advance place_code first_broken first_wrong kind_of holds is_atomic is_target depth_of collapse_from uses_of uses_from line_fault line_breaks line_wrong line_enter line_advance line_place line_first_broken line_first_wrong piece_on_line lexemes_from
 other_defaults = refl
 

@@ -4,7 +4,7 @@ use Rattle.c_tokens.specs.declared.kind.Sign.TheVariants as sign
 use Rattle.c_grammar.specs.Lexeme.{Lexeme, Else, Int, Main, Void}
 use Rattle.c_grammar.specs.Terminal.{Terminal, Fixed, Mark, End, same}
 use Rattle.c_grammar.specs.Lines.{depth_of}
-use Rattle.c_grammar.specs.Grammar.{Plain, MakesScalar, Otherwise, Slot, Slots, for, mark, word, inner, closing, Term, Literal, Named, Element, Group, Prefixed, Both, By, operator_sign, fraction_sign, value_of, term, Source, Input, Value, source, Head, Stmt, Declare, Assign, Store, Repeat, Choose, ChooseElse, Show, Block, Directive, Atomic, AtomicAssign, OverBlock, OverLoop, Stmts, Done, Then, head_slots, body_opening, body_closing, end_mark, deeper, stmt_in, stmts_in, stmts, Global, Scalar, Array, boxes_slots, global, globals, Text, slots}
+use Rattle.c_grammar.specs.Grammar.{Plain, MakesScalar, Otherwise, Slot, Slots, for, mark, word, inner, closing, Term, Literal, Named, Element, Group, Prefixed, Both, By, operator_sign, fraction_sign, value_of, term, Source, Input, Value, source, Head, Stmt, Declare, Assign, Store, Repeat, Choose, ChooseElse, Show, Block, Directive, Atomic, AtomicAssign, AtomicIf, OverBlock, OverLoop, Stmts, Done, Then, head_slots, body_opening, body_closing, end_mark, deeper, stmt_in, stmts_in, stmts, Global, Scalar, Array, boxes_slots, global, globals, Text, slots}
 
 abbrev NoEnd : Slots → Type 0
 NoEnd [] = Unit {0}
@@ -77,6 +77,7 @@ mutual
   in_stmt (Directive l) d = (refl, tt)
   in_stmt (Atomic l x i v) d = (refl, (refl, (refl, in_cell i v)))
   in_stmt (AtomicAssign l x v) d = (refl, (refl, (refl, both (source v) (end_mark ∷ []) (in_source v) (refl, tt))))
+  in_stmt (AtomicIf l s) d = (refl, in_stmt s 0)
   in_stmt (OverBlock l b) d = (refl, (refl, in_body (stmts b) (in_stmts b 0)))
   in_stmt (OverLoop l h b) d = (
     refl,

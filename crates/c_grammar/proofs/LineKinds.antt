@@ -5,7 +5,7 @@ use Rattle.c_tokens.specs.declared.kind.Sign.TheVariants as sign
 use Rattle.base.specs.declared.fault.ReadCode.TheVariants.{BadBound}
 use Rattle.c_grammar.specs.Lexeme.{Signed, Numbered}
 use Rattle.c_grammar.specs.Texts.{kinds}
-use Rattle.c_grammar.specs.LineGrammar.{Modifier, Collapse, NumTeams, ThreadLimit, NumThreads, SimdLen, SafeLen, LineAct, Maps, Depends, Heads, Opens, Begins, LineSlots, of, mark, Construct, Simd, ParallelFor, ParallelForSimd, ParallelLoop, TeamsDistribute, TeamsDistributeSimd, TeamsDistributeParallelFor, TeamsDistributeParallelForSimd, TeamsLoop, DirectiveKind, Target, Data, Enter, Exit, Update, Wait, AtomicUpdate, Combined, ToDevice, FromDevice, Term, Literal, Variable, Product, term, bound_sign, Bound, more_terms, bound, section, Section, more_items, Items, items_from, Clause, MapOf, DependOf, MotionOf, NoWait, DeviceOf, AmountOf, ScheduleOf, modifiers, motion, chunk, clause, clauses, head, LineText, line_slots}
+use Rattle.c_grammar.specs.LineGrammar.{Modifier, Collapse, NumTeams, ThreadLimit, NumThreads, SimdLen, SafeLen, LineAct, Maps, Depends, Heads, Opens, Begins, LineSlots, of, mark, Construct, Simd, ParallelFor, ParallelForSimd, ParallelLoop, TeamsDistribute, TeamsDistributeSimd, TeamsDistributeParallelFor, TeamsDistributeParallelForSimd, TeamsLoop, DirectiveKind, Target, Data, Enter, Exit, Update, Wait, AtomicUpdate, Combined, ToDevice, FromDevice, Term, Literal, Variable, Product, term, bound_sign, SignedTerm, Bound, more_terms, bound, section, Section, more_items, Items, items_from, Clause, MapOf, DependOf, MotionOf, NoWait, DeviceOf, AmountOf, ScheduleOf, modifiers, motion, chunk, clause, clauses, head, LineText, line_slots}
 use Rattle.c_grammar.specs.LineRules.{line_grammar, IsLine}
 use Rattle.c_grammar.specs.LineMachine.{LineStack, line_start}
 use Rattle.c_grammar.specs.Lines.{is_first, kind_of, collapsed, collapse_from, collapse_in, depth_kind, depth_of, line_depth}
@@ -122,9 +122,9 @@ quiet_term (Literal n) d = quiet_begins n d
 quiet_term (Variable x) d = refl
 quiet_term (Product n x) d = quiet_begins n d
 
-quiet_terms : (ts : List Term) → Quiet (more_terms ts)
+quiet_terms : (ts : List SignedTerm) → Quiet (more_terms ts)
 quiet_terms [] d = refl
-quiet_terms (t ∷ ts) d = quiet_both (term t) (more_terms ts) (quiet_term t) (quiet_terms ts) d
+quiet_terms (t ∷ ts) d = quiet_both (term t.1) (more_terms ts) (quiet_term t.1) (quiet_terms ts) d
 
 quiet_bound : (b : Bound) → Quiet (bound b)
 quiet_bound b = quiet_both (term b.0) (more_terms b.1) (quiet_term b.0) (quiet_terms b.1)

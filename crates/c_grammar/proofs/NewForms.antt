@@ -288,9 +288,13 @@ constant_bounds : fault_in (lines (codes "uint64_t A[8]; uint64_t B[16]; int mai
 unfolding number_of hex_number_of number_piece sign_one sign_two sign_three changing_sign sign_at piece_at comment_end_from is_include after tokens_from word_of is_omp expression line_from clauses_from worked in_blocks typed printed undefined all_read initialized in_full run enter breaks wrong sort_of advance place_code first_broken first_wrong kind_of holds is_atomic is_target depth_of collapse_from uses_of uses_from line_fault line_breaks line_wrong line_enter line_advance line_place line_first_broken line_first_wrong piece_on_line lexemes_from
 constant_bounds = refl
 
-negative_bound : fault_in (lines (codes "uint64_t A[8]; uint64_t B[16]; int main(void) {" ∷ codes "#pragma omp target map(to: A[3 - 4:1])" ∷ codes "{ } }" ∷ [])) ≡ at BadBound 2 32
+negative_bound : fault_in (lines (codes "uint64_t A[8]; uint64_t B[16]; int main(void) {" ∷ codes "#pragma omp target map(to: A[3 - 4:1])" ∷ codes "{ } }" ∷ [])) ≡ None
 unfolding number_of hex_number_of number_piece sign_one sign_two sign_three changing_sign sign_at piece_at comment_end_from is_include after tokens_from word_of is_omp expression line_from clauses_from worked in_blocks typed printed undefined all_read initialized in_full run enter breaks wrong sort_of advance place_code first_broken first_wrong kind_of holds is_atomic is_target depth_of collapse_from uses_of uses_from line_fault line_breaks line_wrong line_enter line_advance line_place line_first_broken line_first_wrong piece_on_line lexemes_from
 negative_bound = refl
+
+signed_bound : fault_in (lines (codes "uint64_t A[8]; uint64_t B[16]; int main(void) {" ∷ codes "#pragma omp target map(to: A[-4:1])" ∷ codes "{ } }" ∷ [])) ≡ at BadBound 2 30
+unfolding number_of hex_number_of number_piece sign_one sign_two sign_three changing_sign sign_at piece_at comment_end_from is_include after tokens_from word_of is_omp expression line_from clauses_from worked in_blocks typed printed undefined all_read initialized in_full run enter breaks wrong sort_of advance place_code first_broken first_wrong kind_of holds is_atomic is_target depth_of collapse_from uses_of uses_from line_fault line_breaks line_wrong line_enter line_advance line_place line_first_broken line_first_wrong piece_on_line lexemes_from
+signed_bound = refl
 
 array_called_nowait : fault_in (lines (codes "uint64_t nowait[8]; uint64_t B[16]; int main(void) {" ∷ codes "#pragma omp target map(to: nowait, B)" ∷ codes "{ } }" ∷ [])) ≡ None
 unfolding number_of hex_number_of number_piece sign_one sign_two sign_three changing_sign sign_at piece_at comment_end_from is_include after tokens_from word_of is_omp expression line_from clauses_from worked in_blocks typed printed undefined all_read initialized in_full run enter breaks wrong sort_of advance place_code first_broken first_wrong kind_of holds is_atomic is_target depth_of collapse_from uses_of uses_from line_fault line_breaks line_wrong line_enter line_advance line_place line_first_broken line_first_wrong piece_on_line lexemes_from

@@ -7,7 +7,7 @@ use Rattle.c_grammar.specs.Lexeme.{Lexeme, Uint64, Int, Main, Void, For, If, Els
 use Rattle.c_grammar.specs.Terminal.{Terminal, Fixed, Mark, Name, Num, Line, Unknown, Unworked, End, same}
 use Rattle.c_grammar.specs.Lines.{is_boxing, is_omp, holds, is_atomic, depth_of}
 use Rattle.c_grammar.specs.Grammar.{Plain, DeclaresGlobal, MakesArray, MakesScalar, Length, Starts, StartsIf, Prints, Assigned, StartsBlock, Otherwise, Opens, Closes, Alone, Over, Marks, Boxes, Slots, for, mark, word, Directive, stmt, IsStmt, Head, deeper, Stmts, Done, Then, stmts, AreStmts, body_opening, body_closing, end_mark, Global, Scalar, Array, Text, main_part, slots, IsText}
-use Rattle.c_grammar.specs.Program.{Want, WantName, WantNum, Globals, AfterGlobal, Body, OrElse, Under, Nested, Turn, AfterName, Value, Atom, Behind, Tail, Fractional, Stack, m, body, loop, other_step, stmt_step, under_step, nested_step, main_rest, boxes_step, globals_step, after_global, advance, start}
+use Rattle.c_grammar.specs.Program.{Want, WantName, WantNum, Globals, AfterGlobal, Body, OrElse, Under, Nested, Turn, AfterMark, AfterName, Value, Atom, Behind, Tail, Fractional, Stack, m, body, loop, other_step, stmt_step, under_step, nested_step, main_rest, boxes_step, globals_step, after_global, advance, start}
 use Rattle.c_grammar.proofs.Ways.{some_of}
 use Rattle.c_grammar.proofs.Lexemes.{chosen, some_is}
 use Rattle.c_grammar.proofs.Terminals.{tested}
@@ -15,7 +15,7 @@ use Rattle.c_grammar.proofs.Goes.{Goes}
 use Rattle.c_grammar.proofs.Parts.{made, over, over_slots}
 use Rattle.c_grammar.proofs.SourceFits.{IsHeld, Fits, default}
 use Rattle.c_grammar.proofs.SourceBack.{Taken, Back, BackBelow, none, back_want, back_name, back_num, back_fractional, back_atom, back_behind, back_tail, back_value}
-use Rattle.c_grammar.proofs.SourceStatements.{HasStmt, StmtBack, declare_fits, assign_fits, atomic_fits, repeat_fits, choose_fits, show_fits, block_fits, loop_fits, nested_fits, back_after_name, back_turn}
+use Rattle.c_grammar.proofs.SourceStatements.{HasStmt, StmtBack, declare_fits, assign_fits, atomic_fits, repeat_fits, choose_fits, show_fits, block_fits, loop_fits, nested_fits, back_after_mark, back_after_name, back_turn}
 
 -- ---- lines, and what follows them
 
@@ -45,16 +45,12 @@ back_held l s q h n e =
           (λ ws f. (Directive l, (h, k.0, n), ws, refl, f))
     ]
 
--- what follows the line of an atomic update, with what follows that
-abbrev stored : Stack → Stack
-stored s = WantName Assigned ∷ AfterName ∷ s
-
 back_omp : (l : List Lexeme) (s : Stack) (q : Taken) → is_omp l ≡ true
-    → cond (is_atomic l) (some_of (for Marks, stored s))
+    → cond (is_atomic l) (some_of (for Marks, AfterMark ∷ s))
     (cond (holds l) (some_of (for Over, Under (depth_of l) ∷ s)) (some_of (for Alone, s))) ≡ some_of q → StmtBack s (Line l) q
 back_omp l s q h e =
-    elim (chosen (is_atomic l) (some_of (for Marks, stored s)) _ (some_of q) e) [
-      | inl k ↦ some_is (for Marks, stored s) q (λ p. StmtBack s (Line l) p) k.1 (atomic_fits l s h k.0)
+    elim (chosen (is_atomic l) (some_of (for Marks, AfterMark ∷ s)) _ (some_of q) e) [
+      | inl k ↦ some_is (for Marks, AfterMark ∷ s) q (λ p. StmtBack s (Line l) p) k.1 (atomic_fits l s h k.0)
       | inr k ↦ back_held l s q h k.0 k.1
     ]
 
@@ -277,6 +273,7 @@ back (OrElse ∷ s) t q e = back_or_else s t q (back s t q) e
 back (Under d ∷ s) t q e = back_under d s t q e
 back (Nested d ∷ s) t q e = back_nested d s t q e
 back (Turn d ∷ s) t q e = back_turn d s t q e
+back (AfterMark ∷ s) t q e = back_after_mark s t q e
 back (AfterName ∷ s) t q e = back_after_name s t q e
 back (Value ∷ s) t q e = back_value s t q e
 back (Atom ∷ s) t q e = back_atom s t q e

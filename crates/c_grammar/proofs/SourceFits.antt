@@ -1,8 +1,8 @@
 -- Where the machine for sources has come, a text goes on: what a stack stands for.
 use Rattle.std.proofs.Common.{◌≡◌, ℕ, zero, suc, List, [], ◌∷◌, ◌++◌, Option, Some, None, refl}
 use Rattle.c_grammar.specs.Terminal.{Name, Num}
-use Rattle.c_grammar.specs.Grammar.{DeclaresLoop, for, Slots, value_of, Term, Literal, term, IsRanked, Source, Input, source, IsRankedSource, Head, head_rest, deeper, stmt_in, stmts_in, Repeat, Stmts, Done, Then, stmts, IsNest, AreStmts, body_opening, body_closing, Text, slots, IsText}
-use Rattle.c_grammar.specs.Program.{Want, WantName, WantNum, Globals, AfterGlobal, Body, OrElse, Under, Nested, Turn, AfterName, Value, Atom, Behind, Tail, Fractional, Stack, expr}
+use Rattle.c_grammar.specs.Grammar.{DeclaresLoop, for, Slots, value_of, Term, Literal, term, IsRanked, Source, Input, source, IsRankedSource, Head, head_rest, deeper, stmt, stmt_in, stmts_in, Stmt, Assign, Store, Repeat, Choose, ChooseElse, IsStmt, Stmts, Done, Then, stmts, IsNest, AreStmts, body_opening, body_closing, Text, slots, IsText}
+use Rattle.c_grammar.specs.Program.{Want, WantName, WantNum, Globals, AfterGlobal, Body, OrElse, Under, Nested, Turn, AfterMark, AfterName, Value, Atom, Behind, Tail, Fractional, Stack, expr}
 use Rattle.c_grammar.proofs.Operands.{IsAtom, Operations, operations, AreOperations, attach_all, ranked_behind, term_behind}
 use Rattle.c_grammar.proofs.Parts.{index, held, branch, assigned, made}
 
@@ -18,6 +18,14 @@ IsBranch (Some b) = AreStmts b
 abbrev pub IsHeld : ℕ → Option Head → Stmts → Type 0
 IsHeld d None b = d ≡ 0
 IsHeld d (Some h) b = IsNest b (deeper d)
+
+-- what may follow the line of an atomic update
+abbrev pub IsMarkable : Stmt → Type 0
+IsMarkable (Assign x v) = Unit {0}
+IsMarkable (Store x i v) = Unit {0}
+IsMarkable (Choose e a) = Unit {0}
+IsMarkable (ChooseElse e a b) = Unit {0}
+IsMarkable _ = ⊥
 
 abbrev pub Fits : Stack → Slots → Type 0
 Fits [] ws = ws ≡ []
@@ -36,6 +44,7 @@ Fits (Turn d ∷ s) ws =
     (h : Head) × (b : Stmts) × AreStmts b × IsNest b d × (v : Slots)
     × (ws ≡ (Name h.name, for DeclaresLoop) ∷ (head_rest h ++ (body_opening ∷ (stmts_in b d ++ (body_closing ∷ v)))))
     × Fits s v
+Fits (AfterMark ∷ s) ws = (st : Stmt) × IsMarkable st × IsStmt st × (v : Slots) × (ws ≡ stmt st ++ v) × Fits s v
 Fits (AfterName ∷ s) ws =
     (o : Option Term) × IsIndex o × (e : Source) × IsRankedSource e × (v : Slots) × (ws ≡ assigned o e ++ v) × Fits s v
 Fits (Value ∷ s) ws = (e : Source) × IsRankedSource e × (v : Slots) × (ws ≡ source e ++ v) × Fits s v
@@ -97,6 +106,8 @@ default (Turn k ∷ s) =
           ∷ (head_rest some_head ++ (body_opening ∷ (stmts_in n.0 k ++ (body_closing ∷ d.0)))),
       (some_head, n.0, n.1, n.2, d.0, refl, d.1),
     ))
+default (AfterMark ∷ s) =
+    (let d = default s in (stmt (Assign [] Input) ++ d.0, (Assign [] Input, tt, tt, d.0, refl, d.1)))
 default (AfterName ∷ s) = (let d = default s in (assigned None Input ++ d.0, (None, tt, Input, tt, d.0, refl, d.1)))
 default (Value ∷ s) = (let d = default s in (source Input ++ d.0, (Input, tt, d.0, refl, d.1)))
 default (Atom ∷ s) = (let d = default s in (term (Literal None) ++ d.0, (Literal None, (refl, tt), d.0, refl, d.1)))

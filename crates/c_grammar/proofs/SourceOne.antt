@@ -4,7 +4,7 @@ use Rattle.std.proofs.lemmas.List.{append-nil}
 use Rattle.c_grammar.specs.Lexeme.{Lexeme}
 use Rattle.c_grammar.specs.Lines.{depth_of}
 use Rattle.c_grammar.specs.Terminal.{End}
-use Rattle.c_grammar.specs.Grammar.{Plain, Slots, for, Stmt, Declare, Assign, Store, Repeat, Choose, ChooseElse, Show, Block, Directive, Atomic, AtomicAssign, OverBlock, OverLoop, Stmts, Done, Then, body_closing, deeper, stmt_in, stmts_in, stmt, stmts, IsNest, IsLoopNest, IsStmt, AreStmts, Text, main_part, slots, IsText}
+use Rattle.c_grammar.specs.Grammar.{Plain, Slots, for, Stmt, Declare, Assign, Store, Repeat, Choose, ChooseElse, Show, Block, Directive, Atomic, AtomicAssign, AtomicIf, OverBlock, OverLoop, Stmts, Done, Then, body_closing, deeper, stmt_in, stmts_in, stmt, stmts, IsNest, IsLoopNest, IsStmt, AreStmts, Text, main_part, slots, IsText}
 use Rattle.c_grammar.specs.Texts.{kinds}
 use Rattle.c_grammar.specs.Rules.{source_grammar}
 use Rattle.c_grammar.specs.Program.{start, source_machine}
@@ -12,7 +12,7 @@ use Rattle.c_grammar.specs.SourceClaims.{OneText}
 use Rattle.c_grammar.proofs.Ways.{same_way}
 use Rattle.c_grammar.proofs.GoesOn.{NoElse, no_else, passes_text}
 use Rattle.c_grammar.proofs.Views.{one_declare, one_assign, one_store, one_show, one_boxes, one_globals, text_is}
-use Rattle.c_grammar.proofs.SourceViews.{apart, scalar_or_cell, block_or_loop, no_stmt, one_choose, one_choose_else, choose_clash, one_repeat, one_block, one_directive, one_atomic, one_atomic_assign, atomic_scalar_or_cell, one_over_block, one_nested, same_line, one_over_loop}
+use Rattle.c_grammar.proofs.SourceViews.{apart, scalar_or_cell, block_or_loop, no_stmt, one_choose, one_choose_else, choose_clash, one_repeat, one_block, one_directive, one_atomic, one_atomic_assign, one_atomic_if, atomic_scalar_or_cell, atomic_scalar_or_if, atomic_cell_or_if, one_over_block, one_nested, same_line, one_over_loop}
 
 swapped : (b a : Stmts) (us vs : Slots) → (a ≡ b) × (vs ≡ us) → (b ≡ a) × (us ≡ vs)
 swapped b a us vs h = (sym h.0, sym h.1)
@@ -44,6 +44,14 @@ mutual
       absurd (atomic_scalar_or_cell l m x y v w j xs ys e)
   one_stmt (Atomic l x i v) (AtomicAssign m y w) p q xs ys n k e =
       absurd (atomic_scalar_or_cell m l y x w v i ys xs (sym e))
+  one_stmt (AtomicIf l s) (AtomicIf m u) p q xs ys n k e =
+      one_atomic_if l m s u xs ys (one_stmt s u p.3 q.3 xs ys n k) e
+  one_stmt (AtomicIf l s) (AtomicAssign m y w) p q xs ys n k e =
+      absurd (atomic_scalar_or_if m l y w s ys xs p.2 (sym e))
+  one_stmt (AtomicIf l s) (Atomic m y j w) p q xs ys n k e =
+      absurd (atomic_cell_or_if m l y j w s ys xs p.2 (sym e))
+  one_stmt (AtomicAssign l x v) (AtomicIf m u) p q xs ys n k e = absurd (atomic_scalar_or_if l m x v u xs ys q.2 e)
+  one_stmt (Atomic l x i v) (AtomicIf m u) p q xs ys n k e = absurd (atomic_cell_or_if l m x i v u xs ys q.2 e)
   one_stmt (OverBlock l b) (OverBlock m c) p q xs ys n k e = one_over_block l m b c (one_stmts b c p.2 q.2 0 tt tt) xs ys e
   one_stmt (OverBlock l b) (OverLoop m h c) p q xs ys n k e = absurd (block_or_loop l m b c h xs ys e)
   one_stmt (OverLoop l h b) (OverBlock m c) p q xs ys n k e = absurd (block_or_loop m l c b h ys xs (sym e))
@@ -98,6 +106,7 @@ mutual
   one_loop (Repeat h b) (Directive l) p q d n k xs ys e = absurd k
   one_loop (Repeat h b) (Atomic l x i v) p q d n k xs ys e = absurd k
   one_loop (Repeat h b) (AtomicAssign l x v) p q d n k xs ys e = absurd k
+  one_loop (Repeat h b) (AtomicIf l c) p q d n k xs ys e = absurd k
   one_loop (Repeat h b) (OverBlock l c) p q d n k xs ys e = absurd k
   one_loop (Repeat h b) (OverLoop l a c) p q d n k xs ys e = absurd k
   one_loop (Declare x v) u p q d n k xs ys e = absurd n
@@ -110,6 +119,7 @@ mutual
   one_loop (Directive l) u p q d n k xs ys e = absurd n
   one_loop (Atomic l x i v) u p q d n k xs ys e = absurd n
   one_loop (AtomicAssign l x v) u p q d n k xs ys e = absurd n
+  one_loop (AtomicIf l c) u p q d n k xs ys e = absurd n
   one_loop (OverBlock l c) u p q d n k xs ys e = absurd n
   one_loop (OverLoop l a c) u p q d n k xs ys e = absurd n
 

@@ -1,23 +1,30 @@
 -- What goes on from where the machine for sources has come goes on from where it was: statements.
-use Rattle.std.proofs.Common.{◌≡◌, ℕ, zero, suc, true, List, [], ◌∷◌, ◌++◌, Some, None, sym, ap, ◌∙◌, append_assoc}
+use Rattle.std.proofs.Common.{◌≡◌, ℕ, zero, suc, true, List, [], ◌∷◌, ◌++◌, Some, None, refl, sym, ap, ◌∙◌, append_assoc}
 use Rattle.std.proofs.lemmas.List.{append-nil}
 use Rattle.base.specs.declared.fault.ReadCode.TheVariants.{NoBody}
 use Rattle.c_tokens.specs.declared.kind.Sign.TheVariants as sign
 use Rattle.c_grammar.specs.Lexeme.{Lexeme, Uint64, For, If, Print}
 use Rattle.c_grammar.specs.Terminal.{Terminal, Fixed, Mark, Name, Num, Line, Unknown, Unworked, End}
 use Rattle.c_grammar.specs.Lines.{is_omp, is_atomic}
-use Rattle.c_grammar.specs.Grammar.{Plain, DeclaresLocal, DeclaresLoop, MakesScalar, Limit, Step, Starts, StartsIf, Prints, Assigned, StartsBlock, Marks, Slots, for, mark, word, Term, term, IsRanked, Source, source, IsRankedSource, Stmt, Declare, Assign, Store, Atomic, AtomicAssign, Repeat, Choose, ChooseElse, Show, Block, stmt_in, stmts_in, stmt, IsStmt, IsNest, Done, Then, nest_slots, Head, head_rest, Stmts, stmts, AreStmts, body_opening, body_closing, end_mark}
-use Rattle.c_grammar.specs.Program.{Want, WantName, Body, OrElse, Nested, Turn, AfterName, Value, Stack, m, expr, body, inner_body, loop_body, head_of, turn_step, loop, after_name}
+use Rattle.c_grammar.specs.Grammar.{Plain, DeclaresLocal, DeclaresLoop, MakesScalar, Limit, Step, Starts, StartsIf, Prints, Assigned, StartsBlock, Marks, Slots, for, mark, word, Term, term, IsRanked, Source, source, IsRankedSource, Stmt, Declare, Assign, Store, Atomic, AtomicAssign, AtomicIf, Repeat, Choose, ChooseElse, Show, Block, Directive, OverBlock, OverLoop, stmt_in, stmts_in, stmt, IsStmt, IsNest, Done, Then, nest_slots, Head, head_rest, Stmts, stmts, AreStmts, body_opening, body_closing, end_mark}
+use Rattle.c_grammar.specs.Program.{Want, WantName, Body, OrElse, Nested, Turn, AfterMark, AfterName, Value, Stack, m, expr, body, inner_body, loop_body, head_of, name_step, turn_step, loop, choice, after_mark, after_name}
 use Rattle.c_grammar.proofs.Ways.{some_of}
 use Rattle.c_grammar.proofs.Lexemes.{some_is}
 use Rattle.c_grammar.proofs.Terminals.{tested}
 use Rattle.c_grammar.proofs.Parts.{branch, assigned}
-use Rattle.c_grammar.proofs.SourceFits.{IsIndex, IsBranch, Fits, has_term}
+use Rattle.c_grammar.proofs.SourceFits.{IsIndex, IsBranch, IsMarkable, Fits, has_term}
 use Rattle.c_grammar.proofs.SourceBack.{Taken, Back, none}
 
 -- a statement and what follows it
 abbrev pub HasStmt : Stack → Slots → Type 0
 HasStmt s ws = (st : Stmt) × IsStmt st × (v : Slots) × (ws ≡ stmt st ++ v) × Fits s v
+
+-- one that may follow the line of an atomic update
+abbrev pub HasMarkable : Stack → Slots → Type 0
+HasMarkable s ws = (st : Stmt) × IsMarkable st × IsStmt st × (v : Slots) × (ws ≡ stmt st ++ v) × Fits s v
+
+abbrev pub stmt_of : (s : Stack) (ws : Slots) → HasMarkable s ws → HasStmt s ws
+stmt_of s ws h = (h.0, h.2, h.3, h.4, h.5)
 
 abbrev pub StmtBack : Stack → Terminal → Taken → Type 0
 StmtBack s t q = (ws : Slots) → Fits q.1 ws → HasStmt s ((t, q.0) ∷ ws)
@@ -38,12 +45,15 @@ declare_fits s ws f =
     let g = append_assoc (source value.0) ((Mark sign.Semicolon, for MakesScalar) ∷ []) last.0 in
     (Declare f.0 value.0, value.1, last.0, cc, last.2)
 
-pub assign_fits : (x : List ℕ) (s : Stack) (ws : Slots) → Fits (AfterName ∷ s) ws → HasStmt s ((Name x, for Assigned) ∷ ws)
-assign_fits x s ws f =
-    elim f.0 as (λ o. IsIndex o → ws ≡ assigned o f.2 ++ f.4 → HasStmt s ((Name x, for Assigned) ∷ ws)) [
-      | None ↦ λ r e. (Assign x f.2, f.3, f.4, ap (λ (v : Slots). (Name x, for Assigned) ∷ v) e, f.6)
-      | Some i ↦ λ r e. (Store x i f.2, (r, f.3), f.4, ap (λ (v : Slots). (Name x, for Assigned) ∷ v) e, f.6)
+assign_has : (x : List ℕ) (s : Stack) (ws : Slots) → Fits (AfterName ∷ s) ws → HasMarkable s ((Name x, for Assigned) ∷ ws)
+assign_has x s ws f =
+    elim f.0 as (λ o. IsIndex o → ws ≡ assigned o f.2 ++ f.4 → HasMarkable s ((Name x, for Assigned) ∷ ws)) [
+      | None ↦ λ r e. (Assign x f.2, tt, f.3, f.4, ap (λ (v : Slots). (Name x, for Assigned) ∷ v) e, f.6)
+      | Some i ↦ λ r e. (Store x i f.2, tt, (r, f.3), f.4, ap (λ (v : Slots). (Name x, for Assigned) ∷ v) e, f.6)
     ] f.1 f.5
+
+pub assign_fits : (x : List ℕ) (s : Stack) (ws : Slots) → Fits (AfterName ∷ s) ws → HasStmt s ((Name x, for Assigned) ∷ ws)
+assign_fits x s ws f = stmt_of s ((Name x, for Assigned) ∷ ws) (assign_has x s ws f)
 
 scalar_fits : (s : Stack) (ws : Slots) → Fits (Value ∷ m sign.Semicolon ∷ s) ws
     → Fits (AfterName ∷ s) (mark sign.Equal ∷ ws)
@@ -84,27 +94,56 @@ cell_fits : (s : Stack) (ws : Slots)
     → Fits (AfterName ∷ s) (mark sign.OpenBracket ∷ ws)
 cell_fits s ws f = (let c = has_cell s ws f in (Some c.0, c.1, c.2, c.3, c.4, c.5, c.6))
 
--- an atomic store or assignment behind its line
+-- a statement with the line of an atomic update before it
+abbrev with_line : List Lexeme → Stmt → Stmt
+with_line l (Assign x v) = AtomicAssign l x v
+with_line l (Store x i v) = Atomic l x i v
+with_line l s = AtomicIf l s
+
+line_slots : (l : List Lexeme) (st : Stmt) → IsMarkable st → stmt (with_line l st) ≡ (Line l, for Marks) ∷ stmt st
+line_slots l (Assign x v) k = refl
+line_slots l (Store x i v) k = refl
+line_slots l (Choose e a) k = refl
+line_slots l (ChooseElse e a b) k = refl
+line_slots l (Declare x v) k = absurd k
+line_slots l (Repeat a b) k = absurd k
+line_slots l (Show e) k = absurd k
+line_slots l (Block b) k = absurd k
+line_slots l (Directive g) k = absurd k
+line_slots l (Atomic g x i v) k = absurd k
+line_slots l (AtomicAssign g x v) k = absurd k
+line_slots l (AtomicIf g c) k = absurd k
+line_slots l (OverBlock g b) k = absurd k
+line_slots l (OverLoop g a b) k = absurd k
+
+line_is : (l : List Lexeme) (st : Stmt) → IsMarkable st → is_omp l ≡ true → is_atomic l ≡ true → IsStmt st
+    → IsStmt (with_line l st)
+line_is l (Assign x v) o h k p = (h, k, p)
+line_is l (Store x i v) o h k p = (h, k, p.0, p.1)
+line_is l (Choose e a) o h k p = (h, k, tt, p)
+line_is l (ChooseElse e a b) o h k p = (h, k, tt, p)
+line_is l (Declare x v) o h k p = absurd o
+line_is l (Repeat a b) o h k p = absurd o
+line_is l (Show e) o h k p = absurd o
+line_is l (Block b) o h k p = absurd o
+line_is l (Directive g) o h k p = absurd o
+line_is l (Atomic g x i v) o h k p = absurd o
+line_is l (AtomicAssign g x v) o h k p = absurd o
+line_is l (AtomicIf g c) o h k p = absurd o
+line_is l (OverBlock g b) o h k p = absurd o
+line_is l (OverLoop g a b) o h k p = absurd o
+
+-- an atomic update behind its line
 pub atomic_fits : (l : List Lexeme) (s : Stack) → is_omp l ≡ true → is_atomic l ≡ true
-    → StmtBack s (Line l) (for Marks, WantName Assigned ∷ AfterName ∷ s)
-atomic_fits l s h k ws f =
-    let a = f.3 in
-    elim a.0 as (λ o. IsIndex o → f.1 ≡ assigned o a.2 ++ a.4 → HasStmt s ((Line l, for Marks) ∷ ws)) [
-      | None ↦ λ r e. (
-        AtomicAssign l f.0 a.2,
-        (h, k, a.3),
-        a.4,
-        ap (λ (v : Slots). (Line l, for Marks) ∷ v) (f.2 ∙ ap (λ (v : Slots). (Name f.0, for Assigned) ∷ v) e),
-        a.6,
-      )
-      | Some i ↦ λ r e. (
-        Atomic l f.0 i a.2,
-        (h, k, r, a.3),
-        a.4,
-        ap (λ (v : Slots). (Line l, for Marks) ∷ v) (f.2 ∙ ap (λ (v : Slots). (Name f.0, for Assigned) ∷ v) e),
-        a.6,
-      )
-    ] a.1 a.5
+    → StmtBack s (Line l) (for Marks, AfterMark ∷ s)
+atomic_fits l s h k ws f = (
+  with_line l f.0,
+  line_is l f.0 f.1 h k f.2,
+  f.3,
+  ap (λ (v : Slots). (Line l, for Marks) ∷ v) f.4
+      ∙ ap (λ (v : Slots). v ++ f.3) (sym (line_slots l f.0 f.1)),
+  f.5,
+)
 
 pub back_after_name : (s : Stack) (t : Terminal) (q : Taken) → after_name s t ≡ some_of q → Back AfterName s t q
 back_after_name s t q e =
@@ -219,10 +258,8 @@ nested_fits d s ws f =
 
 -- ---- branches, prints, blocks
 
-pub choose_fits : (s : Stack) (ws : Slots)
-    → Fits (m sign.OpenParen ∷ expr (m sign.CloseParen ∷ body (OrElse ∷ s))) ws
-    → HasStmt s ((Fixed If, for StartsIf) ∷ ws)
-choose_fits s ws f =
+choose_has : (s : Stack) (ws : Slots) → Fits (choice s) ws → HasMarkable s ((Fixed If, for StartsIf) ∷ ws)
+choose_has s ws f =
     let test = has_term (m sign.CloseParen ∷ body (OrElse ∷ s)) f.0 f.2 in
     let close = test.4 in
     let brace = close.2 in
@@ -235,18 +272,36 @@ choose_fits s ws f =
     let e4 : brace.0 ≡ stmts first.0 ++ (body_closing ∷ first.2) = first.3 in
     let front : Slots → Slots = λ v. mark sign.CloseParen ∷ body_opening ∷ v in
     elim other.0 as
-    (λ o. IsBranch o → first.2 ≡ branch o ++ other.2 → HasStmt s ((Fixed If, for StartsIf) ∷ ws)) [
+    (λ o. IsBranch o → first.2 ≡ branch o ++ other.2 → HasMarkable s ((Fixed If, for StartsIf) ∷ ws)) [
       | None ↦ λ r e.
           let last : Slots = body_closing ∷ [] in
           let g0 = append_assoc (term test.0) (front (stmts first.0 ++ last)) other.2 in
           let g1 = append_assoc (stmts first.0) last other.2 in
-          (Choose test.0 first.0, (test.1, first.1), other.2, cc, other.4)
+          (Choose test.0 first.0, tt, (test.1, first.1), other.2, cc, other.4)
       | Some b ↦ λ r e.
           let second : Slots = body_closing ∷ branch (Some b) in
           let g0 = append_assoc (term test.0) (front (stmts first.0 ++ second)) other.2 in
           let g1 = append_assoc (stmts first.0) second other.2 in
-          (ChooseElse test.0 first.0 b, (test.1, first.1, r), other.2, cc, other.4)
+          (ChooseElse test.0 first.0 b, tt, (test.1, first.1, r), other.2, cc, other.4)
     ] other.1 other.3
+
+pub choose_fits : (s : Stack) (ws : Slots) → Fits (choice s) ws → HasStmt s ((Fixed If, for StartsIf) ∷ ws)
+choose_fits s ws f = stmt_of s ((Fixed If, for StartsIf) ∷ ws) (choose_has s ws f)
+
+name_marks : (s : Stack) (t : Terminal) (q : Taken) → name_step Assigned (AfterName ∷ s) t ≡ some_of q → Back AfterMark s t q
+name_marks s (Name x) q e =
+    some_is (for Assigned, AfterName ∷ s) q (λ p. Back AfterMark s (Name x) p) e (assign_has x s)
+name_marks s (Num a) q e = absurd cc
+name_marks s (Fixed a) q e = absurd cc
+name_marks s (Mark a) q e = absurd cc
+name_marks s (Line a) q e = absurd cc
+name_marks s Unknown q e = absurd cc
+name_marks s Unworked q e = absurd cc
+name_marks s End q e = absurd cc
+
+pub back_after_mark : (s : Stack) (t : Terminal) (q : Taken) → after_mark s t ≡ some_of q → Back AfterMark s t q
+back_after_mark s t q e =
+    tested (Fixed If) t (for StartsIf, choice s) q _ (Back AfterMark s) (choose_has s) (name_marks s t q) e
 
 pub show_fits : (s : Stack) (ws : Slots)
     → Fits (m sign.OpenParen ∷ expr (m sign.CloseParen ∷ m sign.Semicolon ∷ s)) ws

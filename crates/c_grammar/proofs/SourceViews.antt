@@ -3,9 +3,9 @@ use Rattle.std.proofs.Common.{◌≡◌, ℕ, suc, false, eqb, List, [], ◌∷�
 use Rattle.std.proofs.lemmas.Bool.{eqb-false}
 use Rattle.c_tokens.specs.declared.kind.Sign.TheVariants as sign
 use Rattle.c_grammar.specs.Lexeme.{Lexeme, For, If, Else}
-use Rattle.c_grammar.specs.Terminal.{Terminal, Fixed, same}
+use Rattle.c_grammar.specs.Terminal.{Terminal, Fixed, Line, same}
 use Rattle.c_grammar.specs.Lines.{depth_of}
-use Rattle.c_grammar.specs.Grammar.{Act, Starts, StartsIf, Prints, Assigned, StartsBlock, Otherwise, Alone, Over, Marks, Slots, for, mark, Term, term, IsRanked, Source, IsRankedSource, Head, Stmt, Declare, Assign, Store, Repeat, Choose, ChooseElse, Show, Block, Directive, Atomic, AtomicAssign, OverBlock, OverLoop, Stmts, body_opening, body_closing, deeper, stmt_in, stmt, stmts, nest_slots, loop_slots}
+use Rattle.c_grammar.specs.Grammar.{Act, Starts, StartsIf, Prints, Assigned, StartsBlock, Otherwise, Alone, Over, Marks, Slots, for, mark, Term, term, IsRanked, Source, IsRankedSource, Head, Stmt, Declare, Assign, Store, Repeat, Choose, ChooseElse, Show, Block, Directive, Atomic, AtomicAssign, AtomicIf, OverBlock, OverLoop, Stmts, body_opening, body_closing, deeper, stmt_in, stmt, stmts, nest_slots, loop_slots, IsChoice}
 use Rattle.c_grammar.proofs.GoesOn.{NoElse}
 use Rattle.c_grammar.proofs.TermReader.{one_term}
 use Rattle.c_grammar.proofs.Views.{tokens_too, one_assign, one_store, OneNest, OneBody, one_body, one_turns}
@@ -43,6 +43,7 @@ number_of (Block b) = 6
 number_of (Directive l) = 7
 number_of (Atomic l x i v) = 9
 number_of (AtomicAssign l x v) = 9
+number_of (AtomicIf l s) = 9
 number_of (OverBlock l b) = 8
 number_of (OverLoop l h b) = 8
 
@@ -58,11 +59,33 @@ begins (Block b) xs = refl
 begins (Directive l) xs = refl
 begins (Atomic l x i v) xs = refl
 begins (AtomicAssign l x v) xs = refl
+begins (AtomicIf l s) xs = refl
 begins (OverBlock l b) xs = refl
 begins (OverLoop l h b) xs = refl
 
 same_number : (s u : Stmt) (xs ys : Slots) → stmt s ++ xs ≡ stmt u ++ ys → number_of s ≡ number_of u
 same_number s u xs ys e = sym (begins s xs) ∙ ap (λ (v : Slots). number_at v) e ∙ begins u ys
+
+choice_number : (c : Stmt) → IsChoice c → number_of c ≡ 4
+choice_number (Choose e a) h = refl
+choice_number (ChooseElse e a b) h = refl
+choice_number (Declare x v) h = absurd h
+choice_number (Assign x v) h = absurd h
+choice_number (Store x i v) h = absurd h
+choice_number (Repeat a b) h = absurd h
+choice_number (Show e) h = absurd h
+choice_number (Block b) h = absurd h
+choice_number (Directive l) h = absurd h
+choice_number (Atomic l x i v) h = absurd h
+choice_number (AtomicAssign l x v) h = absurd h
+choice_number (AtomicIf l s) h = absurd h
+choice_number (OverBlock l b) h = absurd h
+choice_number (OverLoop l a b) h = absurd h
+
+-- an assignment or store does not begin as an if does
+assigned_or_if : (s c : Stmt) (xs ys : Slots) → number_of s ≡ 3 → IsChoice c → stmt s ++ xs ≡ stmt c ++ ys → ⊥
+assigned_or_if s c xs ys n h e =
+    eqb-false 3 4 refl (sym n ∙ same_number s c xs ys e ∙ choice_number c h)
 
 -- two statements that begin in different ways have different tokens
 pub apart : (s u : Stmt) (xs ys : Slots) → eqb (number_of s) (number_of u) ≡ false → stmt s ++ xs ≡ stmt u ++ ys → ⊥
@@ -75,6 +98,32 @@ scalar_or_cell x y v w i xs ys e = (let all = tokens_too _ _ e in cc)
 pub atomic_scalar_or_cell : (l m : List Lexeme) (x y : List ℕ) (v w : Source) (i : Term) (xs ys : Slots)
     → stmt (AtomicAssign l x v) ++ xs ≡ stmt (Atomic m y i w) ++ ys → ⊥
 atomic_scalar_or_cell l m x y v w i xs ys e = (let all = tokens_too _ _ e in cc)
+
+-- what follows the line of an atomic update
+atomic_rest : (l m : List Lexeme) (xs ys : Slots) → (Line l, for Marks) ∷ xs ≡ (Line m, for Marks) ∷ ys → (l ≡ m) × (xs ≡ ys)
+atomic_rest l m xs ys e =
+    let all = tokens_too _ _ e in
+    let lines : l ≡ m = cc in
+    (lines, cc)
+
+pub atomic_scalar_or_if : (l m : List Lexeme) (x : List ℕ) (v : Source) (c : Stmt) (xs ys : Slots) → IsChoice c
+    → stmt (AtomicAssign l x v) ++ xs ≡ stmt (AtomicIf m c) ++ ys → ⊥
+atomic_scalar_or_if l m x v c xs ys h e = assigned_or_if (Assign x v) c xs ys refl h (atomic_rest l m _ _ e).1
+
+pub atomic_cell_or_if : (l m : List Lexeme) (x : List ℕ) (i : Term) (v : Source) (c : Stmt) (xs ys : Slots) → IsChoice c
+    → stmt (Atomic l x i v) ++ xs ≡ stmt (AtomicIf m c) ++ ys → ⊥
+atomic_cell_or_if l m x i v c xs ys h e = assigned_or_if (Store x i v) c xs ys refl h (atomic_rest l m _ _ e).1
+
+pub one_atomic_if : (l m : List Lexeme) (c d : Stmt) (xs ys : Slots)
+    → (stmt c ++ xs ≡ stmt d ++ ys → (c ≡ d) × (xs ≡ ys))
+    → stmt (AtomicIf l c) ++ xs ≡ stmt (AtomicIf m d) ++ ys → (AtomicIf l c ≡ AtomicIf m d) × (xs ≡ ys)
+one_atomic_if l m c d xs ys one e =
+    let rest = atomic_rest l m _ _ e in
+    let choice = one rest.1 in (
+      ap (λ (u : List Lexeme). AtomicIf u c) rest.0
+          ∙ ap (λ (u : Stmt). AtomicIf m u) choice.0,
+      choice.1,
+    )
 
 pub block_or_loop : (l m : List Lexeme) (b c : Stmts) (h : Head) (xs ys : Slots)
     → stmt (OverBlock l b) ++ xs ≡ stmt (OverLoop m h c) ++ ys → ⊥
@@ -92,6 +141,7 @@ numbered (Block b) h = absurd cc
 numbered (Directive l) h = absurd cc
 numbered (Atomic l x i v) h = absurd cc
 numbered (AtomicAssign l x v) h = absurd cc
+numbered (AtomicIf l s) h = absurd cc
 numbered (OverBlock l b) h = absurd cc
 numbered (OverLoop l h b) e = absurd cc
 

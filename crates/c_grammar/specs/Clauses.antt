@@ -83,10 +83,13 @@ names_len s scalar k (x ∷ c ∷ ps) =
     else None
 names_len s scalar k _ = None
 
+-- what may stand in default: where C takes the source, none says nothing, since it is then in a clause what each name is
+abbrev pub is_default : Lexeme → Bool
+is_default t = same (Worded (codes "shared")) t || same (Worded (codes "none")) t
+
 -- behind the bracket of default
 abbrev pub default_len : List Placed → Option ℕ
-default_len (x ∷ c ∷ ps) =
-    if same (Worded (codes "shared")) x.lexeme && is_sign sign.CloseParen c.lexeme then Some 3 else None
+default_len (x ∷ c ∷ ps) = if is_default x.lexeme && is_sign sign.CloseParen c.lexeme then Some 3 else None
 default_len _ = None
 
 abbrev pub is_word_at : List ℕ → Placed → Bool

@@ -251,7 +251,8 @@ name_at gs t = Elsewhere
 
 abbrev pub bound_at : ℕ → Lexeme → At
 bound_at m t =
-    if is_sign sign.CloseBracket t then Behind m else Within m (is_sign sign.Colon t || is_sign sign.Plus t)
+    if is_sign sign.CloseBracket t then Behind m
+    else Within m (is_sign sign.Colon t || is_sign sign.Plus t || is_sign sign.Minus t)
 
 -- a token at the beginning of a term, which is taken so many times
 abbrev pub term_in_rows : ℕ → Placed → Lexeme → List Placed

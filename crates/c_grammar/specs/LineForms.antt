@@ -1,6 +1,6 @@
 -- A directive line with its constants worked out, and with what it may leave out: commas between clauses, the first and the
 -- last bound of a section, and the section of one element.
-use Rattle.std.specs.Prelude.{ℕ, zero, suc, ◌-◌, Bool, true, false, not, ◌&&◌, ◌||◌, nat_lt, if◌then◌else◌, List, [], ◌∷◌, ◌++◌, map, Option, Some, None, codes}
+use Rattle.std.specs.Prelude.{ℕ, zero, suc, ◌+◌, ◌-◌, Bool, true, false, not, ◌&&◌, ◌||◌, ◌==◌, nat_lt, if◌then◌else◌, List, [], ◌∷◌, ◌++◌, map, take, Option, Some, None, codes}
 use Rattle.std.specs.Str.{bytes_eq}
 use Rattle.c_tokens.specs.declared.kind.Sign.{Sign}
 use Rattle.c_tokens.specs.declared.kind.Sign.TheVariants as sign
@@ -128,15 +128,71 @@ worth ps None = None
 worth ps (Some (Fault k p)) = None
 worth ps (Some (Number k n)) = if needs_work k ps then Some (Number k n) else None
 
+-- ---- the numbers that a term begins with
+
+abbrev pub is_number : Lexeme → Bool
+is_number (Numbered (Some n)) = true
+is_number _ = false
+
+-- a number, or a sign between factors
+abbrev pub is_factor : Lexeme → Bool
+is_factor t = is_number t || is_sign sign.Star t || is_sign sign.Slash t || is_sign sign.Percent t
+
+-- or a bracket round one, or what else may stand in brackets
+abbrev pub is_within : Lexeme → Bool
+is_within t =
+    is_factor t || is_sign sign.OpenParen t || is_sign sign.CloseParen t || is_sign sign.Plus t || is_sign sign.Minus t ||
+    is_sign sign.ShiftLeft t || is_sign sign.ShiftRight t
+
+abbrev pub begins_with_name : Values → List Placed → Bool
+begins_with_name vs [] = false
+begins_with_name vs (p ∷ ps) = is_worded (put_word vs p.lexeme)
+
+-- a product of numbers ends before the token, outside of brackets: it is the star before a name, or no product has it
+abbrev pub ends_product : Values → Lexeme → List Placed → Bool
+ends_product vs t ps =
+    if is_sign sign.Star t then begins_with_name vs ps else not (is_factor t) && not (is_sign sign.OpenParen t)
+
+-- so many brackets may be open in it
+abbrev pub most_open : ℕ
+most_open = 16
+
+abbrev pub open_behind : ℕ → Lexeme → ℕ
+open_behind d t = if is_sign sign.OpenParen t then d + 1 else (if is_sign sign.CloseParen t then d - 1 else d)
+
+-- how many tokens the product at the front has, of which k are read, with d brackets open
+abbrev pub product_len : Values → ℕ → ℕ → List Placed → Option ℕ
+product_len vs d k [] = None
+product_len vs d k (p ∷ ps) =
+    let t = put_word vs p.lexeme in
+    if (d == 0) && ends_product vs t ps then Some k
+    else (if not (nat_lt d most_open) || not (is_within t) then None else product_len vs (open_behind d t) (k + 1) ps)
+
+abbrev pub exactly : ℕ → Option Worked → Option Worked
+exactly k (Some (Number j n)) = if j == k then Some (Number j n) else None
+exactly k _ = None
+
+abbrev pub product_of : Values → List Placed → Option ℕ → Option Worked
+product_of vs ps None = None
+product_of vs ps (Some k) = exactly k (expression vs false Nothing [] 0 (as_items 0 (take k ps)))
+
+abbrev pub product_at : Values → List Placed → Option Worked
+product_at vs ps = product_of vs ps (product_len vs 0 0 ps)
+
+abbrev pub or_product : Values → List Placed → Option Worked → Option Worked
+or_product vs ps (Some w) = Some w
+or_product vs ps None = product_at vs ps
+
 abbrev pub several : Option Worked → Option Worked
 several (Some (Number k n)) = if nat_lt 1 k then Some (Number k n) else None
 several _ = None
 
--- the constant expression that a bound, or the number of a clause, is
+-- the constant expression that a bound, or the number of a clause, is; or the one that a term begins with
 abbrev pub bound_at : Values → List Lexeme → List Placed → Option Worked
 bound_at vs past ps =
-    if begins_bound past then worth ps (expression vs false Nothing [] 0 (as_items 0 ps))
-    else (if begins_number past then several (expression vs false Nothing [] 0 (as_items 0 ps)) else None)
+    if begins_bound past then or_product vs ps (worth ps (expression vs false Nothing [] 0 (as_items 0 ps)))
+    else (if last_is sign.Plus past || last_is sign.Minus past then product_at vs ps
+    else (if begins_number past then several (expression vs false Nothing [] 0 (as_items 0 ps)) else None))
 
 abbrev pub onto : List Lexeme → List Lexeme → List Lexeme
 onto [] past = past

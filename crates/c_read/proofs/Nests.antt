@@ -11,7 +11,7 @@ use Rattle.c_grammar.specs.Lexeme.{For, Uint64}
 use Rattle.c_grammar.specs.Terminal.{Terminal, Fixed, Mark, Name, same}
 use Rattle.c_grammar.specs.Texts.{Item}
 use Rattle.c_grammar.specs.Machine.{run as machine_run}
-use Rattle.c_grammar.specs.Grammar.{Head, Opens, Closes, Slots, Starts, Stmt, Stmts, Done, Then, Declare, Assign, Store, Repeat, Choose, ChooseElse, Show, Block, Directive, Atomic, AtomicAssign, OverBlock, OverLoop, IsLoopNest, IsNest, body_opening, body_closing, deeper, for, head_slots, nest_slots, stmt, stmt_in, stmts, stmts_in}
+use Rattle.c_grammar.specs.Grammar.{Head, Opens, Closes, Slots, Starts, Stmt, Stmts, Done, Then, Declare, Assign, Store, Repeat, Choose, ChooseElse, Show, Block, Directive, Atomic, AtomicAssign, AtomicIf, OverBlock, OverLoop, IsLoopNest, IsNest, body_opening, body_closing, deeper, for, head_slots, nest_slots, stmt, stmt_in, stmts, stmts_in}
 use Rattle.c_grammar.specs.Rules.{Context, below, breaks, enter, inside, opened, rule_here}
 use Rattle.c_grammar.specs.Program.{Stack, Body, Nested, Want, advance, body, first_broken, loop, loop_body, place_code}
 use Rattle.c_expressions.specs.declared.changes.Turn.{Turn}
@@ -246,6 +246,7 @@ nest_text (Block c) depth n = absurd n
 nest_text (Directive k) depth n = absurd n
 nest_text (Atomic k y i v) depth n = absurd n
 nest_text (AtomicAssign k y v) depth n = absurd n
+nest_text (AtomicIf k c) depth n = absurd n
 nest_text (OverBlock k c) depth n = absurd n
 nest_text (OverLoop k h c) depth n = absurd n
 
@@ -278,6 +279,7 @@ mutual
   kinds_one (Directive k) d = refl
   kinds_one (Atomic k y i v) d = refl
   kinds_one (AtomicAssign k y v) d = refl
+  kinds_one (AtomicIf k c) d = refl
   kinds_one (OverBlock k c) d = refl
   kinds_one (OverLoop k h c) d = refl
 

@@ -35,7 +35,7 @@ use directives::Word;
 
 /// The statement or part that stands next.
 #[cycle(piece)]
-#[tactic(auto, using(c_expressions::proofs::Outcomes::on_from, c_statements::proofs::Begins::at_loop, c_statements::proofs::Begins::at_block, crate::proofs::Pieces::read_statement, c_statements::proofs::Levels::same_counted_twice))]
+#[tactic(auto, using(c_expressions::proofs::Outcomes::on_from, c_statements::proofs::Begins::at_loop, c_statements::proofs::Begins::at_block, crate::proofs::Pieces::read_statement))]
 fn piece<'a>(scope: &mut Scope<'a>, tokens: &mut Cursor<'a, '_>) -> Result<Piece, ReadError>
     requires outside { IsOutside scope.old }
     requires goes_on { same (Mark sign.CloseBrace) (first_item tokens.old).terminal ≡ false }

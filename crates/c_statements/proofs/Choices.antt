@@ -13,7 +13,7 @@ use Rattle.c_expressions.specs.Reading.{terminals, kinds}
 use Rattle.c_expressions.proofs.Expressions.{first_then, kinds_append, behind_less, one_more, drops, drop_by, drop_one}
 use Rattle.c_statements.specs.Bodies.{IsBodyRead}
 use Rattle.c_statements.specs.Blocks.{IsConditionRead}
-use Rattle.c_statements.specs.Simple.{IsStmtRead}
+use Rattle.c_statements.specs.Simple.{IsMarkableRead}
 use Rattle.c_statements.specs.Statements.{Env, stmt_size, declared_in, more, IsStatement, AreStatements}
 use Rattle.c_statements.proofs.Wholes.{ended, kinds_ended, size_ended}
 
@@ -45,7 +45,7 @@ pub read_if : (env mid inner next : Env) (e : Expr) (t t' : Cursor) (i2 after : 
     (all none : Vec Statement Global) →
     (first_item t).terminal ≡ Fixed If → behind t ≡ items t' → IsConditionRead env.names (items t') i2 e →
     mid ≡ env → inner ≡ env → IsBodyRead mid inner next i2 after all.items → none.items ≡ [] →
-    IsStmtRead env next (items t) after (IfOf e all none)
+    IsMarkableRead env next (items t) after (IfOf e all none)
 read_if env mid inner next e t t' i2 after all none h b r m f p z =
     let n = term_size r.value in
     let k = length (stmts p.texts) in
@@ -65,20 +65,23 @@ read_if env mid inner next e t t' i2 after all none h b r m f p z =
     let back : drop 1 i2 ≡ drop (n + 4) (items t) = drop_by (n + 3 + 1) (n + 4) (items t) (drop 1 i2) (omega arith)
     (drops (n + 3) 1 (items t) i2 (drop 1 i2) at2 refl) in
     record {
-      text = text;
-      tokens = first_then (Fixed If) t t' h b ∙ ap (λ (ts : List Terminal). Fixed If ∷ ts)
-          (r.tokens ∙ ap (λ (ts : List Terminal). Mark sign.OpenParen ∷
-          (kinds (term r.value) ++ (Mark sign.CloseParen ∷ ts))) p.tokens
-          ∙ ap (λ (ts : List Terminal). Mark sign.OpenParen ∷ ts) (sym split));
-      rest = drop_by (n + 3 + (k + 2)) (stmt_size text) (items t) after (omega (arith, size, size_ended p.texts))
-          (drops (n + 3) (k + 2) (items t) i2 after at2 p.rest);
-      is_text = (r.ranked, p.are_texts);
-      fewer = omega (arith, behind_less t t' b, r.fewer, p.fewer);
-      means = if_at env (items t) r.value p.texts e all none
-          (subst (λ (is : Items). IsExpr env.names (drop 1 is) r.value e) (drop_one t t' b) r.means)
-          (subst (λ (is : Items). AreStatements env is p.texts all.items) back
-          (subst (λ (v : Env). AreStatements v (drop 1 i2) p.texts all.items) f p.means)) z;
-      next_is = p.next_is ∙ ap (more (declared_in p.texts)) m;
+      read = record {
+        text = text;
+        tokens = first_then (Fixed If) t t' h b ∙ ap (λ (ts : List Terminal). Fixed If ∷ ts)
+            (r.tokens ∙ ap (λ (ts : List Terminal). Mark sign.OpenParen ∷
+            (kinds (term r.value) ++ (Mark sign.CloseParen ∷ ts))) p.tokens
+            ∙ ap (λ (ts : List Terminal). Mark sign.OpenParen ∷ ts) (sym split));
+        rest = drop_by (n + 3 + (k + 2)) (stmt_size text) (items t) after (omega (arith, size, size_ended p.texts))
+            (drops (n + 3) (k + 2) (items t) i2 after at2 p.rest);
+        is_text = (r.ranked, p.are_texts);
+        fewer = omega (arith, behind_less t t' b, r.fewer, p.fewer);
+        means = if_at env (items t) r.value p.texts e all none
+            (subst (λ (is : Items). IsExpr env.names (drop 1 is) r.value e) (drop_one t t' b) r.means)
+            (subst (λ (is : Items). AreStatements env is p.texts all.items) back
+            (subst (λ (v : Env). AreStatements v (drop 1 i2) p.texts all.items) f p.means)) z;
+        next_is = p.next_is ∙ ap (more (declared_in p.texts)) m;
+      };
+      markable = tt;
     }
 
 more_more : (a b : ℕ) (env : Env) → more b (more a env) ≡ more (a + b) env
@@ -91,7 +94,7 @@ pub read_if_else : (env mid inner mid' inner' next : Env) (e : Expr) (t t' u u' 
     mid ≡ env → inner ≡ env → IsBodyRead mid inner mid' i2 (items u) all.items →
     (first_item u).terminal ≡ Fixed Else → behind u ≡ items u' → inner' ≡ mid' →
     IsBodyRead mid' inner' next (items u') after other.items →
-    IsStmtRead env next (items t) after (IfOf e all other)
+    IsMarkableRead env next (items t) after (IfOf e all other)
 read_if_else env mid inner mid' inner' next e t t' u u' i2 after all other h b r m f p g d f' q =
     let n = term_size r.value in
     let k = length (stmts p.texts) in
@@ -129,25 +132,28 @@ read_if_else env mid inner mid' inner' next e t t' u u' i2 after all other h b r
     (drop 1 (items u')) at4 refl) in
     let second : mid' ≡ more (declared_in p.texts) env = p.next_is ∙ ap (more (declared_in p.texts)) m in
     record {
-      text = text;
-      tokens = first_then (Fixed If) t t' h b ∙ ap (λ (ts : List Terminal). Fixed If ∷ ts)
-          (r.tokens ∙ ap (λ (ts : List Terminal). Mark sign.OpenParen ∷
-          (kinds (term r.value) ++ (Mark sign.CloseParen ∷ ts)))
-          (p.tokens ∙ ap (λ (ts : List Terminal). Mark sign.OpenBrace ∷
-          (kinds (stmts p.texts) ++ (Mark sign.CloseBrace ∷ ts)))
-          (first_then (Fixed Else) u u' g d ∙ ap (λ (ts : List Terminal). Fixed Else ∷ ts) q.tokens))
-          ∙ ap (λ (ts : List Terminal). Mark sign.OpenParen ∷ ts) (sym split));
-      rest = drop_by (n + 3 + (k + 2) + 1 + (l + 2)) (stmt_size text) (items t) after
-          (omega (arith, size, size2, size_ended q.texts)) (drops (n + 3 + (k + 2) + 1) (l + 2) (items t) (items u')
-          after at4 q.rest);
-      is_text = (r.ranked, p.are_texts, q.are_texts);
-      fewer = omega (arith, behind_less t t' b, r.fewer, p.fewer, behind_less u u' d, q.fewer);
-      means = if_else_at env (items t) r.value p.texts q.texts e all other
-          (subst (λ (is : Items). IsExpr env.names (drop 1 is) r.value e) (drop_one t t' b) r.means)
-          (subst (λ (is : Items). AreStatements env is p.texts all.items) back
-          (subst (λ (v : Env). AreStatements v (drop 1 i2) p.texts all.items) f p.means))
-          (subst (λ (is : Items). AreStatements (more (declared_in p.texts) env) is q.texts other.items) back2
-          (subst (λ (v : Env). AreStatements v (drop 1 (items u')) q.texts other.items) (f' ∙ second) q.means));
-      next_is = q.next_is ∙ ap (more (declared_in q.texts)) second
-          ∙ more_more (declared_in p.texts) (declared_in q.texts) env;
+      read = record {
+        text = text;
+        tokens = first_then (Fixed If) t t' h b ∙ ap (λ (ts : List Terminal). Fixed If ∷ ts)
+            (r.tokens ∙ ap (λ (ts : List Terminal). Mark sign.OpenParen ∷
+            (kinds (term r.value) ++ (Mark sign.CloseParen ∷ ts)))
+            (p.tokens ∙ ap (λ (ts : List Terminal). Mark sign.OpenBrace ∷
+            (kinds (stmts p.texts) ++ (Mark sign.CloseBrace ∷ ts)))
+            (first_then (Fixed Else) u u' g d ∙ ap (λ (ts : List Terminal). Fixed Else ∷ ts) q.tokens))
+            ∙ ap (λ (ts : List Terminal). Mark sign.OpenParen ∷ ts) (sym split));
+        rest = drop_by (n + 3 + (k + 2) + 1 + (l + 2)) (stmt_size text) (items t) after
+            (omega (arith, size, size2, size_ended q.texts)) (drops (n + 3 + (k + 2) + 1) (l + 2) (items t) (items u')
+            after at4 q.rest);
+        is_text = (r.ranked, p.are_texts, q.are_texts);
+        fewer = omega (arith, behind_less t t' b, r.fewer, p.fewer, behind_less u u' d, q.fewer);
+        means = if_else_at env (items t) r.value p.texts q.texts e all other
+            (subst (λ (is : Items). IsExpr env.names (drop 1 is) r.value e) (drop_one t t' b) r.means)
+            (subst (λ (is : Items). AreStatements env is p.texts all.items) back
+            (subst (λ (v : Env). AreStatements v (drop 1 i2) p.texts all.items) f p.means))
+            (subst (λ (is : Items). AreStatements (more (declared_in p.texts) env) is q.texts other.items) back2
+            (subst (λ (v : Env). AreStatements v (drop 1 (items u')) q.texts other.items) (f' ∙ second) q.means));
+        next_is = q.next_is ∙ ap (more (declared_in q.texts)) second
+            ∙ more_more (declared_in p.texts) (declared_in q.texts) env;
+      };
+      markable = tt;
     }

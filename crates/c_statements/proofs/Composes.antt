@@ -19,7 +19,7 @@ use Rattle.c_expressions.specs.Scopes.{context_of, names_of}
 use Rattle.c_statements.specs.Blocks.{turned, choosing, under_if as behind_else, IsConditionRead}
 use Rattle.c_statements.specs.Bodies.{inner_env, IsSameBlock, IsLeft, AreStmtsRead, IsBodyRead}
 use Rattle.c_statements.specs.Loops.{IsGone, IsNamedMore, with_limit, bounds_tokens}
-use Rattle.c_statements.specs.Simple.{counted, env_of, loops_in, IsStmtRead}
+use Rattle.c_statements.specs.Simple.{counted, env_of, loops_in, IsMarkableRead, IsStmtRead}
 use Rattle.c_statements.specs.Statements.{Env, in_loop, more}
 use Rattle.c_statements.proofs.Levels.{same_again}
 use Rattle.c_statements.proofs.Nesting.{IsBack, back_now, back_same, env_back, env_inner, env_named, inner_same, inner_turn}
@@ -119,7 +119,7 @@ pub if_tree : (s0 s1 s2 : Scope) (e : Expr) (u u' : Cursor) (i2 after : Items) (
     s1 ≡ choosing s0 → (first_item u).terminal ≡ Fixed If → behind u ≡ items u' →
     IsConditionRead (names_of s1) (items u') i2 e →
     IsBodyRead (env_of s1) (inner_env None s1) (env_of s2) i2 after all.items → none.items ≡ [] →
-    IsStmtRead (env_of s0) (env_of s2) (items u) after (IfOf e all none)
+    IsMarkableRead (env_of s0) (env_of s2) (items u) after (IfOf e all none)
 if_tree s0 s1 s2 e u u' i2 after all none g h f b r p z =
     read_if (env_of s0) (env_of s1) (inner_env None s1) (env_of s2) e u u' i2 after all none f b
     (choosing_names s0 s1 (items u') i2 e h r)
@@ -132,7 +132,7 @@ pub if_else_tree : (s0 s1 s2 s3 s4 : Scope) (e : Expr) (u u' w w' : Cursor) (i2 
     IsBodyRead (env_of s1) (inner_env None s1) (env_of s2) i2 (items w) all.items → s2.target ≡ false →
     (first_item w).terminal ≡ Fixed Else → behind w ≡ items w' → s3 ≡ behind_else s2 →
     IsBodyRead (env_of s3) (inner_env None s3) (env_of s4) (items w') after other.items →
-    IsStmtRead (env_of s0) (env_of s4) (items u) after (IfOf e all other)
+    IsMarkableRead (env_of s0) (env_of s4) (items u) after (IfOf e all other)
 if_else_tree s0 s1 s2 s3 s4 e u u' w w' i2 after all other g h f b r p z k d j q =
     let same : env_of s3 ≡ env_of s2 = ap env_of j in
     read_if_else (env_of s0) (env_of s1) (inner_env None s1) (env_of s2) (inner_env None s3) (env_of s4) e u u' w w'

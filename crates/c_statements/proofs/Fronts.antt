@@ -4,7 +4,7 @@ use Rattle.std.proofs.lemmas.List.{append-nil, drop-drop}
 use Rattle.c_tokens.specs.declared.kind.Sign.TheVariants as sign
 use Rattle.base.specs.declared.tree.Stmt.{Stmt as Statement}
 use Rattle.c_grammar.specs.Terminal.{Terminal, Mark}
-use Rattle.c_grammar.specs.Grammar.{Slots, Stmt, Stmts, Done, Then, Declare, Assign, Store, Repeat, Choose, ChooseElse, Show, Block, Directive, Atomic, AtomicAssign, OverBlock, OverLoop, stmt, stmts, IsStmt, AreStmts}
+use Rattle.c_grammar.specs.Grammar.{Slots, Stmt, Stmts, Done, Then, Declare, Assign, Store, Repeat, Choose, ChooseElse, Show, Block, Directive, Atomic, AtomicAssign, AtomicIf, OverBlock, OverLoop, stmt, stmts, IsStmt, AreStmts}
 use Rattle.c_expressions.specs.declared.cursor.Cursor.{Cursor}
 use Rattle.c_expressions.specs.declared.scope.Scope.{Scope}
 use Rattle.c_expressions.specs.Means.{Items}
@@ -117,6 +117,7 @@ scalars_by (Block b) env = refl
 scalars_by (Directive l) env = refl
 scalars_by (Atomic l x i v) env = refl
 scalars_by (AtomicAssign l x v) env = refl
+scalars_by (AtomicIf l s) env = scalars_by s env
 scalars_by (OverBlock l b) env = refl
 scalars_by (OverLoop l h b) env = refl
 
@@ -136,6 +137,7 @@ loops_by (Block b) env = refl
 loops_by (Directive l) env = refl
 loops_by (Atomic l x i v) env = refl
 loops_by (AtomicAssign l x v) env = refl
+loops_by (AtomicIf l s) env = loops_by s env
 loops_by (OverBlock l b) env = refl
 loops_by (OverLoop l h b) env = refl
 

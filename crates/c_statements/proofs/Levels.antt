@@ -59,10 +59,6 @@ pub same_counted : (old new : Scope) → new ≡ counted old → IsSameBlock old
 same_counted old new e = subst (λ (s : Scope). IsSameBlock old s) (sym e)
     (record { frames = refl; names = refl; inside = refl; choice = refl; target = λ h. h; waiting = λ h. h; scalars = omega arith; boxes = refl })
 
-pub same_counted_twice : (old new : Scope) → new ≡ counted (counted old) → IsSameBlock old new
-same_counted_twice old new e =
-    same_again old (counted old) new (same_counted old (counted old) refl) (same_counted (counted old) new e)
-
 pub same_limit : (old new : Scope) (n : ℕ) → new ≡ with_limit old n → IsSameBlock old new
 same_limit old new n e = subst (λ (s : Scope). IsSameBlock old s) (sym e)
     (record { frames = refl; names = refl; inside = refl; choice = refl; target = λ h. h; waiting = λ h. h; scalars = omega arith; boxes = refl })

@@ -18,5 +18,6 @@ pub mod Fronts
 pub mod Wholes
 pub mod Begins
 pub mod Atomics
+pub mod Extremes
 pub mod Choices
 pub mod Composes

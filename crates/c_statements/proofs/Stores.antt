@@ -22,8 +22,7 @@ use Rattle.c_expressions.specs.Scopes.{names_of}
 use Rattle.c_expressions.specs.Trees.{IsReadBefore}
 use Rattle.c_expressions.proofs.Expressions.{first_then, kinds_append, behind_less, drops, drop_by, drop_one}
 use Rattle.c_statements.specs.Statements.{Env, source_size, stmt_size, IsAssign, IsSource}
-use Rattle.c_statements.specs.Simple.{env_of, counted, IsSourceBefore, IsAssignRead, IsNameRead, IsStoreRead, IsUpdateRead}
-use Rattle.c_statements.specs.Updates.{as_update}
+use Rattle.c_statements.specs.Simple.{env_of, counted, IsSourceBefore, IsAssignRead, IsMarkableRead, IsStoreRead}
 use Rattle.c_statements.proofs.Prints.{more_none}
 
 pub read_assign_rest : (env : Env) (t0 t1 : Cursor) (after : Items) (v : Assigned) → (first_item t0).terminal ≡
@@ -46,7 +45,7 @@ read_named : (old new : Scope) (x : List ℕ) (t t1 : Cursor) (after : Items) (v
     new ≡ counted old → (first_item t).terminal ≡ Name x → behind t ≡ items t1 →
     IsAssignRead (env_of new) (items t1) after v →
     ((u : Source) → IsSource (env_of old) (drop 2 (items t)) u v → IsAssign (env_of old) (items t) x u y) →
-    IsNameRead (env_of old) (env_of new) (items t) after y
+    IsMarkableRead (env_of old) (env_of new) (items t) after y
 read_named old new x t t1 after v y q first b p h =
     let r : IsAssignRead (env_of old) (items t1) after v =
     subst (λ (sc : Scope). IsAssignRead (env_of sc) (items t1) after v) q p in
@@ -71,7 +70,7 @@ read_named old new x t t1 after v y q first b p h =
         means = h r.value (subst (λ (is : Items). IsSource (env_of old) (drop 1 is) r.value v) back r.means);
         next_is = ap env_of q ∙ more_none (env_of old);
       };
-      named = tt;
+      markable = tt;
     }
 
 scalar_is : (old : Scope) (x : List ℕ) (id : ScalarId) (i : Bool) → Some (meaning.Scalar id i) ≡
@@ -81,7 +80,7 @@ scalar_is old x id i e = subst (λ (o : Option Meaning). MeansScalar o id) e ref
 pub read_assign : (old new : Scope) (x : List ℕ) (id : ScalarId) (i : Bool) (t t1 : Cursor) (after : Items)
     (v : Assigned) → new ≡ counted old → (first_item t).terminal ≡ Name x → behind t ≡ items t1 →
     Some (meaning.Scalar id i) ≡ meaning_of (names_of old) x → IsAssignRead (env_of new) (items t1) after v →
-    IsNameRead (env_of old) (env_of new) (items t) after (statement.Assign id v)
+    IsMarkableRead (env_of old) (env_of new) (items t) after (statement.Assign id v)
 read_assign old new x id i t t1 after v q first b named p =
     read_named old new x t t1 after v (statement.Assign id v) q first b p (λ u h. (scalar_is old x id i named, h))
 
@@ -93,7 +92,7 @@ pub read_boxed : (old new : Scope) (x : List ℕ) (a : ArrayId) (n : ScalarId) (
     (after : Items) (v : Assigned) → new ≡ counted old → (first_item t).terminal ≡ Name x → behind t ≡ items t1 →
     place ≡ place_of (items t) → Some (meaning.Boxed a n) ≡ meaning_of (names_of old) x →
     IsAssignRead (env_of new) (items t1) after v →
-    IsNameRead (env_of old) (env_of new) (items t) after (statement.Store a place (Number 0) v)
+    IsMarkableRead (env_of old) (env_of new) (items t) after (statement.Store a place (Number 0) v)
 read_boxed old new x a n place t t1 after v q first b w named p =
     read_named old new x t t1 after v (statement.Store a place (Number 0) v) q first b p
     (λ u h. (boxed_is old x a n named, w, refl, h))
@@ -127,7 +126,7 @@ read_store_rest sc t0 t1 middle after e v h b i r =
 pub read_store : (old new : Scope) (x : List ℕ) (id : ArrayId) (place : Place) (t t1 : Cursor) (after : Items)
     (e : Expr) (v : Assigned) → new ≡ counted old → (first_item t).terminal ≡ Name x → behind t ≡ items t1 → place ≡
     place_of (items t) → Some (meaning.Array id) ≡ meaning_of (names_of old) x →
-    IsStoreRead (env_of new) (items t1) after e v → IsNameRead (env_of old) (env_of new) (items t) after
+    IsStoreRead (env_of new) (items t1) after e v → IsMarkableRead (env_of old) (env_of new) (items t) after
     (statement.Store id place e v)
 read_store old new x id place t t1 after e v q first b w named p =
     let r : IsStoreRead (env_of old) (items t1) after e v =
@@ -171,9 +170,5 @@ read_store old new x id place t t1 after e v q first b w named p =
         );
         next_is = ap env_of q ∙ more_none (env_of old);
       };
-      named = tt;
+      markable = tt;
     }
-
-pub read_updated : (env next : Env) (before after : Items) (s u : Statement) → IsNameRead env next before after s →
-    u ≡ as_update s → IsUpdateRead env next before after u
-read_updated env next before after s u r e = record { statement = s; whole = r; update = e }

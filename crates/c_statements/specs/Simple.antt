@@ -14,7 +14,7 @@ use Rattle.base.specs.declared.fault.ReadCode.TheVariants.{Undeclared, LoopNameA
 use Rattle.c_grammar.specs.LineRules.{max_name}
 use Rattle.c_grammar.specs.Lines.{is_atomic, is_omp}
 use Rattle.c_grammar.specs.Terminal.{Terminal, Mark, Line, same}
-use Rattle.c_grammar.specs.Grammar.{Act, Plain, MakesScalar, for, Source, Stmt, Assign, Store, Term, source, stmt, term, IsRanked, IsRankedSource, IsStmt}
+use Rattle.c_grammar.specs.Grammar.{Act, Plain, MakesScalar, for, Source, Stmt, Assign, Store, Choose, ChooseElse, Term, source, stmt, term, IsRanked, IsRankedSource, IsStmt}
 use Rattle.c_grammar.specs.Rules.{Sort, AnArray, AScalar, ABoxed, ALoop, inside, max_statements}
 use Rattle.c_grammar.specs.Program.{Symbol, Stack, Want, Atom, Tail, Value, m}
 use Rattle.c_expressions.specs.declared.fault.ReadError.{ReadError}
@@ -28,7 +28,6 @@ use Rattle.c_expressions.specs.Scopes.{boxes_of, context_of, names_of}
 use Rattle.directives.specs.declared.fault.DirectiveFault.{DirectiveFault}
 use Rattle.directives.specs.declared.fault.DirectiveFault.TheVariants as fault
 use Rattle.c_statements.specs.Statements.{Env, source_size, stmt_size, behind, IsSource, IsStatement}
-use Rattle.c_statements.specs.Updates.{as_update}
 
 -- how many loops some names are those of
 abbrev pub loops_in : Names → ℕ
@@ -139,21 +138,17 @@ pub record IsStmtRead (env next : Env) (before after : Items) (x : Statement) : 
   pub means : IsStatement env before text x
   pub next_is : next ≡ behind text env
 
--- an assignment to a scalar or a store
-abbrev pub IsNamed : Stmt → Type 0
-IsNamed (Assign x v) = Unit {0}
-IsNamed (Store x i v) = Unit {0}
-IsNamed _ = ⊥
+-- an assignment to a scalar, a store or an if, before which the line of an atomic update may stand
+abbrev pub IsMarkable : Stmt → Type 0
+IsMarkable (Assign x v) = Unit {0}
+IsMarkable (Store x i v) = Unit {0}
+IsMarkable (Choose e a) = Unit {0}
+IsMarkable (ChooseElse e a b) = Unit {0}
+IsMarkable _ = ⊥
 
-pub record IsNameRead (env next : Env) (before after : Items) (x : Statement) : Type 0 where
+pub record IsMarkableRead (env next : Env) (before after : Items) (x : Statement) : Type 0 where
   pub read : IsStmtRead env next before after x
-  pub named : IsNamed read.text
-
--- the update that it is
-pub record IsUpdateRead (env next : Env) (before after : Items) (x : Statement) : Type 0 where
-  pub statement : Statement
-  pub whole : IsNameRead env next before after statement
-  pub update : x ≡ as_update statement
+  pub markable : IsMarkable read.text
 
 -- what the declaration of a scalar does, whose name stands at a place
 abbrev pub declaration : ScalarId → Option ArrayId → Place → Assigned → Statement

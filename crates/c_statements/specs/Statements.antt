@@ -8,7 +8,7 @@ use Rattle.base.specs.declared.tree.Source.{Source as Assigned}
 use Rattle.base.specs.declared.tree.Source.TheVariants as from
 use Rattle.base.specs.declared.tree.Stmt.{Stmt as Statement, items-the_row-Stmt}
 use Rattle.base.specs.declared.tree.Stmt.TheVariants as statement
-use Rattle.c_grammar.specs.Grammar.{Source, Input, Value, Head, head_slots, Stmt, Declare, Assign, Store, Repeat, Choose, ChooseElse, Show, Block, Directive, Atomic, AtomicAssign, OverBlock, OverLoop, stmt, source, Term, Stmts, Done, Then, stmts}
+use Rattle.c_grammar.specs.Grammar.{Source, Input, Value, Head, head_slots, Stmt, Declare, Assign, Store, Repeat, Choose, ChooseElse, Show, Block, Directive, Atomic, AtomicAssign, AtomicIf, OverBlock, OverLoop, stmt, source, Term, Stmts, Done, Then, stmts}
 use Rattle.c_expressions.specs.declared.scope.Meaning.{Meaning}
 use Rattle.c_expressions.specs.declared.scope.Meaning.TheVariants as meaning
 use Rattle.c_expressions.specs.Means.{Items, Names, meaning_of, place_of, term_size, MeansBoxed, MeansScalar, IsExpr}
@@ -50,6 +50,7 @@ abbrev mutual
   declared_by (Directive l) = 0
   declared_by (Atomic l x i v) = 0
   declared_by (AtomicAssign l x v) = 0
+  declared_by (AtomicIf l s) = declared_by s
 
   pub declared_in : Stmts → ℕ
   declared_in Done = 0
@@ -76,6 +77,7 @@ with_scalar x env =
 -- behind a statement: a declaration's name is visible to the end of its block
 abbrev pub behind : Stmt → Env → Env
 behind (Declare x v) env = with_scalar x env
+behind (AtomicIf l s) env = behind s env
 behind s env = more (declared_by s) env
 
 -- in a loop of that name
@@ -108,7 +110,7 @@ IsStore env is x i v _ = ⊥
 
 abbrev mutual
   -- the statement that a text without a directive of a part means, where the text is spelled by the first of these
-  -- tokens; the line of an atomic update and the assignment behind it mean the update that this is
+  -- tokens; the line of an atomic update and the assignment or if behind it mean the update that this is
   pub IsStatement : Env → Items → Stmt → Statement → Type 0
   IsStatement env is (Declare x v) (statement.Declare id w) =
       (box_for x env ≡ None) × (id.0 ≡ env.scalars) × IsSource env (drop 3 is) v w
@@ -118,6 +120,7 @@ abbrev mutual
   IsStatement env is (Store x i v) s = IsStore env is x i v s
   IsStatement env is (Atomic l x i v) s = (u : Statement) × IsStore env (drop 1 is) x i v u × (s ≡ as_update u)
   IsStatement env is (AtomicAssign l x v) s = (u : Statement) × IsAssign env (drop 1 is) x v u × (s ≡ as_update u)
+  IsStatement env is (AtomicIf l t) s = (u : Statement) × IsStatement env (drop 1 is) t u × (s ≡ as_update u)
   IsStatement env is (Show t) (statement.Print e) = IsExpr env.names (drop 2 is) t e
   IsStatement env is (Block b) (statement.Block' shape row) =
       AreStatements env (drop 1 is) b (items-the_row-Stmt _ row)

@@ -1,5 +1,5 @@
--- The commuting update that a store is.
-use Rattle.std.specs.Prelude.{ℕ, Bool, false, ◌&&◌, ◌==◌, if◌then◌else◌, Option, Some, None}
+-- The commuting update that a store is, or a store under an if.
+use Rattle.std.specs.Prelude.{ℕ, Bool, true, false, ◌&&◌, ◌==◌, if◌then◌else◌, List, [], ◌∷◌, Option, Some, None}
 use Rattle.base.specs.declared.tree.ArrayId.{ArrayId}
 use Rattle.base.specs.declared.tree.Place.{Place}
 use Rattle.base.specs.declared.tree.UnaryOp.{UnaryOp}
@@ -16,8 +16,8 @@ use Rattle.base.specs.declared.tree.Expr.{Expr}
 use Rattle.base.specs.declared.tree.Expr.TheVariants.{Number, Scalar, LoopName, Cell', Unary', Binary', And', Or', Shift', Divide'}
 use Rattle.base.specs.declared.tree.Source.{Source}
 use Rattle.base.specs.declared.tree.Source.TheVariants.{Value}
-use Rattle.base.specs.declared.tree.Stmt.{Stmt}
-use Rattle.base.specs.declared.tree.Stmt.TheVariants.{Store, Combine}
+use Rattle.base.specs.declared.tree.Stmt.{Stmt, items-the_row-Stmt}
+use Rattle.base.specs.declared.tree.Stmt.TheVariants.{Store, Combine, If'}
 
 -- the operator of updates that an operator of expressions is
 abbrev pub combine_op : BinaryOp → Option CombineOp
@@ -92,9 +92,82 @@ abbrev pub update_or : Option CombineOp → ArrayId → Place → Expr → Expr 
 update_or (Some o) a at e v s = Combine o a at e v
 update_or None a at e v s = s
 
--- the update that a store of the cell's own number, taken with a value by such an operator, is; every other statement as
--- it is
+-- ---- the greater or the lesser of two numbers
+
+-- the number that is kept where a value stands in the relation to it, which then takes its place, is the least or the greatest
+abbrev pub over : BinaryOp → Option CombineOp
+over binary.Less = Some combining.Min
+over binary.LessOrEqual = Some combining.Min
+over binary.Greater = Some combining.Max
+over binary.GreaterOrEqual = Some combining.Max
+over o = None
+
+-- the same where it stands in the relation to the value
+abbrev pub under : BinaryOp → Option CombineOp
+under binary.Less = Some combining.Max
+under binary.LessOrEqual = Some combining.Max
+under binary.Greater = Some combining.Min
+under binary.GreaterOrEqual = Some combining.Min
+under o = None
+
+-- the cell with this subscript
+abbrev pub is_cell : ArrayId → Expr → Expr → Bool
+is_cell a e (Cell' b to q f) = (a.0 == b.0) && same_expr e f
+is_cell a e v = false
+
+-- the operator of a store of v in the cell under this test
+abbrev pub extreme_by : ArrayId → Expr → Expr → Expr → Option CombineOp
+extreme_by a e v (Binary' o p l q r) =
+    if is_cell a e r && same_expr l v then over o
+    else (if is_cell a e l && same_expr r v then under o else None)
+extreme_by a e v t = None
+
+-- the operator of a store of v in the cell where this test does not hold
+abbrev pub extreme_unless : ArrayId → Expr → Expr → Expr → Option CombineOp
+extreme_unless a e v (Binary' o p l q r) =
+    if is_cell a e l && same_expr r v then over o
+    else (if is_cell a e r && same_expr l v then under o else None)
+extreme_unless a e v t = None
+
+-- these statements store the cell's own number in it
+abbrev pub is_own : ArrayId → Expr → List Stmt → Bool
+is_own a e (Store b to f (Value g) ∷ []) = (a.0 == b.0) && (same_expr e f && is_cell a e g)
+is_own a e others = false
+
+-- or nothing
+abbrev pub keeps : ArrayId → Expr → List Stmt → Bool
+keeps a e [] = true
+keeps a e (s ∷ others) = is_own a e (s ∷ others)
+
+-- the operator of an if whose first statements, or second ones, store a value in a cell that the others leave its number
+abbrev pub extreme_of : Expr → List Stmt → List Stmt → Option CombineOp
+extreme_of t (Store a at e (Value v) ∷ []) others = if keeps a e others then extreme_by a e v t else None
+extreme_of t first others = None
+
+abbrev pub extreme_else : Expr → List Stmt → List Stmt → Option CombineOp
+extreme_else t first (Store a at e (Value v) ∷ []) = if is_own a e first then extreme_unless a e v t else None
+extreme_else t first others = None
+
+-- the update by an operator, if there is one, that stands in the place of a store, and else the statement
+abbrev pub extreme_or : Option CombineOp → List Stmt → Stmt → Stmt
+extreme_or (Some o) (Store a at e (Value v) ∷ []) s = Combine o a at e v
+extreme_or o first s = s
+
+-- they are one store of a value
+abbrev pub IsStored : List Stmt → Type 0
+IsStored (Store a at e (Value v) ∷ []) = Unit {0}
+IsStored first = ⊥
+
+-- the update that an if with these statements is, or the statement
+abbrev pub choice_or : Expr → List Stmt → List Stmt → Stmt → Stmt
+choice_or t first others s =
+    extreme_or (extreme_of t first others) first (extreme_or (extreme_else t first others) others s)
+
+-- the update that a store of the cell's own number, taken with a value by such an operator, is, or an if that stores a value
+-- where it is greater than the cell's number, or less; every other statement as it is
 abbrev pub as_update : Stmt → Stmt
 as_update (Store a at e (Value (Binary' o p (Cell' b to q f) r v))) =
     update_or (op_at a e o b f) a at e v (Store a at e (Value (Binary' o p (Cell' b to q f) r v)))
+as_update (If' t n first m others) =
+    choice_or t (items-the_row-Stmt _ first) (items-the_row-Stmt _ others) (If' t n first m others)
 as_update s = s

@@ -11,10 +11,9 @@ ghost use Rattle.c_expressions.specs.Cursor.{items, first_item, behind};
 ghost use Rattle.c_expressions.specs.Means.{meaning_of};
 ghost use Rattle.c_expressions.specs.Reading.{run, took, Outcome};
 ghost use Rattle.c_expressions.specs.Scopes.{context_of, names_of, sort_of_meaning};
-ghost use Rattle.c_statements.specs.Simple.{assign_code, code_at, env_of, counted, is_over, IsKept, IsAssignRead, IsNameRead, IsStoreRead, IsUpdateRead, store_rest};
+ghost use Rattle.c_statements.specs.Simple.{assign_code, code_at, env_of, counted, is_over, IsKept, IsAssignRead, IsMarkableRead, IsStoreRead, store_rest};
 
 use crate::right_side::{ended_source, is_inside};
-use crate::update::as_update;
 use base::fault::{ReadCode, TextFault};
 use base::tree::{Expr, Source, Stmt};
 use c_expressions::{Cursor, Meaning, ReadError, Scope};
@@ -151,7 +150,7 @@ pub fn assigned(
     ensures read { (s : Stack) → Outcome result (took (context_of scope.old 0 0) (for Assigned) (AfterName ∷ s)
         (items tokens.old)) (run (context_of scope.new 0 0) s (items tokens.new)) }
     ensures scope { OnOk result (scope.new ≡ counted scope.old) }
-    ensures tree { IfOk result (λ x. IsNameRead (env_of scope.old) (env_of scope.new) (items tokens.old)
+    ensures tree { IfOk result (λ x. IsMarkableRead (env_of scope.old) (env_of scope.new) (items tokens.old)
         (items tokens.new) x) }
 {
     let place = tokens.place();
@@ -171,21 +170,4 @@ pub fn assigned(
         )),
         _ => Err(ReadError::Fault(tokens.refuse())),
     }
-}
-
-/// The update that the assignment is which begins with the name that stands next, or the assignment.
-pub fn updated(
-    scope: &mut Scope<'_>,
-    tokens: &mut Cursor<'_, '_>,
-    name: &[u8],
-) -> Result<Stmt, ReadError>
-    requires { (first_item tokens.old).terminal ≡ Name name.now }
-    ensures read { (s : Stack) → Outcome result (took (context_of scope.old 0 0) (for Assigned) (AfterName ∷ s)
-        (items tokens.old)) (run (context_of scope.new 0 0) s (items tokens.new)) }
-    ensures scope { OnOk result (scope.new ≡ counted scope.old) }
-    ensures tree { IfOk result (λ x. IsUpdateRead (env_of scope.old) (env_of scope.new) (items tokens.old)
-        (items tokens.new) x) }
-{
-    let statement = assigned(scope, tokens, name)?;
-    Ok(as_update(statement))
 }

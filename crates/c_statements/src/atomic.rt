@@ -1,8 +1,8 @@
-//! Atomic updates: a line and the assignment behind it.
+//! Lines of atomic updates.
 
-ghost use Rattle.std.specs.Prelude.{◌≡◌, ◌<◌, ◌∷◌, OnOk, IfOk, true};
-ghost use Rattle.c_grammar.specs.Grammar.{Assigned, Marks, for};
-ghost use Rattle.c_grammar.specs.Program.{Stack, AfterName, Body, WantName};
+ghost use Rattle.std.specs.Prelude.{◌≡◌, ◌<◌, OnOk, true};
+ghost use Rattle.c_grammar.specs.Grammar.{Marks, for};
+ghost use Rattle.c_grammar.specs.Program.{Stack};
 ghost use Rattle.c_grammar.specs.Terminal.{Line};
 ghost use Rattle.c_expressions.specs.Cursor.{items, first_item, behind};
 ghost use Rattle.c_expressions.specs.Reading.{Outcome, run, took};
@@ -10,11 +10,9 @@ ghost use Rattle.c_expressions.specs.Scopes.{context_of};
 ghost use Rattle.c_expressions.specs.Seen.{columns_on, kinds_on};
 ghost use Rattle.c_tokens.specs.declared.limits.TheConstants.{MAX_STATEMENTS};
 ghost use Rattle.directives.specs.Ahead.{seen_line};
-ghost use Rattle.c_statements.specs.Simple.{counted, env_of, is_atomic_line, seen_error, IsStmtRead, IsUpdateRead};
+ghost use Rattle.c_statements.specs.Simple.{counted, is_atomic_line, seen_error};
 
-use crate::assign::updated;
 use base::fault::{ReadCode, TextFault};
-use base::tree::Stmt;
 use c_expressions::{Cursor, ReadError, Scope, Terminal};
 use c_tokens::limits::MAX_STATEMENTS;
 use directives::{DirectiveFault, LineTokens, is_atomic, is_directive, read_directive_in};
@@ -70,7 +68,7 @@ fn sound_line<'a>(
 }
 
 /// Goes past the line of an atomic update, which stands next.
-fn begin_atomic(scope: &mut Scope<'_>, tokens: &mut Cursor<'_, '_>) -> Result<(), ReadError>
+pub fn begin_atomic(scope: &mut Scope<'_>, tokens: &mut Cursor<'_, '_>) -> Result<(), ReadError>
     requires { is_atomic_line (first_item tokens.old).terminal ≡ true }
     ensures read { (s : Stack) → Outcome result (took (context_of scope.old 0 0) (for Marks) s (items tokens.old))
         (run (context_of scope.new 0 0) s (items tokens.new)) }
@@ -84,34 +82,4 @@ fn begin_atomic(scope: &mut Scope<'_>, tokens: &mut Cursor<'_, '_>) -> Result<()
     tokens.take();
     scope.statements += 1;
     Ok(())
-}
-
-/// The assignment behind the line of an atomic update, as the update that it is.
-fn marked_assignment(scope: &mut Scope<'_>, tokens: &mut Cursor<'_, '_>) -> Result<Stmt, ReadError>
-    ensures read { (s : Stack) → Outcome result
-        (run (context_of scope.old 0 0) (WantName Assigned ∷ AfterName ∷ s) (items tokens.old))
-        (run (context_of scope.new 0 0) s (items tokens.new)) }
-    ensures scope { OnOk result (scope.new ≡ counted scope.old) }
-    ensures tree { IfOk result (λ x. IsUpdateRead (env_of scope.old) (env_of scope.new) (items tokens.old)
-        (items tokens.new) x) }
-{
-    match tokens.peek() {
-        Terminal::Name(name) => updated(scope, tokens, name),
-        _ => Err(ReadError::Fault(tokens.refuse())),
-    }
-}
-
-/// The atomic update whose line stands next.
-#[tactic(auto, using(c_expressions::proofs::Outcomes::on_from))]
-pub fn atomic_update(scope: &mut Scope<'_>, tokens: &mut Cursor<'_, '_>) -> Result<Stmt, ReadError>
-    requires { is_atomic_line (first_item tokens.old).terminal ≡ true }
-    ensures read { (s : Stack) → Outcome result (run (context_of scope.old 0 0) (Body ∷ s) (items tokens.old))
-        (run (context_of scope.new 0 0) (Body ∷ s) (items tokens.new)) }
-    ensures scope { OnOk result (scope.new ≡ counted (counted scope.old)) }
-    ensures tree { IfOk result (λ x. IsStmtRead (env_of scope.old) (env_of scope.new) (items tokens.old)
-        (items tokens.new) x) }
-{
-    begin_atomic(scope, tokens)?;
-    let update = marked_assignment(scope, tokens)?;
-    Ok(update)
 }

@@ -15,7 +15,7 @@ mod stmt;
 mod update;
 
 pub use assign::assigned;
-pub use atomic::{at_atomic, atomic_update};
+pub use atomic::at_atomic;
 pub use block::{begin_block, begin_choice, begin_loop, close_body, open_body, otherwise};
 pub use declare::{declared, new_scalar};
 pub use head::{bounds, head_name};
@@ -23,4 +23,4 @@ pub use if_head::condition;
 pub use level::loops_around;
 pub use print::printed;
 pub use right_side::{ended_source, source};
-pub use stmt::{body, choice, statement, statements};
+pub use stmt::{atomic_update, body, choice, statement, statements};

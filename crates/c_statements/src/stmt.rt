@@ -6,17 +6,17 @@ ghost use Rattle.c_grammar.specs.Lexeme.{For, If};
 ghost use Rattle.c_grammar.specs.Terminal.{Fixed, Mark, same};
 ghost use Rattle.c_grammar.specs.Grammar.{Starts, StartsIf, StartsBlock, for};
 ghost use Rattle.c_grammar.specs.Rules.{inside, under_if};
-ghost use Rattle.c_grammar.specs.Program.{Stack, Atom, Tail, Body, OrElse, m, body, loop};
+ghost use Rattle.c_grammar.specs.Program.{Stack, AfterMark, Atom, Tail, Body, OrElse, m, body, loop};
 ghost use Rattle.c_expressions.specs.Changes.{turn_name, turn_names};
 ghost use Rattle.c_expressions.specs.Cursor.{items, first_item};
 ghost use Rattle.c_expressions.specs.Reading.{run, took, Outcome};
 ghost use Rattle.c_expressions.specs.Scopes.{context_of, names_of};
 ghost use Rattle.c_statements.specs.Blocks.{turned};
 ghost use Rattle.c_statements.specs.Bodies.{inner_env, IsReady, IsSameBlock, IsLeft, AreStmtsRead, IsBodyRead};
-ghost use Rattle.c_statements.specs.Simple.{env_of, loops_in, IsStmtRead};
+ghost use Rattle.c_statements.specs.Simple.{env_of, is_atomic_line, loops_in, IsMarkableRead, IsStmtRead};
 
 use crate::assign::assigned;
-use crate::atomic::{at_atomic, atomic_update};
+use crate::atomic::{at_atomic, begin_atomic};
 use crate::block::{begin_block, begin_choice, begin_loop, close_body, open_body, otherwise};
 use crate::declare::declared;
 use crate::directive::line_fault;
@@ -24,6 +24,7 @@ use crate::head::{bounds, head_name};
 use crate::if_head::condition;
 use crate::level::loops_around;
 use crate::print::printed;
+use crate::update::as_update;
 use base::tree::Stmt;
 use c_expressions::{Cursor, ReadError, Scope, Terminal, Turn};
 use c_tokens::Sign;
@@ -59,6 +60,45 @@ pub fn statement<'a>(scope: &mut Scope<'a>, tokens: &mut Cursor<'a, '_>) -> Resu
     }
 }
 
+/// The assignment or `if` behind the line of an atomic update.
+#[cycle(statement)]
+#[tactic(auto, using(crate::proofs::Levels::same_counted))]
+fn marked<'a>(scope: &mut Scope<'a>, tokens: &mut Cursor<'a, '_>) -> Result<Stmt, ReadError>
+    requires { IsReady scope.old }
+    ensures read { (s : Stack) → Outcome result
+        (run (context_of scope.old 0 0) (AfterMark ∷ Body ∷ s) (items tokens.old))
+        (run (context_of scope.new 0 0) (Body ∷ s) (items tokens.new)) }
+    ensures scope { OnOk result (IsSameBlock scope.old scope.new) }
+    ensures tree { IfOk result (λ x. IsMarkableRead (env_of scope.old) (env_of scope.new) (items tokens.old)
+        (items tokens.new) x) }
+{
+    match tokens.peek() {
+        Terminal::Word(Word::If) => choice(scope, tokens),
+        Terminal::Name(name) => assigned(scope, tokens, name),
+        _ => Err(ReadError::Fault(tokens.refuse())),
+    }
+}
+
+/// The atomic update whose line stands next.
+#[cycle(statement)]
+#[tactic(auto, using(c_expressions::proofs::Outcomes::on_from))]
+pub fn atomic_update<'a>(
+    scope: &mut Scope<'a>,
+    tokens: &mut Cursor<'a, '_>,
+) -> Result<Stmt, ReadError>
+    requires ready { IsReady scope.old }
+    requires line { is_atomic_line (first_item tokens.old).terminal ≡ true }
+    ensures read { (s : Stack) → Outcome result (run (context_of scope.old 0 0) (Body ∷ s) (items tokens.old))
+        (run (context_of scope.new 0 0) (Body ∷ s) (items tokens.new)) }
+    ensures scope { OnOk result (IsSameBlock scope.old scope.new) }
+    ensures tree { IfOk result (λ x. IsStmtRead (env_of scope.old) (env_of scope.new) (items tokens.old)
+        (items tokens.new) x) }
+{
+    begin_atomic(scope, tokens)?;
+    let statement = marked(scope, tokens)?;
+    Ok(as_update(statement))
+}
+
 /// The loop whose word stands next.
 #[cycle(statement)]
 fn looped<'a>(scope: &mut Scope<'a>, tokens: &mut Cursor<'a, '_>) -> Result<Stmt, ReadError>
@@ -89,7 +129,7 @@ pub fn choice<'a>(scope: &mut Scope<'a>, tokens: &mut Cursor<'a, '_>) -> Result<
         (m sign.OpenParen ∷ Atom ∷ Tail 9 ∷ m sign.CloseParen ∷ body (OrElse ∷ Body ∷ s)) (items tokens.old))
         (run (context_of scope.new 0 0) (Body ∷ s) (items tokens.new)) }
     ensures scope { OnOk result (IsSameBlock scope.old scope.new) }
-    ensures tree { IfOk result (λ x. IsStmtRead (env_of scope.old) (env_of scope.new) (items tokens.old)
+    ensures tree { IfOk result (λ x. IsMarkableRead (env_of scope.old) (env_of scope.new) (items tokens.old)
         (items tokens.new) x) }
 {
     begin_choice(scope, tokens)?;

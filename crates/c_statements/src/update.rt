@@ -1,8 +1,9 @@
-//! The commuting update that a store is.
+//! The commuting update that a store is, or a store under an `if`.
 
-ghost use Rattle.std.specs.Prelude.{◌≡◌};
+ghost use Rattle.std.specs.Prelude.{◌≡◌, ◌∷◌, [], Some};
+ghost use Rattle.base.specs.declared.tree.Stmt.{If, Stmt};
 ghost use Rattle.base.specs.declared.tree.Stmt.TheVariants as statement;
-ghost use Rattle.c_statements.specs.Updates.{as_update, binary_number, combine_op, divide_number, same_expr, shift_number, unary_number, op_of};
+ghost use Rattle.c_statements.specs.Updates.{as_update, binary_number, combine_op, divide_number, choice_or, extreme_by, extreme_else, extreme_of, extreme_or, extreme_unless, is_cell, is_own, IsStored, keeps, op_of, over, same_expr, shift_number, unary_number, under};
 
 use base::tree::{
     ArrayId, BinaryOp, CombineOp, DivideOp, Expr, Place, ShiftOp, Source, Stmt, UnaryOp,
@@ -139,12 +140,189 @@ fn store_or_update(array: ArrayId, place: Place, index: Expr, value: Source) -> 
     }
 }
 
+/// Which number is kept where a value stands in the relation to it, and then takes its place.
+fn over(op: BinaryOp) -> Option<CombineOp>
+    ensures { result ≡ over op }
+{
+    match op {
+        BinaryOp::Less | BinaryOp::LessOrEqual => Some(CombineOp::Min),
+        BinaryOp::Greater | BinaryOp::GreaterOrEqual => Some(CombineOp::Max),
+        BinaryOp::Equal
+        | BinaryOp::NotEqual
+        | BinaryOp::BitOr
+        | BinaryOp::BitXor
+        | BinaryOp::BitAnd
+        | BinaryOp::Add
+        | BinaryOp::Subtract
+        | BinaryOp::Multiply => None,
+    }
+}
+
+/// The same where it stands in the relation to the value.
+fn under(op: BinaryOp) -> Option<CombineOp>
+    ensures { result ≡ under op }
+{
+    match op {
+        BinaryOp::Less | BinaryOp::LessOrEqual => Some(CombineOp::Max),
+        BinaryOp::Greater | BinaryOp::GreaterOrEqual => Some(CombineOp::Min),
+        BinaryOp::Equal
+        | BinaryOp::NotEqual
+        | BinaryOp::BitOr
+        | BinaryOp::BitXor
+        | BinaryOp::BitAnd
+        | BinaryOp::Add
+        | BinaryOp::Subtract
+        | BinaryOp::Multiply => None,
+    }
+}
+
+/// Whether the value is the number of the array's cell with that subscript.
+fn is_cell(array: ArrayId, index: &Expr, value: &Expr) -> bool
+    ensures { result ≡ is_cell array index.now value.now }
+{
+    match value {
+        Expr::Cell(other, _, subscript) => array.0 == other.0 && is_same_expr(index, subscript),
+        _ => false,
+    }
+}
+
+/// The operator of a store of the value in the cell, under this test.
+fn extreme_by(array: ArrayId, index: &Expr, value: &Expr, test: &Expr) -> Option<CombineOp>
+    ensures { result ≡ extreme_by array index.now value.now test.now }
+{
+    let Expr::Binary(op, left, right) = test else {
+        return None;
+    };
+    if is_cell(array, index, right) && is_same_expr(left, value) {
+        return over(*op);
+    }
+    if is_cell(array, index, left) && is_same_expr(right, value) {
+        return under(*op);
+    }
+    None
+}
+
+/// The operator of a store of the value in the cell, where this test does not hold.
+fn extreme_unless(
+    array: ArrayId,
+    index: &Expr,
+    value: &Expr,
+    test: &Expr,
+) -> Option<CombineOp>
+    ensures { result ≡ extreme_unless array index.now value.now test.now }
+{
+    let Expr::Binary(op, left, right) = test else {
+        return None;
+    };
+    if is_cell(array, index, left) && is_same_expr(right, value) {
+        return over(*op);
+    }
+    if is_cell(array, index, right) && is_same_expr(left, value) {
+        return under(*op);
+    }
+    None
+}
+
+/// Whether the statements store the cell's own number in it.
+fn is_own(array: ArrayId, index: &Expr, statements: &[Stmt]) -> bool
+    ensures { result ≡ is_own array index.now statements.now }
+{
+    match statements {
+        [Stmt::Store(other, _, subscript, Source::Value(value))] => {
+            array.0 == other.0 && (is_same_expr(index, subscript) && is_cell(array, index, value))
+        }
+        _ => false,
+    }
+}
+
+/// Whether the statements store nothing, or the cell's own number in it.
+fn keeps(array: ArrayId, index: &Expr, others: &[Stmt]) -> bool
+    ensures { result ≡ keeps array index.now others.now }
+{
+    match others {
+        [] => true,
+        _ => is_own(array, index, others),
+    }
+}
+
+/// The operator of an `if` whose first statements store a value, if it is an update.
+fn extreme_of(test: &Expr, first: &[Stmt], others: &[Stmt]) -> Option<CombineOp>
+    ensures { result ≡ extreme_of test.now first.now others.now }
+{
+    let [Stmt::Store(array, _, index, Source::Value(value))] = first else {
+        return None;
+    };
+    if keeps(*array, index, others) {
+        extreme_by(*array, index, value, test)
+    } else {
+        None
+    }
+}
+
+/// The operator of an `if` whose `else` stores a value, if it is an update.
+fn extreme_else(test: &Expr, first: &[Stmt], others: &[Stmt]) -> Option<CombineOp>
+    ensures { result ≡ extreme_else test.now first.now others.now }
+{
+    let [Stmt::Store(array, _, index, Source::Value(value))] = others else {
+        return None;
+    };
+    if is_own(*array, index, first) {
+        extreme_unless(*array, index, value, test)
+    } else {
+        None
+    }
+}
+
+/// The update by an operator in the place of a store.
+fn store_combined(op: CombineOp, store: Stmt) -> Stmt
+    requires { IsStored (store ∷ []) }
+    ensures { (s : Stmt) → result ≡ extreme_or (Some op) (store ∷ []) s }
+{
+    match store {
+        Stmt::Store(array, place, index, value) => match value {
+            Source::Value(value) => Stmt::Combine(op, array, place, index, value),
+            Source::Read => unreachable!(),
+        },
+        _ => unreachable!(),
+    }
+}
+
+/// The update by an operator in the place of the one store.
+fn combined(op: CombineOp, stores: Vec<Stmt>) -> Stmt
+    requires { IsStored stores.items }
+    ensures { (s : Stmt) → result ≡ extreme_or (Some op) stores.items s }
+{
+    let mut stores = stores;
+    match stores.pop() {
+        Some(store) => store_combined(op, store),
+        None => unreachable!(),
+    }
+}
+
+/// The update that an `if` is, or the `if`.
+fn extreme_or_choice(test: Expr, first: Vec<Stmt>, others: Vec<Stmt>) -> Stmt
+    ensures { result ≡ choice_or test first.items others.items (If test first others) }
+{
+    if let Some(op) = extreme_of(&test, &first, &others) {
+        drop(test);
+        drop(others);
+        return combined(op, first);
+    }
+    if let Some(op) = extreme_else(&test, &first, &others) {
+        drop(test);
+        drop(first);
+        return combined(op, others);
+    }
+    Stmt::If(test, first, others)
+}
+
 /// The update that a statement is, or the statement.
 pub fn as_update(statement: Stmt) -> Stmt
     ensures { result ≡ as_update statement }
 {
     match statement {
         Stmt::Store(array, place, index, value) => store_or_update(array, place, index, value),
+        Stmt::If(test, first, others) => extreme_or_choice(test, first, others),
         other => other,
     }
 }

@@ -2,7 +2,7 @@
 use Rattle.std.proofs.Common.{◌≡◌, ◌<◌, ◌≤◌, Bool, true, false, List, [], ◌∷◌, length, refl, arith}
 use Rattle.std.specs.Prelude.{◌&&◌}
 use Rattle.c_grammar.specs.Lexeme.{Placed}
-use Rattle.c_grammar.specs.Updates.{atomic_tokens, is_atomic}
+use Rattle.c_grammar.specs.Updates.{atomic_tokens, is_atomic, is_compare}
 use Rattle.directives.specs.declared.lexeme.PlacedLexeme.{PlacedLexeme}
 use Rattle.directives.specs.Seen.{ends_well, is_whole}
 use Rattle.directives.specs.Spells.{kinds_of}
@@ -48,3 +48,15 @@ atomic_whole false (p ∷ o ∷ a ∷ u ∷ z ∷ []) w e =
     without (ends_well p.lexeme false) (ends_well o.lexeme false) (ends_well a.lexeme false) (ends_well u.lexeme false)
     (ends_well z.lexeme true && true) w
 atomic_whole b (p ∷ o ∷ a ∷ u ∷ y ∷ z ∷ ps) w e = absurd cc
+
+pub compare_whole : (ps : List Placed) → is_whole ps ≡ true → is_compare (kinds_of ps) ≡ true →
+    is_whole (atomic_tokens true ps) ≡ true
+compare_whole [] w e = absurd cc
+compare_whole (p ∷ []) w e = absurd cc
+compare_whole (p ∷ o ∷ []) w e = absurd cc
+compare_whole (p ∷ o ∷ a ∷ []) w e = absurd cc
+compare_whole (p ∷ o ∷ a ∷ z ∷ []) w e = absurd cc
+compare_whole (p ∷ o ∷ a ∷ u ∷ z ∷ []) w e =
+    without (ends_well p.lexeme false) (ends_well o.lexeme false) (ends_well a.lexeme false) (ends_well u.lexeme false)
+    (ends_well z.lexeme true && true) w
+compare_whole (p ∷ o ∷ a ∷ u ∷ y ∷ z ∷ ps) w e = absurd cc

@@ -12,7 +12,7 @@ use Rattle.c_grammar.specs.Constants.{behind_two, front_two, with_tokens}
 use Rattle.c_grammar.specs.Expressions.{placed_of}
 use Rattle.c_grammar.specs.Lines.{is_omp}
 use Rattle.c_grammar.specs.Presence.{is_word}
-use Rattle.c_grammar.specs.Updates.{Inside, OnRegion, Reduction, Region, atomic_tokens, clause_on, commuting, directive_on, has_update, is_atomic, is_combined, line_on, reduced, reduction_at, summed, taken, taken_at}
+use Rattle.c_grammar.specs.Updates.{Inside, OnRegion, Reduction, Region, atomic_tokens, clause_on, commuting, directive_on, has_extreme, has_update, is_atomic, is_combined, is_compare, line_on, reduced, reduction_at, summed, taken, taken_at}
 use Rattle.directives.specs.declared.line_tokens.LineTokens.{LineTokens}
 use Rattle.directives.specs.Ahead.{seen_line}
 use Rattle.directives.specs.Spells.{columns_of, kinds_of}
@@ -74,6 +74,13 @@ atomic_front b (p ∷ []) e = absurd cc
 atomic_front b (p ∷ o ∷ []) e = absurd cc
 atomic_front b (p ∷ o ∷ a ∷ ps) e = refl
 
+compare_front : (ps : List Placed) → is_compare (kinds_of ps) ≡ true →
+    front_two (kinds_of ps) ++ kinds_of (behind_two (atomic_tokens true ps)) ≡ kinds_of (atomic_tokens true ps)
+compare_front [] e = absurd cc
+compare_front (p ∷ []) e = absurd cc
+compare_front (p ∷ o ∷ []) e = absurd cc
+compare_front (p ∷ o ∷ a ∷ ps) e = refl
+
 -- ---- the line
 
 abbrev line_of : Token → List Placed → List Lexeme → Item Terminal
@@ -91,6 +98,13 @@ atomic_item t ls is e f =
     rw (e, f) (ap (λ (qs : List Placed). with_tokens (line_item t ls) (kinds_of ls) (atomic_tokens (has_update (bare is)) qs))
     (placed_again ls)
     ∙ ap (line_of t (atomic_tokens (has_update (bare is)) ls)) (atomic_front (has_update (bare is)) ls f))
+
+compare_item : (t : Token) (ls : List Placed) (is : Items) → is_combined (kinds_of ls) ≡ false →
+    is_atomic (kinds_of ls) ≡ false → is_compare (kinds_of ls) ≡ true → has_extreme is ≡ true →
+    line_changed (line_item t ls) (kinds_of ls) is ≡ line_item t (atomic_tokens true ls)
+compare_item t ls is c a k h =
+    rw (c, a, k, h) (ap (λ (qs : List Placed). with_tokens (line_item t ls) (kinds_of ls) (atomic_tokens true qs)) (placed_again ls)
+    ∙ ap (line_of t (atomic_tokens true ls)) (compare_front ls k))
 
 put_at : (t : Token) (l : Bor LineTokens) (is : Items) → t.terminal ≡ given.Line l →
     line_put (seen t) (seen_terminal t.terminal) is
@@ -113,21 +127,33 @@ atomic_put t l is js b qs e c f j u g =
     ap (line_item t) (g ∙ ap (λ (x : Bool). atomic_tokens x (seen_line l.now)) (u ∙ ap has_update j))
     ∙ sym (put_at t l is e ∙ atomic_item t (seen_line l.now) is c f)
 
+pub compare_put : (t : Token) (l : Bor LineTokens) (is : Items) (b : Bool) (qs : List Placed) → t.terminal ≡ given.Line l →
+    is_combined (kinds_of (seen_line l.now)) ≡ false → is_atomic (kinds_of (seen_line l.now)) ≡ false →
+    is_compare (kinds_of (seen_line l.now)) ≡ true → b ≡ has_extreme is → b ≡ true →
+    qs ≡ atomic_tokens true (seen_line l.now) →
+    line_item t qs ≡ line_put (seen t) (seen_terminal t.terminal) is
+compare_put t l is b qs e c a k h j g =
+    ap (line_item t) g
+    ∙ sym (put_at t l is e ∙ compare_item t (seen_line l.now) is c a k (sym h ∙ j))
+
 -- ---- what follows
 
 goes : (i : Item Terminal) (t : Terminal) (is : Items) (r : Region) (go : OnRegion) →
     directive_on i t is r go ≡ line_put i t is ∷ go (line_region t is r)
-goes i (Line ts) is r go = by (is_combined ts) (is_atomic ts)
+goes i (Line ts) is r go = by (is_combined ts) (is_atomic ts) (is_compare ts && has_extreme is)
   where
-    by : (a b : Bool) →
+    by : (a b d : Bool) →
         cond a (with_tokens i ts (reduced ts is 0 (placed_of ts i.columns)) ∷ go (Inside (summed ts is ts) 0 false))
-        (cond b (with_tokens i ts (atomic_tokens (has_update (bare is)) (placed_of ts i.columns)) ∷ go r) (i ∷ go r))
+        (cond b (with_tokens i ts (atomic_tokens (has_update (bare is)) (placed_of ts i.columns)) ∷ go r)
+        (cond d (with_tokens i ts (atomic_tokens true (placed_of ts i.columns)) ∷ go r) (i ∷ go r)))
         ≡ cond a (with_tokens i ts (reduced ts is 0 (placed_of ts i.columns)))
-        (cond b (with_tokens i ts (atomic_tokens (has_update (bare is)) (placed_of ts i.columns))) i)
+        (cond b (with_tokens i ts (atomic_tokens (has_update (bare is)) (placed_of ts i.columns)))
+        (cond d (with_tokens i ts (atomic_tokens true (placed_of ts i.columns))) i))
         ∷ go (cond a (Inside (summed ts is ts) 0 false) r)
-    by true b = refl
-    by false true = refl
-    by false false = refl
+    by true b d = refl
+    by false true d = refl
+    by false false true = refl
+    by false false false = refl
 goes i (Fixed w) is r go = refl
 goes i (Mark s) is r go = refl
 goes i (Name x) is r go = refl

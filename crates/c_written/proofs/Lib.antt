@@ -9,6 +9,7 @@ pub mod Reducing
 pub mod Behind
 pub mod LinePast
 pub mod Unending
+pub mod Products
 pub mod LineRest
 pub mod Outcomes
 pub mod LineSteps
@@ -55,6 +56,7 @@ pub mod Ranging
 pub mod Subscripts
 pub mod Flattening
 pub mod CellUpdating
+pub mod Cutting
 pub mod Summing
 pub mod TakenClauses
 pub mod AtomicLines

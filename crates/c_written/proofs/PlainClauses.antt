@@ -1,6 +1,6 @@
 -- The tokens of a reduction clause that is taken: none of them ends the line.
 use Rattle.std.proofs.Common.{◌≡◌, ◌∙◌, ℕ, zero, suc, ◌+◌, ◌-◌, ◌≤◌, ◌<◌, Bool, true, false, cond, List, [], ◌∷◌, Option, Some, None, refl, ap, arith}
-use Rattle.std.specs.Prelude.{◌&&◌, not, codes}
+use Rattle.std.specs.Prelude.{◌&&◌, not, option_and_then, codes}
 use Rattle.c_tokens.specs.declared.kind.Sign.{Sign}
 use Rattle.c_tokens.specs.declared.kind.Sign.TheVariants as sign
 use Rattle.c_grammar.specs.Lexeme.{Lexeme, Reserved, Signed, Worded, Numbered, Strange, Ended}
@@ -8,7 +8,7 @@ use Rattle.c_grammar.specs.Blocks.{Items}
 use Rattle.c_grammar.specs.Constants.{Names}
 use Rattle.c_grammar.specs.LineForms.{is_sign}
 use Rattle.c_grammar.specs.Presence.{is_word}
-use Rattle.c_grammar.specs.Updates.{Reduction, Slot, AtName, BehindName, AtFirst, AtColon, AtCount, AtEnd, BehindSection, commutes, is_taken, listed, listed_by, listed_on, may_end, next_slot, reduction_at, taken, taken_at, with_word}
+use Rattle.c_grammar.specs.Updates.{Reduction, Slot, AtName, BehindName, AtFirst, AtColon, AtCount, AtEnd, BehindSection, Operation, is_taken, listed, listed_by, listed_on, operation_of, may_end, next_slot, reduction_at, taken, taken_at, with_word}
 use Rattle.directives.specs.Seen.{ends_well}
 use Rattle.c_written.proofs.Guarding.{first_true, second_true}
 
@@ -82,7 +82,7 @@ record IsPlain (k : ℕ) (ts : List Lexeme) (r : Reduction) : Type 0 where
   more : k + 1 ≤ r.len
   all : plain (r.len - k) ts ≡ true
 
-listed_plain : (op : Sign) (xs : Names) (k : ℕ) (s : Slot) (ts : List Lexeme) (r : Reduction) → listed op xs k s ts ≡ Some r →
+listed_plain : (op : Operation) (xs : Names) (k : ℕ) (s : Slot) (ts : List Lexeme) (r : Reduction) → listed op xs k s ts ≡ Some r →
     IsPlain k ts r
 listed_plain op xs k s [] r e = absurd cc
 listed_plain op xs k s (t ∷ ts) r e =
@@ -116,26 +116,30 @@ pub record IsClause (ts : List Lexeme) (r : Reduction) : Type 0 where
   pub long : 4 ≤ r.len
   pub all : plain r.len ts ≡ true
 
+operation_plain : (s : Lexeme) (op : Operation) → operation_of s ≡ Some op → ends_well s true ≡ false
+operation_plain (Worded x) op e = refl
+operation_plain (Reserved v) op e = refl
+operation_plain (Signed s) op e = refl
+operation_plain (Numbered n) op e = refl
+operation_plain Strange op e = absurd cc
+operation_plain Ended op e = absurd cc
+
 listed_behind : (w o c : Lexeme) (s : Lexeme) (ts : List Lexeme) (r : Reduction) → ends_well w true ≡ false →
     ends_well o true ≡ false → ends_well c true ≡ false → listed_by s ts ≡ Some r → IsClause (w ∷ o ∷ s ∷ c ∷ ts) r
-listed_behind w o c (Worded x) ts r e f g h = absurd cc
-listed_behind w o c (Reserved v) ts r e f g h = absurd cc
-listed_behind w o c (Numbered n) ts r e f g h = absurd cc
-listed_behind w o c Strange ts r e f g h = absurd cc
-listed_behind w o c Ended ts r e f g h = absurd cc
-listed_behind w o c (Signed op) ts r e f g h = go (commutes op) h
+listed_behind w o c s ts r e f g h = go (operation_of s) refl h
   where
-    go : (b : Bool) → cond b (listed op [] 4 AtName ts) None ≡ Some r → IsClause (w ∷ o ∷ Signed op ∷ c ∷ ts) r
-    go true k =
-        let p = listed_plain op [] 4 AtName ts r k in
+    go : (q : Option Operation) → operation_of s ≡ q → option_and_then (λ op. listed op [] 4 AtName ts) q ≡ Some r →
+        IsClause (w ∷ o ∷ s ∷ c ∷ ts) r
+    go None k l = absurd cc
+    go (Some op) k l =
+        let p = listed_plain op [] 4 AtName ts r l in
         record {
           long = omega (arith, p.more);
-          all = plain_more (r.len - 1) r.len w (o ∷ Signed op ∷ c ∷ ts) (omega (arith, p.more)) e
-              (plain_more (r.len - 2) (r.len - 1) o (Signed op ∷ c ∷ ts) (omega (arith, p.more)) f
-              (plain_more (r.len - 3) (r.len - 2) (Signed op) (c ∷ ts) (omega (arith, p.more)) refl
+          all = plain_more (r.len - 1) r.len w (o ∷ s ∷ c ∷ ts) (omega (arith, p.more)) e
+              (plain_more (r.len - 2) (r.len - 1) o (s ∷ c ∷ ts) (omega (arith, p.more)) f
+              (plain_more (r.len - 3) (r.len - 2) s (c ∷ ts) (omega (arith, p.more)) (operation_plain s op k)
               (plain_more (r.len - 4) (r.len - 3) c ts (omega (arith, p.more)) g p.all)));
         }
-    go false k = absurd cc
 
 clause_at : (us : List Lexeme) (r : Reduction) → reduction_at us ≡ Some r → IsClause us r
 clause_at [] r e = absurd cc

@@ -93,7 +93,7 @@ name_left : (gs : Grids) (t : Lexeme) → left_of (name_at gs t) ≡ 0
 name_left gs t = none_left (name_at gs t) (name_outside gs t)
 
 bound_left : (m : ℕ) (t : Lexeme) → left_of (bound_at m t) ≡ 0
-bound_left m t = go (is_sign sign.CloseBracket t) (is_sign sign.Colon t || is_sign sign.Plus t)
+bound_left m t = go (is_sign sign.CloseBracket t) (is_sign sign.Colon t || is_sign sign.Plus t || is_sign sign.Minus t)
   where
     go : (b c : Bool) → left_of (cond b (Behind m) (Within m c)) ≡ 0
     go true c = refl

@@ -9,7 +9,7 @@ use Rattle.c_grammar.specs.Texts.{Item}
 use Rattle.c_grammar.specs.Blocks.{Items, bare, is_directive}
 use Rattle.c_grammar.specs.Changes.{is_boundary, is_mark}
 use Rattle.c_grammar.specs.Presence.{goes_on, opens_part}
-use Rattle.c_grammar.specs.Updates.{Onward, again_at, is_by, is_summed, mention, other, place_len, update}
+use Rattle.c_grammar.specs.Updates.{Onward, again_at, allowed_at, is_by, is_gathered, is_summed, mention, other, place_len, update}
 use Rattle.c_terminals.specs.declared.token.Token.{Token}
 use Rattle.c_written.specs.Regions.{mentioned, place_behind}
 use Rattle.c_terminals.specs.Seen.{seen, seen_all}
@@ -113,3 +113,46 @@ pub token_stays : (x : List ℕ) (op : Sign) (d : ℕ) (s : Bool) (n m d' : ℕ)
     m ≡ n - 1 → Some (d', s') ≡ place_behind d (seen t) (seen_all (behind ts)) →
     is_summed x op d' s' m (seen_all (behind ts)) ≡ is_summed x op d s n (seen_all ts)
 token_stays x op d s n m d' s' ts t h e f g l p = sym (summed_other x op d s n m ts t (Some (d', s')) h e f g l p)
+
+-- ---- names in ifs that store the greater or the lesser of two numbers
+
+pub gathered_name : (x : List ℕ) (g : Bool) (d : ℕ) (s : Bool) (n m : ℕ) (ts : List Token) (t : Token) → 1 ≤ length ts →
+    t ≡ get_or ts 0 t → is_directive (seen t).terminal ≡ false → same (Name x) (seen t).terminal ≡ true → 0 < n →
+    m ≡ n - 1 → is_gathered x g d false m (seen_all (behind ts)) ≡ is_gathered x g d s n (seen_all ts)
+gathered_name x g d s zero m ts t h e f k z l = absurd (omega (arith, z))
+gathered_name x g d s (suc n) m ts t h e f k z l =
+    let less : m ≡ n = l ∙ omega arith in
+    ap (λ (j : ℕ). is_gathered x g d false j (seen_all (behind ts))) less
+    ∙ sym (ap (is_gathered x g d s (suc n)) (begins_with ts t h e) ∙ rw (f, k) refl)
+
+pub gathered_none : (x : List ℕ) (g : Bool) (d : ℕ) (s : Bool) (n : ℕ) (ts : List Token) (t : Token) → 1 ≤ length ts →
+    t ≡ get_or ts 0 t → is_directive (seen t).terminal ≡ false → same (Name x) (seen t).terminal ≡ true → n ≡ 0 →
+    false ≡ is_gathered x g d s n (seen_all ts)
+gathered_none x g d s n ts t h e f k z =
+    sym (ap (λ (j : ℕ). is_gathered x g d s j (seen_all ts)) z ∙ ap (is_gathered x g d s 0) (begins_with ts t h e)
+    ∙ rw (f, k) refl)
+
+gathered_other : (x : List ℕ) (g : Bool) (d : ℕ) (s : Bool) (n m : ℕ) (ts : List Token) (t : Token) (o : Option (ℕ × Bool)) →
+    1 ≤ length ts → t ≡ get_or ts 0 t → is_directive (seen t).terminal ≡ false → same (Name x) (seen t).terminal ≡ false →
+    m ≡ allowed_at x g s n (seen t) (seen_all (behind ts)) → o ≡ place_behind d (seen t) (seen_all (behind ts)) →
+    is_gathered x g d s n (seen_all ts) ≡ places o (λ d s. is_gathered x g d s m (seen_all (behind ts)))
+gathered_other x g d s n m ts t o h e f k l p =
+    ap (is_gathered x g d s n) (begins_with ts t h e)
+    ∙ rw (f, k) (other_is d 0 (seen t) (seen_all (behind ts))
+    (λ d s j. is_gathered x g d s (allowed_at x g s n (seen t) (seen_all (behind ts))) (seen_all (behind ts))))
+    ∙ ap (λ (q : Option (ℕ × Bool)). places q (λ d s. is_gathered x g d s (allowed_at x g s n (seen t) (seen_all (behind ts)))
+    (seen_all (behind ts)))) (sym p)
+    ∙ ap (λ (j : ℕ). places o (λ d s. is_gathered x g d s j (seen_all (behind ts)))) (sym l)
+
+pub gathered_token : (x : List ℕ) (g : Bool) (d : ℕ) (s : Bool) (n m d' : ℕ) (s' : Bool) (ts : List Token) (t : Token) →
+    1 ≤ length ts → t ≡ get_or ts 0 t → is_directive (seen t).terminal ≡ false → same (Name x) (seen t).terminal ≡ false →
+    m ≡ allowed_at x g s n (seen t) (seen_all (behind ts)) →
+    Some (d', s') ≡ place_behind d (seen t) (seen_all (behind ts)) →
+    is_gathered x g d' s' m (seen_all (behind ts)) ≡ is_gathered x g d s n (seen_all ts)
+gathered_token x g d s n m d' s' ts t h e f k l p = sym (gathered_other x g d s n m ts t (Some (d', s')) h e f k l p)
+
+pub gathered_ends : (x : List ℕ) (g : Bool) (d : ℕ) (s : Bool) (n : ℕ) (ts : List Token) (t : Token) → 1 ≤ length ts →
+    t ≡ get_or ts 0 t → is_directive (seen t).terminal ≡ false → same (Name x) (seen t).terminal ≡ false →
+    None ≡ place_behind d (seen t) (seen_all (behind ts)) → true ≡ is_gathered x g d s n (seen_all ts)
+gathered_ends x g d s n ts t h e f k p =
+    sym (gathered_other x g d s n (allowed_at x g s n (seen t) (seen_all (behind ts))) ts t None h e f k refl p)

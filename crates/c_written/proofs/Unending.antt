@@ -1,13 +1,15 @@
 -- The tokens of a line as those of a source.
 use Rattle.std.proofs.Common.{◌≡◌, ◌∙◌, ℕ, ◌+◌, ◌<◌, ◌≤◌, Bool, true, false, cond, length, get_or, take, List, [], ◌∷◌, ◌++◌, Option, Some, refl, sym, ap}
+use Rattle.std.specs.Prelude.{◌||◌}
 use mathlib.Core.Path.{fun_ext}
 use Rattle.std.proofs.lemmas.List.{take_more, take_all}
+use Rattle.c_tokens.specs.declared.kind.Sign.TheVariants as sign
 use Rattle.c_grammar.specs.Lexeme.{Lexeme, Reserved, Signed, Worded, Numbered, Strange, Ended, Placed}
 use Rattle.c_grammar.specs.Terminal.{Terminal, Mark, Name, Num}
 use Rattle.c_grammar.specs.Texts.{Item}
 use Rattle.c_grammar.specs.Blocks.{Items, bare}
 use Rattle.c_grammar.specs.Expressions.{Values, Read, Nothing, Value, Waiting, Worked, Number, as_items, as_terminal, at_operand, behind_value, is_over, put, work_at, expression}
-use Rattle.c_grammar.specs.LineForms.{begins_bound, begins_number, bound_at, several, worth}
+use Rattle.c_grammar.specs.LineForms.{begins_bound, begins_number, bound_at, last_is, or_product, product_at, several, worth}
 use Rattle.directives.specs.declared.lexeme.PlacedLexeme.{PlacedLexeme}
 use Rattle.directives.specs.Seen.{seen_placed}
 use Rattle.c_terminals.specs.declared.token.Token.{Token}
@@ -89,10 +91,17 @@ same_worked vs single line ps ts e =
 -- a bound, or the number of a clause
 pub bound_begins : (vs : Values) (past : List Lexeme) (ps : List Placed) (ts : List Token) (w : Option Worked) →
     begins_bound past ≡ true → seen_all ts ≡ unended (as_items 0 ps) →
-    w ≡ expression vs false Nothing [] 0 (bare (seen_all ts)) → worth ps w ≡ bound_at vs past ps
-bound_begins vs past ps ts w e f g = ap (worth ps) (g ∙ same_worked vs false 0 ps ts f) ∙ rw e refl
+    w ≡ expression vs false Nothing [] 0 (bare (seen_all ts)) → or_product vs ps (worth ps w) ≡ bound_at vs past ps
+bound_begins vs past ps ts w e f g =
+    ap (λ (v : Option Worked). or_product vs ps (worth ps v)) (g ∙ same_worked vs false 0 ps ts f) ∙ rw e refl
+
+-- a term behind a sign
+pub term_begins : (vs : Values) (past : List Lexeme) (ps : List Placed) → begins_bound past ≡ false →
+    (last_is sign.Plus past || last_is sign.Minus past) ≡ true → product_at vs ps ≡ bound_at vs past ps
+term_begins vs past ps e h = rw (e, h) refl
 
 pub number_begins : (vs : Values) (past : List Lexeme) (ps : List Placed) (ts : List Token) (w : Option Worked) →
-    begins_bound past ≡ false → begins_number past ≡ true → seen_all ts ≡ unended (as_items 0 ps) →
+    begins_bound past ≡ false → (last_is sign.Plus past || last_is sign.Minus past) ≡ false →
+    begins_number past ≡ true → seen_all ts ≡ unended (as_items 0 ps) →
     w ≡ expression vs false Nothing [] 0 (bare (seen_all ts)) → several w ≡ bound_at vs past ps
-number_begins vs past ps ts w e h f g = ap several (g ∙ same_worked vs false 0 ps ts f) ∙ rw (e, h) refl
+number_begins vs past ps ts w e s h f g = ap several (g ∙ same_worked vs false 0 ps ts f) ∙ rw (e, s, h) refl

@@ -1,12 +1,13 @@
 -- How many tokens of a whole line a constant expression has: its end is none of them.
-use Rattle.std.proofs.Common.{◌≡◌, ℕ, ◌+◌, ◌<◌, ◌≤◌, Bool, true, false, cond, List, [], ◌∷◌, length, Option, Some, None, refl, arith}
-use Rattle.std.specs.Prelude.{◌&&◌, nat_lt}
+use Rattle.std.proofs.Common.{◌≡◌, ◌∙◌, ℕ, zero, suc, ◌+◌, ◌<◌, ◌≤◌, Bool, true, false, cond, not, List, [], ◌∷◌, length, take, Option, Some, None, refl, arith}
+use Rattle.std.specs.Prelude.{◌&&◌, ◌||◌, ◌==◌, nat_lt}
+use Rattle.std.proofs.lemmas.Bool.{eqb-true}
 use Rattle.c_tokens.specs.declared.kind.Sign.TheVariants as sign
 use Rattle.c_grammar.specs.Lexeme.{Lexeme, Reserved, Signed, Worded, Numbered, Strange, Ended, Placed}
 use Rattle.c_grammar.specs.Terminal.{Terminal, Fixed, Mark, Name, Num, Line, Unknown, Unworked, End, same}
 use Rattle.c_grammar.specs.Texts.{Item}
 use Rattle.c_grammar.specs.Expressions.{Values, Work, Read, Nothing, Value, Waiting, Behind, Bracket, Worked, Number, Fault, Reduced, To, Stuck, reduce, is_over, work_of, put, as_items, as_terminal, at_end, most_waiting, at_operand, with_close, with_operator, behind_value, expression}
-use Rattle.c_grammar.specs.LineForms.{begins_bound, begins_number, bound_at, needs_work, several, worth}
+use Rattle.c_grammar.specs.LineForms.{begins_bound, begins_number, bound_at, ends_product, exactly, is_within, last_is, most_open, needs_work, open_behind, or_product, product_at, product_len, product_of, put_word, several, worth}
 use Rattle.directives.specs.Seen.{ends_well, is_whole}
 
 pub both : (a b : Bool) → (a && b) ≡ true → (a ≡ true) × (b ≡ true)
@@ -163,14 +164,68 @@ first_within vs single line (p ∷ q ∷ ps) ws k n v w e =
     ) in
     operand_within k (k + length (p ∷ q ∷ ps)) ws (put vs (as_terminal p.lexeme)) _ n v h e
 
--- so many tokens a bound has
+-- ---- a product at the beginning of a term
+
+exactly_is : (k : ℕ) (w : Option Worked) (n v : ℕ) → exactly k w ≡ Some (Number n v) →
+    (w ≡ Some (Number n v)) × (n ≡ k)
+exactly_is k None n v e = absurd cc
+exactly_is k (Some (Fault j p)) n v e = absurd cc
+exactly_is k (Some (Number a b)) n v e = go (a == k) refl e
+  where
+    go : (c : Bool) → (a == k) ≡ c → cond c (Some (Number a b)) None ≡ Some (Number n v) →
+        (Some (Number a b) ≡ Some (Number n v)) × (n ≡ k)
+    go true f e = (e, (let same : n ≡ a = cc in same ∙ eqb-true a k f))
+    go false f e = absurd cc
+
+len_within : (vs : Values) (d j : ℕ) (ps : List Placed) (k : ℕ) → product_len vs d j ps ≡ Some k →
+    (j ≤ k) × (k < j + length ps)
+len_within vs d j [] k e = absurd cc
+len_within vs d j (p ∷ ps) k e =
+    let t : Lexeme = put_word vs p.lexeme in
+    let more : Option ℕ = product_len vs (open_behind d t) (j + 1) ps in
+    let stops : Bool = not (nat_lt d most_open) || not (is_within t) in
+    chosen ((d == 0) && ends_product vs t ps) (Some j) (cond stops None more) (Some k)
+    ((j ≤ k) × (k < j + length (p ∷ ps)))
+    (λ (f : Some j ≡ Some k). let same : j ≡ k = cc in (omega arith, omega arith))
+    (chosen stops None more (Some k) ((j ≤ k) × (k < j + length (p ∷ ps))) (λ f. absurd cc)
+    (λ f. let b = len_within vs (open_behind d t) (j + 1) ps k f in (omega arith, omega arith))) e
+
+has_tokens : (vs : Values) (ps : List Placed) (k n v : ℕ) → n ≡ k →
+    expression vs false Nothing [] 0 (as_items 0 (take k ps)) ≡ Some (Number n v) → 0 < n
+unfolding expression
+has_tokens vs [] zero n v s e = absurd cc
+has_tokens vs (p ∷ ps) zero n v s e = absurd cc
+has_tokens vs ps (suc k) n v s e = omega (arith, s)
+
+product_within : (vs : Values) (ps : List Placed) (n v : ℕ) → product_at vs ps ≡ Some (Number n v) →
+    (0 < n) × (n < length ps)
+product_within vs ps n v e = go (product_len vs 0 0 ps) refl e
+  where
+    go : (o : Option ℕ) → product_len vs 0 0 ps ≡ o → product_of vs ps o ≡ Some (Number n v) →
+        (0 < n) × (n < length ps)
+    go None f e = absurd cc
+    go (Some k) f e =
+        let x = exactly_is k (expression vs false Nothing [] 0 (as_items 0 (take k ps))) n v e in
+        let b = len_within vs 0 0 ps k f in (has_tokens vs ps k n v x.1 x.0, omega (arith, x.1, b.1))
+
+or_within : (vs : Values) (ps : List Placed) (o : Option Worked) (n v : ℕ) →
+    (o ≡ Some (Number n v) → (0 < n) × (n < length ps)) → or_product vs ps o ≡ Some (Number n v) →
+    (0 < n) × (n < length ps)
+or_within vs ps (Some w) n v h e = h e
+or_within vs ps None n v h e = product_within vs ps n v e
+
+-- so many tokens a bound has, or what a term begins with
 pub bound_within : (vs : Values) (past : List Lexeme) (ps : List Placed) (n v : ℕ) → is_whole ps ≡ true →
     bound_at vs past ps ≡ Some (Number n v) → (0 < n) × (n < length ps)
 bound_within vs past ps n v w e =
     let w0 : Option Worked = expression vs false Nothing [] 0 (as_items 0 ps) in
-    let found : w0 ≡ Some (Number n v) =
-    chosen (begins_bound past) (worth ps w0) (cond (begins_number past) (several w0) None) (Some (Number n v))
-    (w0 ≡ Some (Number n v)) (worth_is ps w0 n v)
-    (chosen (begins_number past) (several w0) None (Some (Number n v)) (w0 ≡ Some (Number n v)) (several_is w0 n v)
-    (λ f. absurd cc)) e in
-    let b = first_within vs false 0 ps [] 0 n v w found in (omega arith, omega arith)
+    let found : w0 ≡ Some (Number n v) → (0 < n) × (n < length ps) =
+    λ f. let b = first_within vs false 0 ps [] 0 n v w f in (omega arith, omega arith) in
+    let number : Option Worked = cond (begins_number past) (several w0) None in
+    let term : Bool = last_is sign.Plus past || last_is sign.Minus past in
+    chosen (begins_bound past) (or_product vs ps (worth ps w0)) (cond term (product_at vs ps) number)
+    (Some (Number n v)) ((0 < n) × (n < length ps))
+    (or_within vs ps (worth ps w0) n v (λ f. found (worth_is ps w0 n v f)))
+    (chosen term (product_at vs ps) number (Some (Number n v)) ((0 < n) × (n < length ps)) (product_within vs ps n v)
+    (chosen (begins_number past) (several w0) None (Some (Number n v)) ((0 < n) × (n < length ps))
+    (λ f. found (several_is w0 n v f)) (λ f. absurd cc))) e

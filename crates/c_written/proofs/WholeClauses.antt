@@ -6,7 +6,7 @@ use Rattle.c_tokens.specs.declared.kind.Sign.TheVariants as sign
 use Rattle.c_grammar.specs.Lexeme.{Lexeme, Signed, Worded, Ended, Placed, same}
 use Rattle.c_grammar.specs.Expressions.{Values}
 use Rattle.c_grammar.specs.LineForms.{is_sign}
-use Rattle.c_grammar.specs.Clauses.{BeforeName, Keep, LeaveOut, Place, PutType, Scope, Step, are_items, at_begin, begins_clause, clause_len, clause_step, clauses_from, clauses_in_full, default_len, idle_len, is_any_kind, is_idle, is_one_kind, leave_or, list_len, map_len, may_stand, names_len, place_after, put_step, scope_of, step_at, type_step, up_to_next, with_comma}
+use Rattle.c_grammar.specs.Clauses.{BeforeName, Keep, LeaveOut, Place, PutType, Scope, Step, are_items, at_begin, begins_clause, clause_len, clause_step, clauses_from, clauses_in_full, default_len, idle_len, is_any_kind, is_default, is_idle, is_one_kind, leave_or, list_len, map_len, may_stand, names_len, place_after, put_step, scope_of, step_at, type_step, up_to_next, with_comma}
 use Rattle.directives.specs.declared.lexeme.PlacedLexeme.{PlacedLexeme}
 use Rattle.directives.specs.Seen.{ends_well, is_whole, seen_placed}
 use Rattle.c_written.proofs.WholeBounds.{both, whole_front, whole_behind}
@@ -36,7 +36,7 @@ default_within : (ps : List Placed) (n : ℕ) → default_len ps ≡ Some n → 
 default_within [] n e = absurd cc
 default_within (x ∷ []) n e = absurd cc
 default_within (x ∷ c ∷ ps) n e =
-    by_test (same (Worded (codes "shared")) x.lexeme && is_sign sign.CloseParen c.lexeme) (Some 3) None (Some n)
+    by_test (is_default x.lexeme && is_sign sign.CloseParen c.lexeme) (Some 3) None (Some n)
     (n ≤ 1 + length (x ∷ c ∷ ps)) (λ _ f. (let three : 3 ≡ n = cc in omega (arith, three))) (λ _ f. absurd cc) e
 
 any_within : (s : Scope) (ps : List Placed) → is_any_kind s ps ≡ true → 2 ≤ length ps

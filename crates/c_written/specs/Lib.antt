@@ -10,6 +10,7 @@ pub mod Opens
 pub mod Changes
 pub mod Atomics
 pub mod CellUpdates
+pub mod Extremes
 pub mod Declarations
 pub mod Definitions
 pub mod Conditions
@@ -17,6 +18,7 @@ pub mod Ifs
 pub mod Decided
 pub mod Constants
 pub mod Counters
+pub mod Lasting
 pub mod Globals
 pub mod Functions
 pub mod Allocations

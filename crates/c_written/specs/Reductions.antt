@@ -4,6 +4,7 @@ use Rattle.c_grammar.specs.Updates.{Reduction, Slot, AtName, BehindName, AtFirst
 use Rattle.c_written.specs.declared.reductions.Reduction.{Reduction as GivenReduction}
 use Rattle.c_written.specs.declared.reductions.Slot.{Slot as GivenSlot}
 use Rattle.c_written.specs.declared.reductions.Slot.TheVariants as given
+use Rattle.c_written.specs.Regions.{seen_operation}
 
 abbrev pub seen_slot : GivenSlot → Slot
 seen_slot given.AtName = AtName
@@ -15,4 +16,4 @@ seen_slot given.AtEnd = AtEnd
 seen_slot given.BehindSection = BehindSection
 
 abbrev pub seen_reduction : GivenReduction → Reduction
-seen_reduction r = record { op = r.op; names = map (λ x. x.now) r.names.items; len = r.len }
+seen_reduction r = record { op = seen_operation r.op; names = map (λ x. x.now) r.names.items; len = r.len }

@@ -7,8 +7,14 @@ use Rattle.c_grammar.specs.Texts.{Item}
 use Rattle.c_grammar.specs.Blocks.{Items}
 use Rattle.c_grammar.specs.Changes.{is_boundary, is_mark}
 use Rattle.c_grammar.specs.Presence.{goes_on, opens_part}
-use Rattle.c_grammar.specs.Updates.{again_at, is_by, place_len, update}
+use Rattle.c_grammar.specs.Updates.{Operation, BySign, ByExtreme, again_at, is_by, place_len, update}
+use Rattle.c_written.specs.declared.regions.Operation.{Operation as Given}
+use Rattle.c_written.specs.declared.regions.Operation.TheVariants as given
 use Rattle.c_written.specs.declared.regions.Place.{Place}
+
+abbrev pub seen_operation : Given → Operation
+seen_operation (given.BySign op) = BySign op
+seen_operation (given.ByExtreme greatest) = ByExtreme greatest
 
 abbrev pub seen_place : Place → ℕ × Bool
 seen_place p = (p.depth, p.starts)

@@ -6,7 +6,7 @@ use Rattle.c_grammar.specs.Texts.{Item}
 use Rattle.c_grammar.specs.Blocks.{Items, bare}
 use Rattle.c_grammar.specs.Constants.{Names, with_tokens}
 use Rattle.c_grammar.specs.Expressions.{placed_of}
-use Rattle.c_grammar.specs.Updates.{Region, Outside, Inside, atomic_tokens, behind, commuting, has_update, is_atomic, is_combined, is_named, reduced, summed}
+use Rattle.c_grammar.specs.Updates.{Region, Outside, Inside, atomic_tokens, behind, commuting, has_extreme, has_update, is_atomic, is_changed, is_combined, is_compare, reduced, summed}
 use Rattle.c_written.specs.declared.regions.Place.{Place}
 use Rattle.c_written.specs.declared.updates.Updates.{Updates}
 use Rattle.c_terminals.specs.Held.{written_all}
@@ -34,7 +34,8 @@ with_updates u is = written_all u.done.items ++ commuting (region_of u) is
 abbrev pub line_changed : Item Terminal → List Lexeme → Items → Item Terminal
 line_changed i ts is =
     if is_combined ts then with_tokens i ts (reduced ts is 0 (placed_of ts i.columns))
-    else (if is_atomic ts then with_tokens i ts (atomic_tokens (has_update (bare is)) (placed_of ts i.columns)) else i)
+    else (if is_atomic ts then with_tokens i ts (atomic_tokens (has_update (bare is)) (placed_of ts i.columns))
+    else (if is_compare ts && has_extreme is then with_tokens i ts (atomic_tokens true (placed_of ts i.columns)) else i))
 
 -- the line as it is put
 abbrev pub line_put : Item Terminal → Terminal → Items → Item Terminal
@@ -49,9 +50,9 @@ line_region t is r = r
 -- ---- another token
 
 -- it is marked
-abbrev pub is_marked : Region → Terminal → Bool
-is_marked Outside t = false
-is_marked (Inside xs d starts) t = starts && is_named xs t
+abbrev pub is_marked : Region → Item Terminal → Items → Bool
+is_marked Outside i is = false
+is_marked (Inside xs d starts) i is = starts && is_changed xs i is
 
 abbrev pub region_behind : Region → Item Terminal → Items → Region
 region_behind Outside i is = Outside

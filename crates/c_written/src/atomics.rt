@@ -1,7 +1,7 @@
 //! Lines `atomic` in front of updates.
 
 ghost use Rattle.std.specs.Prelude.{◌≡◌, IfOk, true};
-ghost use Rattle.c_grammar.specs.Updates.{atomic_tokens, behind_word, is_atomic, mark_at};
+ghost use Rattle.c_grammar.specs.Updates.{atomic_tokens, behind_word, is_atomic, is_compare, mark_at};
 ghost use Rattle.directives.specs.Ahead.{seen_line};
 ghost use Rattle.directives.specs.Spells.{kinds_of};
 ghost use Rattle.c_written.specs.Atomics.{ends_atomic};
@@ -34,6 +34,20 @@ pub fn is_atomic(tokens: &[PlacedLexeme<'_>]) -> bool
 {
     match tokens {
         [_, _, word, behind @ ..] => is_name(word.lexeme, b"atomic") && ends_atomic(behind),
+        _ => false,
+    }
+}
+
+/// Whether the words of a line are `atomic compare`, and nothing else.
+pub fn is_compare(tokens: &[PlacedLexeme<'_>]) -> bool
+    ensures { result ≡ is_compare (all_kinds tokens.now) }
+{
+    match tokens {
+        [_, _, word, compare, end] => {
+            is_name(word.lexeme, b"atomic")
+                && is_name(compare.lexeme, b"compare")
+                && same_lexeme(Lexeme::Ended, end.lexeme)
+        }
         _ => false,
     }
 }
@@ -82,7 +96,16 @@ pub fn atomic_line<'a>(
     Ok(LineTokens::of(tokens))
 }
 
-/// The line in front of an update that a reduction sums up.
+/// A line `atomic compare` as `atomic update`.
+pub fn compare_line<'a>(alloc: Global, line: &LineTokens<'a>) -> Result<LineTokens<'a>, AllocError>
+    requires { is_compare (kinds_of (seen_line line.now)) ≡ true }
+    ensures { IfOk result (λ l. seen_line l ≡ atomic_tokens true (seen_line line.now)) }
+{
+    let tokens = atomic_tokens(alloc, true, line.tokens())?;
+    Ok(LineTokens::of(tokens))
+}
+
+/// The line in front of an update that a reduction gathers.
 pub fn mark_at<'a>(alloc: Global, token: Token<'a, '_>) -> Result<Written<'a>, AllocError>
     ensures { IfOk result (λ w. seen_written w ≡ mark_at (seen token.entry)) }
 {

@@ -60,7 +60,8 @@ fn sign_at(rest: Ahead<'_, '_, '_>) -> Option<Sign>
     sign_of(ahead.next()?.terminal)
 }
 
-fn equal(left: Terminal<'_, '_>, right: Terminal<'_, '_>) -> bool
+/// Whether the tokens are the same, but for their places.
+pub fn equal(left: Terminal<'_, '_>, right: Terminal<'_, '_>) -> bool
     ensures { result ≡ equal (seen_terminal left.entry) (seen_terminal right.entry) }
 {
     match (left, right) {

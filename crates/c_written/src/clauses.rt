@@ -1,7 +1,7 @@
 //! A directive line with the map types that its clauses leave out, and without the clauses that say what holds anyway.
 
 ghost use Rattle.std.specs.Prelude.{◌≡◌, ◌<◌, ◌^◌, ◌++◌, IfOk, map};
-ghost use Rattle.c_grammar.specs.Clauses.{after_item, at_begin, begins_clause, behind_first, BeforeName, are_items, clauses_from, clauses_in_full, default_len, first_sign, first_word, has_body, has_nowait, has_threads, part_after, place_after, scope_of, type_for, type_step, with_comma};
+ghost use Rattle.c_grammar.specs.Clauses.{after_item, at_begin, begins_clause, behind_first, BeforeName, are_items, clauses_from, clauses_in_full, default_len, first_sign, first_word, has_body, has_nowait, has_threads, is_default, part_after, place_after, scope_of, type_for, type_step, with_comma};
 ghost use Rattle.c_grammar.specs.LineForms.{begins_word, is_worded};
 ghost use Rattle.directives.specs.Ahead.{seen_line};
 ghost use Rattle.directives.specs.Seen.{seen_lexeme};
@@ -156,7 +156,7 @@ fn scope_of<'v, 'a>(
 
 // ---- the clauses that are left out
 
-fn is_worded(lexeme: Lexeme<'_>) -> bool
+pub fn is_worded(lexeme: Lexeme<'_>) -> bool
     ensures { result ≡ is_worded (seen_lexeme lexeme.entry) }
 {
     match lexeme {
@@ -184,15 +184,20 @@ fn begins_clause(rest: &[PlacedLexeme<'_>]) -> bool
     }
 }
 
-/// How many tokens `shared` and the bracket behind it are, and the bracket of `default`.
+// What may stand in the brackets of `default`.
+fn is_default(lexeme: Lexeme<'_>) -> bool
+    ensures { result ≡ is_default (seen_lexeme lexeme.entry) }
+{
+    is_name(lexeme, b"shared".as_slice()) || is_name(lexeme, b"none".as_slice())
+}
+
+/// How many tokens such a word and the bracket behind it are, and the bracket of `default`.
 fn default_len(rest: &[PlacedLexeme<'_>]) -> Option<usize>
     ensures { result ≡ default_len (all_placed rest.now) }
 {
     match rest {
         [word, bracket, ..] => {
-            if is_name(word.lexeme, b"shared".as_slice())
-                && is_sign(bracket.lexeme, Sign::CloseParen)
-            {
+            if is_default(word.lexeme) && is_sign(bracket.lexeme, Sign::CloseParen) {
                 Some(3)
             } else {
                 None

@@ -40,7 +40,7 @@ pub struct Found<'a> {
     others: Names<'a>,
 }
 
-fn is_type(terminal: Terminal<'_, '_>) -> bool
+pub fn is_type(terminal: Terminal<'_, '_>) -> bool
     ensures { result ≡ is_type (seen_terminal terminal.entry) }
 {
     terminal.is_word(Word::Uint64) || terminal.is_word(Word::Int)

@@ -22,7 +22,7 @@ enum Before {
 }
 
 // Whether `NAME =` follows.
-fn is_given(start: Ahead<'_, '_, '_>) -> bool
+pub fn is_given(start: Ahead<'_, '_, '_>) -> bool
     ensures { result ≡ is_given (ahead start.entry) }
 {
     let mut ahead = start;

@@ -1,7 +1,8 @@
 //! A directive line with its constants worked out, and with what it may leave out.
 
-ghost use Rattle.std.specs.Prelude.{◌≡◌, ◌++◌, [], IfOk, MatchOption, None, Some, drop, map};
+ghost use Rattle.std.specs.Prelude.{◌≡◌, ◌++◌, ◌||◌, [], IfOk, MatchOption, None, Some, drop, map};
 ghost use Rattle.std.specs.Option.{option_map};
+ghost use Rattle.c_tokens.specs.declared.kind.Sign.TheVariants as sign;
 ghost use Rattle.c_grammar.specs.Lexeme.{Worded, same};
 ghost use Rattle.c_grammar.specs.Expressions.{as_items, as_terminal};
 ghost use Rattle.c_grammar.specs.LineForms.{begins_bound, begins_number, clause_of, ends_clause, is_element, is_inside, is_sign, lacks_colon, last_is, line_from, line_in_full, needs_work, several, takes_element, takes_number, word_at, worth};
@@ -15,6 +16,7 @@ ghost use Rattle.c_written.specs.Work.{seen_worked};
 
 use crate::clauses::begins_word;
 use crate::expressions::{Worked, expression};
+use crate::products::{or_product, product, put_word};
 use crate::stack::Stack;
 use crate::values::Values;
 use c_terminals::{Terminal, Token};
@@ -186,6 +188,13 @@ fn begins_bound(past: &Stack<Lexeme<'_>>) -> bool
     last_is(past, Sign::OpenBracket) || (last_is(past, Sign::Colon) && lacks_colon(past, 1))
 }
 
+/// Whether a term begins, behind others.
+fn begins_term(past: &Stack<Lexeme<'_>>) -> bool
+    ensures { result ≡ (last_is sign.Plus (line_past past.now) || last_is sign.Minus (line_past past.now)) }
+{
+    last_is(past, Sign::Plus) || last_is(past, Sign::Minus)
+}
+
 /// Whether a clause has a number in brackets.
 fn takes_number(word: &[u8]) -> bool
     ensures { result ≡ takes_number word.now }
@@ -332,7 +341,8 @@ impl<'v, 'a> Forms<'v, 'a> {
         }
     }
 
-    /// The constant expression that a bound is: how many tokens it has, and its value.
+    /// The constant expression that a bound is, or that one of its terms begins with: how many tokens it has, and its
+    /// value.
     fn bound(
         &self,
         rest: &[PlacedLexeme<'a>],
@@ -343,7 +353,11 @@ impl<'v, 'a> Forms<'v, 'a> {
             bound_at (seen_values self.now.values.now) (line_past self.now.past) (all_placed rest.now)) }
     {
         if begins_bound(&self.past) {
-            return Ok(worth(expression(self.alloc, self.values, false, tokens)?, rest));
+            let bound = worth(expression(self.alloc, self.values, false, tokens)?, rest);
+            return Ok(or_product(self.alloc, self.values, rest, bound)?);
+        }
+        if begins_term(&self.past) {
+            return Ok(product(self.alloc, self.values, rest)?);
         }
         if begins_number(&self.past) {
             return Ok(several(expression(self.alloc, self.values, false, tokens)?));
@@ -413,19 +427,6 @@ impl<'v, 'a> Forms<'v, 'a> {
         }
     }
 
-    /// The token, with its number where it is a constant's name.
-    fn put(&self, lexeme: Lexeme<'a>) -> Lexeme<'a>
-        ensures { seen_lexeme result ≡ put_word (seen_values self.now.values.now) (seen_lexeme lexeme.entry) }
-    {
-        match lexeme {
-            Lexeme::Name(word) => match self.values.value(word) {
-                Some(n) => Lexeme::Number(n),
-                None => lexeme,
-            },
-            _ => lexeme,
-        }
-    }
-
     /// A token by itself, behind what is left out before it.
     fn plain(&mut self, lexeme: Lexeme<'a>, column: usize) -> Result<(), AllocError>
         ensures done { OnOk result (all_placed self.new.done.items ≡ all_placed self.old.done.items ++
@@ -434,7 +435,7 @@ impl<'v, 'a> Forms<'v, 'a> {
             (seen_values self.old.lengths.now) (line_past self.old.past) (seen_lexeme lexeme.entry)) (line_past self.old.past)) }
         ensures same { OnOk result (IsSameForm self.old self.new) }
     {
-        let put = self.put(lexeme);
+        let put = put_word(self.values, lexeme);
         self.write_left_out(lexeme, column)?;
         self.write(put, column)
     }

@@ -2,17 +2,18 @@
 
 ghost use Rattle.std.specs.Prelude.{◌≡◌, ◌∷◌, ◌++◌, [], map, IfOk, OnOk};
 ghost use Rattle.std.specs.Option.{option_map};
-ghost use Rattle.c_grammar.specs.Updates.{AtName, all_mapped, is_combined, is_number, listed, mapped_words, none_mapped, reduction_at};
+ghost use Rattle.c_grammar.specs.Updates.{AtName, all_mapped, is_combined, is_number, listed, mapped_words, none_mapped, operation_of, reduction_at};
 ghost use Rattle.directives.specs.Seen.{seen_lexeme};
 ghost use Rattle.c_written.specs.Forms.{all_placed};
 ghost use Rattle.c_written.specs.Reductions.{seen_reduction};
+ghost use Rattle.c_written.specs.Regions.{seen_operation};
 ghost use Rattle.c_written.specs.Spots.{all_kinds};
 
 use crate::cell_updates::commutes;
 use crate::line_forms::{is_name, is_sign};
 use crate::nesting::name_len;
 use crate::presence::{is_mapped, is_target};
-use crate::regions::are_summed;
+use crate::regions::{Operation, are_summed};
 use c_terminals::Token;
 use c_tokens::Sign;
 use directives::{Lexeme, PlacedLexeme};
@@ -92,7 +93,7 @@ impl Slot {
 /// A reduction: its operator, its arrays, the last one first, and how many tokens the clause has.
 #[derive(Drop)]
 struct Reduction<'a> {
-    op: Sign,
+    op: Operation,
     names: Vec<&'a [u8]>,
     len: usize,
 }
@@ -100,10 +101,10 @@ struct Reduction<'a> {
 // Behind the colon of the clause.
 fn listed<'a>(
     alloc: Global,
-    op: Sign,
+    op: Operation,
     tokens: &[PlacedLexeme<'a>],
 ) -> Result<Option<Reduction<'a>>, AllocError>
-    ensures { IfOk result (λ o. option_map seen_reduction o ≡ listed op [] 4 AtName (all_kinds tokens.now)) }
+    ensures { IfOk result (λ o. option_map seen_reduction o ≡ listed (seen_operation op) [] 4 AtName (all_kinds tokens.now)) }
 {
     let mut names = Vec::new(alloc);
     let mut len = 4usize;
@@ -126,6 +127,21 @@ fn listed<'a>(
     Ok(None)
 }
 
+fn operation_of(lexeme: Lexeme<'_>) -> Option<Operation>
+    ensures { option_map seen_operation result ≡ operation_of (seen_lexeme lexeme.entry) }
+{
+    if let Lexeme::Sign(op) = lexeme {
+        return if commutes(op) { Some(Operation::BySign(op)) } else { None };
+    }
+    if is_name(lexeme, b"max") {
+        return Some(Operation::ByExtreme(true));
+    }
+    if is_name(lexeme, b"min") {
+        return Some(Operation::ByExtreme(false));
+    }
+    None
+}
+
 // The clause at the front.
 fn reduction_at<'a>(
     alloc: Global,
@@ -142,13 +158,10 @@ fn reduction_at<'a>(
     if !is_sign(colon.lexeme, Sign::Colon) {
         return Ok(None);
     }
-    let Lexeme::Sign(op) = sign.lexeme else {
-        return Ok(None);
-    };
-    if !commutes(op) {
-        return Ok(None);
+    match operation_of(sign.lexeme) {
+        Some(op) => listed(alloc, op, list),
+        None => Ok(None),
     }
-    listed(alloc, op, list)
 }
 
 fn all_mapped(names: &[&[u8]], tokens: &[PlacedLexeme<'_>]) -> bool
@@ -222,13 +235,14 @@ impl<'a, 'l, 's> Construct<'a, 'l, 's> {
     ghost use Rattle.c_written.specs.Spots.{all_kinds};
 
     // Whether the arrays stand in updates by the operator alone, and all of them are mapped by the line, or none.
-    fn is_taken(self, reduction: &Reduction<'a>) -> bool
-        ensures { result ≡ is_taken (all_kinds self.entry.line.now) (seen_all self.entry.region.now) (seen_reduction reduction.now) }
+    fn is_taken(self, alloc: Global, reduction: &Reduction<'a>) -> Result<bool, AllocError>
+        ensures { IfOk result (λ b. b ≡
+            is_taken (all_kinds self.entry.line.now) (seen_all self.entry.region.now) (seen_reduction reduction.now)) }
     {
-        if !are_summed(&reduction.names, reduction.op, self.region) {
-            return false;
+        if !are_summed(alloc, &reduction.names, reduction.op, self.region)? {
+            return Ok(false);
         }
-        all_mapped(&reduction.names, self.line) || none_mapped(&reduction.names, self.line)
+        Ok(all_mapped(&reduction.names, self.line) || none_mapped(&reduction.names, self.line))
     }
 
     // The clause that is taken at the front.
@@ -243,7 +257,7 @@ impl<'a, 'l, 's> Construct<'a, 'l, 's> {
         let Some(reduction) = reduction_at(alloc, tokens)? else {
             return Ok(None);
         };
-        if self.is_taken(&reduction) {
+        if self.is_taken(alloc, &reduction)? {
             return Ok(Some(reduction));
         }
         Ok(None)

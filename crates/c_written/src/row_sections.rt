@@ -77,10 +77,10 @@ fn bound_at(columns: u64, lexeme: Lexeme<'_>) -> At
     if is_sign(lexeme, Sign::CloseBracket) {
         return At::Behind(columns);
     }
-    At::Within(
-        columns,
-        is_sign(lexeme, Sign::Colon) || is_sign(lexeme, Sign::Plus),
-    )
+    let term = is_sign(lexeme, Sign::Colon)
+        || is_sign(lexeme, Sign::Plus)
+        || is_sign(lexeme, Sign::Minus);
+    At::Within(columns, term)
 }
 
 // Behind a token, before others.

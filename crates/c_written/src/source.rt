@@ -23,6 +23,8 @@ ghost use Rattle.c_grammar.specs.Prints.{printed};
 ghost use Rattle.c_grammar.specs.Privates.{owned};
 ghost use Rattle.c_grammar.specs.Source.{item_of, text_of, written_out};
 ghost use Rattle.c_grammar.specs.Structs.{in_rows};
+ghost use Rattle.c_grammar.specs.Triangles.{rectangular};
+ghost use Rattle.c_grammar.specs.Lasting.{lasting};
 ghost use Rattle.c_grammar.specs.Unset.{zeroed};
 ghost use Rattle.c_grammar.specs.Updates.{Outside, commuting};
 ghost use Rattle.c_terminals.specs.Held.{columns_held, seen_held, written_all};
@@ -46,6 +48,7 @@ use crate::pointed::pointed;
 use crate::prints::printed;
 use crate::privates::owned;
 use crate::types::typed;
+use crate::lasting::lasting;
 use crate::unset::zeroed;
 use crate::updates::commuting;
 use c_choices::chosen;
@@ -54,6 +57,7 @@ use c_macros::replaced;
 use c_structs::in_rows;
 use c_terminals::{Written, WrittenTerminal, borrowed};
 use c_tokens::{Kind, Token, tokens};
+use c_triangles::rectangular;
 use directives::{LineTokens, word_of};
 use std::alloc::{AllocError, Global};
 
@@ -112,7 +116,7 @@ fn raw<'a>(alloc: Global, bytes: &'a [u8]) -> Result<Vec<Written<'a>>, AllocErro
 /// and constants, and without the lines that declare functions and the clauses `private`.
 fn with_constants<'a>(alloc: Global, raw: &[Written<'a>]) -> Result<Vec<Written<'a>>, AllocError>
     ensures { IfOk result (λ v. written_all v.items ≡
-        worked [] [] 0 (settled Other (zeroed (owned (counted (in_blocks nothing_read (undeclared false (in_rows (typed 0 (printed 0 (nested (replaced (written_all raw.now))))))))))))) }
+        worked [] [] 0 (settled Other (zeroed (lasting (owned (counted (in_blocks nothing_read (undeclared false (in_rows (typed 0 (printed 0 (nested (replaced (written_all raw.now)))))))))))))) }
 {
     let tokens = borrowed(alloc, raw)?;
     let tokens = replaced(alloc, &tokens)?;
@@ -126,24 +130,26 @@ fn with_constants<'a>(alloc: Global, raw: &[Written<'a>]) -> Result<Vec<Written<
     let tokens = counted(alloc, &tokens)?;
     let tokens = owned(alloc, &tokens)?;
     let tokens = borrowed(alloc, &tokens)?;
+    let tokens = lasting(alloc, &tokens)?;
     let tokens = zeroed(alloc, &tokens)?;
     let tokens = settled(alloc, &tokens)?;
     worked(alloc, &tokens)
 }
 
-/// The tokens without clauses `if`, loops that end by a condition, conditional operators, definitions, arrays of several
-/// dimensions, allocations and initializers, with the boxed scalars, the updates that commute, and with their changes in
-/// full.
+/// The tokens without clauses `if`, loops that end by a condition, loops whose bounds name others, conditional operators,
+/// definitions, arrays of several dimensions, allocations and initializers, with the boxed scalars, the updates that
+/// commute, and with their changes in full.
 fn with_changes<'a>(alloc: Global, called: &[Written<'a>]) -> Result<Vec<Written<'a>>, AllocError>
     ensures { IfOk result (λ v. written_all v.items ≡
         announced (in_full begin 0 (initialized no_globals 0
         (allocated (commuting Outside (boxed (flat false [] [] [] 0 (flat true [] [] [] 0 (undefined [] 0 0
-        (chosen (looped (decided (written_all called.now))))))))))))) }
+        (chosen (rectangular (looped (decided (written_all called.now)))))))))))))) }
 {
     let tokens = borrowed(alloc, called)?;
     let tokens = decided(alloc, &tokens)?;
     let tokens = borrowed(alloc, &tokens)?;
     let tokens = looped(alloc, &tokens)?;
+    let tokens = rectangular(alloc, &tokens)?;
     let tokens = chosen(alloc, &tokens)?;
     let tokens = undefined(alloc, &tokens)?;
     let tokens = flat(alloc, true, &tokens)?;

@@ -1,18 +1,19 @@
-//! Updates that commute: where a reduction clause sums them up, each is an atomic update in its place.
+//! Updates that commute: where a reduction clause gathers them, each is an atomic update in its place.
 
-ghost use Rattle.std.specs.Prelude.{◌≡◌, IfOk, true};
+ghost use Rattle.std.specs.Prelude.{◌≡◌, IfOk, map, true};
 ghost use Rattle.c_grammar.specs.Blocks.{is_directive};
-ghost use Rattle.c_grammar.specs.Updates.{Outside, commuting, reduced};
+ghost use Rattle.c_grammar.specs.Updates.{Outside, commuting, has_extreme, is_changed, reduced};
 ghost use Rattle.directives.specs.Ahead.{seen_line};
 ghost use Rattle.directives.specs.Spells.{kinds_of};
 ghost use Rattle.c_terminals.specs.Held.{seen_written, written_all};
 ghost use Rattle.c_terminals.specs.Seen.{seen, seen_all, seen_terminal};
 ghost use Rattle.c_written.specs.Updates.{line_put};
 
-use crate::atomics::{atomic_line, is_atomic, mark_at};
-use crate::cell_updates::has_update;
+use crate::atomics::{atomic_line, compare_line, is_atomic, is_compare, mark_at};
+use crate::cell_updates::{commutes, has_update, update};
+use crate::extremes::extreme_at;
 use crate::reductions::{Construct, is_combined};
-use crate::regions::Place;
+use crate::regions::{Place, is_if};
 use c_terminals::{Ahead, Terminal, Token, Written, WrittenTerminal, is_among};
 use directives::LineTokens;
 use std::alloc::{AllocError, Global};
@@ -30,6 +31,49 @@ fn reduced_line<'a>(
         region,
     };
     Ok(LineTokens::of(construct.reduced(alloc)?))
+}
+
+// Whether an `if` follows that stores the greater or the lesser of two numbers, without an `else`.
+fn has_extreme(alloc: Global, rest: &[Token<'_, '_>]) -> Result<bool, AllocError>
+    ensures { IfOk result (λ b. b ≡ has_extreme (seen_all rest.now)) }
+{
+    let [first, behind @ ..] = rest else {
+        return Ok(false);
+    };
+    if !is_if(first.terminal) {
+        return Ok(false);
+    }
+    match extreme_at(alloc, behind)? {
+        Some(extreme) => Ok(extreme.mentions == 2),
+        None => Ok(false),
+    }
+}
+
+// Whether an update of one of the names begins at the token, before others.
+fn is_changed(
+    alloc: Global,
+    names: &[&[u8]],
+    token: Token<'_, '_>,
+    rest: &[Token<'_, '_>],
+) -> Result<bool, AllocError>
+    ensures { IfOk result (λ b. b ≡ is_changed (map (λ x. x.now) names.now) (seen token.entry) (seen_all rest.now)) }
+{
+    if is_if(token.terminal) {
+        return match extreme_at(alloc, rest)? {
+            Some(extreme) => Ok(is_among(names, extreme.name)),
+            None => Ok(false),
+        };
+    }
+    let Terminal::Name(name) = token.terminal else {
+        return Ok(false);
+    };
+    if !is_among(names, name) {
+        return Ok(false);
+    }
+    match update(name, Ahead::new(rest)) {
+        Some(op) => Ok(commutes(op)),
+        None => Ok(false),
+    }
 }
 
 // A directive line as it is put.
@@ -59,6 +103,13 @@ fn line_put<'a>(
             column: token.column,
         });
     }
+    if is_compare(line.tokens()) && has_extreme(alloc, behind)? {
+        return Ok(Written {
+            terminal: WrittenTerminal::Line(compare_line(alloc, line)?),
+            line: token.line,
+            column: token.column,
+        });
+    }
     Written::of(alloc, token)
 }
 
@@ -67,14 +118,14 @@ fn line_put<'a>(
 struct Updates<'a> {
     alloc: Global,
     done: Vec<Written<'a>>,
-    /// The arrays that are summed up in the region of a construct.
+    /// The arrays that the clauses of a construct gather.
     names: Vec<&'a [u8]>,
     /// The place in that region; none outside of one.
     place: Option<Place>,
 }
 
 impl<'a> Updates<'a> {
-    ghost use Rattle.std.specs.Prelude.{◌≡◌, ◌≤◌, ◌<◌, ◌+◌, ◌^◌, ◌∷◌, ◌++◌, [], false, true, OnOk};
+    ghost use Rattle.std.specs.Prelude.{◌≡◌, ◌≤◌, ◌<◌, ◌+◌, ◌^◌, ◌∷◌, ◌++◌, [], false, true, IfOk, OnOk};
     ghost use Rattle.c_grammar.specs.Blocks.{is_directive};
     ghost use Rattle.c_grammar.specs.Updates.{mark_at};
     ghost use Rattle.c_terminals.specs.Held.{written_all};
@@ -124,17 +175,21 @@ impl<'a> Updates<'a> {
         Ok(())
     }
 
-    /// Whether a line is put in front of the token.
-    fn is_marked(&self, token: Token<'a, '_>) -> bool
-        ensures { result ≡ is_marked (region_of self.now) (seen token.entry).terminal }
+    /// Whether a line is put in front of the token, before others.
+    fn is_marked(
+        &self,
+        token: Token<'a, '_>,
+        behind: &[Token<'a, '_>],
+    ) -> Result<bool, AllocError>
+        ensures { IfOk result (λ b. b ≡ is_marked (region_of self.now) (seen token.entry) (seen_all behind.now)) }
     {
         let Some(place) = self.place else {
-            return false;
+            return Ok(false);
         };
-        let Terminal::Name(name) = token.terminal else {
-            return false;
-        };
-        place.starts && is_among(&self.names, name)
+        if !place.starts {
+            return Ok(false);
+        }
+        is_changed(self.alloc, &self.names, token, behind)
     }
 
     /// The region goes on behind the token, or ends.
@@ -157,7 +212,7 @@ impl<'a> Updates<'a> {
             (with_updates self.old (seen token.entry ∷ seen_all behind.now) ≡ with_updates self.new (seen_all behind.now)) }
         ensures few { OnOk result (depth_of self.new ≤ depth_of self.old + 1) }
     {
-        if self.is_marked(token) {
+        if self.is_marked(token, behind)? {
             self.done.push(mark_at(self.alloc, token)?)?;
         }
         self.done.push(Written::of(self.alloc, token)?)?;
@@ -166,7 +221,7 @@ impl<'a> Updates<'a> {
     }
 }
 
-/// The tokens, where each update that a reduction sums up is atomic, and `atomic` before an update is `atomic update`.
+/// The tokens, where each update that a reduction gathers is atomic, and `atomic` before an update is `atomic update`.
 pub fn commuting<'a>(
     alloc: Global,
     tokens: &[Token<'a, '_>],

@@ -10,8 +10,8 @@ use crate::request::{Color, Explain, Format, Request, Run, Step, Workers};
 use clap::{Arg, ArgAction, ArgMatches, Command, Error, value_parser};
 use std::alloc::{AllocError, Global};
 
-/// The version of the program, and behind it the kit that proves and builds it.
-const VERSION: &str = "0.1.0 (rattle-kit-13f logic dac8208d650f15bf)";
+/// The version of the program, and behind it the logic of the kit that proves it, by its checksum.
+const VERSION: &str = "0.1.0 (logic dac8208d650f15bf)";
 
 /// The device's capacity in cells, where none is given.
 const DEFAULT_CAPACITY: u64 = 4_194_304;

@@ -1,19 +1,23 @@
 -- The machine at the tokens of a bound.
-use Rattle.std.proofs.Common.{◌≡◌, ℕ, Bool, true, false, List, ◌∷◌, Option, Some, None, refl, ap, ◌∙◌}
+use Rattle.std.proofs.Common.{◌≡◌, ℕ, Bool, true, false, cond, List, ◌∷◌, Option, Some, None, refl, ap, ◌∙◌}
 use Rattle.c_tokens.specs.declared.kind.Sign.TheVariants as sign
 use Rattle.base.specs.declared.fault.ReadCode.{ReadCode as Code}
 use Rattle.base.specs.declared.fault.ReadCode.TheVariants.{BadNumber, BadBound}
 use Rattle.c_grammar.specs.Lexeme.{Lexeme, Reserved, Signed, Worded, Numbered, Strange, Ended, same}
 use Rattle.c_grammar.specs.Texts.{Item, next_of}
 use Rattle.c_grammar.specs.Machine.{Found, judged, run as machine_run}
-use Rattle.c_grammar.specs.LineGrammar.{LineAct, Plain, Opens, Begins, BeginsNamed, Times, of}
+use Rattle.c_grammar.specs.LineGrammar.{LineAct, Plain, Opens, Begins, BeginsNamed, Times, before_term, of}
 use Rattle.c_grammar.specs.LineRules.{LineContext, line_grammar}
-use Rattle.c_grammar.specs.LineMachine.{LineStack, Terms, AfterNumber, AfterTerm, AfterItem, AfterName, Factor, line_advance, line_place, line_machine}
+use Rattle.c_grammar.specs.LineMachine.{LineStack, Terms, AfterNumber, AfterTerm, AfterItem, AfterName, Factor, closed, closing_sign, line_advance, line_place, line_machine}
 use Rattle.directives.specs.declared.line.Line.{Line}
 use Rattle.directives.specs.declared.known.Act.TheVariants as act
+use Rattle.directives.specs.declared.tree.TermSign.{TermSign}
+use Rattle.directives.specs.declared.tree.TermSign.TheVariants.{Added, Taken}
+use Rattle.directives.specs.Kinds.{seen_sign}
 use Rattle.directives.specs.Known.{known_of, broken_by}
 use Rattle.directives.specs.Cursor.{first_item, behind}
 use Rattle.directives.specs.Reading.{run, rest, took, fault_at, misfit_at, found_fault}
+use Rattle.directives.specs.Trees.{sign_before}
 use Rattle.directives.proofs.Moves.{goes, stops, took_broken}
 
 -- ---- a term
@@ -145,58 +149,91 @@ stop_factor l s h = stops l (Factor ∷ s) BadBound (factor_none s (first_item l
 
 -- ---- behind a term
 
-plus_goes : (b : Bool) (a : LineAct) (s : LineStack) (t : Lexeme) → same (Signed sign.Plus) t ≡ true →
+-- whether a token is a plus, and a minus
+abbrev sign_of : Bool → Bool → Option TermSign
+sign_of p m = cond p (Some Added) (cond m (Some Taken) None)
+
+sign_goes : (b : Bool) (a : LineAct) (s : LineStack) (t : Lexeme) (g : TermSign) (p m : Bool) →
+    same (Signed sign.Plus) t ≡ p → same (Signed sign.Minus) t ≡ m → sign_of p m ≡ Some g →
     line_advance (AfterTerm b a ∷ s) t ≡ Some (of BadBound Plain, Terms b a ∷ s)
 unfolding line_advance
-plus_goes b a s t e = rw e refl
+sign_goes b a s t g true m e f h = rw e refl
+sign_goes b a s t g false true e f h = rw (e, f) refl
+sign_goes b a s t g false false e f h = absurd cc
 
-pub at_plus : (l : Line) (b : Bool) (a : LineAct) (s : LineStack) →
-    same (Signed sign.Plus) (first_item l).terminal ≡ true →
+pub at_sign : (l : Line) (g : TermSign) (b : Bool) (a : LineAct) (s : LineStack) →
+    sign_before (first_item l).terminal ≡ Some g →
     rest l (AfterTerm b a ∷ s) ≡ took l (of BadBound Plain) (Terms b a ∷ s)
-at_plus l b a s e = goes l (AfterTerm b a ∷ s) (Terms b a ∷ s) (of BadBound Plain)
-    (plus_goes b a s (first_item l).terminal e)
+at_sign l g b a s h = goes l (AfterTerm b a ∷ s) (Terms b a ∷ s) (of BadBound Plain)
+    (sign_goes b a s (first_item l).terminal g (same (Signed sign.Plus) (first_item l).terminal)
+    (same (Signed sign.Minus) (first_item l).terminal) refl refl h)
 
-colon_goes : (a : LineAct) (s : LineStack) (t : Lexeme) → same (Signed sign.Plus) t ≡ false →
+-- the token is that sign
+named_sign : (t : Lexeme) (g : TermSign) (p m : Bool) → same (Signed sign.Plus) t ≡ p →
+    same (Signed sign.Minus) t ≡ m → sign_of p m ≡ Some g → same (Signed (before_term (seen_sign g))) t ≡ true
+named_sign t Added true m e f h = e
+named_sign t Taken true m e f h = absurd cc
+named_sign t Added false true e f h = absurd cc
+named_sign t Taken false true e f h = f
+named_sign t g false false e f h = absurd cc
+
+pub is_sign_before : (l : Line) (g : TermSign) → sign_before (first_item l).terminal ≡ Some g →
+    same (Signed (before_term (seen_sign g))) (first_item l).terminal ≡ true
+is_sign_before l g h = named_sign (first_item l).terminal g (same (Signed sign.Plus) (first_item l).terminal)
+    (same (Signed sign.Minus) (first_item l).terminal) refl refl h
+
+neither : (p m : Bool) → sign_of p m ≡ None → (p ≡ false) × (m ≡ false)
+neither true m h = absurd cc
+neither false true h = absurd cc
+neither false false h = (refl, refl)
+
+-- behind a term that no sign follows
+ended : (z : Bool) (a : LineAct) (s : LineStack) (t : Lexeme) → sign_before t ≡ None →
+    line_advance (AfterTerm z a ∷ s) t ≡ cond (same (Signed (closing_sign z)) t) (closed z a s) None
+unfolding line_advance
+ended z a s t h = (let n = neither (same (Signed sign.Plus) t) (same (Signed sign.Minus) t) h in rw (n.0, n.1) refl)
+
+colon_goes : (a : LineAct) (s : LineStack) (t : Lexeme) → sign_before t ≡ None →
     same (Signed sign.Colon) t ≡ true → line_advance (AfterTerm false a ∷ s) t ≡ Some
     (of BadBound Opens, Terms true a ∷ s)
 unfolding line_advance
-colon_goes a s t p e = rw (p, e) refl
+colon_goes a s t p e = ended false a s t p ∙ rw e refl
 
-pub at_colon : (l : Line) (a : LineAct) (s : LineStack) → same (Signed sign.Plus) (first_item l).terminal ≡ false →
+pub at_colon : (l : Line) (a : LineAct) (s : LineStack) → sign_before (first_item l).terminal ≡ None →
     same (Signed sign.Colon) (first_item l).terminal ≡ true →
     rest l (AfterTerm false a ∷ s) ≡ took l (of BadBound Opens) (Terms true a ∷ s)
 at_colon l a s p e = goes l (AfterTerm false a ∷ s) (Terms true a ∷ s) (of BadBound Opens)
     (colon_goes a s (first_item l).terminal p e)
 
-bracket_goes : (a : LineAct) (s : LineStack) (t : Lexeme) → same (Signed sign.Plus) t ≡ false →
+bracket_goes : (a : LineAct) (s : LineStack) (t : Lexeme) → sign_before t ≡ None →
     same (Signed sign.CloseBracket) t ≡ true → line_advance (AfterTerm true a ∷ s) t ≡ Some
     (of BadBound Plain, AfterItem a ∷ s)
 unfolding line_advance
-bracket_goes a s t p e = rw (p, e) refl
+bracket_goes a s t p e = ended true a s t p ∙ rw e refl
 
-pub at_bracket : (l : Line) (a : LineAct) (s : LineStack) → same (Signed sign.Plus) (first_item l).terminal ≡ false →
+pub at_bracket : (l : Line) (a : LineAct) (s : LineStack) → sign_before (first_item l).terminal ≡ None →
     same (Signed sign.CloseBracket) (first_item l).terminal ≡ true →
     rest l (AfterTerm true a ∷ s) ≡ took l (of BadBound Plain) (AfterItem a ∷ s)
 at_bracket l a s p e = goes l (AfterTerm true a ∷ s) (AfterItem a ∷ s) (of BadBound Plain)
     (bracket_goes a s (first_item l).terminal p e)
 
-colon_none : (a : LineAct) (s : LineStack) (t : Lexeme) → same (Signed sign.Plus) t ≡ false →
+colon_none : (a : LineAct) (s : LineStack) (t : Lexeme) → sign_before t ≡ None →
     same (Signed sign.Colon) t ≡ false → line_advance (AfterTerm false a ∷ s) t ≡ None
 unfolding line_advance
-colon_none a s t p e = rw (p, e) refl
+colon_none a s t p e = ended false a s t p ∙ rw e refl
 
-pub stop_colon : (l : Line) (a : LineAct) (s : LineStack) → same (Signed sign.Plus) (first_item l).terminal ≡ false →
+pub stop_colon : (l : Line) (a : LineAct) (s : LineStack) → sign_before (first_item l).terminal ≡ None →
     same (Signed sign.Colon) (first_item l).terminal ≡ false →
     rest l (AfterTerm false a ∷ s) ≡ Some (misfit_at BadBound (first_item l))
 unfolding line_place
 stop_colon l a s p e = stops l (AfterTerm false a ∷ s) BadBound (colon_none a s (first_item l).terminal p e) refl
 
-bracket_none : (a : LineAct) (s : LineStack) (t : Lexeme) → same (Signed sign.Plus) t ≡ false →
+bracket_none : (a : LineAct) (s : LineStack) (t : Lexeme) → sign_before t ≡ None →
     same (Signed sign.CloseBracket) t ≡ false → line_advance (AfterTerm true a ∷ s) t ≡ None
 unfolding line_advance
-bracket_none a s t p e = rw (p, e) refl
+bracket_none a s t p e = ended true a s t p ∙ rw e refl
 
-pub stop_bracket : (l : Line) (a : LineAct) (s : LineStack) → same (Signed sign.Plus) (first_item l).terminal ≡ false →
+pub stop_bracket : (l : Line) (a : LineAct) (s : LineStack) → sign_before (first_item l).terminal ≡ None →
     same (Signed sign.CloseBracket) (first_item l).terminal ≡ false →
     rest l (AfterTerm true a ∷ s) ≡ Some (misfit_at BadBound (first_item l))
 unfolding line_place

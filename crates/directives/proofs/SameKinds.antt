@@ -11,6 +11,7 @@ use Rattle.c_grammar.specs.LineGrammar as grammar
 use Rattle.directives.specs.declared.tree.Modifier.{Modifier}
 use Rattle.directives.specs.declared.tree.Term.{Term}
 use Rattle.directives.specs.declared.tree.Term.TheVariants.{Literal, Variable, Product}
+use Rattle.directives.specs.declared.tree.SignedTerm.{SignedTerm}
 use Rattle.directives.specs.declared.tree.Bound.{Bound}
 use Rattle.directives.specs.declared.tree.Section.{Section}
 use Rattle.directives.specs.declared.tree.Sections.{Sections}
@@ -20,8 +21,8 @@ use Rattle.directives.specs.declared.tree.Directive.{Directive}
 use Rattle.directives.specs.declared.tree.DirectiveKind.{DirectiveKind as GivenKind}
 use Rattle.directives.specs.declared.tree.DirectiveKind.TheVariants as kind
 use Rattle.directives.specs.declared.tree.Construct.TheVariants as construct
-use Rattle.directives.specs.Kinds.{seen_kind, seen_modifier, seen_map, seen_depend, seen_motion}
-use Rattle.directives.specs.Trees.{Spelling, sign_mark, each_behind, term_of, bound_of, bounds_of, section_of, sections_of, clause_of, text_of, term_marks, bound_marks, second_marks, bounds_marks, section_marks, sections_marks, modifiers_marks, present_marks, type_marks, clause_marks, clauses_marks, kind_marks, line_marks}
+use Rattle.directives.specs.Kinds.{seen_kind, seen_sign, seen_modifier, seen_map, seen_depend, seen_motion}
+use Rattle.directives.specs.Trees.{Spelling, sign_mark, each_behind, term_of, signed_of, bound_of, bounds_of, section_of, sections_of, clause_of, text_of, term_marks, terms_marks, bound_marks, second_marks, bounds_marks, section_marks, sections_marks, modifiers_marks, present_marks, type_marks, clause_marks, clauses_marks, kind_marks, line_marks}
 
 abbrev pub ks : Spelling → List Lexeme
 ks xs = map (λ x. x.0) xs
@@ -46,16 +47,15 @@ term_same (Literal n) = refl
 term_same (Variable x) = refl
 term_same (Product n x) = refl
 
-terms_same : (ts : List Term) → ks (each_behind sign.Plus term_marks ts) ≡ ss (grammar.more_terms (map term_of ts))
+terms_same : (ts : List SignedTerm) → ks (terms_marks ts) ≡ ss (grammar.more_terms (map signed_of ts))
 terms_same [] = refl
-terms_same (t ∷ ts) = ap (λ (zs : List Lexeme). Signed sign.Plus ∷ zs) (both (term_marks t)
-    (each_behind sign.Plus term_marks ts) (grammar.term (term_of t)) (grammar.more_terms (map term_of ts)) (term_same t)
-    (terms_same ts))
+terms_same (t ∷ ts) = ap (λ (zs : List Lexeme). Signed (grammar.before_term (seen_sign t.sign)) ∷ zs)
+    (both (term_marks t.term) (terms_marks ts) (grammar.term (term_of t.term)) (grammar.more_terms (map signed_of ts))
+    (term_same t.term) (terms_same ts))
 
 bound_same : (b : Bound) → ks (bound_marks b) ≡ ss (grammar.bound (bound_of b))
-bound_same b = both (term_marks b.first) (each_behind sign.Plus term_marks b.more.items)
-    (grammar.term (term_of b.first))
-    (grammar.more_terms (map term_of b.more.items)) (term_same b.first) (terms_same b.more.items)
+bound_same b = both (term_marks b.first) (terms_marks b.more.items) (grammar.term (term_of b.first))
+    (grammar.more_terms (map signed_of b.more.items)) (term_same b.first) (terms_same b.more.items)
 
 -- the same, with the parts grouped otherwise
 regroup : (xs ys : Spelling) (us vs : grammar.LineSlots) (s : Sign) (r : Option Code × grammar.LineAct) → ks xs ≡

@@ -11,6 +11,7 @@ use Rattle.c_grammar.specs.Lines.{Use, OfArray, use_of}
 use Rattle.directives.specs.declared.tree.Modifier.{Modifier}
 use Rattle.directives.specs.declared.tree.Term.{Term}
 use Rattle.directives.specs.declared.tree.Term.TheVariants.{Literal, Variable, Product}
+use Rattle.directives.specs.declared.tree.SignedTerm.{SignedTerm}
 use Rattle.directives.specs.declared.tree.Bound.{Bound}
 use Rattle.directives.specs.declared.tree.Section.{Section}
 use Rattle.directives.specs.declared.tree.Sections.{Sections}
@@ -21,8 +22,8 @@ use Rattle.directives.specs.declared.tree.DirectiveKind.{DirectiveKind as GivenK
 use Rattle.directives.specs.declared.tree.DirectiveKind.TheVariants as kind
 use Rattle.directives.specs.declared.tree.Construct.TheVariants as construct
 use Rattle.directives.specs.Kinds.{seen_kind, seen_modifier, seen_map}
-use Rattle.directives.specs.Names.{Uses, each_names, term_names, bound_names, bounds_names, section_names, sections_names, clause_names, names_in}
-use Rattle.directives.specs.Trees.{Spelling, sign_mark, each_behind, term_of, bound_of, bounds_of, section_of, sections_of, clause_of, text_of, term_marks, bound_marks, second_marks, bounds_marks, section_marks, sections_marks, modifiers_marks, present_marks, type_marks, clause_marks, clauses_marks, kind_marks, line_marks}
+use Rattle.directives.specs.Names.{Uses, each_names, term_names, signed_names, bound_names, bounds_names, section_names, sections_names, clause_names, names_in}
+use Rattle.directives.specs.Trees.{Spelling, sign_mark, each_behind, term_of, signed_of, bound_of, bounds_of, section_of, sections_of, clause_of, text_of, term_marks, signed_marks, terms_marks, bound_marks, second_marks, bounds_marks, section_marks, sections_marks, modifiers_marks, present_marks, type_marks, clause_marks, clauses_marks, kind_marks, line_marks}
 
 abbrev Slots : Type 0
 Slots = grammar.LineSlots
@@ -87,17 +88,17 @@ term_tells n (Literal v) = refl
 term_tells n (Variable x) = (refl, refl)
 term_tells n (Product v x) = (refl, refl)
 
-terms_tell : (n : Lexeme) (ts : List Term) →
-    Tells (each_behind sign.Plus term_marks ts) (grammar.more_terms (map term_of ts)) n (each_names term_names ts)
+terms_tell : (n : Lexeme) (ts : List SignedTerm) →
+    Tells (terms_marks ts) (grammar.more_terms (map signed_of ts)) n (each_names signed_names ts)
 terms_tell n [] = refl
-terms_tell n (t ∷ ts) = tells_then n (term_marks t) (grammar.term (term_of t)) (term_names t)
-    (each_behind sign.Plus term_marks ts) (grammar.more_terms (map term_of ts)) (each_names term_names ts)
-    (term_tells _ t) (terms_tell n ts)
+terms_tell n (t ∷ ts) = tells_then n (term_marks t.term) (grammar.term (term_of t.term)) (term_names t.term)
+    (terms_marks ts) (grammar.more_terms (map signed_of ts)) (each_names signed_names ts) (term_tells _ t.term)
+    (terms_tell n ts)
 
 bound_tells : (n : Lexeme) (b : Bound) → Tells (bound_marks b) (grammar.bound (bound_of b)) n (bound_names b)
 bound_tells n b = tells_then n (term_marks b.first) (grammar.term (term_of b.first)) (term_names b.first)
-    (each_behind sign.Plus term_marks b.more.items) (grammar.more_terms (map term_of b.more.items))
-    (each_names term_names b.more.items) (term_tells _ b.first) (terms_tell n b.more.items)
+    (terms_marks b.more.items) (grammar.more_terms (map signed_of b.more.items))
+    (each_names signed_names b.more.items) (term_tells _ b.first) (terms_tell n b.more.items)
 
 bounds_tell : (n : Lexeme) (o : Option (Bound × Bound)) →
     Tells (bounds_marks o) (grammar.section (bounds_of o)) n (bounds_names o)

@@ -3,11 +3,13 @@ use Rattle.std.specs.Prelude.{◌≡◌, Bool, false, ◌&&◌}
 use Rattle.c_grammar.specs.Lexeme.{Lexeme, Worded}
 use Rattle.c_grammar.specs.LineMachine.{is_word, is_map_type}
 use Rattle.c_grammar.specs.LineGrammar as grammar
-use Rattle.c_grammar.specs.LineGrammar.{Modifier, Always, Present, modifier_word, takes_modifier, map_word, depend_word, map_types, Amount, Construct, ScheduleType, DirectiveKind, Target, Data, Enter, Exit, Update, Wait, AtomicUpdate, Combined, MapType, To, From, ToFrom, Alloc, Release, Delete, DependType, In, Out, InOut, MotionType, ToDevice, FromDevice}
+use Rattle.c_grammar.specs.LineGrammar.{Modifier, Always, Present, modifier_word, takes_modifier, map_word, depend_word, map_types, Amount, TermSign, Added, Taken, Construct, ScheduleType, DirectiveKind, Target, Data, Enter, Exit, Update, Wait, AtomicUpdate, Combined, MapType, To, From, ToFrom, Alloc, Release, Delete, DependType, In, Out, InOut, MotionType, ToDevice, FromDevice}
 use Rattle.directives.specs.declared.tree.DirectiveKind.{DirectiveKind as GivenKind}
 use Rattle.directives.specs.declared.tree.DirectiveKind.TheVariants as kind
 use Rattle.directives.specs.declared.tree.Amount.{Amount as GivenAmount}
 use Rattle.directives.specs.declared.tree.Amount.TheVariants as amount
+use Rattle.directives.specs.declared.tree.TermSign.{TermSign as GivenSign}
+use Rattle.directives.specs.declared.tree.TermSign.TheVariants as term_sign
 use Rattle.directives.specs.declared.tree.Construct.{Construct as GivenConstruct}
 use Rattle.directives.specs.declared.tree.Construct.TheVariants as construct
 use Rattle.directives.specs.declared.tree.ScheduleType.{ScheduleType as GivenSchedule}
@@ -28,6 +30,10 @@ seen_amount amount.ThreadLimit = grammar.ThreadLimit
 seen_amount amount.NumThreads = grammar.NumThreads
 seen_amount amount.SimdLen = grammar.SimdLen
 seen_amount amount.SafeLen = grammar.SafeLen
+
+abbrev pub seen_sign : GivenSign → TermSign
+seen_sign term_sign.Added = Added
+seen_sign term_sign.Taken = Taken
 
 abbrev pub seen_schedule : GivenSchedule → ScheduleType
 seen_schedule schedule.Static = grammar.Static

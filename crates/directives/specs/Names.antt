@@ -5,6 +5,7 @@ use Rattle.c_grammar.specs.Lines.{Use, OfArray, OfLoop, is_omp, kind_of, depth_o
 use Rattle.c_grammar.specs.Source.{nth}
 use Rattle.directives.specs.declared.tree.Term.{Term}
 use Rattle.directives.specs.declared.tree.Term.TheVariants.{Literal, Variable, Product}
+use Rattle.directives.specs.declared.tree.SignedTerm.{SignedTerm}
 use Rattle.directives.specs.declared.tree.Bound.{Bound}
 use Rattle.directives.specs.declared.tree.Section.{Section}
 use Rattle.directives.specs.declared.tree.Sections.{Sections}
@@ -29,8 +30,11 @@ term_names (Literal n) = []
 term_names (Variable x) = (x.column, OfLoop x.text.now) ∷ []
 term_names (Product n x) = (x.column, OfLoop x.text.now) ∷ []
 
+abbrev pub signed_names : SignedTerm → Uses
+signed_names t = term_names t.term
+
 abbrev pub bound_names : Bound → Uses
-bound_names b = term_names b.first ++ each_names term_names b.more.items
+bound_names b = term_names b.first ++ each_names signed_names b.more.items
 
 abbrev pub bounds_names : Option (Bound × Bound) → Uses
 bounds_names None = []

@@ -1,13 +1,16 @@
 -- What a directive stands for in the grammar: its tree, and the tokens that spell it with the columns of its names.
-use Rattle.std.specs.Prelude.{ℕ, Bool, true, false, List, [], ◌∷◌, ◌++◌, map, Option, Some, None, codes}
+use Rattle.std.specs.Prelude.{ℕ, Bool, true, false, if◌then◌else◌, List, [], ◌∷◌, ◌++◌, map, Option, Some, None, codes}
 use Rattle.c_tokens.specs.declared.kind.Sign.{Sign}
 use Rattle.c_tokens.specs.declared.kind.Sign.TheVariants as sign
-use Rattle.c_grammar.specs.Lexeme.{Lexeme, For, Reserved, Signed, Worded, Numbered, Ended}
+use Rattle.c_grammar.specs.Lexeme.{Lexeme, For, Reserved, Signed, Worded, Numbered, Ended, same}
 use Rattle.c_grammar.specs.LineGrammar as grammar
 use Rattle.directives.specs.declared.tree.Modifier.{Modifier}
 use Rattle.directives.specs.declared.tree.Name.{Name}
 use Rattle.directives.specs.declared.tree.Term.{Term}
 use Rattle.directives.specs.declared.tree.Term.TheVariants.{Literal, Variable, Product}
+use Rattle.directives.specs.declared.tree.TermSign.{TermSign}
+use Rattle.directives.specs.declared.tree.TermSign.TheVariants.{Added, Taken}
+use Rattle.directives.specs.declared.tree.SignedTerm.{SignedTerm}
 use Rattle.directives.specs.declared.tree.Bound.{Bound}
 use Rattle.directives.specs.declared.tree.Section.{Section}
 use Rattle.directives.specs.declared.tree.Sections.{Sections}
@@ -18,7 +21,7 @@ use Rattle.directives.specs.declared.tree.Construct.{Construct}
 use Rattle.directives.specs.declared.tree.Construct.TheVariants as construct
 use Rattle.directives.specs.declared.tree.DirectiveKind.{DirectiveKind as GivenKind}
 use Rattle.directives.specs.declared.tree.DirectiveKind.TheVariants as kind
-use Rattle.directives.specs.Kinds.{seen_amount, seen_schedule, seen_kind, seen_modifier, seen_map, seen_depend, seen_motion}
+use Rattle.directives.specs.Kinds.{seen_amount, seen_sign, seen_schedule, seen_kind, seen_modifier, seen_map, seen_depend, seen_motion}
 
 -- ---- the tree
 
@@ -27,8 +30,11 @@ term_of (Literal n) = grammar.Literal (Some n)
 term_of (Variable x) = grammar.Variable x.text.now
 term_of (Product n x) = grammar.Product (Some n) x.text.now
 
+abbrev pub signed_of : SignedTerm → grammar.SignedTerm
+signed_of t = (seen_sign t.sign, term_of t.term)
+
 abbrev pub bound_of : Bound → grammar.Bound
-bound_of b = (term_of b.first, map term_of b.more.items)
+bound_of b = (term_of b.first, map signed_of b.more.items)
 
 abbrev pub bounds_of : Option (Bound × Bound) → Option (grammar.Bound × grammar.Bound)
 bounds_of None = None
@@ -84,8 +90,21 @@ term_marks (Literal n) = number_mark n ∷ []
 term_marks (Variable x) = name_mark x ∷ []
 term_marks (Product n x) = number_mark n ∷ sign_mark sign.Star ∷ name_mark x ∷ []
 
+-- what a token does with the term behind it, if it is a sign before one
+abbrev pub sign_before : Lexeme → Option TermSign
+sign_before t =
+    if same (Signed sign.Plus) t then Some Added else (if same (Signed sign.Minus) t then Some Taken else None)
+
+-- a term and the sign before it
+abbrev pub signed_marks : SignedTerm → Spelling
+signed_marks t = sign_mark (grammar.before_term (seen_sign t.sign)) ∷ term_marks t.term
+
+abbrev pub terms_marks : List SignedTerm → Spelling
+terms_marks [] = []
+terms_marks (t ∷ ts) = signed_marks t ++ terms_marks ts
+
 abbrev pub bound_marks : Bound → Spelling
-bound_marks b = term_marks b.first ++ each_behind sign.Plus term_marks b.more.items
+bound_marks b = term_marks b.first ++ terms_marks b.more.items
 
 -- with the bracket before it and the colon behind it
 abbrev pub first_marks : Bound → Spelling

@@ -4,19 +4,19 @@ use crate::fault::DirectiveFault;
 use crate::known::Act;
 use crate::lexeme::Lexeme;
 use crate::line::Line;
-use crate::tree::{Bound, Name, Term};
+use crate::tree::{Bound, Name, SignedTerm, Term, TermSign};
 use base::fault::ReadCode;
 use c_tokens::Sign;
 
 impl<'a, 'l> Line<'a, 'l> {
-    ghost use Rattle.std.specs.Prelude.{◌≡◌, ◌∷◌, [], Bool, true, false, IfOk, OnOk, Some};
+    ghost use Rattle.std.specs.Prelude.{◌≡◌, ◌∷◌, [], Bool, true, false, IfOk, OnOk, Some, None};
     ghost use Rattle.c_tokens.specs.declared.kind.Sign.TheVariants as sign;
-    ghost use Rattle.c_grammar.specs.Lexeme.{Numbered, Signed, same};
+    ghost use Rattle.c_grammar.specs.Lexeme.{Numbered, Signed};
     ghost use Rattle.c_grammar.specs.LineGrammar.{LineAct};
     ghost use Rattle.c_grammar.specs.LineMachine.{LineStack, AfterItem, AfterName, AfterTerm, Factor, Terms};
     ghost use Rattle.directives.specs.Cursor.{behind, first_item, items};
     ghost use Rattle.directives.specs.Reading.{IsSpelled, Outcome, rest};
-    ghost use Rattle.directives.specs.Trees.{each_behind, name_mark, sign_mark, term_marks, bound_marks, first_marks, second_marks, bounds_marks};
+    ghost use Rattle.directives.specs.Trees.{name_mark, sign_before, signed_marks, term_marks, terms_marks, bound_marks, first_marks, second_marks, bounds_marks};
 
     /// A name that stands next, behind a factor.
     #[tactic(auto, using(crate::proofs::Outcomes::on_from, crate::proofs::Bounding::at_factor, crate::proofs::Bounding::stop_factor, crate::proofs::BoundsRead::read_name))]
@@ -66,26 +66,40 @@ impl<'a, 'l> Line<'a, 'l> {
         }
     }
 
-    /// The term behind a plus, which stands next.
-    #[tactic(auto, using(crate::proofs::Outcomes::on_from, crate::proofs::Bounding::at_plus, crate::proofs::Spellings::spelled_behind))]
-    fn term_behind(&mut self) -> Result<Term<'a>, DirectiveFault>
-        requires { same (Signed sign.Plus) (first_item self.old).terminal ≡ true }
-        ensures read { (second : Bool) (act : LineAct) (s : LineStack) → Outcome result (rest self.old (AfterTerm second act ∷ s)) (rest self.new (AfterTerm second act ∷ s)) }
-        ensures tree { IfOk result (λ t. IsSpelled (sign_mark sign.Plus ∷ term_marks t) (items self.old) (items self.new)) }
+    /// The sign before a term, where one stands next.
+    fn sign_before(&self) -> Option<TermSign>
+        ensures { result ≡ sign_before (first_item self.now).terminal }
     {
-        self.enter(Act::Plain)?;
-        self.term()
+        if self.at(Sign::Plus) {
+            return Some(TermSign::Added);
+        }
+        if self.at(Sign::Minus) {
+            Some(TermSign::Taken)
+        } else {
+            None
+        }
     }
 
-    /// Terms, each behind a plus.
-    fn more_terms(&mut self) -> Result<Vec<Term<'a>>, DirectiveFault>
+    /// The term behind a sign, which stands next.
+    #[tactic(auto, using(crate::proofs::Outcomes::on_from, crate::proofs::Bounding::at_sign, crate::proofs::BoundsRead::read_signed))]
+    fn signed_term(&mut self, sign: TermSign) -> Result<SignedTerm<'a>, DirectiveFault>
+        requires { sign_before (first_item self.old).terminal ≡ Some sign }
         ensures read { (second : Bool) (act : LineAct) (s : LineStack) → Outcome result (rest self.old (AfterTerm second act ∷ s)) (rest self.new (AfterTerm second act ∷ s)) }
-        ensures tree { IfOk result (λ more. IsSpelled (each_behind sign.Plus term_marks more.items) (items self.old) (items self.new)) }
-        ensures stops { OnOk result (same (Signed sign.Plus) (first_item self.new).terminal ≡ false) }
+        ensures tree { IfOk result (λ t. IsSpelled (signed_marks t) (items self.old) (items self.new)) }
+    {
+        self.enter(Act::Plain)?;
+        self.term().map(|term| SignedTerm { sign, term })
+    }
+
+    /// Terms, each behind a sign.
+    fn more_terms(&mut self) -> Result<Vec<SignedTerm<'a>>, DirectiveFault>
+        ensures read { (second : Bool) (act : LineAct) (s : LineStack) → Outcome result (rest self.old (AfterTerm second act ∷ s)) (rest self.new (AfterTerm second act ∷ s)) }
+        ensures tree { IfOk result (λ more. IsSpelled (terms_marks more.items) (items self.old) (items self.new)) }
+        ensures stops { OnOk result (sign_before (first_item self.new).terminal ≡ None) }
     {
         let mut more = Vec::new(self.alloc);
-        'terms: while self.at(Sign::Plus) {
-            let term = self.term_behind()?;
+        'terms: while let Some(sign) = self.sign_before() {
+            let term = self.signed_term(sign)?;
             more.push(term)?;
         }
         Ok(more)
@@ -96,7 +110,7 @@ impl<'a, 'l> Line<'a, 'l> {
     fn bound(&mut self) -> Result<Bound<'a>, DirectiveFault>
         ensures read { (second : Bool) (act : LineAct) (s : LineStack) → Outcome result (rest self.old (Terms second act ∷ s)) (rest self.new (AfterTerm second act ∷ s)) }
         ensures tree { IfOk result (λ b. IsSpelled (bound_marks b) (items self.old) (items self.new)) }
-        ensures stops { OnOk result (same (Signed sign.Plus) (first_item self.new).terminal ≡ false) }
+        ensures stops { OnOk result (sign_before (first_item self.new).terminal ≡ None) }
     {
         let first = self.term()?;
         let more = self.more_terms()?;
@@ -106,7 +120,7 @@ impl<'a, 'l> Line<'a, 'l> {
     /// The colon between the bounds.
     #[tactic(auto, using(crate::proofs::Outcomes::on_from, crate::proofs::Bounding::at_colon, crate::proofs::Bounding::stop_colon, crate::proofs::Moves::sign_is))]
     fn colon(&mut self) -> Result<(), DirectiveFault>
-        requires { same (Signed sign.Plus) (first_item self.old).terminal ≡ false }
+        requires { sign_before (first_item self.old).terminal ≡ None }
         ensures read { (act : LineAct) (s : LineStack) → Outcome result (rest self.old (AfterTerm false act ∷ s))
             (rest self.new (Terms true act ∷ s)) }
         ensures first { OnOk result ((first_item self.old).terminal ≡ Signed sign.Colon) }
@@ -120,7 +134,7 @@ impl<'a, 'l> Line<'a, 'l> {
 
     /// The bracket behind the bounds.
     fn bracket(&mut self) -> Result<(), DirectiveFault>
-        requires { same (Signed sign.Plus) (first_item self.old).terminal ≡ false }
+        requires { sign_before (first_item self.old).terminal ≡ None }
         ensures read { (act : LineAct) (s : LineStack) → Outcome result (rest self.old (AfterTerm true act ∷ s))
             (rest self.new (AfterItem act ∷ s)) }
         ensures first { OnOk result ((first_item self.old).terminal ≡ Signed sign.CloseBracket) }

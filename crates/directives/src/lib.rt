@@ -30,6 +30,6 @@ pub use line_tokens::LineTokens;
 pub use tree::{
     Amount, Bound, Clause, Construct, DependClause, DependType, Directive, DirectiveKind,
     MapClause, MapType, Modifier, MotionClause, MotionType, Name, ScheduleType, Section, Sections,
-    Term,
+    SignedTerm, Term, TermSign,
 };
 pub use word::{Word, word_of};

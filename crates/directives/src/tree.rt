@@ -17,11 +17,25 @@ pub enum Term<'a> {
     Product(u64, Name<'a>),
 }
 
-/// A bound of a section, the sum of its terms.
+/// What is done with a term that stands behind others.
+#[derive(Clone, Copy)]
+pub enum TermSign {
+    Added,
+    Taken,
+}
+
+/// A term with the sign before it: `+` or `-`.
+#[derive(Clone, Copy)]
+pub struct SignedTerm<'a> {
+    pub sign: TermSign,
+    pub term: Term<'a>,
+}
+
+/// A bound of a section: its first term, and those that are added to it or taken away from it.
 #[derive(Drop)]
 pub struct Bound<'a> {
     pub first: Term<'a>,
-    pub more: Vec<Term<'a>>,
+    pub more: Vec<SignedTerm<'a>>,
 }
 
 /// An array's section: its first cell and its length. With no bounds it is the whole array.

@@ -6,7 +6,7 @@ use Rattle.std.proofs.lemmas.Bool.Decides.{nat_tests}
 use Rattle.std.proofs.lemmas.Slice.Eq.{bytes_eq-Decides}
 use Rattle.base.specs.declared.tree.ArrayId.{ArrayId}
 use Rattle.base.specs.declared.tree.ScalarId.{ScalarId}
-use Rattle.c_grammar.specs.Grammar.{Stmt, Declare, Assign, Store, Repeat, Choose, ChooseElse, Show, Block, Directive, Atomic, AtomicAssign, OverBlock, OverLoop}
+use Rattle.c_grammar.specs.Grammar.{Stmt, Declare, Assign, Store, Repeat, Choose, ChooseElse, Show, Block, Directive, Atomic, AtomicAssign, AtomicIf, OverBlock, OverLoop}
 use Rattle.c_expressions.specs.declared.scope.Meaning.{Meaning}
 use Rattle.c_expressions.specs.declared.scope.Meaning.TheVariants as meaning
 use Rattle.c_expressions.specs.Means.{Names, meaning_of}
@@ -199,5 +199,6 @@ sound_behind d (Block b) env h = sound_more d (declared_by (Block b)) env h
 sound_behind d (Directive l) env h = sound_more d 0 env h
 sound_behind d (Atomic l x i v) env h = sound_more d 0 env h
 sound_behind d (AtomicAssign l x v) env h = sound_more d 0 env h
+sound_behind d (AtomicIf l s) env h = sound_behind d s env h
 sound_behind d (OverBlock l b) env h = sound_more d (declared_by (OverBlock l b)) env h
 sound_behind d (OverLoop l g b) env h = sound_more d (declared_by (OverLoop l g b)) env h

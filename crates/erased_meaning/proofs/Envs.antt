@@ -1,10 +1,10 @@
 -- What stands before a statement of a text without its directives; what a statement in a target may do.
-use Rattle.std.proofs.Common.{◌≡◌, ℕ, ◌+◌, ◌≤◌, Bool, true, false, cond, List, [], ◌∷◌, Option, Some, None, is_some, refl, sym, ap, subst, ◌∙◌, arith}
+use Rattle.std.proofs.Common.{◌≡◌, ℕ, ◌+◌, ◌≤◌, Bool, true, false, cond, List, [], ◌∷◌, drop, Option, Some, None, is_some, refl, sym, ap, subst, ◌∙◌, arith}
 use Rattle.base.specs.declared.tree.ArrayId.{ArrayId}
 use Rattle.base.specs.declared.tree.ScalarId.{ScalarId}
 use Rattle.base.specs.declared.tree.Stmt.{Stmt as Statement}
 use Rattle.base.specs.Memory.{Memory, Scalars}
-use Rattle.c_grammar.specs.Grammar.{Source, Input, Value, Stmt, Declare, Assign, Store, Repeat, Choose, ChooseElse, Show, Block, Directive, Atomic, AtomicAssign, OverBlock, OverLoop, Stmts, Done, Then}
+use Rattle.c_grammar.specs.Grammar.{Source, Input, Value, Stmt, Declare, Assign, Store, Repeat, Choose, ChooseElse, Show, Block, Directive, Atomic, AtomicAssign, AtomicIf, OverBlock, OverLoop, Stmts, Done, Then}
 use Rattle.c_expressions.specs.declared.scope.Meaning.{Meaning}
 use Rattle.c_expressions.specs.declared.scope.Meaning.TheVariants as meaning
 use Rattle.c_expressions.specs.Means.{Items, Names, meaning_of}
@@ -32,6 +32,7 @@ plain_one (Block b) = Block (plain_stmts b)
 plain_one (Directive l) = Directive l
 plain_one (Atomic l x i v) = Store x i v
 plain_one (AtomicAssign l x v) = Assign x v
+plain_one (AtomicIf l s) = plain_one s
 plain_one (OverBlock l b) = OverBlock l b
 plain_one (OverLoop l h b) = OverLoop l h b
 
@@ -48,6 +49,7 @@ plain_then env is (Block b) x ss h = refl
 plain_then env is (Directive l) x ss h = absurd h
 plain_then env is (Atomic l y i v) x ss h = refl
 plain_then env is (AtomicAssign l y v) x ss h = refl
+plain_then env is (AtomicIf l s) x ss h = plain_then env (drop 1 is) s h.0 ss h.1
 plain_then env is (OverBlock l b) x ss h = absurd h
 plain_then env is (OverLoop l g b) x ss h = absurd h
 
@@ -73,6 +75,7 @@ mutual
   declared_before (Directive l) ss = omega arith
   declared_before (Atomic l x i v) ss = refl
   declared_before (AtomicAssign l x v) ss = refl
+  declared_before (AtomicIf l s) ss = declared_before s ss
   declared_before (OverBlock l b) ss = ap (λ (n : ℕ). n + declared_in ss) (declared_plain b)
   declared_before (OverLoop l h b) ss = ap (λ (n : ℕ). n + declared_in ss) (declared_plain b)
 
@@ -116,6 +119,7 @@ behind_plain env is (Block b) x h = more_plain _ _ env (declared_plain b)
 behind_plain env is (Directive l) x h = absurd h
 behind_plain env is (Atomic l y i v) x h = refl
 behind_plain env is (AtomicAssign l y v) x h = refl
+behind_plain env is (AtomicIf l s) x h = behind_plain env (drop 1 is) s h.0 h.1
 behind_plain env is (OverBlock l b) x h = absurd h
 behind_plain env is (OverLoop l g b) x h = absurd h
 
@@ -133,6 +137,7 @@ agree_before (Block b) env m f g a = a
 agree_before (Directive l) env m f g a = a
 agree_before (Atomic l x i v) env m f g a = a
 agree_before (AtomicAssign l x v) env m f g a = a
+agree_before (AtomicIf l s) env m f g a = agree_before s env m f g a
 agree_before (OverBlock l b) env m f g a = a
 agree_before (OverLoop l h b) env m f g a = a
 
@@ -162,6 +167,7 @@ abbrev mutual
   IsQuiet env (Directive l) = ⊥
   IsQuiet env (Atomic l x i v) = IsQuietSource v
   IsQuiet env (AtomicAssign l x v) = IsQuietSource v × IsInside (meaning_of env.names x)
+  IsQuiet env (AtomicIf l s) = IsQuiet env s
   IsQuiet env (OverBlock l b) = ⊥
   IsQuiet env (OverLoop l h b) = ⊥
 
@@ -226,6 +232,7 @@ own_behind mode (Block b) env p = own_more mode (declared_in b) env p
 own_behind mode (Directive l) env p = own_more mode 0 env p
 own_behind mode (Atomic l x i v) env p = own_more mode 0 env p
 own_behind mode (AtomicAssign l x v) env p = own_more mode 0 env p
+own_behind mode (AtomicIf l s) env p = own_behind mode s env p
 own_behind mode (OverBlock l b) env p = own_more mode (declared_in b) env p
 own_behind mode (OverLoop l h b) env p = own_more mode (declared_in b) env p
 

@@ -5,6 +5,7 @@ pub mod Values
 pub mod Likeness
 pub mod Assigned
 pub mod Updates
+pub mod Extremes
 pub mod Envs
 pub mod Given
 pub mod Statements

@@ -2,7 +2,7 @@
 use Rattle.std.proofs.Common.{◌≡◌, ℕ, Bool, true, false, List, Option, Some, None}
 use Rattle.base.specs.declared.tree.ArrayId.{ArrayId}
 use Rattle.c_grammar.specs.Lines.{is_target}
-use Rattle.c_grammar.specs.Grammar.{Stmt, Declare, Assign, Store, Repeat, Choose, ChooseElse, Show, Block, Directive, Atomic, AtomicAssign, OverBlock, OverLoop, Stmts, Done, Then}
+use Rattle.c_grammar.specs.Grammar.{Stmt, Declare, Assign, Store, Repeat, Choose, ChooseElse, Show, Block, Directive, Atomic, AtomicAssign, AtomicIf, OverBlock, OverLoop, Stmts, Done, Then}
 use Rattle.c_statements.specs.Statements.{Env, box_for, scalar_or_box, with_scalar, behind, in_loop}
 use Rattle.c_read.specs.Parts.{in_target}
 use Rattle.erased_meaning.proofs.Entries.{Each}
@@ -61,6 +61,7 @@ outside_names (Block b) env e o = (e, o)
 outside_names (Directive l) env e o = (e, o)
 outside_names (Atomic l x i v) env e o = (e, o)
 outside_names (AtomicAssign l x v) env e o = (e, o)
+outside_names (AtomicIf l s) env e o = outside_names s env e o
 outside_names (OverBlock l b) env e o = (e, o)
 outside_names (OverLoop l h b) env e o = (e, o)
 

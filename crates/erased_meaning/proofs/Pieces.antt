@@ -10,7 +10,7 @@ use Rattle.base.specs.declared.tree.Stmt.{Stmt as Statement, items-the_row-Stmt}
 use Rattle.base.specs.declared.tree.Stmt.TheVariants as statement
 use Rattle.base.specs.Memory.{Memory, View, view_of}
 use Rattle.base.specs.Meaning.{Run, Plain, turn, turns_of, all_turns, run_stmt, run_row, run_list, after_region, erased_part, erased_row}
-use Rattle.c_grammar.specs.Grammar.{Head, Stmt, Declare, Assign, Store, Repeat, Choose, ChooseElse, Show, Block, Directive, Atomic, AtomicAssign, OverBlock, OverLoop, Stmts, Done, Then}
+use Rattle.c_grammar.specs.Grammar.{Head, Stmt, Declare, Assign, Store, Repeat, Choose, ChooseElse, Show, Block, Directive, Atomic, AtomicAssign, AtomicIf, OverBlock, OverLoop, Stmts, Done, Then}
 use Rattle.c_expressions.specs.Means.{Items}
 use Rattle.c_statements.specs.Statements.{Env, stmt_size, head_size, behind, more, declared_in, in_loop, IsHead, IsStatement, AreStatements}
 use Rattle.c_read.specs.Parts.{Placed, plain, pieces_in, pieces_of, ArePieces, IsPart, IsHostLoop, OneLoop, AreMixed}
@@ -18,7 +18,8 @@ use Rattle.erasure.specs.Plain.{plain_before, plain_stmts}
 use Rattle.erased_meaning.proofs.Boxes.{Layout}
 use Rattle.erased_meaning.proofs.Likeness.{OnHost, Like}
 use Rattle.erased_meaning.proofs.Envs.{plain_env, plain_one, plain_then, behind_plain, more_plain, declared_plain, agree_before}
-use Rattle.erased_meaning.proofs.Statements.{same_bounds, turns_same, row_runs, one_ends}
+use Rattle.erased_meaning.proofs.Statements.{same_bounds, turns_same, one_ends}
+use Rattle.erased_meaning.proofs.Updates.{row_runs}
 use Rattle.erased_meaning.proofs.Parts.{Ended, BothEnd, fresh, fresh_same, region_starts, region_ends, parts_run, parts_row, rest_run, region_then, ended_less, ended_then, ended_behind, ended_turns}
 use Rattle.erased_meaning.proofs.Outside.{IsSafe, AreSafe, IsOutside, placed_outside, outside_loop, outside_behind}
 use Rattle.erased_meaning.proofs.Targets.{is_target_line, is_data_line, target_block, target_loop, host_loop}
@@ -246,6 +247,7 @@ module _ (lay : Layout) (w : Memory) where
   part_then (Store v i a) alike ss env is js x ys next loops p q safe o h k e follow = absurd h
   part_then (Atomic l v i a) alike ss env is js x ys next loops p q safe o h k e follow = absurd h
   part_then (AtomicAssign l v a) alike ss env is js x ys next loops p q safe o h k e follow = absurd h
+  part_then (AtomicIf l t) alike ss env is js x ys next loops p q safe o h k e follow = absurd h
   part_then (Choose t a) alike ss env is js x ys next loops p q safe o h k e follow = absurd h
   part_then (ChooseElse t a b) alike ss env is js x ys next loops p q safe o h k e follow = absurd h
   part_then (Show t) alike ss env is js x ys next loops p q safe o h k e follow = absurd h
@@ -361,6 +363,7 @@ module _ (lay : Layout) (w : Memory) where
     inner_alike (Directive l) = tt
     inner_alike (Atomic l x i v) = tt
     inner_alike (AtomicAssign l x v) = tt
+    inner_alike (AtomicIf l s) = tt
 
   -- the parts of a text and the statements that it means without its directives
   pub texts_alike : (b : Stmts) (env : Env) (is js : Items) (ps : List Part) (ys : List Statement) (loops : List ℕ)

@@ -5,7 +5,7 @@ use Rattle.base.specs.declared.tree.Place.{Place}
 use Rattle.base.specs.declared.tree.Part.{Part, items-the_row-Part}
 use Rattle.base.specs.declared.tree.Part.TheVariants as part
 use Rattle.base.specs.declared.tree.Stmt.{Stmt as Statement}
-use Rattle.c_grammar.specs.Grammar.{Stmt, Declare, Assign, Store, Repeat, Choose, ChooseElse, Show, Block, Directive, Atomic, AtomicAssign, OverBlock, OverLoop, Stmts, Done, Then}
+use Rattle.c_grammar.specs.Grammar.{Stmt, Declare, Assign, Store, Repeat, Choose, ChooseElse, Show, Block, Directive, Atomic, AtomicAssign, AtomicIf, OverBlock, OverLoop, Stmts, Done, Then}
 use Rattle.c_expressions.specs.Means.{Items}
 use Rattle.c_statements.specs.Statements.{Env, AreStatements, behind, stmt_size, in_loop, head_size}
 use Rattle.c_read.specs.declared.piece.Piece.TheVariants as piece
@@ -42,6 +42,7 @@ mutual
   bare_before (Directive l) ss h = h
   bare_before (Atomic l x i v) ss h = (tt, h)
   bare_before (AtomicAssign l x v) ss h = (tt, h)
+  bare_before (AtomicIf l s) ss h = bare_before s ss h
   bare_before (OverBlock l b) ss h = (plain_bare b, h)
   bare_before (OverLoop l g b) ss h = (plain_bare b, h)
 
@@ -99,6 +100,7 @@ mutual
   bare_no_part (Directive l) env is p h k = absurd h
   bare_no_part (Atomic l x i v) env is p h k = absurd k
   bare_no_part (AtomicAssign l x v) env is p h k = absurd k
+  bare_no_part (AtomicIf l s) env is p h k = absurd k
   bare_no_part (OverBlock l b) env is p h k = absurd h
   bare_no_part (OverLoop l g b) env is p h k = absurd h
 

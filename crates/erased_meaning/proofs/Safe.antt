@@ -8,7 +8,7 @@ use Rattle.c_tokens.specs.declared.kind.Sign.TheVariants as sign
 use Rattle.c_grammar.specs.Lexeme.{Lexeme, For, If, Else}
 use Rattle.c_grammar.specs.Lines.{depth_of, is_target}
 use Rattle.c_grammar.specs.Terminal.{Terminal, Fixed, Mark, Line}
-use Rattle.c_grammar.specs.Grammar.{Plain, StartsIf, StartsBlock, Otherwise, Opens, Over, for, mark, Slot, Slots, Term, term, Head, head_slots, body_opening, body_closing, Stmt, Declare, Assign, Store, Repeat, Choose, ChooseElse, Show, Block, Directive, Atomic, AtomicAssign, OverBlock, OverLoop, Stmts, Done, Then, deeper, loop_role, stmt, stmt_in, stmts, stmts_in}
+use Rattle.c_grammar.specs.Grammar.{Plain, StartsIf, StartsBlock, Otherwise, Opens, Over, for, mark, Slot, Slots, Term, term, Head, head_slots, body_opening, body_closing, Stmt, Declare, Assign, Store, Repeat, Choose, ChooseElse, Show, Block, Directive, Atomic, AtomicAssign, AtomicIf, OverBlock, OverLoop, Stmts, Done, Then, deeper, loop_role, stmt, stmt_in, stmts, stmts_in}
 use Rattle.c_grammar.specs.Rules.{Context, begun, out, Frame, below, inside, act, enter, breaks}
 use Rattle.c_expressions.specs.Scopes.{as_boxes}
 use Rattle.c_statements.specs.Statements.{Env, behind, more, declared_in, in_loop}
@@ -16,7 +16,7 @@ use Rattle.erasure.proofs.Follows.{entered, entered_append, next_in, Keeps, keep
 use Rattle.erased_meaning.proofs.Envs.{AreQuiet}
 use Rattle.erased_meaning.proofs.Outside.{AreSafe}
 use Rattle.erased_meaning.proofs.Contexts.{Stands, kept_all, still_append, term_still, stands_kept, IsBefore, within, opens_block, opens_loop, Closed, stands_closed}
-use Rattle.erased_meaning.proofs.Simple.{Known, StmtKnown, true_false, stands_more, inside_at, declare_known, assign_known, store_known, atomic_known, atomic_assign_known, show_known, alone_known}
+use Rattle.erased_meaning.proofs.Simple.{Known, StmtKnown, true_false, stands_more, inside_at, declare_known, assign_known, store_known, atomic_known, atomic_assign_known, atomic_if_known, show_known, alone_known}
 
 -- what is known of statements there
 abbrev pub KnownAll : Env → Stmts → Type 0
@@ -254,6 +254,7 @@ behind_same (Block b) env = (refl, refl)
 behind_same (Directive l) env = (refl, refl)
 behind_same (Atomic l x i v) env = (refl, refl)
 behind_same (AtomicAssign l x v) env = (refl, refl)
+behind_same (AtomicIf l s) env = behind_same s env
 behind_same (OverBlock l b) env = (refl, refl)
 behind_same (OverLoop l h b) env = (refl, refl)
 
@@ -283,5 +284,6 @@ mutual
   stmt_known (Directive l) = alone_known l
   stmt_known (Atomic l x i v) = atomic_known l x i v
   stmt_known (AtomicAssign l x v) = atomic_assign_known l x v
+  stmt_known (AtomicIf l s) = atomic_if_known l s (stmt_known s)
   stmt_known (OverBlock l b) = over_block_known l b (stmts_known b)
   stmt_known (OverLoop l h b) = over_loop_known l h b (stmts_known b)

@@ -7,7 +7,7 @@ use Rattle.base.specs.declared.tree.ScalarId.{ScalarId}
 use Rattle.c_tokens.specs.declared.kind.Sign.TheVariants as sign
 use Rattle.c_grammar.specs.Lexeme.{Lexeme, Uint64}
 use Rattle.c_grammar.specs.Terminal.{Terminal, Fixed, Mark, Name, Line}
-use Rattle.c_grammar.specs.Grammar.{DeclaresLocal, MakesScalar, Starts, Assigned, Marks, for, mark, Slots, Term, term, Source, Input, Value, source, end_mark, Stmt, Declare, Assign, Store, Show, Directive, Atomic, AtomicAssign, stmt, stmt_in}
+use Rattle.c_grammar.specs.Grammar.{DeclaresLocal, MakesScalar, Starts, Assigned, Marks, for, mark, Slots, Term, term, Source, Input, Value, source, end_mark, Stmt, Declare, Assign, Store, Show, Directive, Atomic, AtomicAssign, AtomicIf, stmt, stmt_in}
 use Rattle.c_grammar.specs.Rules.{Context, with_name, Frame, Rule, Sort, top, below, inside, act, enter, breaks, scalar_sort, sort_of, is_array, is_scalar, is_visible, is_loop, is_outer}
 use Rattle.c_expressions.specs.declared.scope.Meaning.{Meaning}
 use Rattle.c_expressions.specs.declared.scope.Meaning.TheVariants as meaning
@@ -183,6 +183,13 @@ unfolding enter
 atomic_assign_known l x v depth c env n s k =
     assign_known x v depth (enter c (Line l, for Marks)) env n
     (record { names = s.names; boxes = s.boxes; inside_is = s.inside_is; target = s.target; turn = s.turn }) k.1
+
+pub atomic_if_known : (l : List Lexeme) (t : Stmt) → StmtKnown t → StmtKnown (AtomicIf l t)
+unfolding enter
+atomic_if_known l t known depth c env n s k =
+    let one = known 0 (enter c (Line l, for Marks)) env n
+    (record { names = s.names; boxes = s.boxes; inside_is = s.inside_is; target = s.target; turn = s.turn }) k.1 in
+    ((λ e. tt {0}, one.0.1), one.1)
 
 pub show_known : (e : Term) → StmtKnown (Show e)
 unfolding breaks

@@ -3,29 +3,24 @@ use Rattle.std.proofs.Common.{◌≡◌, ℕ, ◌+◌, ◌-◌, ◌/◌, List, [
 use Rattle.std.specs.Prelude.{option_and_then, option_map}
 use Rattle.std.proofs.lemmas.Option.{same_Some}
 use mathlib.Core.Former.{Count}
-use mathlib.Core.Path.{fun_ext}
 use Rattle.base.specs.declared.tree.Bounds.{Bounds}
 use Rattle.base.specs.declared.tree.Stmt.{Stmt as Statement, Row_of-Stmt, end_of-Stmt, more_of-Stmt, items-the_row-Stmt}
 use Rattle.base.specs.declared.tree.Stmt.TheVariants as statement
 use Rattle.base.specs.Memory.{Memory, View, view_of}
 use Rattle.base.specs.Value.{value}
 use Rattle.base.specs.Meaning.{Run, names_in, printed, choose, turn, turns_of, all_turns, run_stmt, run_row, run_list}
-use Rattle.c_grammar.specs.Grammar.{Source, Head, Stmt, Declare, Assign, Store, Repeat, Choose, ChooseElse, Show, Block, Directive, Atomic, AtomicAssign, OverBlock, OverLoop, Stmts, Done, Then, stmts, Term}
+use Rattle.c_grammar.specs.Lexeme.{Lexeme}
+use Rattle.c_grammar.specs.Grammar.{Source, Head, Stmt, Declare, Assign, Store, Repeat, Choose, ChooseElse, Show, Block, Directive, Atomic, AtomicAssign, AtomicIf, OverBlock, OverLoop, Stmts, Done, Then, stmts, Term}
 use Rattle.c_expressions.specs.Means.{Items, Names, meaning_of, term_size}
 use Rattle.c_statements.specs.Statements.{Env, stmt_size, head_size, declared_in, more, behind, in_loop, IsHead, IsStatement, AreStatements}
 use Rattle.c_statements.specs.Updates.{as_update}
 use Rattle.erasure.specs.Plain.{plain_stmts}
 use Rattle.erased_meaning.proofs.Boxes.{Layout}
 use Rattle.erased_meaning.proofs.Likeness.{Mode, OnHost, InTarget, IsPassed, Like, Both, both_then, both_less, both_turns, both_choose}
-use Rattle.erased_meaning.proofs.Updates.{update_runs}
+use Rattle.erased_meaning.proofs.Updates.{row_runs}
+use Rattle.erased_meaning.proofs.Extremes.{update_ends}
 use Rattle.erased_meaning.proofs.Envs.{plain_env, plain_one, plain_then, declared_plain, behind_plain, more_plain, agree_before, IsQuietSource, IsInside, IsQuiet, AreQuiet, IsPlaced, MayDo, MayDoAll, placed_behind, placed_more, placed_loop}
 use Rattle.erased_meaning.proofs.Given.{MaySource, MayAssign, values_same, assigns_end, declares_end, stores_end}
-
-pub row_runs : (n : Count) (row : Row_of-Stmt n) (view : View) (loops : List ℕ) (s : Run) →
-    run_row row view loops s ≡ run_list (items-the_row-Stmt n row) view loops s
-row_runs n end_of-Stmt view loops s = refl
-row_runs n (more_of-Stmt first rest) view loops s =
-    ap (λ f. option_and_then f (run_stmt first view loops s)) (fun_ext (λ x. row_runs _ rest view loops x))
 
 -- bounds that one head means
 abbrev pub IsSameBounds : Bounds → Bounds → Type 0
@@ -62,6 +57,11 @@ may_first (InTarget kept input printed scalars) env s ss may = may.0
 may_rest : (d : Mode) (env : Env) (s : Stmt) (ss : Stmts) → MayDoAll d env (Then s ss) → MayDoAll d (behind s env) ss
 may_rest (OnHost before) env s ss may = tt
 may_rest (InTarget kept input printed scalars) env s ss may = may.1
+
+-- the if behind the line of an atomic update
+may_if : (d : Mode) (env : Env) (l : List Lexeme) (s : Stmt) → MayDo d env (AtomicIf l s) → MayDo d env s
+may_if (OnHost before) env l s may = tt
+may_if (InTarget kept input printed scalars) env l s may = may
 
 -- the name that is assigned
 may_name : (d : Mode) (env : Env) (s : Stmt) (x : List ℕ) → (IsQuiet env s → IsInside (meaning_of env.names x)) →
@@ -123,13 +123,13 @@ module _ (d : Layout) (m w : Memory) (mode : Mode) where
       subst (λ (v : Option ℕ). Ends names (choose o f g r) (choose v f' g' q)) e
       (both_choose d m w mode names o f g f' g' r q h k)
 
-  -- the update that a store is
+  -- the update that a store or an if is
   updated : (s u y : Statement) (loops : List ℕ) (r q : Run) (names : Names) → s ≡ as_update u →
       Ends names (run_stmt u here loops r) (run_stmt y there loops q) →
       Ends names (run_stmt s here loops r) (run_stmt y there loops q)
   updated s u y loops r q names e h =
-      subst (λ (o : Option Run). Ends names o (run_stmt y there loops q))
-      (sym (ap (λ (a : Statement). run_stmt a here loops r) e ∙ update_runs here loops r u)) h
+      subst (λ (a : Statement). Ends names (run_stmt a here loops r) (run_stmt y there loops q)) (sym e)
+      (update_ends d m w mode names u loops r (run_stmt y there loops q) h)
 
   -- nothing is done on either side
   rows_none : (names : Names) (j k : Count) (row : Row_of-Stmt j) (row' : Row_of-Stmt k) (loops : List ℕ) (r q : Run) →
@@ -201,6 +201,9 @@ module _ (d : Layout) (m w : Memory) (mode : Mode) where
         updated s h.0 y loops r q env.names h.2
         (stores_end d m w mode env p.sound x i v (drop 1 is) js h.0 y loops r q
         (may_source mode env (Atomic g x i v) v (λ u. u) may) l h.1 k)
+    one_ends (AtomicIf g t) env is js s y loops r q may p l h k =
+        updated s h.0 y loops r q (behind t env).names h.2
+        (one_ends t env (drop 1 is) js h.0 y loops r q (may_if mode env g t may) p l h.1 k)
     one_ends (Show t) env is js (statement.Print e) (statement.Print u) loops r q may p l h k =
         printed_ends env t (value e (names_in here loops r)) (value u (names_in there loops q)) r q
         (values_same d m w mode env p.sound t (drop 2 is) (drop 2 js) e u loops r q l h k) may l

@@ -21,7 +21,8 @@ use Rattle.erasure.specs.Plain.{plain_stmts}
 use Rattle.erased_meaning.proofs.Boxes.{Layout}
 use Rattle.erased_meaning.proofs.Likeness.{OnHost, Both}
 use Rattle.erased_meaning.proofs.Envs.{plain_env, AreQuiet}
-use Rattle.erased_meaning.proofs.Statements.{row_runs, lists_end}
+use Rattle.erased_meaning.proofs.Statements.{lists_end}
+use Rattle.erased_meaning.proofs.Updates.{row_runs}
 use Rattle.erased_meaning.proofs.Parts.{Ended, BothEnd, fresh, region_starts, region_ends, parts_run, rest_run, region_then, ended_behind, kernel_end}
 use Rattle.erased_meaning.proofs.Outside.{IsOutside, placed_outside}
 

@@ -1,6 +1,8 @@
--- The update that a store is does what the store does.
+-- The update that a store is does what the store does; rows of statements and lists.
 use Rattle.std.proofs.Common.{◌≡◌, ℕ, ◌%◌, Bool, true, false, List, Option, Some, None, Box, refl, sym, ap, ap₂, ◌∙◌}
 use Rattle.std.specs.Prelude.{◌&&◌, ◌==◌, if◌then◌else◌, option_and_then, option_map, slice_index}
+use mathlib.Core.Former.{Count}
+use mathlib.Core.Path.{fun_ext}
 use Rattle.std.specs.declared.alloc.Global.{Global}
 use Rattle.std.proofs.lemmas.Bool.{and_parts, eqb-true}
 use Rattle.std.proofs.lemmas.Option.{none-some, same_Some}
@@ -18,12 +20,13 @@ use Rattle.base.specs.declared.tree.CombineOp.{CombineOp}
 use Rattle.base.specs.declared.tree.CombineOp.TheVariants as combining
 use Rattle.base.specs.declared.tree.Expr.{Expr}
 use Rattle.base.specs.declared.tree.Expr.TheVariants.{Number, Scalar, LoopName, Cell', Unary', Binary', And', Or', Shift', Divide'}
+use Rattle.base.specs.declared.tree.Source.{Source}
 use Rattle.base.specs.declared.tree.Source.TheVariants.{Value}
-use Rattle.base.specs.declared.tree.Stmt.{Stmt}
+use Rattle.base.specs.declared.tree.Stmt.{Row_of-Stmt, end_of-Stmt, more_of-Stmt, items-the_row-Stmt}
 use Rattle.base.specs.declared.tree.Stmt.TheVariants.{Store, Combine}
 use Rattle.base.specs.Memory.{View}
 use Rattle.base.specs.Value.{Names, modulus, value, on_one, on_both, and_of, or_of, unary, binary, shifted, divided}
-use Rattle.base.specs.Meaning.{Run, names_in, stored, run_stmt}
+use Rattle.base.specs.Meaning.{Run, names_in, stored, run_stmt, run_row, run_list}
 use Rattle.base.proofs.Updates.{operator_of, update_is_store}
 use Rattle.c_statements.specs.Updates.{as_update, binary_number, combine_op, divide_number, same_expr, shift_number, unary_number, update_or}
 
@@ -92,11 +95,11 @@ same_divide o u e = sym (divide_back o) ∙ ap divide_at (eqb-true (divide_numbe
 abbrev cell_in : Names → ArrayId → ℕ → Option ℕ
 cell_in names a i = names.cells (record { array = a; index = i })
 
-same_array : (a b : ArrayId) → (a.0 == b.0) ≡ true → a ≡ b
+pub same_array : (a b : ArrayId) → (a.0 == b.0) ≡ true → a ≡ b
 same_array a b e = ap (λ (n : ℕ). (let i : ArrayId = record { 0 = n } in i)) (eqb-true a.0 b.0 e)
 
 module _ (names : Names) where
-  same_value : (e f : Expr) → same_expr e f ≡ true → value e names ≡ value f names
+  pub same_value : (e f : Expr) → same_expr e f ≡ true → value e names ≡ value f names
   same_value (Number m) (Number n) h = ap (λ (i : ℕ). Some (i % modulus)) (eqb-true m n h)
   same_value (Scalar x) (Scalar y) h = ap (λ (i : ℕ). Some (names.scalars i)) (eqb-true x.0 y.0 h)
   same_value (LoopName m) (LoopName n) h = ap (λ (i : ℕ). Some (slice_index names.loops i)) (eqb-true m n h)
@@ -177,7 +180,16 @@ module _ (view : View) (loops : List ℕ) (r : Run) where
   choice_runs a b at to e f v o p q w true None h k = refl
   choice_runs a b at to e f v o p q w false k h g = refl
 
-  pub update_runs : (s : Stmt) → run_stmt (as_update s) view loops r ≡ run_stmt s view loops r
-  update_runs (Store a at e (Value (Binary' o p (Cell' b to q f) w v))) =
+  pub store_runs : (a : ArrayId) (at : Place) (e : Expr) (v : Source) →
+      run_stmt (as_update (Store a at e v)) view loops r ≡ run_stmt (Store a at e v) view loops r
+  store_runs a at e (Value (Binary' o p (Cell' b to q f) w v)) =
       choice_runs a b at to e f v o p q w ((a.0 == b.0) && same_expr e f) (combine_op o) refl refl
-  update_runs _ = refl
+  store_runs a at e _ = refl
+
+-- ---- rows
+
+pub row_runs : (n : Count) (row : Row_of-Stmt n) (view : View) (loops : List ℕ) (s : Run) →
+    run_row row view loops s ≡ run_list (items-the_row-Stmt n row) view loops s
+row_runs n end_of-Stmt view loops s = refl
+row_runs n (more_of-Stmt first rest) view loops s =
+    ap (λ f. option_and_then f (run_stmt first view loops s)) (fun_ext (λ x. row_runs _ rest view loops x))

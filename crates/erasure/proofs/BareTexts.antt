@@ -6,7 +6,7 @@ use Rattle.c_grammar.specs.Blocks.{bare, is_directive}
 use Rattle.c_grammar.specs.Lexeme.{Lexeme, For, If, Else, Int, Main, Void, same}
 use Rattle.c_grammar.specs.Terminal.{Terminal, Fixed, Mark, Name, Num, Line, Unknown, Unworked, End}
 use Rattle.c_grammar.specs.Lines.{boxing_word, is_boxing, is_omp, depth_of}
-use Rattle.c_grammar.specs.Grammar.{Slots, Plain, StartsIf, Otherwise, for, mark, word, Term, Literal, Named, Element, Group, Prefixed, Both, By, term, Source, Input, Value, source, Head, head_slots, body_opening, body_closing, Stmt, Declare, Assign, Store, Repeat, Choose, ChooseElse, Show, Block, Directive, Atomic, AtomicAssign, OverBlock, OverLoop, Stmts, Done, Then, deeper, stmt_in, stmts_in, stmt, stmts, IsStmt, AreStmts, IsText, Global, Scalar, Array, global, globals, Text, main_part, AreBoxes, boxes_slots, slots}
+use Rattle.c_grammar.specs.Grammar.{Slots, Plain, StartsIf, Otherwise, for, mark, word, Term, Literal, Named, Element, Group, Prefixed, Both, By, term, Source, Input, Value, source, Head, head_slots, body_opening, body_closing, Stmt, Declare, Assign, Store, Repeat, Choose, ChooseElse, Show, Block, Directive, Atomic, AtomicAssign, AtomicIf, OverBlock, OverLoop, Stmts, Done, Then, deeper, stmt_in, stmts_in, stmt, stmts, IsStmt, AreStmts, IsText, Global, Scalar, Array, global, globals, Text, main_part, AreBoxes, boxes_slots, slots}
 use Rattle.c_grammar.specs.Rules.{source_grammar}
 use Rattle.c_grammar.specs.Texts.{Item, kinds, terminals}
 use Rattle.erasure.specs.Plain.{plain_before, plain_stmts, plain_tree}
@@ -172,6 +172,8 @@ mutual
   bares_stmt (AtomicAssign l x v) d xs ss g p =
       line_gone l (stmt (Assign x v) ++ xs) (stmt (Assign x v) ++ stmts ss) g.0
       (bares_join (stmt (Assign x v)) (stmt (Assign x v)) xs (stmts ss) (bares_assign x v) p)
+  bares_stmt (AtomicIf l s) d xs ss g p =
+      line_gone l (stmt s ++ xs) (stmts (plain_before s ss)) g.0 (bares_stmt s 0 xs ss g.3 p)
   bares_stmt (OverBlock l b) d xs ss g p =
       bares_join (stmt (OverBlock l b)) (stmt (Block (plain_stmts b))) xs (stmts ss)
       (line_gone l (body_opening ∷ (stmts b ++ close)) (stmt (Block (plain_stmts b))) g.0 (bares_block b (bares_stmts b 0 g.2))) p

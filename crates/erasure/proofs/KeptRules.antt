@@ -7,7 +7,7 @@ use Rattle.c_tokens.specs.declared.kind.Sign.TheVariants as sign
 use Rattle.c_grammar.specs.Lexeme.{Lexeme, For, If, Else, Int, Main, Void, Uint64, Print}
 use Rattle.c_grammar.specs.Terminal.{Terminal, Mark, Fixed, Name, Line, End}
 use Rattle.c_grammar.specs.Lines.{depth_of}
-use Rattle.c_grammar.specs.Grammar.{Slot, Slots, Plain, DeclaresLocal, MakesScalar, Starts, StartsIf, StartsBlock, Prints, Assigned, Otherwise, Opens, Alone, Over, Marks, Boxes, for, mark, word, Term, term, Source, source, Head, head_slots, body_opening, body_closing, end_mark, Stmt, Declare, Assign, Store, Repeat, Choose, ChooseElse, Show, Block, Directive, Atomic, AtomicAssign, OverBlock, OverLoop, Stmts, Done, Then, deeper, loop_role, stmt_in, stmts_in, stmt, stmts, IsStmt, AreStmts, Global, Scalar, Array, global, globals, Text, main_part, boxes_slots, slots, IsText}
+use Rattle.c_grammar.specs.Grammar.{Slot, Slots, Plain, DeclaresLocal, MakesScalar, Starts, StartsIf, StartsBlock, Prints, Assigned, Otherwise, Opens, Alone, Over, Marks, Boxes, for, mark, word, Term, term, Source, source, Head, head_slots, body_opening, body_closing, end_mark, Stmt, Declare, Assign, Store, Repeat, Choose, ChooseElse, Show, Block, Directive, Atomic, AtomicAssign, AtomicIf, OverBlock, OverLoop, Stmts, Done, Then, deeper, loop_role, stmt_in, stmts_in, stmt, stmts, IsStmt, AreStmts, Global, Scalar, Array, global, globals, Text, main_part, boxes_slots, slots, IsText}
 use Rattle.c_grammar.specs.Rules.{Context, Rule, begin, begun, out, enter, breaks, breaks_part, source_grammar, max_statements, max_braces}
 use Rattle.c_grammar.specs.Texts.{KeepsRules}
 use Rattle.erasure.specs.Plain.{plain_before, plain_stmts, plain_tree}
@@ -228,6 +228,9 @@ mutual
       keeping_join ((Line l, for Marks) ∷ []) [] (stmt (Assign x v) ++ xs) (stmt (Assign x v) ++ stmts ss)
       (keeping_marks l)
       (keeping_join (stmt (Assign x v)) (stmt (Assign x v)) xs (stmts ss) (keeping_assign x v) k)
+  keeping_stmt (AtomicIf l s) d xs ss k =
+      keeping_join ((Line l, for Marks) ∷ []) [] (stmt s ++ xs) (stmts (plain_before s ss)) (keeping_marks l)
+      (keeping_stmt s 0 xs ss k)
   keeping_stmt (OverBlock l b) d xs ss k =
       keeping_join (stmt (OverBlock l b)) (stmt (Block (plain_stmts b))) xs (stmts ss)
       (keeping_join (line_slot l ∷ (Mark sign.OpenBrace, (Some NoBody, Opens)) ∷ []) ((Mark sign.OpenBrace, for StartsBlock) ∷ [])
@@ -296,6 +299,7 @@ mutual
   plain_is (Directive l) ss h k = k
   plain_is (Atomic l x i v) ss h k = ((h.2, h.3), k)
   plain_is (AtomicAssign l x v) ss h k = (h.2, k)
+  plain_is (AtomicIf l s) ss h k = plain_is s ss h.3 k
   plain_is (OverBlock l b) ss h k = (plain_are b h.2, k)
   plain_is (OverLoop l g b) ss h k = (plain_are b h.2, k)
 

@@ -147,7 +147,7 @@ module _ (v : Vec (Unit {0}) Global) (p : Box (Unit {0}) Global) where
   print_a = loop v (upto 4 (lit< tt)) (Print (at_a i) ∷ []) (lit< tt)
 
   abbrev bound : ℕ → Bound
-  bound n = record { terms = record { items = Literal n ∷ []; capacity = 2 } }
+  bound n = record { terms = record { items = Literal n ∷ []; capacity = 2 }; less = record { items = []; capacity = 2 } }
 
   abbrev section : ArrayId → ℕ → ℕ → SectionText
   section b first n = record { array = b; bounds = Some (bound first, bound n); place = here }

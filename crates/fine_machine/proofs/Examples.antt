@@ -58,7 +58,7 @@ module _ (v : Vec (Unit {0}) Global) (p : Box (Unit {0}) Global) where
   region xs h = record { place = here; body = vec_of v xs h; depth = 0 }
 
   abbrev bound : ℕ → Bound
-  bound n = record { terms = record { items = Literal n ∷ []; capacity = 2 } }
+  bound n = record { terms = record { items = Literal n ∷ []; capacity = 2 }; less = record { items = []; capacity = 2 } }
 
   abbrev section : ArrayId → ℕ → ℕ → SectionText
   section b first n = record { array = b; bounds = Some (bound first, bound n); place = here }

@@ -1,7 +1,7 @@
 // The sections of map and depend items, with the loops' names at their values.
 
 ghost use Rattle.std.specs.Prelude.{◌≡◌, ◌-◌, ◌^◌, min};
-ghost use Rattle.base.specs.Items.{bound_value, section_of, term_value};
+ghost use Rattle.base.specs.Items.{bound_value, less_value, section_of, term_value, terms_value};
 
 use base::item::Section;
 use base::tree::{Bound, SectionText, Term};
@@ -15,15 +15,35 @@ fn value_of(term: Term, loops: &[u64]) -> u64
     }
 }
 
-/// The sum of a bound's terms; one above `u64::MAX` is kept as that.
-fn bound(bound: &Bound, loops: &[u64]) -> u64
-    ensures { result ≡ bound_value loops.now bound.now }
+/// The sum of some terms; one above `u64::MAX` is kept as that.
+fn sum(terms: &[Term], loops: &[u64]) -> u64
+    ensures { result ≡ terms_value loops.now terms.now }
 {
     let mut total = 0u64;
-    'terms: for term in bound.terms.as_slice() {
+    'terms: for term in terms {
         total = total.saturating_add(value_of(*term, loops));
     }
     total
+}
+
+/// One sum less another, or `u64::MAX` where the first is that or less than the second.
+fn difference(more: u64, less: u64) -> u64
+    ensures { result ≡ less_value more less }
+{
+    if more == u64::MAX {
+        return more;
+    }
+    more.checked_sub(less).unwrap_or(u64::MAX)
+}
+
+/// The value of a bound. One that is too large, or below 0, is `u64::MAX`, which no array has cells at.
+fn bound(bound: &Bound, loops: &[u64]) -> u64
+    ensures { result ≡ bound_value loops.now bound.now }
+{
+    difference(
+        sum(bound.terms.as_slice(), loops),
+        sum(bound.less.as_slice(), loops),
+    )
 }
 
 /// A section's cells. One that is written without bounds is the whole array.

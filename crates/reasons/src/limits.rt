@@ -239,11 +239,27 @@ impl Scene<'_> {
     }
 
     fn section_outside_text(&self, section: &Section, turn: &str) -> Result<String, AllocError> {
+        if section.first == u64::MAX || section.length == u64::MAX {
+            return self.section_below_text(section, turn);
+        }
         let text = self.section_text(section)?;
         if section.length == 0 {
             return format!(in self.alloc; "the section {text} is empty{turn}");
         }
         self.section_past_text(section, &text, turn)
+    }
+
+    // A bound that is below 0 is kept as the greatest number.
+    fn section_below_text(&self, section: &Section, turn: &str) -> Result<String, AllocError> {
+        let (name, length) = (self.name_of(section.array), self.length_of(section.array));
+        let what = if section.first == u64::MAX {
+            "begins"
+        } else {
+            "has a length"
+        };
+        format!(in self.alloc;
+            "a section of {name} {what} below 0 or above all cells, and {name} has {length} cells{turn}"
+        )
     }
 
     fn section_past_text(

@@ -6,7 +6,7 @@ use base::fault::ReadCode;
 
 /// What a bound of a section is.
 pub const BOUND: &str =
-    "a bound is a constant expression, or a sum of constants, names of loops around, and terms `NUM * NAME` of both";
+    "a bound is a constant expression, or terms with `+` and `-` between them: constants, names of loops around, and products `NUM * NAME` of both";
 
 fn is_name_part(byte: u8) -> bool {
     byte.is_ascii_alphanumeric() || byte == b'_'
@@ -88,7 +88,7 @@ fn unknown_clause(around: &Around<'_>) -> Option<&'static str> {
     }
     if word == "reduction" {
         return Some(
-            "a reduction, by one of `+ * & | ^`, is of arrays, each of whose names in the loop begins an update by that operator, `s[0] += e;`, and stands nowhere else; it stands on a construct with its loop, whose `map` clauses name all of these arrays or none",
+            "a reduction, by one of `+ * & | ^`, `min` and `max`, is of arrays, each of whose names in the loop begins an update by that operator, `s[0] += e;` or `if (e > s[0]) s[0] = e;`, and stands nowhere else; it stands on a construct with its loop, whose `map` clauses name all of these arrays or none",
         );
     }
     if around.is_behind(b"atomic".as_slice()) {
@@ -139,10 +139,16 @@ pub fn bad_bound(around: &Around<'_>) -> Option<&'static str> {
             "one cell is the section `A[FIRST:1]`: `A[FIRST]` is read in `depend`, `to` and `from`",
         );
     }
-    if word == "-" {
+    if word == "-" || word == "+" {
+        return Some("a term stands here: the first one of a bound has no sign, and none has two");
+    }
+    if word == "(" {
         return Some(
-            "a bound has a `-` between constants alone, where it gives a number: let the loop begin so that a sum is enough",
+            "a bound has brackets round constants alone: write its terms without them, as `8 - i - 1` for `8 - (i + 1)`",
         );
+    }
+    if word == "*" {
+        return Some("a term has one name, behind its number: write `8 * i` for `i * 8`");
     }
     Some(BOUND)
 }

@@ -19,9 +19,11 @@ mod UnlinedPointers
 mod UnlinedStructs
 mod UnlinedChoices
 mod UnlinedLoops
+mod UnlinedTriangles
 mod UnlinedGrids
 mod UnlinedDeclarations
 mod UnlinedCounters
+mod UnlinedLasting
 mod UnlinedMoves
 mod UnlinedPrivates
 mod UnlinedConditions

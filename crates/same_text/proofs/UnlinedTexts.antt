@@ -9,12 +9,14 @@ use Rattle.c_grammar.specs.Constants.{undefined, worked}
 use Rattle.c_grammar.specs.Functions.{expanded}
 use Rattle.c_grammar.specs.Pointers.{pointed}
 use Rattle.c_grammar.specs.Loops.{looped}
+use Rattle.c_grammar.specs.Triangles.{rectangular}
 use Rattle.c_grammar.specs.Structs.{in_rows}
 use Rattle.c_grammar.specs.Choices.{chosen}
 use Rattle.c_grammar.specs.Conditions.{decided}
 use Rattle.c_grammar.specs.Grids.{flat}
 use Rattle.c_grammar.specs.Counters.{counted}
 use Rattle.c_grammar.specs.Privates.{owned}
+use Rattle.c_grammar.specs.Lasting.{lasting}
 use Rattle.c_grammar.specs.Unset.{zeroed}
 use Rattle.c_grammar.specs.Declarations.{Other, settled}
 use Rattle.c_grammar.specs.Updates.{Outside, commuting}
@@ -34,10 +36,12 @@ use Rattle.same_text.proofs.UnlinedConstants.{worked_unlined}
 use Rattle.same_text.proofs.UnlinedFunctions.{expanded_unlined}
 use Rattle.same_text.proofs.UnlinedPointers.{pointed_unlined}
 use Rattle.same_text.proofs.UnlinedLoops.{looped_unlined}
+use Rattle.same_text.proofs.UnlinedTriangles.{rectangular_unlined}
 use Rattle.same_text.proofs.UnlinedStructs.{rows_unlined}
 use Rattle.same_text.proofs.UnlinedChoices.{chosen_unlined}
 use Rattle.same_text.proofs.UnlinedConditions.{decided_unlined}
 use Rattle.same_text.proofs.UnlinedGrids.{flat_unlined}
+use Rattle.same_text.proofs.UnlinedLasting.{lasting_unlined}
 use Rattle.same_text.proofs.UnlinedCounters.{counted_unlined, zeroed_unlined}
 use Rattle.same_text.proofs.UnlinedPrivates.{owned_unlined}
 use Rattle.same_text.proofs.UnlinedDeclarations.{settled_unlined}
@@ -69,13 +73,15 @@ written_unlined is =
     let b : Items = in_blocks nothing_read u in
     let l : Items = counted b in
     let o : Items = owned l in
-    let d : Items = settled Other (zeroed o) in
+    let w : Items = lasting o in
+    let d : Items = settled Other (zeroed w) in
     let c : Items = worked [] [] 0 d in
     let q : Items = pointed c in
     let e : Items = expanded q in
     let y : Items = decided e in
     let x : Items = looped y in
-    let f : Items = chosen x in
+    let h : Items = rectangular x in
+    let f : Items = chosen h in
     let r : Items = flat true [] [] [] 0 (undefined [] 0 0 f) in
     let g : Items = flat false [] [] [] 0 r in
     let later : Items → Items = λ js. announced (in_full begin 0 (initialized no_globals 0 (allocated js))) in
@@ -84,9 +90,10 @@ written_unlined is =
     let since_rows : Items → Items = λ js. since_updates (flat false [] [] [] 0 js) in
     let since_grids : Items → Items = λ js. since_rows (flat true [] [] [] 0 js) in
     let since_defined : Items → Items = λ js. since_grids (undefined [] 0 0 js) in
-    let since_declared : Items → Items = λ js. since_defined (chosen (looped (decided (expanded (pointed (worked [] [] 0 js)))))) in
+    let since_declared : Items → Items = λ js.
+    since_defined (chosen (rectangular (looped (decided (expanded (pointed (worked [] [] 0 js))))))) in
     let since_zeroed : Items → Items = λ js. since_declared (settled Other js) in
-    let since_counted : Items → Items = λ js. since_zeroed (zeroed (owned js)) in
+    let since_counted : Items → Items = λ js. since_zeroed (zeroed (lasting (owned js))) in
     let since_blocks : Items → Items = λ js. since_counted (counted js) in
     let since_structs : Items → Items = λ js. since_blocks (in_blocks nothing_read (undeclared false js)) in
     let since_typed : Items → Items = λ js. since_structs (in_rows js) in
@@ -98,15 +105,17 @@ written_unlined is =
     ∙ ap (λ (js : Items). since_blocks (in_blocks nothing_read js)) (undeclared_unlined s false)
     ∙ ap since_blocks (blocks_unlined u nothing_read)
     ∙ ap since_counted (counted_unlined b)
-    ∙ ap (λ (js : Items). since_zeroed (zeroed js)) (owned_unlined l)
-    ∙ ap since_zeroed (zeroed_unlined o)
-    ∙ ap since_declared (settled_unlined (zeroed o) Other)
-    ∙ ap (λ (js : Items). since_defined (chosen (looped (decided (expanded (pointed js)))))) (worked_unlined d [] [] 0)
-    ∙ ap (λ (js : Items). since_defined (chosen (looped (decided (expanded js))))) (pointed_unlined c)
-    ∙ ap (λ (js : Items). since_defined (chosen (looped (decided js)))) (expanded_unlined q)
-    ∙ ap (λ (js : Items). since_defined (chosen (looped js))) (decided_unlined e)
-    ∙ ap (λ (js : Items). since_defined (chosen js)) (looped_unlined y)
-    ∙ ap since_defined (chosen_unlined x)
+    ∙ ap (λ (js : Items). since_zeroed (zeroed (lasting js))) (owned_unlined l)
+    ∙ ap (λ (js : Items). since_zeroed (zeroed js)) (lasting_unlined o)
+    ∙ ap since_zeroed (zeroed_unlined w)
+    ∙ ap since_declared (settled_unlined (zeroed w) Other)
+    ∙ ap (λ (js : Items). since_defined (chosen (rectangular (looped (decided (expanded (pointed js))))))) (worked_unlined d [] [] 0)
+    ∙ ap (λ (js : Items). since_defined (chosen (rectangular (looped (decided (expanded js)))))) (pointed_unlined c)
+    ∙ ap (λ (js : Items). since_defined (chosen (rectangular (looped (decided js))))) (expanded_unlined q)
+    ∙ ap (λ (js : Items). since_defined (chosen (rectangular (looped js)))) (decided_unlined e)
+    ∙ ap (λ (js : Items). since_defined (chosen (rectangular js))) (looped_unlined y)
+    ∙ ap (λ (js : Items). since_defined (chosen js)) (rectangular_unlined x)
+    ∙ ap since_defined (chosen_unlined h)
     ∙ ap since_grids (undefined_unlined f [] 0 0)
     ∙ ap since_rows (flat_unlined (undefined [] 0 0 f) true [] [] [] 0)
     ∙ ap since_updates (flat_unlined r false [] [] [] 0)

@@ -1,9 +1,9 @@
 -- Lines say of updates that they commute without a look at the lines of the tokens.
 use Rattle.std.proofs.Common.{◌≡◌, ◌∙◌, ℕ, zero, suc, ◌+◌, ◌-◌, Bool, true, false, cond, List, [], ◌∷◌, ◌++◌, length, take, drop, Option, Some, None, refl, sym, ap}
-use Rattle.std.specs.Prelude.{◌&&◌, ◌||◌, ◌==◌, not, is_some}
+use Rattle.std.specs.Prelude.{◌&&◌, ◌||◌, ◌==◌, if◌then◌else◌, not, is_some}
 use Rattle.c_tokens.specs.declared.kind.Sign.{Sign}
 use Rattle.c_tokens.specs.declared.kind.Sign.TheVariants as sign
-use Rattle.c_grammar.specs.Lexeme.{Lexeme, Placed}
+use Rattle.c_grammar.specs.Lexeme.{Lexeme, Placed, If}
 use Rattle.c_grammar.specs.Terminal.{Terminal, Fixed, Mark, Name, Num, Line, Unknown, Unworked, End, same}
 use Rattle.c_grammar.specs.Texts.{Item}
 use Rattle.c_grammar.specs.Blocks.{Items, bare, is_directive}
@@ -12,7 +12,7 @@ use Rattle.c_grammar.specs.Constants.{Names, with_tokens}
 use Rattle.c_grammar.specs.Expressions.{placed_of}
 use Rattle.c_grammar.specs.Functions.{index_len}
 use Rattle.c_grammar.specs.Presence.{goes_on, opens_part}
-use Rattle.c_grammar.specs.Updates.{Inside, OnRegion, Onward, Outside, Reduction, Region, again, again_at, all_mapped, are_summed, atomic_tokens, begins_with, behind, changed, changed_behind, changing, clause_on, commuting, directive_on, equal, has_update, is_assigned, is_atomic, is_by, is_combined, is_named, is_summed, is_taken, lexemes, line_on, mapped_words, mark_at, marked, mention, named_update, none_mapped, other, place_len, reduced, reduction_at, sign_at, summed, taken, taken_at, token_on, update, with_names}
+use Rattle.c_grammar.specs.Updates.{BySign, ByExtreme, Extreme, Inside, OnRegion, Onward, Operation, Outside, Reduction, Region, again, again_at, all_mapped, allowed, allowed_at, allowed_on, are_summed, atomic_tokens, begins_with, behind, changed, changed_behind, changing, clause_on, commuting, directive_on, equal, extreme_at, extreme_of, flat, has_extreme, has_update, is_assigned, is_atomic, is_by, is_changed, is_combined, is_commuting, is_compare, is_extreme, is_gathered, is_named, is_reduced, is_round, is_short, is_summed, is_taken, is_updated, lexemes, line_on, mapped_words, mark_at, marked, mention, named_update, none_mapped, other, place_len, reduced, reduction_at, sign_at, summed, taken, taken_at, token_on, update, with_names}
 use Rattle.same_text.specs.Laws.{unlined}
 use Rattle.same_text.proofs.Unlined.{AreUnlined, all_unlined, bare_unlined, one}
 use Rattle.same_text.proofs.UnlinedCalls.{drop_unlined, index_same, length_unlined, take_unlined}
@@ -121,11 +121,54 @@ summed_unlined x op (i ∷ is) d starts n =
     (other_unlined d n i is (λ d s n. is_summed x op d s n is) (λ d s n. is_summed x op d s n (all_unlined is))
     (λ d s n. summed_unlined x op is d s n)))
 
-all_summed_unlined : (xs : Names) (op : Sign) (is : Items) → are_summed xs op (all_unlined is) ≡ are_summed xs op is
+-- ---- the greater or the lesser of two numbers
+
+flat_unlined : (n : ℕ) (is : Items) → flat n (all_unlined is) ≡ flat n is
+flat_unlined zero is = refl
+flat_unlined (suc n) [] = refl
+flat_unlined (suc n) (i ∷ is) =
+    go (is_round i.terminal) (if is_boundary i.terminal then n else suc n) (λ k. flat_unlined k is)
+  where
+    go : (b : Bool) (m : ℕ) → ((k : ℕ) → flat k (all_unlined is) ≡ flat k is) →
+        cond b (flat (suc n) (all_unlined is)) (i.terminal ∷ flat m (all_unlined is))
+        ≡ cond b (flat (suc n) is) (i.terminal ∷ flat m is)
+    go true m ih = ih (suc n)
+    go false m ih = ap (λ (ts : List Terminal). i.terminal ∷ ts) (ih m)
+
+extreme_unlined : (is : Items) → extreme_at (all_unlined is) ≡ extreme_at is
+extreme_unlined is = ap extreme_of (flat_unlined 6 is)
+
+allowed_unlined : (x : List ℕ) (g starts : Bool) (n : ℕ) (i : Item Terminal) (is : Items) →
+    allowed_at x g starts n (unlined i) (all_unlined is) ≡ allowed_at x g starts n i is
+allowed_unlined x g starts n i is =
+    ap (λ (o : Option Extreme). cond (starts && same (Fixed If) i.terminal) (allowed x g n o) n) (extreme_unlined is)
+
+allowed_goes : (n : ℕ) (go go' : ℕ → Bool) → ((k : ℕ) → go' k ≡ go k) → allowed_on n go' ≡ allowed_on n go
+allowed_goes zero go go' h = refl
+allowed_goes (suc n) go go' h = h n
+
+gathered_unlined : (x : List ℕ) (g : Bool) (is : Items) (d : ℕ) (starts : Bool) (n : ℕ) →
+    is_gathered x g d starts n (all_unlined is) ≡ is_gathered x g d starts n is
+gathered_unlined x g [] d starts n = refl
+gathered_unlined x g (i ∷ is) d starts n =
+    same_if (is_directive i.terminal) _ _ _ _ (gathered_unlined x g is d starts n)
+    (same_if (same (Name x) i.terminal) _ _ _ _
+    (allowed_goes n (λ k. is_gathered x g d false k is) (λ k. is_gathered x g d false k (all_unlined is))
+    (λ k. gathered_unlined x g is d false k))
+    (other_unlined d 0 i is (λ d s k. is_gathered x g d s (allowed_at x g starts n i is) is)
+    (λ d s k. is_gathered x g d s (allowed_at x g starts n (unlined i) (all_unlined is)) (all_unlined is))
+    (λ d s k. ap (λ (m : ℕ). is_gathered x g d s m (all_unlined is)) (allowed_unlined x g starts n i is)
+    ∙ gathered_unlined x g is d s (allowed_at x g starts n i is))))
+
+reduced_by_unlined : (x : List ℕ) (op : Operation) (is : Items) → is_reduced x op (all_unlined is) ≡ is_reduced x op is
+reduced_by_unlined x (BySign op) is = summed_unlined x op is 0 false 0
+reduced_by_unlined x (ByExtreme g) is = gathered_unlined x g is 0 false 0
+
+all_summed_unlined : (xs : Names) (op : Operation) (is : Items) → are_summed xs op (all_unlined is) ≡ are_summed xs op is
 all_summed_unlined [] op is = refl
 all_summed_unlined (x ∷ xs) op is =
-    ap (λ (b : Bool). b && are_summed xs op (all_unlined is)) (summed_unlined x op is 0 false 0)
-    ∙ ap (λ (b : Bool). is_summed x op 0 false 0 is && b) (all_summed_unlined xs op is)
+    ap (λ (b : Bool). b && are_summed xs op (all_unlined is)) (reduced_by_unlined x op is)
+    ∙ ap (λ (b : Bool). is_reduced x op is && b) (all_summed_unlined xs op is)
 
 -- ---- lines
 
@@ -183,6 +226,27 @@ has_unlined : (is : Items) → has_update (all_unlined is) ≡ has_update is
 has_unlined [] = refl
 has_unlined (i ∷ is) = named_unlined i.terminal is
 
+has_extreme_unlined : (is : Items) → has_extreme (all_unlined is) ≡ has_extreme is
+has_extreme_unlined [] = refl
+has_extreme_unlined (i ∷ is) =
+    ap (λ (o : Option Extreme). same (Fixed If) i.terminal && is_short o) (extreme_unlined is)
+
+updated_unlined : (t : Terminal) (is : Items) → is_updated t (all_unlined is) ≡ is_updated t is
+updated_unlined (Name x) is = ap is_commuting (update_unlined x is)
+updated_unlined (Fixed w) is = refl
+updated_unlined (Mark s) is = refl
+updated_unlined (Num n) is = refl
+updated_unlined (Line ts) is = refl
+updated_unlined Unknown is = refl
+updated_unlined Unworked is = refl
+updated_unlined End is = refl
+
+begun_unlined : (xs : Names) (i : Item Terminal) (is : Items) → is_changed xs (unlined i) (all_unlined is) ≡ is_changed xs i is
+begun_unlined xs i is =
+    same_if (same (Fixed If) i.terminal) _ _ _ _ (ap (is_extreme xs) (extreme_unlined is))
+    (ap (λ (b : Bool). is_named xs i.terminal && b)
+    (ap (is_updated i.terminal) (bare_unlined is) ∙ updated_unlined i.terminal (bare is)))
+
 region_unlined : (xs : Names) (d : ℕ) (i : Item Terminal) (is : Items) → behind xs d (unlined i) (all_unlined is) ≡ behind xs d i is
 region_unlined xs d i is =
     ap (λ (b : Bool). cond (opens_part i) (Inside xs (d + 1) (is_boundary i.terminal))
@@ -201,9 +265,11 @@ marked_unlined : (r : Region) (i : Item Terminal) (is : Items) (go go' : OnRegio
     AreUnlined (marked r (unlined i) (all_unlined is) go') (marked r i is go)
 marked_unlined Outside i is go go' h = one i _ _ (h Outside)
 marked_unlined (Inside xs d starts) i is go go' h =
-    ap (λ (r : Region). cond (starts && is_named xs i.terminal) (mark_at (unlined i) ∷ unlined i ∷ go' r) (unlined i ∷ go' r))
-    (region_unlined xs d i is)
-    ∙ chosen (starts && is_named xs i.terminal) _ _ _ _
+    ap (λ (r : Region). cond (starts && is_changed xs (unlined i) (all_unlined is)) (mark_at (unlined i) ∷ unlined i ∷ go' r)
+    (unlined i ∷ go' r)) (region_unlined xs d i is)
+    ∙ ap (λ (b : Bool). cond (starts && b) (mark_at (unlined i) ∷ unlined i ∷ go' (behind xs d i is))
+    (unlined i ∷ go' (behind xs d i is))) (begun_unlined xs i is)
+    ∙ chosen (starts && is_changed xs i is) _ _ _ _
     (one (mark_at i) (i ∷ go (behind xs d i is)) (unlined i ∷ go' (behind xs d i is)) token) token
   where
     token : AreUnlined (unlined i ∷ go' (behind xs d i is)) (i ∷ go (behind xs d i is))
@@ -222,7 +288,10 @@ line_unlined i ts is r go go' h =
     (ap (λ (js : Items). with_tokens (unlined i) ts (atomic_tokens (has_update js) (placed_of ts i.columns)) ∷ go' r) (bare_unlined is)
     ∙ ap (λ (b : Bool). with_tokens (unlined i) ts (atomic_tokens b (placed_of ts i.columns)) ∷ go' r) (has_unlined (bare is))
     ∙ one (with_tokens i ts (atomic_tokens (has_update (bare is)) (placed_of ts i.columns))) _ _ (h r))
-    (one i _ _ (h r)))
+    (ap (λ (b : Bool). cond (is_compare ts && b) (with_tokens (unlined i) ts (atomic_tokens true (placed_of ts i.columns)) ∷ go' r)
+    (unlined i ∷ go' r)) (has_extreme_unlined is)
+    ∙ chosen (is_compare ts && has_extreme is) _ _ _ _
+    (one (with_tokens i ts (atomic_tokens true (placed_of ts i.columns))) _ _ (h r)) (one i _ _ (h r))))
 
 directive_unlined : (i : Item Terminal) (t : Terminal) (is : Items) (r : Region) (go go' : OnRegion) → GoesAlike go' go →
     AreUnlined (directive_on (unlined i) t (all_unlined is) r go') (directive_on i t is r go)

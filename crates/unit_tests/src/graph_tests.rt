@@ -321,7 +321,10 @@ fn many_items_are_cut(rt: HostRuntime) -> Result<(), Fail> {
 fn bound(alloc: Global, number: u64) -> Result<Bound, AllocError> {
     let mut terms = SmallVec::new(alloc);
     terms.push(Term::Literal(number))?;
-    Ok(Bound { terms })
+    Ok(Bound {
+        terms,
+        less: SmallVec::new(alloc),
+    })
 }
 
 // An item that is deferred, with a depend item for each of these cells.

@@ -11,6 +11,9 @@ $ ompc check begins_past_all_numbers.c
 $ ompc check longest_section.c
 ! E302 item 0 line 3 column 39
 [1]
+$ ompc check bound_below_zero.c
+! E302 item 1 line 6 column 28
+[1]
 $ ompc run last_number.c
 18446744073709551614
 $ ompc check would_wrap.c

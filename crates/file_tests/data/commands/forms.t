@@ -514,21 +514,35 @@ $ ompc explain forms/scalar_length.c
 forms/scalar_length.c:4:32: error: `x` does not fit into a section, which is NAME[FIRST:LENGTH] [E205]
     4 | #pragma omp target map(to: A[0:x])
       |                                ^
-forms/scalar_length.c:4:32: help: a bound is a constant expression, or a sum of constants, names of loops around, and terms `NUM * NAME` of both
+forms/scalar_length.c:4:32: help: a bound is a constant expression, or terms with `+` and `-` between them: constants, names of loops around, and products `NUM * NAME` of both
 ! E205 line 4 column 32
 [1]
-$ ompc explain forms/difference.c
-forms/difference.c:4:32: error: `-` does not fit into a section, which is NAME[FIRST:LENGTH] [E205]
-    4 | #pragma omp target map(to: A[i - 1:1])
+$ ompc explain forms/signed_bound.c
+forms/signed_bound.c:4:30: error: `-` does not fit into a section, which is NAME[FIRST:LENGTH] [E205]
+    4 | #pragma omp target map(to: A[-i:1])
+      |                              ^
+forms/signed_bound.c:4:30: help: a term stands here: the first one of a bound has no sign, and none has two
+! E205 line 4 column 30
+[1]
+$ ompc explain forms/brackets_in_a_bound.c
+forms/brackets_in_a_bound.c:4:34: error: `(` does not fit into a section, which is NAME[FIRST:LENGTH] [E205]
+    4 | #pragma omp target map(to: A[3 - (i + 1):1])
+      |                                  ^
+forms/brackets_in_a_bound.c:4:34: help: a bound has brackets round constants alone: write its terms without them, as `8 - i - 1` for `8 - (i + 1)`
+! E205 line 4 column 34
+[1]
+$ ompc explain forms/number_behind_a_name.c
+forms/number_behind_a_name.c:4:32: error: `*` does not fit into a section, which is NAME[FIRST:LENGTH] [E205]
+    4 | #pragma omp target map(to: A[i * 2:1])
       |                                ^
-forms/difference.c:4:32: help: a bound has a `-` between constants alone, where it gives a number: let the loop begin so that a sum is enough
+forms/number_behind_a_name.c:4:32: help: a term has one name, behind its number: write `8 * i` for `i * 8`
 ! E205 line 4 column 32
 [1]
 $ ompc explain forms/array_in_a_bound.c
 forms/array_in_a_bound.c:3:30: error: `A` is an array, and stands in a bound [E103]
     3 | #pragma omp target map(to: A[A:1])
       |                              ^
-forms/array_in_a_bound.c:3:30: help: a bound is a constant expression, or a sum of constants, names of loops around, and terms `NUM * NAME` of both
+forms/array_in_a_bound.c:3:30: help: a bound is a constant expression, or terms with `+` and `-` between them: constants, names of loops around, and products `NUM * NAME` of both
 ! E103 line 3 column 30
 [1]
 
@@ -681,6 +695,16 @@ $ ompc explain forms/sum_that_is_read.c
 forms/sum_that_is_read.c:3:50: error: `reduction` is no clause that this directive takes [E202]
     3 | #pragma omp target teams distribute parallel for reduction(+: s)
       |                                                  ^~~~~~~~~
-forms/sum_that_is_read.c:3:50: help: a reduction, by one of `+ * & | ^`, is of arrays, each of whose names in the loop begins an update by that operator, `s[0] += e;`, and stands nowhere else; it stands on a construct with its loop, whose `map` clauses name all of these arrays or none
+forms/sum_that_is_read.c:3:50: help: a reduction, by one of `+ * & | ^`, `min` and `max`, is of arrays, each of whose names in the loop begins an update by that operator, `s[0] += e;` or `if (e > s[0]) s[0] = e;`, and stands nowhere else; it stands on a construct with its loop, whose `map` clauses name all of these arrays or none
 ! E202 line 3 column 50
 [1]
+$ ompc explain forms/greatest_of_another.c
+forms/greatest_of_another.c:3:50: error: `reduction` is no clause that this directive takes [E202]
+    3 | #pragma omp target teams distribute parallel for reduction(max: m)
+      |                                                  ^~~~~~~~~
+forms/greatest_of_another.c:3:50: help: a reduction, by one of `+ * & | ^`, `min` and `max`, is of arrays, each of whose names in the loop begins an update by that operator, `s[0] += e;` or `if (e > s[0]) s[0] = e;`, and stands nowhere else; it stands on a construct with its loop, whose `map` clauses name all of these arrays or none
+! E202 line 3 column 50
+[1]
+$ ompc run forms/greatest.c
+17
+10

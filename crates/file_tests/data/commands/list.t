@@ -50,3 +50,12 @@ $ ompc list undeclared.c
 $ ompc list absent.c
 ! cannot read absent.c
 [2]
+
+# bounds of which terms are taken away
+$ ompc list terms_taken_away.c
+0 target tofrom A[0:3]
+1 target tofrom A[2:2]
+2 target tofrom A[4:1]
+3 host
+$ ompc run terms_taken_away.c
+3

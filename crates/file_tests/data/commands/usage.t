@@ -92,7 +92,7 @@ $ ompc run double.c --workers x
 ! For more information, try '--help'.
 [2]
 $ ompc --version
-! ompc 0.1.0 (rattle-kit-13f logic dac8208d650f15bf)
+! ompc 0.1.0 (logic dac8208d650f15bf)
 [2]
 $ ompc fix
 ! error: the following required arguments were not provided:

@@ -177,6 +177,10 @@ fn add_bound(out: &mut Text, bound: &Bound) {
         }
         add_term(out, term);
     }
+    for term in bound.less.as_slice() {
+        out.add(" - ");
+        add_term(out, term);
+    }
 }
 
 fn add_section(out: &mut Text, section: &SectionText) {

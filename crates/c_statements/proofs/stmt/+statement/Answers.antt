@@ -10,9 +10,48 @@ use Rattle.c_statements.specs.Simple.{env_of}
 use Rattle.c_statements.proofs.Begins.{at_print, at_name, at_loop, at_choice, no_else_here, stop_stmt}
 use Rattle.c_statements.proofs.Composes.{within_same, body_scope, body_tree, block_scope, block_tree, loop_tree, if_tree, if_else_tree, choice_scope, else_scope}
 use Rattle.c_statements.proofs.Fronts.{front_begins, front_more, front_ends, front_ready}
-use Rattle.c_statements.proofs.Levels.{same_again, same_none}
+use Rattle.c_statements.proofs.Atomics.{at_marked_choice, at_marked_name, at_marks, read_atomic, stop_marked}
+use Rattle.c_statements.proofs.Levels.{same_again, same_counted, same_none}
 use Rattle.std.proofs.lemmas.Grind.{common_steps}
 use Rattle.c_statements.proofs.stmt.+statement.Goals as goal
+
+pub atomic_update-returns-in_err-begin_atomic-clause-read : goal.atomic_update-returns-in_err-begin_atomic-clause-read
+atomic_update-returns-in_err-begin_atomic-clause-read t c = λ s.
+    let p = err_from_is_err_and c.from_residual.result c.from_residual.ensures.1 in
+    rw (p.1, p.2) (failed_from _ _ _ (at_marks (context_of c.args.scope.now 0 0) s c.args.tokens.now c.requires.line)
+    (c.in_err-begin_atomic.ensures.read _))
+
+pub atomic_update-returns-in_err-statement-clause-read : goal.atomic_update-returns-in_err-statement-clause-read
+atomic_update-returns-in_err-statement-clause-read t c = λ s.
+    let p = err_from_is_err_and c.from_residual-in_err-statement.result c.from_residual-in_err-statement.ensures.1 in
+    rw (p.1, p.2) (failed_from _ _ _ (at_marks (context_of c.args.scope.now 0 0) s c.args.tokens.now c.requires.line
+    ∙ c.in_ok-begin_atomic.ensures.read _) (c.in_err-statement.ensures.read s))
+
+pub atomic_update-returns-clause-read : goal.atomic_update-returns-clause-read
+atomic_update-returns-clause-read t c = λ s.
+    at_marks (context_of c.args.scope.now 0 0) s c.args.tokens.now c.requires.line ∙ c.in_ok-begin_atomic.ensures.read _
+    ∙ c.in_ok-statement.ensures.read s
+
+pub atomic_update-returns-clause-scope : goal.atomic_update-returns-clause-scope
+atomic_update-returns-clause-scope t c = same_again c.args.scope.now c.begin_atomic.new.scope c.marked.new.scope
+    (same_counted c.args.scope.now c.begin_atomic.new.scope c.in_ok-begin_atomic.ensures.scope)
+    c.in_ok-statement.ensures.scope
+
+pub atomic_update-returns-clause-tree : goal.atomic_update-returns-clause-tree
+atomic_update-returns-clause-tree t c =
+    read_atomic c.args.scope.now c.begin_atomic.new.scope c.marked.new.scope c.args.tokens.now
+    c.begin_atomic.new.tokens (items c.marked.new.tokens) c.in_ok-statement.statement c.as_update.result
+    c.in_ok-begin_atomic.ensures.scope c.requires.line c.in_ok-begin_atomic.ensures.taken c.in_ok-statement.ensures.tree
+    c.as_update.ensures
+
+pub marked-returns-in-Word-If-clause-read : goal.marked-returns-in-Word-If-clause-read
+marked-returns-in-Word-If-clause-read t c = grind (arith, at_marked_choice)
+
+pub marked-returns-in-Name-clause-read : goal.marked-returns-in-Name-clause-read
+marked-returns-in-Name-clause-read t c = grind (arith, at_marked_name)
+
+pub marked-returns-in_default-clause-read : goal.marked-returns-in_default-clause-read
+marked-returns-in_default-clause-read t c = grind (arith, stop_marked)
 
 pub blocked-returns-clause-scope : goal.blocked-returns-clause-scope
 blocked-returns-clause-scope t c = block_scope c.args.scope.now c.begin_block.new.scope c.statements.new.scope

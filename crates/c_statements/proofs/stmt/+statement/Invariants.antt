@@ -20,6 +20,12 @@ decreases-statement l = 8 * length (items l.tokens.now) + 4
 abbrev pub decreases-blocked : goal.decreases-blocked
 decreases-blocked l = 8 * length (items l.tokens.now) + 3
 
+abbrev pub decreases-marked : goal.decreases-marked
+decreases-marked l = 8 * length (items l.tokens.now) + 4
+
+abbrev pub decreases-atomic_update : goal.decreases-atomic_update
+decreases-atomic_update l = 8 * length (items l.tokens.now) + 3
+
 abbrev pub decreases-choice : goal.decreases-choice
 decreases-choice l = 8 * length (items l.tokens.now) + 3
 

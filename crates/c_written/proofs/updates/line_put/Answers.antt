@@ -1,10 +1,10 @@
 use Rattle.std.proofs.Common.{◌<◌, ◌^◌, ◌∙◌, List, ap, length, rules, sym}
 use Rattle.c_grammar.specs.Lexeme.{Placed}
-use Rattle.c_grammar.specs.Updates.{is_atomic, is_combined}
+use Rattle.c_grammar.specs.Updates.{is_atomic, is_combined, is_compare}
 use Rattle.directives.specs.Spells.{kinds_of}
 use Rattle.c_terminals.specs.Ahead.{ahead}
 use Rattle.c_terminals.specs.Seen.{seen_all}
-use Rattle.c_written.proofs.CommutingLines.{atomic_put, combined_put}
+use Rattle.c_written.proofs.CommutingLines.{atomic_put, combined_put, compare_put}
 use Rattle.c_written.proofs.Summing.{few_tokens}
 use Rattle.c_written.proofs.updates.line_put.Goals as goal
 
@@ -29,3 +29,14 @@ returns-then-is_atomic c =
     (sym (c.is_atomic.ensures ∙ ap (λ (ps : List Placed). is_atomic (kinds_of ps)) c.tokens-2.ensures.tokens)
     ∙ c.if-is_atomic.true)
     c.new.ensures c.has_update-updates.ensures c.in_ok-atomic_line.ensures
+
+pub returns-then-has_extreme : goal.returns-then-has_extreme
+returns-then-has_extreme c =
+    compare_put c.args.token c.in-Line.line (seen_all c.args.behind.now) c.in_ok-has_extreme.field-0 _ c.in-Line.is
+    (sym (c.is_combined.ensures ∙ ap (λ (ps : List Placed). is_combined (kinds_of ps)) c.tokens.ensures.tokens)
+    ∙ c.if-is_combined.false)
+    (sym (c.is_atomic.ensures ∙ ap (λ (ps : List Placed). is_atomic (kinds_of ps)) c.tokens-2.ensures.tokens)
+    ∙ c.if-is_atomic.false)
+    (sym (c.is_compare.ensures ∙ ap (λ (ps : List Placed). is_compare (kinds_of ps)) c.tokens-3.ensures.tokens)
+    ∙ c.if-is_compare.true)
+    c.in_ok-has_extreme.ensures c.if-has_extreme.true c.in_ok-compare_line.ensures

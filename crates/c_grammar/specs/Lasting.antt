@@ -1,0 +1,129 @@
+-- Scalars that are constants though they are not declared so: one that is declared with a value where a constant may be
+-- declared, which nothing changes behind that, and which stands in the head of a loop there. The word const is put before its
+-- type. A source in which a scalar stands in the head of a loop has a fault without that.
+use Rattle.std.specs.Prelude.{ℕ, zero, suc, ◌-◌, ◌==◌, Bool, true, false, not, ◌&&◌, ◌||◌, if◌then◌else◌, List, [], ◌∷◌, ◌++◌, codes}
+use Rattle.c_tokens.specs.declared.kind.Sign.{Sign}
+use Rattle.c_tokens.specs.declared.kind.Sign.TheVariants as sign
+use Rattle.c_grammar.specs.Lexeme.{For, Main}
+use Rattle.c_grammar.specs.Terminal.{Terminal, Fixed, Mark, Name, Num, same}
+use Rattle.c_grammar.specs.Texts.{Item}
+use Rattle.c_grammar.specs.Blocks.{Items, at, bare, is_directive}
+use Rattle.c_grammar.specs.Constants.{depth_behind}
+use Rattle.c_grammar.specs.Changes.{is_boundary, is_mark}
+use Rattle.c_grammar.specs.Choices.{is_setting}
+use Rattle.c_grammar.specs.Counters.{is_type}
+use Rattle.c_grammar.specs.Declarations.{is_given, is_name}
+use Rattle.c_grammar.specs.Loops.{is_word, steps}
+
+-- ---- what changes a scalar
+
+abbrev pub begins_change : Items → Bool
+begins_change [] = false
+begins_change (i ∷ is) = is_setting i.terminal || steps i
+
+abbrev pub begins_word : List ℕ → Items → Bool
+begins_word x [] = false
+begins_word x (i ∷ is) = is_word x i
+
+-- behind a type: the name, or a star and the name
+abbrev pub declares : List ℕ → Items → Bool
+declares x [] = false
+declares x (i ∷ is) = is_word x i || (is_mark sign.Star i && begins_word x is)
+
+-- there it is assigned, or something else of that name is declared
+abbrev pub alters : List ℕ → Item Terminal → Items → Bool
+alters x i is =
+    (is_word x i && begins_change is) || (steps i && begins_word x is) || (is_type i.terminal && declares x is)
+
+-- behind a token: in the head of a loop, which ends where its block begins
+abbrev pub in_head : Bool → Item Terminal → Bool
+in_head h i = same (Fixed For) i.terminal || (h && not (is_mark sign.OpenBrace i))
+
+-- nothing alters the scalar, and it stands in the head of a loop, or stood there before
+abbrev pub lasts : List ℕ → Bool → Bool → Items → Bool
+lasts x h found [] = found
+lasts x h found (i ∷ is) = not (alters x i is) && lasts x (in_head h i) (found || (h && is_word x i)) is
+
+-- ---- its value
+
+abbrev pub is_operator : Sign → Bool
+is_operator sign.Plus = true
+is_operator sign.Minus = true
+is_operator sign.Star = true
+is_operator sign.Slash = true
+is_operator sign.Percent = true
+is_operator sign.OpenParen = true
+is_operator sign.CloseParen = true
+is_operator s = false
+
+abbrev pub is_part : Terminal → Bool
+is_part (Num n) = true
+is_part (Name x) = true
+is_part (Mark s) = is_operator s
+is_part t = false
+
+abbrev pub opens : Items → Bool
+opens [] = false
+opens (i ∷ is) = is_mark sign.OpenParen i
+
+-- numbers, names and operators up to a semicolon, and no call
+abbrev pub has_value : Items → Bool
+has_value [] = false
+has_value (i ∷ is) =
+    is_mark sign.Semicolon i || ((is_part i.terminal && not (is_name i.terminal && opens is)) && has_value is)
+
+-- ---- its declaration
+
+abbrev pub lasts_as : Terminal → Items → Bool
+lasts_as (Name x) is = lasts x false false is
+lasts_as t is = false
+
+-- behind its type
+abbrev pub is_lasting : Items → Bool
+is_lasting (x ∷ e ∷ is) = has_value is && lasts_as x.terminal is
+is_lasting is = false
+
+-- so many declarations are looked at
+abbrev pub most_looked : ℕ
+most_looked = 256
+
+-- in how many blocks, whether behind the name of main, whether a statement begins, and how many declarations are still looked at
+pub record State : Type 0 where
+  pub depth : ℕ
+  pub main : Bool
+  pub starts : Bool
+  pub left : ℕ
+
+abbrev pub begin : State
+begin = record { depth = 0; main = false; starts = true; left = most_looked }
+
+abbrev pub may_declare : State → Bool
+may_declare s = s.starts && ((s.depth == 0) || (s.main && (s.depth == 1)))
+
+-- a declaration that is looked at
+abbrev pub is_looked : State → Item Terminal → Items → Bool
+is_looked s i is = may_declare s && (is_type i.terminal && (not (s.left == 0) && is_given is))
+
+abbrev pub behind : State → Item Terminal → Items → State
+behind s i is = record {
+  depth = depth_behind i.terminal s.depth;
+  main = s.main || same (Fixed Main) i.terminal;
+  starts = is_boundary i.terminal;
+  left = if is_looked s i is then s.left - 1 else s.left;
+}
+
+abbrev pub const_at : Item Terminal → Items
+const_at i = at i (Name (codes "const")) ∷ []
+
+abbrev pub const_for : State → Item Terminal → Items → Items
+const_for s i is = if is_looked s i is && is_lasting is then const_at i else []
+
+abbrev pub lasting_in : State → Items → Items
+lasting_in s [] = []
+lasting_in s (i ∷ is) =
+    if is_directive i.terminal then i ∷ lasting_in s is
+    else const_for s i (bare is) ++ i ∷ lasting_in (behind s i (bare is)) is
+
+-- all tokens, with these words
+abbrev pub lasting : Items → Items
+lasting is = lasting_in begin is

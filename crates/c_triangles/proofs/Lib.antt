@@ -1,0 +1,3 @@
+pub mod Innermost
+pub mod Summing
+pub mod Passing

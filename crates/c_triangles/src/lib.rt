@@ -1,0 +1,13 @@
+//! Loops whose bounds name loops around, written out as loops with numbers for bounds and an `if` in their block.
+#![tactic(auto)]
+
+mod blocks;
+mod bounds;
+mod guards;
+mod heads;
+mod loops;
+mod ranges;
+mod steps;
+mod triangles;
+
+pub use triangles::rectangular;

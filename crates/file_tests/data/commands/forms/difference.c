@@ -1,7 +1,0 @@
-uint64_t A[4];
-int main(void) {
-for (uint64_t i = 1; i < 3; i += 1) {
-#pragma omp target map(to: A[i - 1:1])
-{ }
-}
-}
