@@ -3,6 +3,7 @@ use Rattle.std.proofs.Common.{◌≡◌, ◌≢◌, ◌≤◌, ℕ, Bool, true, 
 use Rattle.std.specs.Prelude.{Result, Ok, Err, IfErr, IfOk, IfSome, IsErrAnd}
 use Rattle.base.specs.declared.tree.Program.{Program}
 use Rattle.base.specs.declared.fault.OutlineFault.TheVariants as outline
+use Rattle.base.specs.declared.fault.ReadFault.TheVariants as read
 use Rattle.base.specs.declared.fault.CheckFault.TheVariants as check
 use Rattle.base.specs.declared.fault.SourceFault.{SourceFault}
 use Rattle.base.specs.declared.fault.SourceFault.TheVariants.{Read, Outline, Check, Run}
@@ -11,7 +12,7 @@ use Rattle.pipeline.specs.Checking.{IsRefused}
 use Rattle.c_lines.specs.Spliced.{spliced}
 use Rattle.driver.specs.declared.ending.Ending.{Ending}
 use Rattle.driver.specs.declared.ending.Ending.TheVariants as ending
-use Rattle.driver.specs.Statuses.{ending_of, status_of}
+use Rattle.driver.specs.Statuses.{ending_of, status_of, told_of}
 use Rattle.base.specs.Items.{plan}
 use Rattle.base.specs.Limits.{most_items}
 use Rattle.mapcheck.specs.Passes.{IsCheckFault}
@@ -74,6 +75,18 @@ told P (Check (check.Range item f)) h = record { fault = Check (check.Range item
 told P (Check (check.Order f)) h = record { fault = Check (check.Order f); refuses = refl; is = h }
 told P (Check (check.Refused f)) h = record { fault = Check (check.Refused f); refuses = refl; is = h }
 told P (Run f) h = λ _. h
+
+-- the same where it is told as a report
+pub printed : (P : SourceFault → Type 0) (f : SourceFault) → P f → IsRefusalBy P (told_of f)
+printed P (Read (read.Text f)) h = record { fault = Read (read.Text f); refuses = refl; is = h }
+printed P (Read read.OutOfMemory) h = λ _. h
+printed P (Outline outline.TooManyItems) h = record { fault = Outline outline.TooManyItems; refuses = refl; is = h }
+printed P (Outline outline.OutOfMemory) h = λ _. h
+printed P (Check check.OutOfMemory) h = tt
+printed P (Check (check.Range item f)) h = record { fault = Check (check.Range item f); refuses = refl; is = h }
+printed P (Check (check.Order f)) h = record { fault = Check (check.Order f); refuses = refl; is = h }
+printed P (Check (check.Refused f)) h = record { fault = Check (check.Refused f); refuses = refl; is = h }
+printed P (Run f) h = λ _. h
 
 -- an error that is handed up as it is
 pub handed_up : {X : Type 0} (P : SourceFault → Type 0) (r : Result X Ending) (e : Ending) → IsErrAnd r (λ y. y ≡ e) → IsRefusalBy P e

@@ -50,6 +50,16 @@ ending_of (Check check.OutOfMemory) = ending.OutOfMemory
 ending_of (Check _) = ending.Refused
 ending_of (Run f) = ending.Source (Run f)
 
+-- what it ends with where why the program is refused is printed, wherever its fault was found
+abbrev pub told_of : SourceFault → Ending
+told_of (Read (read.Text f)) = ending.Refused
+told_of (Read read.OutOfMemory) = ending.Source (Read read.OutOfMemory)
+told_of (Outline outline.TooManyItems) = ending.Refused
+told_of (Outline outline.OutOfMemory) = ending.Source (Outline outline.OutOfMemory)
+told_of (Check check.OutOfMemory) = ending.OutOfMemory
+told_of (Check _) = ending.Refused
+told_of (Run f) = ending.Source (Run f)
+
 -- the line of it; why a program is refused is written already
 abbrev pub ending_line : Ending → List ℕ
 ending_line ending.BadChoices = misuse_line misuse.Choices

@@ -2,7 +2,7 @@
 
 ghost use Rattle.std.specs.Prelude.{◌≡◌, ◌≤◌, OnOk};
 ghost use Rattle.std.specs.Io.KnownBytes.{Appends};
-ghost use Rattle.driver.specs.Statuses.{ending_of, source_status, status_of};
+ghost use Rattle.driver.specs.Statuses.{ending_of, source_status, status_of, told_of};
 
 use base::fault::{CheckFault, OutlineFault, ReadFault, RunFault, SourceFault};
 use report::{Misuse, fault_text, misuse_text};
@@ -32,7 +32,7 @@ pub(crate) enum Ending<'a> {
     BadMaps,
     Unreadable(&'a str),
     Source(SourceFault),
-    /// The program is not accepted, and the line that says why is written.
+    /// The program is refused, and what says why is written.
     Refused,
     BadInput,
     OutOfMemory,
@@ -102,5 +102,15 @@ pub(crate) fn ending_of<'a>(fault: SourceFault) -> Ending<'a>
         SourceFault::Read(_) | SourceFault::Outline(_) | SourceFault::Run(_) => Ending::Source(
             fault,
         ),
+    }
+}
+
+/// The same where why the program is refused is printed already, wherever its fault was found.
+pub(crate) fn told_of<'a>(fault: SourceFault) -> Ending<'a>
+    ensures { result ≡ told_of fault }
+{
+    match status_of(fault) {
+        REFUSED => Ending::Refused,
+        _ => ending_of(fault),
     }
 }

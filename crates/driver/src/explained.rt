@@ -6,7 +6,7 @@ ghost use Rattle.driver.specs.Printed.{OfSource};
 ghost use Rattle.driver.specs.Refused.{IsRefusalBy, IsRefusedOf};
 ghost use Rattle.driver.specs.Statuses.{status_of};
 
-use crate::ending::{DONE, Ending, FAILED, ending_of};
+use crate::ending::{DONE, Ending, FAILED, told_of};
 use crate::sources::{Sources, texts_of};
 use command::{Color, Explain, Format};
 use explain::{Form, explain_source};
@@ -33,13 +33,12 @@ fn has_colours(color: Color, terminal: bool) -> bool {
 }
 
 /// Tells why a program is refused, or that it is accepted; `terminal` says whether a terminal that takes colours shows it.
-pub(crate) fn do_explain<'a, S: Sources, W: Write, E: Write>(
+pub(crate) fn do_explain<'a, S: Sources, W: Write>(
     alloc: Global,
     terminal: bool,
     asked: Explain<'a>,
     sources: &mut S,
     out: &mut W,
-    err: &mut E,
 ) -> Result<u8, Ending<'a>>
     ensures status { IfOk result (λ s. (s ≡ 0) ⊎ (s ≡ 3)) }
     ensures quiet_misuse { IfErr result (λ e. status_of e ≡ 2 → W.contents out.new ≡ W.contents out.old) }
@@ -55,17 +54,9 @@ pub(crate) fn do_explain<'a, S: Sources, W: Write, E: Write>(
     };
     let form = form_of(format, has_colours(color, terminal));
     let texts = texts_of(alloc, sources, asked.file)?;
-    match explain_source(
-        alloc,
-        asked.file,
-        &texts.source,
-        &texts.bytes,
-        form,
-        out,
-        err,
-    ) {
+    match explain_source(alloc, asked.file, &texts.source, &texts.bytes, form, out) {
         Ok(Ok(())) => Ok(DONE),
         Ok(Err(_)) => Ok(FAILED),
-        Err(fault) => Err(ending_of(fault)),
+        Err(fault) => Err(told_of(fault)),
     }
 }

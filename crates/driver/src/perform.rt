@@ -45,10 +45,10 @@ fn do_request<'a, T: Threads + Wait + Sync, S: Sources, R: Read, W: Write, E: Wr
         Request::Step(step) => do_step(on, step, sources, input, out, err),
         Request::Check(name) => do_check(on.alloc, name, sources, out, err),
         Request::List(name) => do_list(on.alloc, name, sources, out, err),
-        Request::Explain(explain) => do_explain(on.alloc, on.terminal, explain, sources, out, err),
+        Request::Explain(explain) => do_explain(on.alloc, on.terminal, explain, sources, out),
         Request::Fix(name) => do_fix(on.alloc, name, sources, out, err),
         Request::Witness(name) => do_witness(on.alloc, name, sources, input, out, err),
-        Request::View(name) => do_view(on.alloc, name, sources, out, err),
+        Request::View(name) => do_view(on.alloc, name, sources, out),
     }
 }
 
@@ -100,7 +100,7 @@ pub(crate) fn misused<E: Write>(error: &clap::Error, err: &mut E) -> u8
 /// end, where memory ran out, or where standard output cannot be written.
 ///
 /// What a command prints goes to `out` at its end, and only where it succeeds, but for `explain` and `view`, which print
-/// why a program is refused; the text of a fault goes to `err`. `terminal` says whether a terminal that takes colours
+/// why a program is refused; the text of a fault of every other command goes to `err`. `terminal` says whether a terminal that takes colours
 /// shows `out`. `rt` starts the worker threads of `run`; every other command waits for nobody.
 pub fn drive<T: Threads + Wait + Sync, S: Sources, R: Read, W: Write, E: Write>(
     rt: &T,

@@ -1,13 +1,11 @@
 -- What is answered where a source is explained.
-use Rattle.std.proofs.Common.{◌≡◌, ℕ, List, Option, subst, sym}
+use Rattle.std.proofs.Common.{◌≡◌, ℕ, List, subst, sym}
 use Rattle.std.specs.Prelude.{Result, Ok, Err, IfErr, IfOk, OnOk}
 use Rattle.base.specs.declared.fault.SourceFault.{SourceFault}
-use Rattle.base.specs.declared.fault.SourceFault.TheVariants.{Read, Outline, Check, Run}
 use Rattle.base.specs.declared.tree.Program.{Program}
 use Rattle.base.specs.Accepted.{IsAccepted}
 use Rattle.base.specs.Items.{plan}
 use Rattle.c_read.specs.Spells.{Spells}
-use Rattle.pipeline.specs.Checking.{IsSilent}
 use Rattle.explain.specs.Explained.{SpellsAccepted}
 
 pub on_accepted : {X E : Type 0} (r : Result X E) (bytes : List ℕ) (p q : Program) → q ≡ p → Spells bytes p →
@@ -31,14 +29,6 @@ if_none (Err f) P none = tt
 pub if_same : {X : Type 0} (r : Result X SourceFault) (P : SourceFault → Type 0) (f : SourceFault) → IfErr r (λ e. e ≡ f) → P f → IfErr r P
 if_same (Ok x) P f is h = tt
 if_same (Err e) P f is h = subst P (sym is) h
-
--- nothing is written
-pub untouched : {X : Type 0} (r : Result X SourceFault) (old new : Option (List ℕ)) → new ≡ old → IsSilent r old new
-untouched (Ok x) old new e = e
-untouched (Err (Read f)) old new e = e
-untouched (Err (Outline f)) old new e = e
-untouched (Err (Check f)) old new e = tt
-untouched (Err (Run f)) old new e = e
 
 -- what holds anyway holds where a text is written
 pub anyway : {X E : Type 0} (r : Result X E) (P : Type 0) → P → OnOk r P

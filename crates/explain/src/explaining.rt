@@ -4,7 +4,7 @@ ghost use Rattle.std.specs.Prelude.{◌≡◌, IfErr, IfOk, OnOk};
 ghost use Rattle.base.specs.Accepted.{IsAccepted};
 ghost use Rattle.base.specs.Items.{plan};
 ghost use Rattle.explain.specs.Explained.{SpellsAccepted};
-ghost use Rattle.pipeline.specs.Checking.{IsRefused, IsSilent, IsUnaccepted};
+ghost use Rattle.pipeline.specs.Checking.{IsRefused, IsUnaccepted};
 
 use crate::lines::place_told;
 use crate::telling::all_told;
@@ -15,7 +15,6 @@ use c_read::read_program;
 use graph::{graph_text, message_graph};
 use mapcheck::check;
 use outline::{Outlined, outline};
-use pipeline::tell;
 use reasons::{Diagnosis, text_diagnosis, too_many};
 use rendering::{Told, as_json, as_sarif, as_text};
 use std::alloc::{AllocError, Global};
@@ -133,15 +132,13 @@ impl Report<'_> {
 }
 
 // Checks a program, and tells why it is refused.
-fn explain_outlined<W: Write, E: Write>(
+fn explain_outlined<W: Write>(
     report: &Report<'_>,
     outlined: &Outlined<'_>,
     out: &mut W,
-    err: &mut E,
 ) -> Result<io::Result<()>, SourceFault>
     ensures accepted { IfOk result (λ w. OnOk w (IsAccepted (plan outlined.now))) }
     ensures fault { IfErr result (IsUnaccepted outlined.now) }
-    ensures silent { IsSilent result (E.contents err.old) (E.contents err.new) }
 {
     let fault = match check(report.alloc, outlined) {
         Ok(accepted) => {
@@ -152,7 +149,7 @@ fn explain_outlined<W: Write, E: Write>(
         Err(fault) => fault,
     };
     match report.write_refused(outlined, &fault, out) {
-        Ok(()) => Err(tell(report.alloc, outlined.program(), fault, err)),
+        Ok(()) => Err(SourceFault::Check(fault)),
         Err(error) => Ok(Err(error)),
     }
 }
@@ -197,21 +194,19 @@ fn explain_items<W: Write>(
 }
 
 /// Reads a source, checks its program, and writes why it is refused, or that it is accepted. The fault is the one that
-/// `check_source` answers, and what is written tells of it; why a program is not accepted is written to `err` besides,
-/// in one line. Where what is to be told cannot be written, or there is no memory for it, that is answered. The bytes are
-/// those of the source with its lines joined that go on behind a backslash; what is written shows the source.
-pub fn explain_source<W: Write, E: Write>(
+/// `check_source` answers, and what is written tells of it. Where what is to be told cannot be written, or there is no
+/// memory for it, that is answered. The bytes are those of the source with its lines joined that go on behind a
+/// backslash; what is written shows the source.
+pub fn explain_source<W: Write>(
     alloc: Global,
     file: &str,
     source: &[u8],
     bytes: &[u8],
     form: Form,
     out: &mut W,
-    err: &mut E,
 ) -> Result<io::Result<()>, SourceFault>
     ensures accepted { IfOk result (λ w. OnOk w (SpellsAccepted bytes.now)) }
     ensures fault { IfErr result (λ f. IsRefused bytes.now f) }
-    ensures silent { IsSilent result (E.contents err.old) (E.contents err.new) }
 {
     let report = Report {
         alloc,
@@ -228,5 +223,5 @@ pub fn explain_source<W: Write, E: Write>(
         Ok(outlined) => outlined,
         Err(fault) => return explain_items(&report, &program, fault, out),
     };
-    explain_outlined(&report, &outlined, out, err)
+    explain_outlined(&report, &outlined, out)
 }

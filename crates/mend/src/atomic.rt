@@ -17,11 +17,11 @@ struct Start<'t> {
     place: Place,
 }
 
-// One that updates a cell or a scalar by an operator that commutes.
+// One that updates a cell or a scalar by an operator that commutes, or assigns it, with no operator.
 #[derive(Clone, Copy)]
 struct Update<'t> {
     start: Start<'t>,
-    operator: &'static str,
+    operator: Option<&'static str>,
     is_scalar: bool,
 }
 
@@ -35,14 +35,15 @@ enum Read<'t> {
     Cell(Start<'t>),
 }
 
-// The operator of an update that commutes.
-fn commuting(kind: Kind) -> Option<&'static str> {
+// The operator of an update that commutes, where one stands behind the cell or the scalar.
+fn commuting(kind: Kind) -> Option<Option<&'static str>> {
     match kind {
-        Kind::Sign(Sign::PlusEqual | Sign::PlusPlus) => Some("+"),
-        Kind::Sign(Sign::StarEqual) => Some("*"),
-        Kind::Sign(Sign::AmpersandEqual) => Some("&"),
-        Kind::Sign(Sign::BarEqual) => Some("|"),
-        Kind::Sign(Sign::CaretEqual) => Some("^"),
+        Kind::Sign(Sign::PlusEqual | Sign::PlusPlus) => Some(Some("+")),
+        Kind::Sign(Sign::StarEqual) => Some(Some("*")),
+        Kind::Sign(Sign::AmpersandEqual) => Some(Some("&")),
+        Kind::Sign(Sign::BarEqual) => Some(Some("|")),
+        Kind::Sign(Sign::CaretEqual) => Some(Some("^")),
+        Kind::Sign(Sign::Equal) => Some(None),
         _ => None,
     }
 }
@@ -102,7 +103,7 @@ fn as_update<'t>(read: Read<'t>, token: &Token) -> Option<Update<'t>> {
     }
 }
 
-// The updates in the statement behind a line, of arrays and of what is held in arrays.
+// The updates and assignments in the statement behind a line, of arrays and of what is held in arrays.
 fn updates<'v>(view: &View<'v>, line: usize) -> Result<Vec<Update<'v>>, AllocError> {
     let mut found = Vec::new(view.alloc);
     let mut read = Read::Start;
@@ -126,21 +127,25 @@ fn before_each(
 ) -> Result<(), AllocError> {
     let mut changes = Vec::new(view.alloc);
     for update in all {
-        if update.start.name == name {
+        if update.start.name == name && update.operator.is_some() {
             if !view.begins_line(update.start.place) {
                 return Ok(());
             }
             changes.push(view.directive(update.start.place.line, "atomic")?)?;
         }
     }
+    if changes.is_empty() {
+        return Ok(());
+    }
     out.many(changes)
 }
 
-// The line with a scalar that is updated summed up, where it is one and is not summed up yet.
-fn with_sum(
+// The line with a scalar gathered by the operator, where it is one and is not gathered yet.
+fn gathered(
     view: &View<'_>,
     line: &[u8],
     update: Update<'_>,
+    operator: &str,
 ) -> Result<Option<Vec<u8>>, AllocError> {
     if !update.is_scalar {
         return Ok(None);
@@ -153,7 +158,7 @@ fn with_sum(
     if place_of(view.alloc, line, clause, name.as_bytes())?.is_some() {
         return Ok(None);
     }
-    let text = with_reduction(view.alloc, line, update.operator, name)?;
+    let text = with_reduction(view.alloc, line, operator, name)?;
     Ok(Some(text))
 }
 
@@ -161,27 +166,46 @@ fn with_sum(
 fn summed(view: &View<'_>, all: &[Update<'_>], line: &[u8]) -> Result<Vec<u8>, AllocError> {
     let mut text = Vec::from_slice(view.alloc, line)?;
     for update in all {
-        if let Some(more) = with_sum(view, text.as_slice(), *update)? {
+        if let Some(operator) = update.operator
+            && let Some(more) = gathered(view, text.as_slice(), *update, operator)?
+        {
             text = more;
         }
     }
     Ok(text)
 }
 
-/// A `reduction` of the scalars that the target updates, and `atomic` before each update of an array or a scalar, for
-/// each that it updates so.
+// The line by which a scalar keeps the greatest number, and the least: whether its assignments say so the check finds.
+fn kept(
+    view: &View<'_>,
+    summed: &[u8],
+    at: usize,
+    update: Update<'_>,
+    out: &mut Candidates,
+) -> Result<(), AllocError> {
+    for operator in ["max", "min"] {
+        if let Some(text) = gathered(view, summed, update, operator)? {
+            out.replace(at, Some(text))?;
+        }
+    }
+    Ok(())
+}
+
+/// A `reduction` of the scalars that the target updates, also by `max` or `min` of one that it assigns, and `atomic`
+/// before each update of an array or a scalar, for each that it updates so.
 pub fn mark_updates(view: &View<'_>, item: &Item, out: &mut Candidates) -> Result<(), AllocError> {
     let all = updates(view, item.place.line)?;
     let line = view.line_of(item);
     let summed = summed(view, all.as_slice(), line)?;
     if summed.as_slice() != line {
-        out.replace(item.place.line, Some(summed))?;
+        out.replace(item.place.line, Some(summed.clone()?))?;
     }
     let mut seen: Vec<&[u8]> = Vec::new(view.alloc);
     for update in all.as_slice() {
         if !seen.contains(&update.start.name) {
             seen.push(update.start.name)?;
             before_each(view, all.as_slice(), update.start.name, out)?;
+            kept(view, summed.as_slice(), item.place.line, *update, out)?;
         }
     }
     Ok(())

@@ -4,7 +4,7 @@ use crate::diagnosis::{Diagnosis, Note, Weight};
 use crate::rules::refusal_rule;
 use crate::scene::Scene;
 use crate::search::{Access, Wanted, first_but};
-use crate::source::{has_word, line_of, update_at};
+use crate::source::{has_word, is_scalar_assigned, line_of, update_at};
 use crate::words::add;
 use base::fault::Refusal;
 use base::item::{Cell, Item};
@@ -58,6 +58,23 @@ impl Scene<'_> {
         first_but(self.alloc, lengths, region, &item.loops, wanted, turn)
     }
 
+    // What is assigned may be the greatest number of all turns, or the least.
+    fn help_kept(
+        &self,
+        cell: Cell,
+        write: &Access,
+        notes: &mut Vec<Note>,
+    ) -> Result<(), AllocError> {
+        if !is_scalar_assigned(self.bytes, write.place) {
+            return Ok(());
+        }
+        let name = self.name_of(cell.array);
+        let help = format!(in self.alloc;
+            "where turns only keep the greatest number in it, they may do so in any order with `reduction(max: {name})` behind the words of the loop, and the least with `reduction(min: {name})`"
+        )?;
+        add(notes, Weight::Help, write.place, help)
+    }
+
     // What both turns only update, they may update in any order.
     fn help_update(
         &self,
@@ -67,7 +84,7 @@ impl Scene<'_> {
         notes: &mut Vec<Note>,
     ) -> Result<(), AllocError> {
         let Some(update) = update_at(self.bytes, write.place) else {
-            return Ok(());
+            return self.help_kept(cell, write, notes);
         };
         if update_at(self.bytes, other.place).is_none() {
             return Ok(());

@@ -276,6 +276,21 @@ pub fn update_at(bytes: &[u8], place: Place) -> Option<Update> {
     None
 }
 
+/// Whether the name at a place is that of a scalar, which is assigned there.
+pub fn is_scalar_assigned(bytes: &[u8], place: Place) -> bool {
+    let mut is_behind = false;
+    'tokens: for token in Tokens::new(bytes) {
+        if is_before(&token, place) {
+            continue;
+        }
+        if is_behind {
+            return text_of(bytes, &token) == "=";
+        }
+        is_behind = true;
+    }
+    false
+}
+
 /// Whether a word stands in a line.
 pub fn has_word(line: &[u8], word: &[u8]) -> bool {
     'words: for part in line.split(|byte| !(byte.is_ascii_alphanumeric() || *byte == b'_')) {

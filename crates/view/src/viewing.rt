@@ -82,15 +82,13 @@ impl Source<'_> {
 }
 
 // Checks a program, and writes its page.
-fn view_outlined<W: Write, E: Write>(
+fn view_outlined<W: Write>(
     source: &Source<'_>,
     outlined: &Outlined<'_>,
     out: &mut W,
-    err: &mut E,
 ) -> Result<io::Result<()>, SourceFault>
     ensures accepted { IfOk result (λ w. OnOk w (IsAccepted (plan outlined.now))) }
     ensures fault { IfErr result (IsUnaccepted outlined.now) }
-    ensures silent { IsSilent result (E.contents err.old) (E.contents err.new) }
 {
     let fault = match check(source.alloc, outlined) {
         Ok(accepted) => {
@@ -102,7 +100,7 @@ fn view_outlined<W: Write, E: Write>(
     };
     let told = all_told(source.alloc, source.bytes, outlined, &fault);
     match source.write_told(outlined, told, out) {
-        Ok(()) => Err(tell(source.alloc, outlined.program(), fault, err)),
+        Ok(()) => Err(SourceFault::Check(fault)),
         Err(error) => Ok(Err(error)),
     }
 }
@@ -146,21 +144,18 @@ fn view_items<W: Write>(
     }
 }
 
-/// Reads a source, checks its program, and writes its page. The fault is the one that `check_source` answers; why a
-/// program is not accepted is written to `err` besides, in one line. Where the page cannot be written, or there is no
-/// memory for it, that is answered. The bytes are those of the text with its lines joined that go on behind a backslash;
-/// the page shows the text.
-pub fn view_source<W: Write, E: Write>(
+/// Reads a source, checks its program, and writes its page. The fault is the one that `check_source` answers, and the
+/// page tells of it. Where the page cannot be written, or there is no memory for it, that is answered. The bytes are
+/// those of the text with its lines joined that go on behind a backslash; the page shows the text.
+pub fn view_source<W: Write>(
     alloc: Global,
     file: &str,
     text: &[u8],
     bytes: &[u8],
     out: &mut W,
-    err: &mut E,
 ) -> Result<io::Result<()>, SourceFault>
     ensures accepted { IfOk result (λ w. OnOk w (SpellsAccepted bytes.now)) }
     ensures fault { IfErr result (λ f. IsRefused bytes.now f) }
-    ensures silent { IsSilent result (E.contents err.old) (E.contents err.new) }
 {
     let source = Source {
         alloc,
@@ -176,5 +171,5 @@ pub fn view_source<W: Write, E: Write>(
         Ok(outlined) => outlined,
         Err(fault) => return view_items(&source, &program, fault, out),
     };
-    view_outlined(&source, &outlined, out, err)
+    view_outlined(&source, &outlined, out)
 }

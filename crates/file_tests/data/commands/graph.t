@@ -74,7 +74,6 @@ digraph ompc {
   i4 -> i5;
   i1 -> i2 [dir=none, style=dashed, color=red, fontcolor=red, constraint=false, label="E508 A[0]"];
 }
-! E508 item 2 A[0] with item 1
 [1]
 
 # an item that is refused by itself
@@ -90,7 +89,6 @@ digraph ompc {
   i0 -> i1;
   i1 -> i2;
 }
-! E506 item 2 A[0]
 [1]
 
 # depend items that overlap in part: there is no order
@@ -106,7 +104,6 @@ digraph ompc {
   i0 -> i1 [style=invis];
   i0 -> i1 [dir=none, style=dashed, color=red, fontcolor=red, constraint=false, label="E505 A[2]"];
 }
-! E505 item 1 A[2] with item 0
 [1]
 
 # a text that is not read, and one with no items
@@ -117,7 +114,6 @@ digraph ompc {
   edge [color="#5b6470", fontname="sans-serif"];
   label="undeclared.c: refused, E103\n`B` is not declared here";
 }
-! E103 line 2 column 28
 [1]
 $ ompc explain nothing.c --format dot
 digraph ompc {

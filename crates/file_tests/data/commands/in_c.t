@@ -184,7 +184,6 @@ below_in_c.c:5:16: warning: in C this has type `int`, and is -1; here it is 1844
     5 |     { A[0] = 1 - 2; }
       |                ^
 below_in_c.c:5:16: help: make an operand a `uint64_t`: `1ul`
-! E506 item 1 A[0]
 [1]
 $ ompc explain tofrom_in_c.c --format json
 {

@@ -18,7 +18,6 @@ broken_lines.c:13:1: help: this change is accepted
 @@ -13 +13 @@
 -                        map(alloc: B[0:N])
 +                        map(from: B[0:N])
-! E506 item 5 B[0]
 [1]
 $ ompc fix broken_lines.c
 #define N 8
@@ -51,7 +50,6 @@ broken_line_of_two.c:4:4: error: `mop` is no clause that this directive takes [E
     4 |    mop(from: A)
       |    ^~~
 broken_line_of_two.c:4:4: help: take the clause away
-! E202 line 3 column 41
 [1]
 
 # behind an include and a remark nothing goes on
@@ -64,5 +62,4 @@ broken_lines_at_the_end.c:10:1: error: `}` is no clause that this directive take
    10 | }
       | ^
 broken_lines_at_the_end.c:10:1: help: take the clause away
-! E202 line 8 column 24
 [1]

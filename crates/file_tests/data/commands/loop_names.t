@@ -15,14 +15,12 @@ behind_the_loop.c:5:7: error: `i` is the name of loops, and ends with each of th
     5 | print(i);
       |       ^
 behind_the_loop.c:5:7: help: hold it in another scalar where a loop has it, or take another name for the loop
-! E103 line 5 column 7
 [1]
 $ ompc explain loop_of_a_local.c
 loop_of_a_local.c:4:6: error: `i` cannot stand here [E102]
     4 | for (i = 0; i < 8; i++) { A[i] = 1; }
       |      ^
 loop_of_a_local.c:4:6: help: a loop counts upwards, `for (uint64_t i = NUM; i < NUM; i += NUM) { .. }`, also with `int i`, with `i <= NUM` and with `i++`, each NUM a constant expression; `int i;` before it, in a block, lets it begin with `i = NUM`
-! E102 line 4 column 6
 [1]
 # their type in C is that of the declaration
 $ ompc explain loop_of_an_int.c

@@ -49,5 +49,4 @@ loop_around_a_directive.c:5:1: error: this line is a directive under an `if` [E2
     5 | #pragma omp target
       | ^~~~~~~~~~~~~~~~~~
 loop_around_a_directive.c:5:1: help: put the condition into the regions
-! E211 line 5 column 1
 [1]

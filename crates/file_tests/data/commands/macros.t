@@ -20,26 +20,22 @@ macro_past_the_end.c:2:10: note: A has the cells 0 to 15
 macro_past_the_end.c:4:36: help: put it under an `if` that the values of the loops decide, or change the bounds of the loop
     4 | for (uint64_t i = 0; i < 4; i++) { A[IDX(i, i + 1)] = 1; }
       |                                    ^~~~~~~~~~~~~~~~
-! E301 item 0 line 4 column 36
 [1]
 $ ompc explain macro_of_two.c
 macro_of_two.c:1:2: error: `define` begins no directive that is read [E201]
     1 | #define IDX(i, j) ((i) * 4 + (j))
       |  ^~~~~~
 macro_of_two.c:1:2: help: of a macro with parameters the text is one of C's tokens with its brackets closed, and each use has as many arguments: where one macro is not so, none is read
-! E201 line 1 column 2
 [1]
 $ ompc explain macro_of_itself.c
 macro_of_itself.c:1:2: error: `define` begins no directive that is read [E201]
     1 | #define NEXT(i) (NEXT(i) + 1)
       |  ^~~~~~
 macro_of_itself.c:1:2: help: of a macro with parameters the text is one of C's tokens with its brackets closed, and each use has as many arguments: where one macro is not so, none is read
-! E201 line 1 column 2
 [1]
 $ ompc explain macro_before_its_line.c
 macro_before_its_line.c:2:27: error: `TWICE` is not declared here [E103]
     2 | uint64_t f(void) { return TWICE(4); }
       |                           ^~~~~
 macro_before_its_line.c:2:27: help: a function is called behind its definition, as a statement, `f(A, 8);`, or, where it gives a value, as all of a right side, `x = f(8);`
-! E103 line 2 column 27
 [1]

@@ -23,7 +23,6 @@ sweep_in_place.c:4:1: help: this change is accepted
 @@ -4 +4 @@
 -#pragma omp target teams distribute parallel for map(tofrom: A)
 +#pragma omp target map(tofrom: A)
-! E510 item 1 A[1]
 [1]
 $ ompc fix sweep_in_place.c
 uint64_t A[6];
@@ -71,7 +70,6 @@ sum_in_one_cell.c:5:1: help: this change is accepted
 @@ -5 +5 @@
 -#pragma omp target teams distribute parallel for map(to: A) map(tofrom: S)
 +#pragma omp target map(to: A) map(tofrom: S)
-! E510 item 1 S[0]
 [1]
 $ ompc explain sum_in_one_cell.c --format json
 {
@@ -149,7 +147,6 @@ $ ompc explain sum_in_one_cell.c --format json
   "version": 1,
   "warnings": []
 }
-! E510 item 1 S[0]
 [1]
 $ ompc explain sum_in_one_cell.c --format sarif
 {
@@ -305,7 +302,6 @@ $ ompc explain sum_in_one_cell.c --format sarif
   ],
   "version": "2.1.0"
 }
-! E510 item 1 S[0]
 [1]
 $ ompc fix sum_in_one_cell.c
 uint64_t A[4];
@@ -345,7 +341,6 @@ product_collapsed.c:7:1: help: this change is accepted
 @@ -7 +7 @@
 -#pragma omp target teams distribute parallel for collapse(2) map(to: A, X) map(tofrom: Y)
 +#pragma omp target teams distribute parallel for map(to: A, X) map(tofrom: Y)
-! E510 item 1 Y[0]
 [1]
 $ ompc fix product_collapsed.c
 uint64_t A[9];
@@ -397,7 +392,6 @@ rows_one_after_another.c:4:1: help: this change is accepted
 +#pragma omp target data map(tofrom: A)
 @@ -5,0 +6 @@
 +  #pragma omp target teams distribute parallel for num_teams(2)
-! E510 item 1 A[4]
 [1]
 $ ompc fix rows_one_after_another.c
 uint64_t A[12];

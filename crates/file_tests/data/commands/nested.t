@@ -28,7 +28,6 @@ nested_stale.c:12:1: help: this change is accepted
 @@ -12 +12 @@
 -#pragma omp target map(to: A) map(from: y) map(alloc: x)
 +#pragma omp target map(to: A, x) map(from: y)
-! E507 item 1 x[0]
 [1]
 $ ompc explain nested_sweep.c
 nested_sweep.c:16:1: error: two turns of this loop, which may run in any order, meet on y[1] [E510]
@@ -46,5 +45,4 @@ nested_sweep.c:19:46: help: let this write to another array: then other turns re
 nested_sweep.c:16:1: help: without the lines of constructs inside it this `target` has its turns in order
    16 | #pragma omp target map(tofrom: y)
       | ^~~~~~~~~~~~~~~~~~~~~~~~~~~~~~~~~
-! E510 item 2 y[1]
 [1]

@@ -16,7 +16,6 @@ pointer_without_map.c:5:1: help: this change is accepted
 @@ -5 +5 @@
 -#pragma omp target teams distribute parallel for
 +#pragma omp target teams distribute parallel for map(tofrom: a[0:8])
-! E509 item 1 x[0]
 [1]
 $ ompc fix pointer_without_map.c
 #include "ompc.h"
@@ -50,7 +49,6 @@ pointer_read_too_early.c:14:1: help: this change is accepted
 +++ pointer_read_too_early.c
 @@ -13,0 +14 @@
 +    #pragma omp target update from(cells[0:4])
-! E506 item 3 cells[0]
 [1]
 
 # global pointers, functions that give a status, the words of main
@@ -76,12 +74,10 @@ global_pointer_not_mapped.c:22:1: help: this change is accepted
 @@ -22 +22 @@
 -  #pragma omp target map(to: a[0:C]) map(tofrom: c[0:C]) device(0)
 +  #pragma omp target map(to: a[0:C]) map(tofrom: c[0:C], b[0:64]) device(0)
-! E509 item 1 b[0]
 [1]
 $ ompc explain global_pointer_given_twice.c
 global_pointer_given_twice.c:1:10: error: `*` cannot stand here [E102]
     1 | uint64_t *a;
       |          ^
 global_pointer_given_twice.c:1:10: help: there are no pointers: an array is a global, `uint64_t A[4];`, or `uint64_t *A;` that `main` assigns once, `A = malloc(4 * sizeof(uint64_t));`
-! E102 line 1 column 10
 [1]

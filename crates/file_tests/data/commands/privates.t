@@ -13,19 +13,16 @@ not_private.c:4:13: error: `target` has turns that share a scalar which each of 
     4 | #pragma omp target teams distribute parallel for
       |             ^~~~~~
 not_private.c:4:13: help: name the scalar on this line, `private(t)`, or declare it in the loop
-! E202 line 4 column 13
 [1]
 $ ompc explain private_read_first.c
 private_read_first.c:4:50: error: `private` is no clause that this directive takes [E202]
     4 | #pragma omp target teams distribute parallel for private(t)
       |                                                  ^~~~~~~
 private_read_first.c:4:50: help: `private` is left out where the loop declares its names, or assigns a scalar before all else that is declared before it without a value, `uint64_t t;`
-! E202 line 4 column 50
 [1]
 $ ompc explain private_of_a_value.c
 private_of_a_value.c:4:50: error: `private` is no clause that this directive takes [E202]
     4 | #pragma omp target teams distribute parallel for private(t)
       |                                                  ^~~~~~~
 private_of_a_value.c:4:50: help: `private` is left out where the loop declares its names, or assigns a scalar before all else that is declared before it without a value, `uint64_t t;`
-! E202 line 4 column 50
 [1]

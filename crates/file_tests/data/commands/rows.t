@@ -20,7 +20,6 @@ row_not_copied.c:7:1: help: this change is accepted
 +++ row_not_copied.c
 @@ -6,0 +7 @@
 +#pragma omp target update from(A)
-! E506 item 3 A[19]
 [1]
 $ ompc check row_of_three_not_copied.c
 ! E506 item 3 A[43]
@@ -43,5 +42,4 @@ row_of_three_not_copied.c:7:1: help: this change is accepted
 +++ row_of_three_not_copied.c
 @@ -6,0 +7 @@
 +#pragma omp target update from(A)
-! E506 item 3 A[43]
 [1]

@@ -45,7 +45,6 @@ scalar_stale.c:6:1: help: this change is accepted
 @@ -6 +6 @@
 -#pragma omp target map(to: count)
 +#pragma omp target map(tofrom: count)
-! E506 item 2 count[0]
 [1]
 $ ompc explain scalar_overtaken.c
 scalar_overtaken.c:11:5: error: item 3 writes n[0] on the host, and the target (item 2) copies n[0] from the host to device 0, with no order between them [E508]
@@ -66,7 +65,6 @@ scalar_overtaken.c:11:1: help: this change is accepted
 +++ scalar_overtaken.c
 @@ -10,0 +11 @@
 +    #pragma omp taskwait
-! E508 item 3 n[0] with item 2
 [1]
 $ ompc explain scalar_unordered.c
 scalar_unordered.c:7:1: error: two turns of this loop, which may run in any order, meet on sum[0] [E510]
@@ -86,5 +84,4 @@ scalar_unordered.c:7:1: help: this change is accepted
 @@ -7 +7 @@
 -#pragma omp target teams distribute parallel for map(to: a) map(tofrom: sum)
 +#pragma omp target teams distribute parallel for map(to: a) map(tofrom: sum) reduction(+: sum)
-! E510 item 1 sum[0]
 [1]

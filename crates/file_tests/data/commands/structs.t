@@ -15,5 +15,4 @@ half_of_the_structs.c:5:1: help: this change is accepted
 @@ -5 +5 @@
 -    #pragma omp target map(to: P[0:4])
 +    #pragma omp target map(tofrom: P)
-! E504 item 1 P[8]
 [1]

@@ -76,7 +76,6 @@ bits_without_atomic.c:9:1: help: this change is accepted
 +++ bits_without_atomic.c
 @@ -8,0 +9 @@
 +        #pragma omp atomic
-! E510 item 1 bits[0]
 [1]
 $ ompc fix bits_without_atomic.c
 #include "ompc.h"
