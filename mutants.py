@@ -7,7 +7,8 @@ With --apply it checks nothing, and only says which mutants no longer apply to t
 
 A mutant (crates/NAME/mutants/*.edit, written as the edits of must-fail/) is a wrong body of one function. Functions are proved by the
 contracts of what they call, so that a check of the crate judges one mutant of each function at once: a round. A function that calls one which
-was refused is not judged in that round; its mutant waits for the next.
+was refused is not judged in that round; its mutant waits for the next. A function whose answers fail for a name alone that the wrong body
+has no more, as a local of the right one, tells nothing of a contract: such a mutant does not count as refused, and wants another form.
 """
 import collections
 import os
@@ -19,6 +20,7 @@ import tempfile
 
 TOP = os.path.dirname(os.path.realpath(__file__))
 HEAD = re.compile(r"(?:impl(?:<.*?>)? |(?:pub )?trait )(.*)")
+NAME_ALONE = re.compile(r"has no field|is not in scope|is no name")
 FUNCTION = re.compile(r"( *)(?:pub(?:\([^)]*\))? )?(?:const )?fn (\w+)")
 
 
@@ -86,7 +88,7 @@ def round_of(crate, mutants):
 
 
 def verdict_of(said, function):
-    """Returns what a check said of a function, or of the crate where the change is outside of all: refused, proved, or not judged."""
+    """Returns what a check said of a function, or of the crate where the change is outside of all: refused, refused for a name alone, proved, or not judged."""
     file, kind, name = function
     if is_outside(function):
         ends = {"logic=not-proved": "refused", "logic=proved": "proved"}
@@ -95,8 +97,11 @@ def verdict_of(said, function):
     module = re.sub(r"^(lib|main)$", "", os.path.basename(file)[:-len(".rt")])
     owner = kind or module
     lines = re.findall(rf"^fn \S*?{owner}\w*::{name}(?:::\S+)?: (.*)$", said, re.M) or re.findall(rf"^fn \S*::{name}: (.*)$", said, re.M)
-    if any(line.startswith(("not proved", "no proof: expected")) for line in lines):
+    if any(line.startswith("no proof: expected") for line in lines):
         return "refused"
+    if any(line.startswith("not proved") for line in lines):
+        errors = re.findall(rf"^(?:so far: )?\./proofs/(?:\S*/)?{name}/\w+\.antt:\d+:\d+: error: (.*)$", said, re.M)
+        return "refused for a name alone" if errors and all(map(NAME_ALONE.search, errors)) else "refused"
     return "proved" if lines and all(line == "proved" for line in lines) else "not judged"
 
 
@@ -156,7 +161,7 @@ def tried(name):
             found = {it: verdict_of(said, function) for it, function in taken.items()}
             counts = collections.Counter(found.values())
             refused += counts["refused"]
-            passed += [f"{it}: {found[it]}" for it in found if found[it] == "proved"]
+            passed += [f"{it}: {found[it]}" for it in found if found[it] in ("proved", "refused for a name alone")]
             waiting = [it for it in found if found[it] == "not judged"]
             if len(waiting) == len(taken):
                 return refused, passed + [f"{it}: not judged: {said[-400:]}" for it in waiting]
