@@ -9,7 +9,7 @@ pub mod Reducing
 pub mod Behind
 pub mod LinePast
 pub mod Unending
-pub mod Products
+pub mod Multiplying
 pub mod LineRest
 pub mod Outcomes
 pub mod LineSteps

@@ -1,5 +1,5 @@
 -- Updates that commute, from what has been read.
-use Rattle.std.specs.Prelude.{ℕ, ◌++◌, Bool, false, ◌&&◌, if◌then◌else◌, List, map, Option, Some, None}
+use Rattle.std.specs.Prelude.{ℕ, ◌++◌, Bool, false, true, ◌&&◌, if◌then◌else◌, List, map, Option, Some, None}
 use Rattle.c_grammar.specs.Lexeme.{Lexeme}
 use Rattle.c_grammar.specs.Terminal.{Terminal, Line}
 use Rattle.c_grammar.specs.Texts.{Item}

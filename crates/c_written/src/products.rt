@@ -97,7 +97,7 @@ fn open_behind(depth: usize, lexeme: Lexeme<'_>) -> usize
 }
 
 /// How many tokens the product at the front has.
-#[tactic(auto, using(crate::proofs::Products::product_ends, crate::proofs::Products::product_stops, crate::proofs::Products::product_goes))]
+#[tactic(auto, using(crate::proofs::Multiplying::product_ends, crate::proofs::Multiplying::product_stops, crate::proofs::Multiplying::product_goes))]
 fn product_len(values: &Values<'_>, rest: &[PlacedLexeme<'_>]) -> Option<usize>
     ensures end { result ≡ product_len (seen_values values.now) 0 0 (all_placed rest.now) }
     ensures few { IfSome result (λ k. k ≤ length rest.now) }
@@ -137,7 +137,7 @@ fn exactly(count: usize, worked: Option<Worked>) -> Option<(usize, u64)>
 }
 
 /// The product at the front: how many tokens it has, and its value.
-#[tactic(auto, using(crate::proofs::Products::product_none, crate::proofs::Products::product_read))]
+#[tactic(auto, using(crate::proofs::Multiplying::product_none, crate::proofs::Multiplying::product_read))]
 pub fn product(
     alloc: Global,
     values: &Values<'_>,
