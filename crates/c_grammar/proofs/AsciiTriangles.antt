@@ -209,9 +209,11 @@ put_text s i go h r =
 on_text : (s : State) (i : Item Terminal) (l : Loop) (go : Onward) → IsAsciiTerminal i.terminal →
     IsLoopText (Some l) → GoText go → AreItemsText (loop_on s i l go)
 on_text s i l go h p r =
-    either_text (is_written l) _ _
-    (h, both_text (head l ++ guard_for l) _ (both_text (head l) (guard_for l) (head_text l p.1 p.2) (guard_text l p.0 p.1))
-    (r _ _))
+    either_text (is_written l) _ _ (
+      h,
+      both_text (head l ++ guard_for l) _ (both_text (head l) (guard_for l) (head_text l p.1 p.2) (guard_text l p.0 p.1))
+          (r _ _),
+    )
     (h, r _ _)
 
 turned_text : (s : State) (i : Item Terminal) (o : Option Loop) (go : Onward) → IsAsciiTerminal i.terminal → IsLoopText o →

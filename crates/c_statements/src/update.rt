@@ -203,12 +203,7 @@ fn extreme_by(array: ArrayId, index: &Expr, value: &Expr, test: &Expr) -> Option
 }
 
 /// The operator of a store of the value in the cell, where this test does not hold.
-fn extreme_unless(
-    array: ArrayId,
-    index: &Expr,
-    value: &Expr,
-    test: &Expr,
-) -> Option<CombineOp>
+fn extreme_unless(array: ArrayId, index: &Expr, value: &Expr, test: &Expr) -> Option<CombineOp>
     ensures { result ≡ extreme_unless array index.now value.now test.now }
 {
     let Expr::Binary(op, left, right) = test else {

@@ -1,6 +1,6 @@
 //! The numbers that a term of a bound begins with: a product of numbers and constants, before a name or alone.
 
-ghost use Rattle.std.specs.Prelude.{◌≡◌, ◌≤◌, IfOk, IfSome, length};
+ghost use Rattle.std.specs.Prelude.{◌≡◌, ◌==◌, ◌&&◌, ◌||◌, ◌<◌, ◌≤◌, IfOk, IfSome, false, length, nat_lt, not};
 ghost use Rattle.std.specs.Option.{option_map};
 ghost use Rattle.c_grammar.specs.LineForms.{begins_with_name, ends_product, exactly, is_factor, is_number, is_within, open_behind, or_product, product_at, product_len, put_word};
 ghost use Rattle.directives.specs.Seen.{seen_lexeme};
@@ -96,6 +96,26 @@ fn open_behind(depth: usize, lexeme: Lexeme<'_>) -> usize
     }
 }
 
+// Whether the product ends before the token, where so many brackets are open.
+fn ends_before(
+    values: &Values<'_>,
+    depth: usize,
+    lexeme: Lexeme<'_>,
+    behind: &[PlacedLexeme<'_>],
+) -> bool
+    ensures { result ≡ ((depth == 0) && ends_product (seen_values values.now) (seen_lexeme lexeme.entry) (all_placed behind.now)) }
+{
+    depth == 0 && ends_product(values, lexeme, behind)
+}
+
+// Whether no product has the token there, or too many brackets are open.
+fn stops_before(depth: usize, lexeme: Lexeme<'_>) -> bool
+    ensures value { result ≡ (not (nat_lt depth 16) || not (is_within (seen_lexeme lexeme.entry))) }
+    ensures room { result ≡ false → depth < 16 }
+{
+    depth >= MOST_OPEN || !is_within(lexeme)
+}
+
 /// How many tokens the product at the front has.
 #[tactic(auto, using(crate::proofs::Multiplying::product_ends, crate::proofs::Multiplying::product_stops, crate::proofs::Multiplying::product_goes))]
 fn product_len(values: &Values<'_>, rest: &[PlacedLexeme<'_>]) -> Option<usize>
@@ -107,10 +127,10 @@ fn product_len(values: &Values<'_>, rest: &[PlacedLexeme<'_>]) -> Option<usize>
     let mut left = rest;
     'tokens: while let [placed, behind @ ..] = left {
         let lexeme = put_word(values, placed.lexeme);
-        if depth == 0 && ends_product(values, lexeme, behind) {
+        if ends_before(values, depth, lexeme, behind) {
             return Some(count);
         }
-        if depth >= MOST_OPEN || !is_within(lexeme) {
+        if stops_before(depth, lexeme) {
             return None;
         }
         depth = open_behind(depth, lexeme);

@@ -131,7 +131,11 @@ fn operation_of(lexeme: Lexeme<'_>) -> Option<Operation>
     ensures { option_map seen_operation result ≡ operation_of (seen_lexeme lexeme.entry) }
 {
     if let Lexeme::Sign(op) = lexeme {
-        return if commutes(op) { Some(Operation::BySign(op)) } else { None };
+        return if commutes(op) {
+            Some(Operation::BySign(op))
+        } else {
+            None
+        };
     }
     if is_name(lexeme, b"max") {
         return Some(Operation::ByExtreme(true));

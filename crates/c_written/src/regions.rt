@@ -136,7 +136,11 @@ fn allowed(name: &[u8], greatest: bool, left: usize, extreme: Option<Extreme<'_>
     let Some(extreme) = extreme else {
         return left;
     };
-    let same = if greatest { extreme.greatest } else { !extreme.greatest };
+    let same = if greatest {
+        extreme.greatest
+    } else {
+        !extreme.greatest
+    };
     if name == extreme.name && same {
         extreme.mentions
     } else {

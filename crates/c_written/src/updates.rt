@@ -176,11 +176,7 @@ impl<'a> Updates<'a> {
     }
 
     /// Whether a line is put in front of the token, before others.
-    fn is_marked(
-        &self,
-        token: Token<'a, '_>,
-        behind: &[Token<'a, '_>],
-    ) -> Result<bool, AllocError>
+    fn is_marked(&self, token: Token<'a, '_>, behind: &[Token<'a, '_>]) -> Result<bool, AllocError>
         ensures { IfOk result (λ b. b ≡ is_marked (region_of self.now) (seen token.entry) (seen_all behind.now)) }
     {
         let Some(place) = self.place else {

@@ -9,5 +9,5 @@ pub returns-clause-past : goal.returns-clause-past
 returns-clause-past c =
     past_more c.write.result (line_past c.args.self.now.past) (line_past c.write_left_out.new.self.past) (line_past c.write.new.self.past)
     (left_out (seen_values c.args.self.now.lengths.now) (line_past c.args.self.now.past) (seen_lexeme c.args.lexeme))
-    (seen_lexeme c.put.put) (put_word (seen_values c.args.self.now.values.now) (seen_lexeme c.args.lexeme))
-    c.in_ok-write_left_out.ensures.past c.put.ensures c.write.ensures.past
+    (seen_lexeme c.put_word-put.result) (put_word (seen_values c.args.self.now.values.now) (seen_lexeme c.args.lexeme))
+    c.in_ok-write_left_out.ensures.past c.put_word-put.ensures c.write.ensures.past
