@@ -24,4 +24,4 @@ names_below s = flat_map names_in (drop 1 (reverse s.frames.items))
 pub record IsSameScope (old new : Scope) : Type 0 where
   pub context : (d n : ℕ) → context_of new d n ≡ context_of old d n
   pub names : names_of new ≡ names_of old
-  pub next : new.next_scalar ≡ old.next_scalar
+  pub next : new.scalars ≡ old.scalars

@@ -91,7 +91,7 @@ impl<'a> Scope<'a> {
         ensures opened { OnOk result ((d n : ℕ) → context_of self.new d n ≡
             opened (record (context_of self.old d n) { turn = turn_name turn.entry })) }
         ensures names { OnOk result (names_of self.new ≡ turn_names turn.entry ++ names_of self.old) }
-        ensures next { self.new.next_scalar ≡ self.old.next_scalar }
+        ensures next { self.new.scalars ≡ self.old.scalars }
         ensures memory { OnErr result (IsSameScope self.old self.new) }
     {
         let names = self.first_names(turn)?;
@@ -107,7 +107,7 @@ impl<'a> Scope<'a> {
         ensures closed { (d n : ℕ) → context_of self.new d n ≡
             record (context_of self.old d n) { frames = below (context_of self.old d n).frames } }
         ensures names { names_of self.new ≡ names_below self.old }
-        ensures next { self.new.next_scalar ≡ self.old.next_scalar }
+        ensures next { self.new.scalars ≡ self.old.scalars }
     {
         self.frames.pop();
     }
@@ -118,7 +118,7 @@ impl<'a> Scope<'a> {
         ensures declared { OnOk result ((d n : ℕ) → context_of self.new d n ≡
             declared (sort_of_meaning meaning) (record (context_of self.old d n) { fresh = Some text.now })) }
         ensures names { OnOk result (names_of self.new ≡ (text.now, meaning) ∷ names_of self.old) }
-        ensures next { self.new.next_scalar ≡ self.old.next_scalar }
+        ensures next { self.new.scalars ≡ self.old.scalars }
         ensures memory { OnErr result (IsSameScope self.old self.new) }
     {
         if self.frames.is_empty() {
@@ -137,7 +137,7 @@ impl<'a> Scope<'a> {
         ensures declared { OnOk result ((d n : ℕ) → context_of self.new d n ≡
             declared (sort_of_meaning meaning) (record (context_of self.old d n) { fresh = Some text.now })) }
         ensures names { OnOk result (names_of self.new ≡ (text.now, meaning) ∷ names_of self.old) }
-        ensures next { self.new.next_scalar ≡ self.old.next_scalar }
+        ensures next { self.new.scalars ≡ self.old.scalars }
         ensures memory { OnErr result (IsSameScope self.old self.new) }
     {
         let mut names = Vec::new(self.alloc);

@@ -1,7 +1,5 @@
 //! What is known where an expression or a statement stands.
 
-ghost use Rattle.std.specs.Prelude.{◌≤◌};
-
 use base::tree::{ArrayId, ScalarId};
 use std::alloc::Global;
 
@@ -59,14 +57,12 @@ pub struct Scope<'a> {
     pub limit: u64,
     /// The length of the last array.
     pub cells: u64,
-    /// How many arrays, and how many scalars with the names of loops, are declared.
+    /// How many arrays are declared.
     pub arrays: u32,
+    /// How many scalars are declared: the number of the next.
     pub scalars: u32,
-    /// How many scalars that are no names of loops are declared: the number of the next.
-    pub next_scalar: u32,
     /// How many statements have begun.
     pub statements: u32,
-    ghost counted: { next_scalar ≤ scalars },
 }
 
 impl<'a> Frame<'a> {
