@@ -12,7 +12,7 @@ pub const MAX_ARRAYS: u32 = 64;
 /// How many cells an array has.
 pub const MAX_CELLS: u64 = 65_536;
 
-/// How many scalars, with the names of loops.
+/// How many scalars.
 pub const MAX_SCALARS: u32 = 256;
 
 /// How many statements.

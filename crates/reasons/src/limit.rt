@@ -32,8 +32,8 @@ const ARRAYS: Telling = Telling {
 };
 
 const SCALARS: Telling = Telling {
-    said: "is one scalar too many: a program has at most 256, each name of a loop counted",
-    help: "use a local or a loop for more than one thing, or an array",
+    said: "is one scalar too many: a program has at most 256",
+    help: "use a local for more than one thing, or an array",
 };
 
 const STATEMENTS: Telling = Telling {

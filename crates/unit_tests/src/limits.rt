@@ -53,6 +53,16 @@ impl Many for Scalars {
     }
 }
 
+/// Loops of one name.
+struct Loops;
+
+impl Many for Loops {
+    fn text(&self, alloc: Global, count: usize) -> Result<String, AllocError> {
+        let loops = times(alloc, count, "for (uint64_t i = 0; i < 1; i += 1) {}")?;
+        format!(in alloc; "int main(void) {{{loops}}}\n")
+    }
+}
+
 /// The bytes of a name.
 struct Name;
 
@@ -169,5 +179,12 @@ fn limits_are_met_and_no_more(rt: HostRuntime) -> Result<(), Fail> {
     assert!(rt; is_limit(alloc, &Depends, 64, ReadCode::TooMany)?);
     assert!(rt; is_limit(alloc, &Terms, 8, ReadCode::TooMany)?);
     assert!(rt; is_limit(alloc, &Bytes, 1_048_576, ReadCode::TooMany)?);
+    Ok(())
+}
+
+#[test]
+fn names_of_loops_are_no_scalars(rt: HostRuntime) -> Result<(), Fail> {
+    let alloc = rt.alloc();
+    assert!(rt; is_read(alloc, &Loops.text(alloc, 300)?));
     Ok(())
 }

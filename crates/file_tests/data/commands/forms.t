@@ -515,12 +515,8 @@ forms/many_arrays.c:65:10: error: `A64` is one array too many: a program has at 
       |          ^~~~~~
 forms/many_arrays.c:65:10: help: put two arrays into one
 [1]
-$ ompc explain forms/many_loops.c
-forms/many_loops.c:258:15: error: `i` is one scalar too many: a program has at most 256, each name of a loop counted [E110]
-  258 | for (uint64_t i = 0; i < 2; i += 1) { }
-      |               ^
-forms/many_loops.c:258:15: help: use a local or a loop for more than one thing, or an array
-[1]
+$ ompc check forms/many_loops.c
+accepted
 $ ompc explain forms/many_conditions.c
 forms/many_conditions.c:18:13: error: `x` begins one block too many: 16 may be open at once, a body without braces is one [E109]
    18 | else if (x) x = 2;
@@ -534,10 +530,10 @@ forms/many_brackets.c:3:21: error: `(` opens one bracket too many: 16 of a kind 
 forms/many_brackets.c:3:21: help: hold a part in a local
 [1]
 $ ompc explain forms/many_scalars.c
-forms/many_scalars.c:1:1434: error: `x256` is one scalar too many: a program has at most 256, each name of a loop counted [E110]
+forms/many_scalars.c:1:1434: error: `x256` is one scalar too many: a program has at most 256 [E110]
     1 | .. x239, x240, x241, x242, x243, x244, x245, x246, x247, x248, x249, x250, x251, x252, x253, x254, x255, x256;
       |                                                                                                          ^~~~
-forms/many_scalars.c:1:1434: help: use a local or a loop for more than one thing, or an array
+forms/many_scalars.c:1:1434: help: use a local for more than one thing, or an array
 [1]
 $ ompc explain forms/many_statements.c
 forms/many_statements.c:16387:1: error: `x` is one statement too many: a program has at most 16384, directives counted [E110]
