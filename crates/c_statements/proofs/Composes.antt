@@ -8,7 +8,7 @@ use Rattle.base.specs.declared.tree.Expr.{Expr}
 use Rattle.base.specs.declared.tree.Stmt.{Stmt as Statement, Block as BlockOf, Loop as LoopOf, If as IfOf}
 use Rattle.c_grammar.specs.Lexeme.{For, If, Else, Uint64}
 use Rattle.c_grammar.specs.Terminal.{Fixed, Mark, Name}
-use Rattle.c_grammar.specs.Rules.{Context, inside, under_if, opened}
+use Rattle.c_grammar.specs.Rules.{inside, under_if, opened}
 use Rattle.c_expressions.specs.declared.changes.Turn.{Turn}
 use Rattle.c_expressions.specs.declared.cursor.Cursor.{Cursor}
 use Rattle.c_expressions.specs.declared.scope.Scope.{Scope}
@@ -18,11 +18,11 @@ use Rattle.c_expressions.specs.Cursor.{items, first_item, behind}
 use Rattle.c_expressions.specs.Scopes.{context_of, names_of}
 use Rattle.c_statements.specs.Blocks.{turned, choosing, under_if as behind_else, IsConditionRead}
 use Rattle.c_statements.specs.Bodies.{inner_env, IsSameBlock, IsLeft, AreStmtsRead, IsBodyRead}
-use Rattle.c_statements.specs.Loops.{IsGone, IsNamedMore, with_limit, bounds_tokens}
+use Rattle.c_statements.specs.Loops.{IsGone, with_limit, bounds_tokens}
 use Rattle.c_statements.specs.Simple.{counted, env_of, loops_in, IsMarkableRead, IsStmtRead}
 use Rattle.c_statements.specs.Statements.{Env, in_loop, more}
 use Rattle.c_statements.proofs.Levels.{same_again}
-use Rattle.c_statements.proofs.Nesting.{IsBack, back_now, back_same, env_back, env_inner, env_named, inner_same, inner_turn}
+use Rattle.c_statements.proofs.Nesting.{IsBack, back_now, back_same, env_back, env_inner, inner_same, inner_turn}
 use Rattle.c_statements.proofs.Wholes.{read_body, read_block, read_loop}
 use Rattle.c_statements.proofs.Choices.{read_if, read_if_else}
 
@@ -32,8 +32,8 @@ pub within_same : (a b : Scope) → IsSameBlock a b → (inside (context_of a 0 
 within_same a b p h = ap (λ (i : Bool). i || under_if (context_of b 0 0)) p.inside
     ∙ ap (λ (i : Bool). inside (context_of a 0 0) || i) p.choice ∙ h
 
-pub next_after : (s0 s1 s2 : Scope) → IsBack s0 s2 → s1.next_scalar ≡ s0.next_scalar → (k : ℕ) → s2.next_scalar ≡
-    s1.next_scalar + k →
+pub next_after : (s0 s1 s2 : Scope) → IsBack s0 s2 → s1.scalars ≡ s0.scalars → (k : ℕ) → s2.scalars ≡
+    s1.scalars + k →
     env_of s2 ≡ more k (env_of s0)
 next_after s0 s1 s2 p n k e = env_back s0 s2 k p (omega (arith, n, e))
 
@@ -45,12 +45,12 @@ body_scope s0 s1 s2 t e h p = back_same s0 s2 (back_now s0 s1 s2 t e h p)
 
 pub body_tree : (s0 s1 s2 : Scope) (t : Option Turn) (u u' : Cursor) (after : Items) (xs : List Statement) →
     context_of s1 0 0 ≡ opened (turned (turn_name t) s0) → names_of s1 ≡ turn_names t ++ names_of s0 →
-    s1.next_scalar ≡ s0.next_scalar → IsLeft s1 s2 → (first_item u).terminal ≡ Mark sign.OpenBrace → behind u ≡
+    s1.scalars ≡ s0.scalars → IsLeft s1 s2 → (first_item u).terminal ≡ Mark sign.OpenBrace → behind u ≡
     items u' →
-    AreStmtsRead (env_of s1) s2.next_scalar (items u') after xs →
+    AreStmtsRead (env_of s1) s2.scalars (items u') after xs →
     IsBodyRead (env_of s0) (inner_env t s0) (env_of s2) (items u) after xs
 body_tree s0 s1 s2 t u u' after xs e h n p f b r =
-    read_body (env_of s0) (inner_env t s0) (env_of s2) (env_of s1) s2.next_scalar u u' after xs f b
+    read_body (env_of s0) (inner_env t s0) (env_of s2) (env_of s1) s2.scalars u u' after xs f b
     (env_inner s0 s1 t e h n) r
     (next_after s0 s1 s2 (back_now s0 s1 s2 t e h p) n)
 
@@ -60,37 +60,35 @@ pub block_back : (s0 s1 s2 : Scope) → context_of s1 0 0 ≡ opened (turned Non
     names_of s0 → IsLeft s1 s2 → IsBack s0 s2
 block_back s0 s1 s2 e h p =
     let q : IsBack (counted s0) s2 = back_now (counted s0) s1 s2 None e h p in
-    record { frames = q.frames; names = q.names; target = q.target; waiting = q.waiting; scalars = q.scalars; boxes = q.boxes }
+    record { frames = q.frames; names = q.names; target = q.target; waiting = q.waiting; statements = omega (arith, q.statements); boxes = q.boxes }
 
 pub block_scope : (s0 s1 s2 : Scope) → context_of s1 0 0 ≡ opened (turned None (counted s0)) → names_of s1 ≡
     names_of s0 → IsLeft s1 s2 → IsSameBlock s0 s2
 block_scope s0 s1 s2 e h p = back_same s0 s2 (block_back s0 s1 s2 e h p)
 
 pub block_tree : (s0 s1 s2 : Scope) (u u' : Cursor) (after : Items) (all : Vec Statement Global) → s0.target ≡ false →
-    context_of s1 0 0 ≡ opened (turned None (counted s0)) → names_of s1 ≡ names_of s0 → s1.next_scalar ≡
-    s0.next_scalar →
+    context_of s1 0 0 ≡ opened (turned None (counted s0)) → names_of s1 ≡ names_of s0 → s1.scalars ≡
+    s0.scalars →
     IsLeft s1 s2 → (first_item u).terminal ≡ Mark sign.OpenBrace → behind u ≡ items u' →
-    AreStmtsRead (env_of s1) s2.next_scalar (items u') after all.items →
+    AreStmtsRead (env_of s1) s2.scalars (items u') after all.items →
     IsStmtRead (env_of s0) (env_of s2) (items u) after (BlockOf all)
 block_tree s0 s1 s2 u u' after all g e h n p f b r =
-    read_block (env_of s0) (env_of s2) (env_of s1) s2.next_scalar u u' after all f b
+    read_block (env_of s0) (env_of s2) (env_of s1) s2.scalars u u' after all f b
     (env_inner (counted s0) s1 None e h n ∙ inner_same (counted s0) g) r
     (next_after s0 s1 s2 (block_back s0 s1 s2 e h p) n)
 
 -- ---- a loop
 
-pub loop_tree : (s0 s1 s2 s3 s4 : Scope) (x : Bor (List ℕ)) (level : ℕ) (b : Bounds) (u u' : Cursor)
+pub loop_tree : (s0 s1 s3 s4 : Scope) (x : Bor (List ℕ)) (level : ℕ) (b : Bounds) (u u' : Cursor)
     (i2 i3 after : Items) (all : Vec Statement Global) →
-    s0.target ≡ false → s1 ≡ counted s0 → IsNamedMore s1 s2 → s3 ≡ with_limit s2 b.end → level ≡
-    loops_in (names_of s3) →
+    s0.target ≡ false → s1 ≡ counted s0 → s3 ≡ with_limit s1 b.end → level ≡ loops_in (names_of s3) →
     (first_item u).terminal ≡ Fixed For → behind u ≡ items u' →
     IsGone (Mark sign.OpenParen ∷ Fixed Uint64 ∷ Name x.now ∷ []) (items u') i2 → IsGone (bounds_tokens x.now b) i2 i3 →
     IsBodyRead (env_of s3) (inner_env (Some (record { name = x; level = level })) s3) (env_of s4) i3 after all.items →
     IsStmtRead (env_of s0) (env_of s4) (items u) after (LoopOf b all)
-loop_tree s0 s1 s2 s3 s4 x level b u u' i2 i3 after all g e1 e2 e3 l f d g1 g2 r =
-    let same : env_of s3 ≡ env_of s0 = ap env_of e3 ∙ env_named s1 s2 e2 ∙ ap env_of e1 in
-    let quiet : s3.target ≡ false = ap (λ (s : Scope). s.target) e3 ∙ ap (λ (c : Context). c.target) e2.context
-    ∙ ap (λ (s : Scope). s.target) e1 ∙ g in
+loop_tree s0 s1 s3 s4 x level b u u' i2 i3 after all g e1 e3 l f d g1 g2 r =
+    let same : env_of s3 ≡ env_of s0 = ap env_of e3 ∙ ap env_of e1 in
+    let quiet : s3.target ≡ false = ap (λ (s : Scope). s.target) e3 ∙ ap (λ (s : Scope). s.target) e1 ∙ g in
     let turn : Turn = record { name = x; level = level } in
     read_loop (env_of s0) (env_of s3) (inner_env (Some turn) s3) (env_of s4) x.now b u u' i2 i3 after all f d g1 g2 same
     (inner_turn s3 turn quiet l ∙ ap (in_loop x.now) same) r
@@ -101,13 +99,13 @@ loop_tree s0 s1 s2 s3 s4 x level b u u' i2 i3 after all g e1 e2 e3 l f d g1 g2 r
 pub choice_scope : (s0 s1 s2 : Scope) → s1 ≡ choosing s0 → IsSameBlock s1 s2 → s2.choice ≡ false → IsSameBlock s0 s2
 choice_scope s0 s1 s2 e p w =
     let q : IsSameBlock (choosing s0) s2 = subst (λ (s : Scope). IsSameBlock s s2) e p in
-    record { frames = q.frames; names = q.names; inside = q.inside; choice = q.choice; target = q.target; waiting = λ h. w; scalars = q.scalars; boxes = q.boxes }
+    record { frames = q.frames; names = q.names; inside = q.inside; choice = q.choice; target = q.target; waiting = λ h. w; statements = omega (arith, q.statements); boxes = q.boxes }
 
 pub else_scope : (s0 s2 s3 s4 : Scope) → IsSameBlock s0 s2 → s3 ≡ behind_else s2 → IsSameBlock s3 s4 → s4.choice ≡ false → IsSameBlock s0 s4
 else_scope s0 s2 s3 s4 p e r w =
     let q : IsSameBlock (behind_else s2) s4 = subst (λ (s : Scope). IsSameBlock s s4) e r in
     same_again s0 s2 s4 p
-    (record { frames = q.frames; names = q.names; inside = q.inside; choice = q.choice; target = q.target; waiting = λ h. w; scalars = q.scalars; boxes = q.boxes })
+    (record { frames = q.frames; names = q.names; inside = q.inside; choice = q.choice; target = q.target; waiting = λ h. w; statements = q.statements; boxes = q.boxes })
 
 choosing_names : (s0 s1 : Scope) (before after : Items) (e : Expr) → s1 ≡ choosing s0 →
     IsConditionRead (names_of s1) before after e →

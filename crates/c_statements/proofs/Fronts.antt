@@ -150,7 +150,7 @@ pub front_ready : (a b : Scope) (before after : Items) (xs : List Statement) →
 front_ready a b before after xs r p f =
     let same : loops_in (names_of b) ≡ loops_in (names_of a) =
     ap (λ (v : Env). v.loops) f.next_is ∙ loops_behind f.texts (env_of a) in
-    record { target = p.target r.target; loops = omega (arith, same, r.loops, p.scalars) }
+    record { target = p.target r.target; loops = omega (arith, same, r.loops, p.statements) }
 
 pub front_ends : (env next : Env) (before : Items) (t t' : Cursor) (n : ℕ) (xs : List Statement) →
     AreFront env next before (items t) xs → (first_item t).terminal ≡ Mark sign.CloseBrace → behind_first t ≡ items t' →

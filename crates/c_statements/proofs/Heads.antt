@@ -1,7 +1,6 @@
 -- The machine and the reader at the heads of loops.
 use Rattle.std.proofs.Common.{◌≡◌, ℕ, ◌+◌, ◌<◌, ◌≤◌, true, false, List, [], ◌∷◌, ◌++◌, length, Option, Some, None, refl, sym, ap, ◌∙◌, append_assoc, arith, length-append}
-use Rattle.std.proofs.lemmas.Bool.{or_left, or_right, or_from}
-use Rattle.std.specs.Prelude.{nat_lt, nat_le, ◌||◌, is_some}
+use Rattle.std.specs.Prelude.{nat_lt, is_some}
 use Rattle.std.specs.Option.{option_map}
 use Rattle.std.proofs.lemmas.Bool.Decides.{nat_tests}
 use Rattle.c_tokens.specs.declared.kind.Sign.TheVariants as sign
@@ -11,7 +10,7 @@ use Rattle.c_grammar.specs.LineRules.{max_name}
 use Rattle.c_grammar.specs.Terminal.{Terminal, Fixed, Mark, Name, Num, Line, Unknown, Unworked, End}
 use Rattle.c_grammar.specs.Texts.{Item}
 use Rattle.c_grammar.specs.Machine.{run as machine_run}
-use Rattle.c_grammar.specs.Rules.{Context, breaks, enter, out, is_visible, sort_of, max_scalars, rule_here}
+use Rattle.c_grammar.specs.Rules.{Context, breaks, enter, is_visible, sort_of, rule_here}
 use Rattle.c_grammar.specs.Program.{Stack, Turn, advance, place_code, first_broken, head_of, loop_body}
 use Rattle.c_expressions.specs.declared.cursor.Cursor.{Cursor}
 use Rattle.c_expressions.specs.declared.scope.Meaning.{Meaning}
@@ -22,7 +21,7 @@ use Rattle.c_expressions.specs.Reading.{run, fault_at, misfit_at, terminals}
 use Rattle.c_expressions.specs.Scopes.{context_of, sort_of_meaning}
 use Rattle.c_expressions.proofs.Going.{put, put_is, stop}
 use Rattle.c_expressions.proofs.Expressions.{first_then, drops, drop_by, drop_one}
-use Rattle.c_statements.specs.Loops.{IsGone, bounds_tokens, waiting, one_scalar_more}
+use Rattle.c_statements.specs.Loops.{IsGone, bounds_tokens, waiting}
 
 pub visible_is : (o : Option Meaning) → is_some o ≡ is_visible (option_map sort_of_meaning o)
 visible_is None = refl
@@ -35,18 +34,14 @@ item_visible : (c : Context) (d : ℕ) (s : Stack) (x : List ℕ) (i : Item Term
 unfolding run machine_run advance first_broken breaks
 item_visible c d s x i is h = rw h refl
 
-item_many : (c : Context) (d : ℕ) (s : Stack) (x : List ℕ) (i : Item Terminal) (is : Items) → is_visible (sort_of c x) ≡
-    false → (nat_lt max_name (length x) || nat_le max_scalars c.scalars) ≡ true →
-    run c (Turn d ∷ s) (put i (Name x) ∷ is) ≡ Some (fault_at i TooMany)
+item_long : (c : Context) (d : ℕ) (s : Stack) (x : List ℕ) (i : Item Terminal) (is : Items) → is_visible (sort_of c x) ≡
+    false → nat_lt max_name (length x) ≡ true → run c (Turn d ∷ s) (put i (Name x) ∷ is) ≡ Some (fault_at i TooMany)
 unfolding run machine_run advance first_broken breaks
-item_many c d s x i is h k = rw (h, k) refl
-
-abbrev named_in : List ℕ → Context → Context
-named_in x c = record (out c) { turn = Some x; scalars = c.scalars + 1 }
+item_long c d s x i is h k = rw (h, k) refl
 
 item_turn : (c : Context) (d : ℕ) (s : Stack) (x : List ℕ) (i : Item Terminal) (is : Items) → is_visible (sort_of c x) ≡
-    false → (nat_lt max_name (length x) || nat_le max_scalars c.scalars) ≡ false →
-    run c (Turn d ∷ s) (put i (Name x) ∷ is) ≡ run (named_in x c) (head_of x (loop_body d s)) is
+    false → nat_lt max_name (length x) ≡ false →
+    run c (Turn d ∷ s) (put i (Name x) ∷ is) ≡ run (waiting x c) (head_of x (loop_body d s)) is
 unfolding run machine_run advance first_broken breaks enter
 item_turn c d s x i is h k = rw (h, k) refl
 
@@ -62,29 +57,17 @@ pub long_turn : (sc : Scope) (d : ℕ) (s : Stack) (x : List ℕ) (t : Cursor) �
 long_turn sc d s x t e h k =
     let long : nat_lt max_name (length x) ≡ true = grind (arith, nat_tests) in
     ap (λ (i : Item Terminal). run (context_of sc 0 0) (Turn d ∷ s) (i ∷ behind t)) (put_is (first_item t) (Name x) e)
-    ∙ item_many (context_of sc 0 0) d s x (first_item t) (behind t) h
-    (or_left (nat_lt max_name (length x)) (nat_le max_scalars sc.scalars) long)
-
-pub many_turn : (sc : Scope) (d : ℕ) (s : Stack) (x : List ℕ) (t : Cursor) → (first_item t).terminal ≡ Name x →
-    is_visible (sort_of (context_of sc 0 0) x) ≡ false → max_scalars ≤ sc.scalars →
-    run (context_of sc 0 0) (Turn d ∷ s) (items t) ≡ Some (fault_at (first_item t) TooMany)
-many_turn sc d s x t e h k =
-    let many : nat_le max_scalars sc.scalars ≡ true = grind (arith, nat_tests) in
-    ap (λ (i : Item Terminal). run (context_of sc 0 0) (Turn d ∷ s) (i ∷ behind t)) (put_is (first_item t) (Name x) e)
-    ∙ item_many (context_of sc 0 0) d s x (first_item t) (behind t) h
-    (or_right (nat_lt max_name (length x)) (nat_le max_scalars sc.scalars) many)
+    ∙ item_long (context_of sc 0 0) d s x (first_item t) (behind t) h long
 
 pub go_turn : (sc : Scope) (d : ℕ) (s : Stack) (x : List ℕ) (t t' : Cursor) → (first_item t).terminal ≡ Name x →
-    is_visible (sort_of (context_of sc 0 0) x) ≡ false → length x ≤ max_name → sc.scalars < max_scalars → behind t ≡
-    items t' → run (context_of sc 0 0) (Turn d ∷ s) (items t) ≡
-    run (waiting x (one_scalar_more (context_of sc 0 0))) (head_of x (loop_body d s)) (items t')
-go_turn sc d s x t t' e h k l b =
+    is_visible (sort_of (context_of sc 0 0) x) ≡ false → length x ≤ max_name → behind t ≡ items t' →
+    run (context_of sc 0 0) (Turn d ∷ s) (items t) ≡
+    run (waiting x (context_of sc 0 0)) (head_of x (loop_body d s)) (items t')
+go_turn sc d s x t t' e h k b =
     let short : nat_lt max_name (length x) ≡ false = grind (arith, nat_tests) in
-    let few : nat_le max_scalars sc.scalars ≡ false = grind (arith, nat_tests) in
     ap (λ (i : Item Terminal). run (context_of sc 0 0) (Turn d ∷ s) (i ∷ behind t)) (put_is (first_item t) (Name x) e)
-    ∙ item_turn (context_of sc 0 0) d s x (first_item t) (behind t) h
-    (or_from (nat_lt max_name (length x)) (nat_le max_scalars sc.scalars) short few)
-    ∙ ap (run (waiting x (one_scalar_more (context_of sc 0 0))) (head_of x (loop_body d s))) b
+    ∙ item_turn (context_of sc 0 0) d s x (first_item t) (behind t) h short
+    ∙ ap (run (waiting x (context_of sc 0 0)) (head_of x (loop_body d s))) b
 
 abbrev pub NoName : Terminal → Type 0
 NoName (Name x) = ⊥

@@ -1,5 +1,5 @@
 -- What a scope keeps while statements are read.
-use Rattle.std.proofs.Common.{◌≡◌, ℕ, suc, ◌≤◌, List, [], ◌∷◌, ◌++◌, length, map, drop, reverse, Some, Vec, Global, refl, sym, ap, subst, ◌∙◌, arith}
+use Rattle.std.proofs.Common.{◌≡◌, ℕ, suc, ◌≤◌, List, [], ◌∷◌, ◌++◌, length, map, drop, reverse, Some, refl, sym, ap, subst, ◌∙◌, arith}
 use Rattle.std.specs.List.{flat_map}
 use Rattle.std.proofs.Math.Seq.{drop-append_seam}
 use Rattle.std.proofs.lemmas.List.{length-map}
@@ -11,7 +11,7 @@ use Rattle.c_expressions.specs.Means.{Names}
 use Rattle.c_expressions.specs.Changes.{names_below}
 use Rattle.c_expressions.specs.Scopes.{context_of, frames_of, names_in, names_of, seen_frame, sorted_name}
 use Rattle.c_statements.specs.Bodies.{IsSameBlock}
-use Rattle.c_statements.specs.Loops.{IsNamedMore, with_limit}
+use Rattle.c_statements.specs.Loops.{with_limit}
 use Rattle.c_statements.specs.Simple.{counted}
 
 -- ---- the names below the innermost block
@@ -39,7 +39,7 @@ same_again a b d p q = record {
   choice = q.choice ∙ p.choice;
   target = λ h. q.target (p.target h);
   waiting = λ h. q.waiting (p.waiting h);
-  scalars = omega (arith, p.scalars, q.scalars);
+  statements = omega (arith, p.statements, q.statements);
   boxes = q.boxes ∙ p.boxes;
 }
 
@@ -51,38 +51,23 @@ same_none s = record {
   choice = refl;
   target = λ h. h;
   waiting = λ h. h;
-  scalars = omega arith;
+  statements = omega arith;
   boxes = refl;
 }
 
 pub same_counted : (old new : Scope) → new ≡ counted old → IsSameBlock old new
 same_counted old new e = subst (λ (s : Scope). IsSameBlock old s) (sym e)
-    (record { frames = refl; names = refl; inside = refl; choice = refl; target = λ h. h; waiting = λ h. h; scalars = omega arith; boxes = refl })
+    (record { frames = refl; names = refl; inside = refl; choice = refl; target = λ h. h; waiting = λ h. h; statements = omega arith; boxes = refl })
 
 pub same_limit : (old new : Scope) (n : ℕ) → new ≡ with_limit old n → IsSameBlock old new
 same_limit old new n e = subst (λ (s : Scope). IsSameBlock old s) (sym e)
-    (record { frames = refl; names = refl; inside = refl; choice = refl; target = λ h. h; waiting = λ h. h; scalars = omega arith; boxes = refl })
-
-abbrev below_items : Vec GivenFrame Global → Names
-below_items v = flat_map names_in (drop 1 (reverse v.items))
-
-pub same_named : (old new : Scope) → IsNamedMore old new → IsSameBlock old new
-same_named old new p = record {
-  frames = ap (λ (c : Context). below c.frames) p.context;
-  names = ap below_items p.frames;
-  inside = ap inside p.context;
-  choice = ap under_if p.context;
-  target = λ h. ap (λ (c : Context). c.target) p.context ∙ h;
-  waiting = λ h. ap (λ (c : Context). c.choice) p.context ∙ h;
-  scalars = omega (arith, ap (λ (c : Context). c.scalars) p.context);
-  boxes = ap (λ (c : Context). c.boxes) p.context;
-}
+    (record { frames = refl; names = refl; inside = refl; choice = refl; target = λ h. h; waiting = λ h. h; statements = omega arith; boxes = refl })
 
 -- a name more
-pub same_declared : (old new : Scope) (x : List ℕ) (s : Sort) (m : Meaning) (n : ℕ) → old.scalars ≤ n →
+pub same_declared : (old new : Scope) (x : List ℕ) (s : Sort) (m : Meaning) (n : ℕ) →
     context_of new 0 0 ≡ declared s (record (context_of old 0 0) { fresh = Some x; scalars = n }) →
     names_of new ≡ (x, m) ∷ names_of old → IsSameBlock old new
-same_declared old new x s m n k e h = record {
+same_declared old new x s m n e h = record {
   frames = ap (λ (c : Context). below c.frames) e;
   names = names_below_is new ∙ ap (λ (c : Context). drop (length (top c.frames).names) (names_of new)) e
       ∙ ap (λ (ns : Names). drop (suc (top_size old)) ns) h ∙ sym (names_below_is old);
@@ -90,6 +75,6 @@ same_declared old new x s m n k e h = record {
   choice = ap under_if e;
   target = λ g. ap (λ (c : Context). c.target) e ∙ g;
   waiting = λ g. ap (λ (c : Context). c.choice) e ∙ g;
-  scalars = omega (arith, k, ap (λ (c : Context). c.scalars) e);
+  statements = omega (arith, ap (λ (c : Context). c.statements) e);
   boxes = ap (λ (c : Context). c.boxes) e;
 }

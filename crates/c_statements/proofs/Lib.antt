@@ -1,4 +1,3 @@
-pub mod Counting
 pub mod Sources
 pub mod Prints
 pub mod Assigns

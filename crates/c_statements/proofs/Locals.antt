@@ -39,11 +39,11 @@ abbrev made : Names → Boxes → ℕ → ℕ → Bool → Env
 made ns bs n l i = record { names = ns; boxes = bs; scalars = n; loops = l; inside = i }
 
 -- what stands before a statement, by its parts
-pub env_is : (s : Scope) (env : Env) → names_of s ≡ env.names → boxes_of s ≡ env.boxes → s.next_scalar ≡ env.scalars →
+pub env_is : (s : Scope) (env : Env) → names_of s ≡ env.names → boxes_of s ≡ env.boxes → s.scalars ≡ env.scalars →
     loops_in env.names ≡ env.loops → inside (context_of s 0 0) ≡ env.inside → env_of s ≡ env
 env_is s env a e b c d =
-    ap (λ (ns : Names). made ns (boxes_of s) s.next_scalar (loops_in ns) (inside (context_of s 0 0))) a
-    ∙ ap (λ (bs : Boxes). made env.names bs s.next_scalar (loops_in env.names) (inside (context_of s 0 0))) e
+    ap (λ (ns : Names). made ns (boxes_of s) s.scalars (loops_in ns) (inside (context_of s 0 0))) a
+    ∙ ap (λ (bs : Boxes). made env.names bs s.scalars (loops_in env.names) (inside (context_of s 0 0))) e
     ∙ ap (λ (n : ℕ). made env.names env.boxes n (loops_in env.names) (inside (context_of s 0 0))) b
     ∙ ap (λ (l : ℕ). made env.names env.boxes env.scalars l (inside (context_of s 0 0))) c
     ∙ ap (λ (i : Bool). made env.names env.boxes env.scalars env.loops i) d
@@ -60,8 +60,8 @@ context_behind s x m = declared (sort_of_meaning m)
 pub record IsNew (old new : Scope) (x : List ℕ) (id : ScalarId) (o : Option ArrayId) : Type 0 where
   pub context : context_of new 0 0 ≡ context_behind old x (next_meaning old id o)
   pub names : names_of new ≡ (x, next_meaning old id o) ∷ names_of old
-  pub id_is : id.0 ≡ old.next_scalar
-  pub next : new.next_scalar ≡ old.next_scalar + 1
+  pub id_is : id.0 ≡ old.scalars
+  pub next : new.scalars ≡ old.scalars + 1
   pub box : o ≡ box_for x (env_of old)
 
 no_loop : (id : ScalarId) (i : Bool) (o : Option ArrayId) (x : List ℕ) (ns : Names) →
@@ -75,15 +75,15 @@ same_inside s x m = refl
 new_here : (old new : Scope) (x : Bor (List ℕ)) (id : ScalarId) (o : Option ArrayId) →
     IsNew (naming (counted old) x) new x.now id o → env_of new ≡ with_scalar x.now (env_of old)
 new_here old new x id o p =
-    let e : id ≡ (let v : ScalarId = record { 0 = old.next_scalar } in v) =
+    let e : id ≡ (let v : ScalarId = record { 0 = old.scalars } in v) =
     ap (λ (n : ℕ). (let v : ScalarId = record { 0 = n } in v)) p.id_is in
     let i : Bool = inside (context_of old 0 0) in
-    let m : scalar_or_box id i o ≡ scalar_or_box (record { 0 = old.next_scalar }) i (box_for x.now (env_of old)) =
+    let m : scalar_or_box id i o ≡ scalar_or_box (record { 0 = old.scalars }) i (box_for x.now (env_of old)) =
     ap (λ (k : ScalarId). scalar_or_box k i o) e
-    ∙ ap (λ (u : Option ArrayId). scalar_or_box (record { 0 = old.next_scalar }) i u) p.box in
+    ∙ ap (λ (u : Option ArrayId). scalar_or_box (record { 0 = old.scalars }) i u) p.box in
     env_is new (with_scalar x.now (env_of old))
     (p.names ∙ ap (λ (u : Meaning). (x.now, u) ∷ names_of old) m) (ap (λ (c : Context). as_boxes c.boxes) p.context) p.next
-    (no_loop (record { 0 = old.next_scalar }) i (box_for x.now (env_of old)) x.now (names_of old)) (ap inside p.context)
+    (no_loop (record { 0 = old.scalars }) i (box_for x.now (env_of old)) x.now (names_of old)) (ap inside p.context)
 
 pub new_scope : (old s1 s2 new : Scope) (x : Bor (List ℕ)) (id : ScalarId) (o : Option ArrayId) → s1 ≡ counted old →
     s2 ≡ naming s1 x → IsNew s2 new x.now id o → IsSameBlock old new
@@ -92,7 +92,7 @@ new_scope old s1 s2 new x id o e f p =
     subst (λ (s : Scope). IsNew s new x.now id o) (f ∙ ap (λ (s : Scope). naming s x) e) p in
     let m : Meaning = next_meaning (naming (counted old) x) id o in
     let r : IsSameBlock (naming (counted old) x) new = same_declared (naming (counted old) x) new x.now
-    (sort_of_meaning m) m (old.scalars + 1) (omega arith) q.context q.names in
+    (sort_of_meaning m) m (old.scalars + 1) q.context q.names in
     record {
       frames = r.frames;
       names = r.names;
@@ -100,8 +100,7 @@ new_scope old s1 s2 new x id o e f p =
       choice = r.choice;
       target = r.target;
       waiting = r.waiting;
-      scalars =
-          r.scalars;
+      statements = omega (arith, r.statements);
       boxes = r.boxes;
     }
 

@@ -1,19 +1,16 @@
 -- What a scope is behind a block, of what it was before.
-use Rattle.std.proofs.Common.{◌≡◌, ℕ, ◌+◌, ◌≤◌, Bool, true, false, List, [], ◌∷◌, ◌++◌, length, drop, reverse, Option, Some, None, Vec, Global, refl, sym, ap, ◌∙◌, arith}
+use Rattle.std.proofs.Common.{◌≡◌, ℕ, ◌+◌, ◌≤◌, Bool, true, false, List, [], ◌∷◌, ◌++◌, length, drop, Option, Some, None, refl, sym, ap, ◌∙◌, arith}
 use Rattle.std.specs.Prelude.{◌||◌}
-use Rattle.std.specs.List.{flat_map}
 use Rattle.std.proofs.Math.Seq.{drop-append_seam}
 use Rattle.c_grammar.specs.Rules.{Context, Frame, ALoop, inside, opened, below, top, with_name}
 use Rattle.c_expressions.specs.declared.changes.Turn.{Turn}
-use Rattle.c_expressions.specs.declared.scope.Frame.{Frame as GivenFrame}
 use Rattle.c_expressions.specs.declared.scope.Meaning.TheVariants as meaning
 use Rattle.c_expressions.specs.declared.scope.Scope.{Scope}
 use Rattle.c_expressions.specs.Means.{Names}
 use Rattle.c_expressions.specs.Changes.{turn_name, turn_names}
-use Rattle.c_expressions.specs.Scopes.{as_boxes, boxes_of, context_of, frames_of, names_in, names_of}
+use Rattle.c_expressions.specs.Scopes.{as_boxes, boxes_of, context_of, frames_of, names_of}
 use Rattle.c_statements.specs.Bodies.{IsSameBlock, IsLeft, inner_env}
 use Rattle.c_statements.specs.Blocks.{turned}
-use Rattle.c_statements.specs.Loops.{IsNamedMore}
 use Rattle.c_statements.specs.Simple.{env_of, loops_in}
 use Rattle.c_statements.specs.Statements.{Env, in_loop, more}
 use Rattle.c_statements.proofs.Levels.{names_below_is, top_size}
@@ -25,7 +22,7 @@ pub record IsBack (old new : Scope) : Type 0 where
   pub names : names_of new ≡ names_of old
   pub target : new.target ≡ false
   pub waiting : new.choice ≡ false
-  pub scalars : old.scalars ≤ new.scalars
+  pub statements : old.statements ≤ new.statements
   pub boxes : (context_of new 0 0).boxes ≡ (context_of old 0 0).boxes
 
 pub back_same : (a b : Scope) → IsBack a b → IsSameBlock a b
@@ -37,7 +34,7 @@ back_same a b p = record {
   choice = ap (λ (fs : List Frame). (top fs).choice) p.frames;
   target = λ h. p.target;
   waiting = λ h. p.waiting;
-  scalars = p.scalars;
+  statements = p.statements;
   boxes = p.boxes;
 }
 
@@ -55,16 +52,16 @@ back_now a b d t e h p = record {
       ∙ ap (λ (ns : Names). drop (length (turn_names t)) ns) h ∙ drop-append_seam (turn_names t) (names_of a);
   target = p.target (ap (λ (c : Context). c.target) e);
   waiting = p.waiting (ap (λ (c : Context). c.choice) e);
-  scalars = omega (arith, p.scalars, ap (λ (c : Context). c.scalars) e);
+  statements = omega (arith, p.statements, ap (λ (c : Context). c.statements) e);
   boxes = p.boxes ∙ ap (λ (c : Context). c.boxes) e;
 }
 
 -- what stands before and behind it
-pub env_back : (a d : Scope) (n : ℕ) → IsBack a d → d.next_scalar ≡ a.next_scalar + n → env_of d ≡ more n (env_of a)
+pub env_back : (a d : Scope) (n : ℕ) → IsBack a d → d.scalars ≡ a.scalars + n → env_of d ≡ more n (env_of a)
 env_back a d n p e = env_is d (more n (env_of a)) p.names (ap as_boxes p.boxes) e refl (ap (λ (fs : List Frame). (top fs).inside) p.frames)
 
 pub env_inner : (a b : Scope) (t : Option Turn) → context_of b 0 0 ≡ opened (turned (turn_name t) a) →
-    names_of b ≡ turn_names t ++ names_of a → b.next_scalar ≡ a.next_scalar → env_of b ≡ inner_env t a
+    names_of b ≡ turn_names t ++ names_of a → b.scalars ≡ a.scalars → env_of b ≡ inner_env t a
 env_inner a b t e h n =
     env_is b (inner_env t a) h (ap (λ (c : Context). as_boxes c.boxes) e) n refl (ap inside e)
 
@@ -87,17 +84,7 @@ inner_turn a t e h =
       names = (t.name.now, meaning.Loop l) ∷ names_of a;
       boxes = boxes_of a;
       scalars =
-          a.next_scalar;
+          a.scalars;
       loops = n + 1;
       inside = inside (context_of a 0 0);
     } in v)) h
-
--- ---- a loop's head
-
-abbrev names_in_all : Vec GivenFrame Global → Names
-names_in_all v = flat_map names_in (reverse v.items)
-
-pub env_named : (a b : Scope) → IsNamedMore a b → env_of b ≡ env_of a
-env_named a b p =
-    env_is b (env_of a) (ap names_in_all p.frames) (ap (λ (c : Context). as_boxes c.boxes) p.context) p.next refl
-    (ap inside p.context)

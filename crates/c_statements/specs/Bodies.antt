@@ -27,7 +27,7 @@ pub record IsSameBlock (old new : Scope) : Type 0 where
   pub choice : under_if (context_of new 0 0) ≡ under_if (context_of old 0 0)
   pub target : old.target ≡ false → new.target ≡ false
   pub waiting : old.choice ≡ false → new.choice ≡ false
-  pub scalars : old.scalars ≤ new.scalars
+  pub statements : old.statements ≤ new.statements
   pub boxes : (context_of new 0 0).boxes ≡ (context_of old 0 0).boxes
 
 -- the innermost block is closed
@@ -36,13 +36,13 @@ pub record IsLeft (old new : Scope) : Type 0 where
   pub names : names_of new ≡ names_below old
   pub target : old.target ≡ false → new.target ≡ false
   pub waiting : old.choice ≡ false → new.choice ≡ false
-  pub scalars : old.scalars ≤ new.scalars
+  pub statements : old.statements ≤ new.statements
   pub boxes : (context_of new 0 0).boxes ≡ (context_of old 0 0).boxes
 
--- the next block is not that of a target, and each loop's name is counted
+-- the next block is not that of a target, and each loop around has begun as a statement
 pub record IsReady (s : Scope) : Type 0 where
   pub target : s.target ≡ false
-  pub loops : loops_in (names_of s) ≤ s.scalars
+  pub loops : loops_in (names_of s) ≤ s.statements
 
 -- what stands before the first statement of a body that is opened next
 abbrev pub inner_env : Option Turn → Scope → Env
@@ -50,7 +50,7 @@ inner_env t s =
     record {
       names = turn_names t ++ names_of s;
       boxes = boxes_of s;
-      scalars = s.next_scalar;
+      scalars = s.scalars;
       loops = loops_in (turn_names t ++ names_of s);
       inside = inside (context_of s 0 0) || s.target;
     }

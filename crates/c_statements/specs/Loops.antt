@@ -1,5 +1,5 @@
 -- The heads of loops that were read.
-use Rattle.std.specs.Prelude.{◌≡◌, ℕ, ◌+◌, length, drop, List, [], ◌∷◌, ◌++◌, Some}
+use Rattle.std.specs.Prelude.{◌≡◌, ℕ, length, drop, List, [], ◌∷◌, ◌++◌, Some}
 use Rattle.c_tokens.specs.declared.kind.Sign.TheVariants as sign
 use Rattle.base.specs.declared.tree.Bounds.{Bounds}
 use Rattle.c_grammar.specs.Terminal.{Terminal, Mark, Name, Num}
@@ -7,21 +7,10 @@ use Rattle.c_grammar.specs.Rules.{Context, out}
 use Rattle.c_expressions.specs.declared.scope.Scope.{Scope}
 use Rattle.c_expressions.specs.Means.{Items}
 use Rattle.c_expressions.specs.Reading.{terminals}
-use Rattle.c_expressions.specs.Scopes.{context_of}
 
 -- the loop's name waits for its body
 abbrev pub waiting : List ℕ → Context → Context
 waiting x c = record (out c) { turn = Some x }
-
--- one scalar or loop's name more is declared
-abbrev pub one_scalar_more : Context → Context
-one_scalar_more c = record c { scalars = c.scalars + 1 }
-
--- the name of a loop is counted
-pub record IsNamedMore (old new : Scope) : Type 0 where
-  pub frames : new.frames ≡ old.frames
-  pub context : context_of new 0 0 ≡ one_scalar_more (context_of old 0 0)
-  pub next : new.next_scalar ≡ old.next_scalar
 
 -- behind the limit of a loop's head
 abbrev pub with_limit : Scope → ℕ → Scope

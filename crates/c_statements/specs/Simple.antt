@@ -43,7 +43,7 @@ env_of s =
     record {
       names = names_of s;
       boxes = boxes_of s;
-      scalars = s.next_scalar;
+      scalars = s.scalars;
       loops = loops_in (names_of s);
       inside = inside (context_of s 0 0);
     }

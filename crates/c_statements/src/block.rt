@@ -1,6 +1,6 @@
 //! The words and braces with which blocks begin and end.
 
-ghost use Rattle.std.specs.Prelude.{◌≡◌, ◌∷◌, ◌++◌, OnOk, None};
+ghost use Rattle.std.specs.Prelude.{◌≡◌, ◌<◌, ◌∷◌, ◌++◌, OnOk, None};
 ghost use Rattle.c_tokens.specs.declared.kind.Sign.TheVariants as sign;
 ghost use Rattle.c_grammar.specs.Lexeme.{For, If, Else};
 ghost use Rattle.c_grammar.specs.Terminal.{Fixed, Mark};
@@ -11,6 +11,7 @@ ghost use Rattle.c_expressions.specs.Changes.{turn_name, turn_names, names_below
 ghost use Rattle.c_expressions.specs.Cursor.{items, first_item, behind};
 ghost use Rattle.c_expressions.specs.Reading.{run, took, Outcome};
 ghost use Rattle.c_expressions.specs.Scopes.{context_of, frames_of, names_of};
+ghost use Rattle.c_tokens.specs.declared.limits.TheConstants.{MAX_STATEMENTS};
 ghost use Rattle.c_statements.specs.Simple.{counted};
 ghost use Rattle.c_statements.specs.Blocks.{turned, choosing, under_if};
 
@@ -30,7 +31,7 @@ pub fn open_body<'a>(
         (run (context_of scope.new 0 0) s (items tokens.new)) }
     ensures opened { OnOk result (context_of scope.new 0 0 ≡ opened (turned (turn_name turn.entry) scope.old)) }
     ensures names { OnOk result (names_of scope.new ≡ turn_names turn.entry ++ names_of scope.old) }
-    ensures next { OnOk result (scope.new.next_scalar ≡ scope.old.next_scalar) }
+    ensures next { OnOk result (scope.new.scalars ≡ scope.old.scalars) }
     ensures first { OnOk result ((first_item tokens.old).terminal ≡ Mark sign.OpenBrace) }
     ensures taken { OnOk result (behind tokens.old ≡ items tokens.new) }
 {
@@ -53,7 +54,7 @@ pub fn close_body(scope: &mut Scope<'_>, tokens: &mut Cursor<'_, '_>)
     ensures closed { context_of scope.new 0 0 ≡ record (context_of scope.old 0 0)
         { frames = below (frames_of scope.old) } }
     ensures names { names_of scope.new ≡ names_below scope.old }
-    ensures next { scope.new.next_scalar ≡ scope.old.next_scalar }
+    ensures next { scope.new.scalars ≡ scope.old.scalars }
     ensures taken { behind tokens.old ≡ items tokens.new }
 {
     tokens.take();
@@ -67,6 +68,7 @@ pub fn begin_loop(scope: &mut Scope<'_>, tokens: &mut Cursor<'_, '_>) -> Result<
     ensures read { (s : Stack) → Outcome result (took (context_of scope.old 0 0) (for Starts) s (items tokens.old))
         (run (context_of scope.new 0 0) s (items tokens.new)) }
     ensures scope { OnOk result (scope.new ≡ counted scope.old) }
+    ensures few { OnOk result (scope.old.statements < MAX_STATEMENTS) }
     ensures taken { OnOk result (behind tokens.old ≡ items tokens.new) }
 {
     if scope.statements >= MAX_STATEMENTS {
@@ -103,7 +105,7 @@ pub fn begin_block(scope: &mut Scope<'_>, tokens: &mut Cursor<'_, '_>) -> Result
         (items tokens.old)) (run (context_of scope.new 0 0) s (items tokens.new)) }
     ensures opened { OnOk result (context_of scope.new 0 0 ≡ opened (turned None (counted scope.old))) }
     ensures names { OnOk result (names_of scope.new ≡ names_of scope.old) }
-    ensures next { OnOk result (scope.new.next_scalar ≡ scope.old.next_scalar) }
+    ensures next { OnOk result (scope.new.scalars ≡ scope.old.scalars) }
     ensures taken { OnOk result (behind tokens.old ≡ items tokens.new) }
 {
     if scope.frames.len() > MAX_BRACES {

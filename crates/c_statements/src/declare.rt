@@ -103,16 +103,14 @@ pub fn new_scalar<'a>(
         (record (context_of scope.old 0 0) { fresh = Some name.now; scalars = scope.old.scalars + 1 })) }
     ensures names { IfOk result (λ id. names_of scope.new ≡
         (name.now, scalar_or_box id (inside (context_of scope.old 0 0)) boxed) ∷ names_of scope.old) }
-    ensures id { IfOk result (λ id. id.0 ≡ scope.old.next_scalar) }
-    ensures next { OnOk result (scope.new.next_scalar ≡ scope.old.next_scalar + 1) }
+    ensures id { IfOk result (λ id. id.0 ≡ scope.old.scalars) }
+    ensures next { OnOk result (scope.new.scalars ≡ scope.old.scalars + 1) }
 {
-    let id = ScalarId(scope.next_scalar as u8);
+    let id = ScalarId(scope.scalars as u8);
     let scalars = scope.scalars + 1;
-    let next_scalar = scope.next_scalar + 1;
     let inside = is_inside(scope);
     scope.declare(name, scalar_or_box(id, inside, boxed))?;
     scope.scalars = scalars;
-    scope.next_scalar = next_scalar;
     Ok(id)
 }
 

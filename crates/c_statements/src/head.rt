@@ -1,6 +1,6 @@
 //! The heads of loops.
 
-ghost use Rattle.std.specs.Prelude.{ℕ, ◌≡◌, ◌<◌, ◌≤◌, ◌+◌, ◌^◌, ◌∷◌, [], length, OnOk, IfOk, Some, None};
+ghost use Rattle.std.specs.Prelude.{ℕ, ◌≡◌, ◌≤◌, ◌+◌, ◌^◌, ◌∷◌, [], length, IfOk, Some, None};
 ghost use Rattle.c_tokens.specs.declared.kind.Sign.TheVariants as sign;
 ghost use Rattle.c_grammar.specs.Lexeme.{Uint64};
 ghost use Rattle.c_grammar.specs.Terminal.{Fixed, Mark, Name, Num};
@@ -10,14 +10,14 @@ ghost use Rattle.c_grammar.specs.Program.{Stack, Want, WantNum, Turn, m, head_of
 ghost use Rattle.c_expressions.specs.Cursor.{items};
 ghost use Rattle.c_expressions.specs.Reading.{run, Outcome, OutcomeBy};
 ghost use Rattle.c_expressions.specs.Scopes.{context_of, limited};
-ghost use Rattle.c_tokens.specs.declared.limits.TheConstants.{MAX_NAME, MAX_SCALARS};
-ghost use Rattle.c_statements.specs.Loops.{waiting, with_limit, IsNamedMore, IsGone, bounds_tokens};
+ghost use Rattle.c_tokens.specs.declared.limits.TheConstants.{MAX_NAME};
+ghost use Rattle.c_statements.specs.Loops.{waiting, with_limit, IsGone, bounds_tokens};
 
 use base::fault::ReadCode;
 use base::tree::Bounds;
 use c_expressions::{Cursor, ReadError, Scope, Terminal};
 use c_tokens::Sign;
-use c_tokens::limits::{MAX_NAME, MAX_SCALARS};
+use c_tokens::limits::MAX_NAME;
 use directives::Word;
 
 /// Whether a name is declared.
@@ -29,12 +29,10 @@ pub fn is_visible(scope: &Scope<'_>, name: &[u8]) -> bool
 }
 
 /// The name of a loop, where it is declared.
-#[tactic(auto, using(crate::proofs::Heads::bad_turn, crate::proofs::Heads::long_turn, crate::proofs::Heads::many_turn, crate::proofs::Heads::go_turn, crate::proofs::Heads::stop_turn, crate::proofs::Heads::gone_one))]
-fn turn_name<'a>(scope: &mut Scope<'a>, tokens: &mut Cursor<'a, '_>) -> Result<&'a [u8], ReadError>
-    ensures read { (d : ℕ) (s : Stack) → OutcomeBy result (run (context_of scope.old 0 0) (Turn d ∷ s) (items tokens.old))
-        (λ x. run (waiting x.now (context_of scope.new 0 0)) (head_of x.now (loop_body d s)) (items tokens.new)) }
-    ensures scope { OnOk result (IsNamedMore scope.old scope.new) }
-    ensures few { OnOk result (scope.old.scalars < MAX_SCALARS) }
+#[tactic(auto, using(crate::proofs::Heads::bad_turn, crate::proofs::Heads::long_turn, crate::proofs::Heads::go_turn, crate::proofs::Heads::stop_turn, crate::proofs::Heads::gone_one))]
+fn turn_name<'a>(scope: &Scope<'_>, tokens: &mut Cursor<'a, '_>) -> Result<&'a [u8], ReadError>
+    ensures read { (d : ℕ) (s : Stack) → OutcomeBy result (run (context_of scope.now 0 0) (Turn d ∷ s) (items tokens.old))
+        (λ x. run (waiting x.now (context_of scope.now 0 0)) (head_of x.now (loop_body d s)) (items tokens.new)) }
     ensures short { IfOk result (λ x. length x.now ≤ MAX_NAME) }
     ensures gone { IfOk result (λ x. IsGone (Name x.now ∷ []) (items tokens.old) (items tokens.new)) }
 {
@@ -46,11 +44,7 @@ fn turn_name<'a>(scope: &mut Scope<'a>, tokens: &mut Cursor<'a, '_>) -> Result<&
             if name.len() > MAX_NAME {
                 return Err(ReadError::Fault(tokens.fault(ReadCode::TooMany)));
             }
-            if scope.scalars >= MAX_SCALARS {
-                return Err(ReadError::Fault(tokens.fault(ReadCode::TooMany)));
-            }
             tokens.take();
-            scope.scalars += 1;
             Ok(name)
         }
         _ => Err(ReadError::Fault(tokens.refuse())),
@@ -130,14 +124,9 @@ pub fn bounds(
 
 /// The head of a loop behind its word, up to its name.
 #[tactic(auto, using(c_expressions::proofs::Outcomes::on_from_by, crate::proofs::Heads::gone_head))]
-pub fn head_name<'a>(
-    scope: &mut Scope<'a>,
-    tokens: &mut Cursor<'a, '_>,
-) -> Result<&'a [u8], ReadError>
-    ensures read { (d : ℕ) (s : Stack) → OutcomeBy result (run (context_of scope.old 0 0) (loop d s) (items tokens.old))
-        (λ x. run (waiting x.now (context_of scope.new 0 0)) (head_of x.now (loop_body d s)) (items tokens.new)) }
-    ensures scope { OnOk result (IsNamedMore scope.old scope.new) }
-    ensures few { OnOk result (scope.old.scalars < MAX_SCALARS) }
+pub fn head_name<'a>(scope: &Scope<'_>, tokens: &mut Cursor<'a, '_>) -> Result<&'a [u8], ReadError>
+    ensures read { (d : ℕ) (s : Stack) → OutcomeBy result (run (context_of scope.now 0 0) (loop d s) (items tokens.old))
+        (λ x. run (waiting x.now (context_of scope.now 0 0)) (head_of x.now (loop_body d s)) (items tokens.new)) }
     ensures short { IfOk result (λ x. length x.now ≤ MAX_NAME) }
     ensures gone { IfOk result (λ x. IsGone (Mark sign.OpenParen ∷ Fixed Uint64 ∷ Name x.now ∷ [])
         (items tokens.old) (items tokens.new)) }

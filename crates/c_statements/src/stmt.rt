@@ -169,7 +169,7 @@ pub fn body<'a>(
     tokens: &mut Cursor<'a, '_>,
     turn: Option<Turn<'a>>,
 ) -> Result<Vec<Stmt>, ReadError>
-    requires loops { loops_in (turn_names turn ++ names_of scope.old) ≤ scope.old.scalars }
+    requires loops { loops_in (turn_names turn ++ names_of scope.old) ≤ scope.old.statements }
     requires within { ((inside (context_of scope.old 0 0) || scope.old.target) ||
         (under_if (context_of scope.old 0 0) || scope.old.choice)) ≡ true }
     ensures read { (s : Stack) → Outcome result (run (turned (turn_name turn.entry) scope.old) (body s)
@@ -197,7 +197,7 @@ pub fn statements<'a>(
     ensures read { (s : Stack) → Outcome result (run (context_of scope.old 0 0) (Body ∷ s) (items tokens.old))
         (run (context_of scope.new 0 0) s (items tokens.new)) }
     ensures scope { OnOk result (IsLeft scope.old scope.new) }
-    ensures tree { IfOk result (λ v. AreStmtsRead (env_of scope.old) scope.new.next_scalar (items tokens.old)
+    ensures tree { IfOk result (λ v. AreStmtsRead (env_of scope.old) scope.new.scalars (items tokens.old)
         (items tokens.new) v.items) }
 {
     let mut statements = Vec::new(scope.alloc);

@@ -1,4 +1,3 @@
-use Rattle.c_statements.proofs.Counting.{counted_is}
 use Rattle.std.proofs.Common.{◌∙◌, sym}
 use Rattle.std.specs.Option.{option_map}
 use Rattle.c_expressions.specs.Scopes.{sort_of_meaning}
@@ -16,6 +15,3 @@ returns-clause-read c = λ s.
     go_assigned c.args.scope.now s c.args.name.now (option_map sort_of_meaning c.meaning-meant.result)
     c.args.tokens.now c.take.new.self c.requires c.take.ensures (c.meaning-meant.ensures.sort 0 0)
     (sym c.name_fault.ensures.code ∙ c.in_default.is)
-
-pub returns-clause-scope : goal.returns-clause-scope
-returns-clause-scope c = counted_is c.args.scope.now _

@@ -1,10 +1,6 @@
-use Rattle.c_statements.proofs.Counting.{naming_is}
 use Rattle.c_statements.proofs.Declares.{stop_local, long_local, bad_local}
 use Rattle.std.proofs.Common.{arith}
 use Rattle.c_statements.proofs.declare.local_name.Goals as goal
-
-pub returns-else-scope-ge-MAX_SCALARS-clause-scope : goal.returns-else-scope-ge-MAX_SCALARS-clause-scope
-returns-else-scope-ge-MAX_SCALARS-clause-scope c = naming_is c.args.scope.now c.in-Name.name _
 
 pub returns-then-is_visible-clause-read : goal.returns-then-is_visible-clause-read
 returns-then-is_visible-clause-read c = grind (arith, bad_local)

@@ -1,4 +1,3 @@
-use Rattle.c_statements.proofs.Counting.{limit_is}
 use Rattle.std.proofs.Common.{◌∷◌, ◌∙◌}
 use Rattle.std.proofs.lemmas.Result.{err_from_is_err_and}
 use Rattle.c_tokens.specs.declared.kind.Sign.TheVariants as sign
@@ -30,6 +29,3 @@ returns-clause-read c = λ s.
     let s2 : Stack = Want (Name x) (for Plain) ∷ m sign.PlusEqual ∷ WantNum Step ∷ m sign.CloseParen ∷ s3 in
     let s1 : Stack = Want (Name x) (for Plain) ∷ m sign.Less ∷ WantNum Limit ∷ m sign.Semicolon ∷ s2 in
     c.in_ok-first.ensures.read c0 s1 ∙ c.in_ok-end.ensures.read (out c0) s2 ∙ c.in_ok-step.ensures.read (out c0) s3
-
-pub returns-clause-scope : goal.returns-clause-scope
-returns-clause-scope c = limit_is c.args.scope.now c.in_ok-end.end _

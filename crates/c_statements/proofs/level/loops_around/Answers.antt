@@ -3,7 +3,7 @@ use Rattle.c_statements.proofs.level.loops_around.Goals as goal
 
 pub with_loops_of-count-requires : goal.with_loops_of-count-requires
 with_loops_of-count-requires c = frame_fits c.args.scope.now.frames.items c.deref-frame-items.result.now
-    c.frames.frame-index c.frames.count 256 c.frame-item.result c.deref-frame-items.ensures.value c.frames-test.true
+    c.frames.frame-index c.frames.count 16384 c.frame-item.result c.deref-frame-items.ensures.value c.frames-test.true
     c.frame-item.is c.frames.invariant c.requires
 
 pub frames-preserved : goal.frames-preserved

@@ -1,4 +1,3 @@
-use Rattle.c_statements.proofs.Counting.{counted_is}
 use Rattle.std.proofs.Common.{◌∙◌, sym, ap, Some}
 use Rattle.base.specs.declared.fault.TextFault.{TextFault}
 use Rattle.c_statements.proofs.Prints.{go_prints, host_prints}
@@ -14,6 +13,3 @@ pub returns-clause-read : goal.returns-clause-read
 returns-clause-read c = λ s.
     go_prints c.args.scope.now s c.args.tokens.now c.take.new.self c.requires c.if-scope-ge-MAX_STATEMENTS.false
     (sym c.is_inside.ensures ∙ c.if-is_inside.false) c.take.ensures
-
-pub returns-clause-scope : goal.returns-clause-scope
-returns-clause-scope c = counted_is c.args.scope.now _

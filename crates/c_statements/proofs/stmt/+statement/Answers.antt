@@ -109,11 +109,11 @@ looped-returns-clause-read t c = λ s.
     ∙ c.in_ok-body.ensures.read s
 
 pub looped-returns-clause-tree : goal.looped-returns-clause-tree
-looped-returns-clause-tree t c = loop_tree c.args.scope.now c.begin_loop.new.scope c.head_name.new.scope
+looped-returns-clause-tree t c = loop_tree c.args.scope.now c.begin_loop.new.scope
     c.bounds.new.scope c.body.new.scope c.in_ok-name.name c.loops_around-level.result c.in_ok-bounds.bounds
     c.args.tokens.now c.begin_loop.new.tokens (items c.head_name.new.tokens) (items c.bounds.new.tokens)
     (items c.body.new.tokens) c.in_ok-body.body c.requires.ready.target c.in_ok-begin_loop.ensures.scope
-    c.in_ok-name.ensures.scope c.in_ok-bounds.ensures.scope c.loops_around-level.ensures c.requires.word
+    c.in_ok-bounds.ensures.scope c.loops_around-level.ensures c.requires.word
     c.in_ok-begin_loop.ensures.taken c.in_ok-name.ensures.gone c.in_ok-bounds.ensures.gone c.in_ok-body.ensures.tree
 
 pub statements-statements-init : goal.statements-statements-init
@@ -150,7 +150,7 @@ statements-statements-preserved t c = record {
 
 pub statements-returns-clause-tree : goal.statements-returns-clause-tree
 statements-returns-clause-tree t c = front_ends (env_of c.args.scope.now) (env_of c.statements.scope)
-    (items c.args.tokens.now) c.statements.tokens c.close_body.new.tokens c.close_body.new.scope.next_scalar
+    (items c.args.tokens.now) c.statements.tokens c.close_body.new.tokens c.close_body.new.scope.scalars
     c.statements.statements.items c.statements.invariant.tree
     (was_mark sign.CloseBrace c.statements.tokens (sym c.at.ensures ∙ c.statements-test.false))
     c.close_body.ensures.taken c.close_body.ensures.next
