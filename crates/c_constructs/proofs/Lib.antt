@@ -13,6 +13,5 @@ pub mod Placing
 pub mod Matching
 pub mod LineMeanings
 pub mod Passing
-pub mod Counted
 pub mod Atomics
 pub mod AtStatement

@@ -135,6 +135,7 @@ pub fn directive(scope: &mut Scope<'_>, tokens: &mut Cursor<'_, '_>) -> Result<R
     ensures means { IfOk result (λ r. IsRead (names_of scope.old) (first_item tokens.old) (behind tokens.old) r) }
     ensures taken { OnOk result (behind tokens.old ≡ items tokens.new) }
     ensures kept { OnErr result (scope.new ≡ scope.old) }
+    ensures few { OnOk result (scope.old.statements < MAX_STATEMENTS) }
     ensures unmoved { OnErr result (tokens.new ≡ tokens.old) }
 {
     if scope.is_inside() {
