@@ -34,7 +34,6 @@ use Rattle.directives.specs.declared.lexeme.PlacedLexeme.{PlacedLexeme}
 use Rattle.directives.specs.Seen.{seen_lexeme, seen_placed}
 use Rattle.directives.specs.Spells.{kinds_of}
 use Rattle.c_statements.specs.Simple.{env_of}
-use Rattle.c_statements.proofs.Counting.{again_is}
 use Rattle.c_read.specs.Boxes.{AreBoxed, AreBoxesRead, HasNoEntry, IsBoxed, boxed_in, boxed_of, boxing, is_boxes_line, is_taken}
 use Rattle.c_read.specs.Globals.{AreKnown, Front, boxes_in, entry_of, front_of}
 use Rattle.c_read.proofs.Boxed.{no_entry, numbered_more}
@@ -90,13 +89,13 @@ abbrev next_box : Bor (List ℕ) → Scope → BoxedName
 next_box x s = record { name = x; array = record { 0 = s.arrays } }
 
 module _ {Z : Type 0} where
-  pub box_added : (x : Bor (List ℕ)) (bs : Vec BoxedName Global) (old : Scope) (h : old.next_scalar ≤ old.scalars)
+  pub box_added : (x : Bor (List ℕ)) (bs : Vec BoxedName Global) (old : Scope)
       (es fs : List (String Z × ArrayInfo)) →
       bs.items ≡ old.boxes.items ++ next_box x old ∷ [] →
       map entry_of fs ≡ map entry_of es ++ (x.now, Some 1) ∷ [] →
-      IsBoxed x.now old (record old { boxes = bs; arrays = old.arrays + 1; counted = h }) es fs
-  box_added x bs old h es fs e g = record {
-    scope = again_is (record old { boxes = bs; arrays = old.arrays + 1 }) h;
+      IsBoxed x.now old (record old { boxes = bs; arrays = old.arrays + 1 }) es fs
+  box_added x bs old es fs e g = record {
+    scope = refl;
     boxes = ap (λ (us : List BoxedName). map seen_box us) e
         ∙ map_push seen_box old.boxes.items (next_box x old);
     arrays = refl;

@@ -133,11 +133,11 @@ unfolding front_by
 array_front old new x r =
     let ns : Names = (x, meaning.Array (record { 0 = old.arrays })) ∷ names_of old in
     let j : Bool = inside (context_of new 0 0) in
-    ap (λ (a : ℕ). front_by a (names_of new) (boxes_of new) new.next_scalar j) r.arrays
-    ∙ ap (λ (ms : Names). front_by (old.arrays + 1) ms (boxes_of new) new.next_scalar j) r.names
-    ∙ ap (λ (bs : List (List ℕ × ℕ)). front_by (old.arrays + 1) ns (as_boxes bs) new.next_scalar j) r.boxes
+    ap (λ (a : ℕ). front_by a (names_of new) (boxes_of new) new.scalars j) r.arrays
+    ∙ ap (λ (ms : Names). front_by (old.arrays + 1) ms (boxes_of new) new.scalars j) r.names
+    ∙ ap (λ (bs : List (List ℕ × ℕ)). front_by (old.arrays + 1) ns (as_boxes bs) new.scalars j) r.boxes
     ∙ ap (λ (n : ℕ). front_by (old.arrays + 1) ns (boxes_of old) n j) r.next
-    ∙ ap (λ (b : Bool). front_by (old.arrays + 1) ns (boxes_of old) old.next_scalar b) r.inside_is
+    ∙ ap (λ (b : Bool). front_by (old.arrays + 1) ns (boxes_of old) old.scalars b) r.inside_is
 
 -- no scalar is boxed yet
 no_box : (b : Bool) → cond {A = Option ArrayId} b None None ≡ None
@@ -154,19 +154,19 @@ scalar_front : (old new : Scope) (x : List ℕ) → box_numbers old ≡ [] → I
 unfolding front_by
 scalar_front old new x e r =
     let i : Bool = inside (context_of old 0 0) in
-    let ns : Names = (x, meaning.Scalar (record { 0 = old.next_scalar }) i) ∷ names_of old in
+    let ns : Names = (x, meaning.Scalar (record { 0 = old.scalars }) i) ∷ names_of old in
     let j : Bool = inside (context_of new 0 0) in
-    ap (λ (a : ℕ). front_by a (names_of new) (boxes_of new) new.next_scalar j) r.arrays
-    ∙ ap (λ (ms : Names). front_by old.arrays ms (boxes_of new) new.next_scalar j) r.names
-    ∙ ap (λ (bs : List (List ℕ × ℕ)). front_by old.arrays ns (as_boxes bs) new.next_scalar j) r.boxes
+    ap (λ (a : ℕ). front_by a (names_of new) (boxes_of new) new.scalars j) r.arrays
+    ∙ ap (λ (ms : Names). front_by old.arrays ms (boxes_of new) new.scalars j) r.names
+    ∙ ap (λ (bs : List (List ℕ × ℕ)). front_by old.arrays ns (as_boxes bs) new.scalars j) r.boxes
     ∙ ap (λ (n : ℕ). front_by old.arrays ns (boxes_of old) n j) r.next
-    ∙ ap (λ (b : Bool). front_by old.arrays ns (boxes_of old) (old.next_scalar + 1) b) r.inside_is
+    ∙ ap (λ (b : Bool). front_by old.arrays ns (boxes_of old) (old.scalars + 1) b) r.inside_is
     ∙ ap (λ (o : Option ArrayId). (let f : Front = record {
       arrays = old.arrays;
       env = record {
-        names = (x, scalar_or_box (record { 0 = old.next_scalar }) i o) ∷ names_of old;
+        names = (x, scalar_or_box (record { 0 = old.scalars }) i o) ∷ names_of old;
         boxes = boxes_of old;
-        scalars = old.next_scalar + 1;
+        scalars = old.scalars + 1;
         loops = loops_in (names_of old);
         inside = i;
       };
@@ -255,5 +255,5 @@ module _ {Z : Type 0} where
         entries = sym (append-nil (map entry_of es));
         known =
             subst (λ (ns : Names). AreKnown ns es) (sym s.names)
-            (known_more x (meaning.Scalar (record { 0 = old.next_scalar }) (inside (context_of old 0 0))) (names_of old) es h);
+            (known_more x (meaning.Scalar (record { 0 = old.scalars }) (inside (context_of old 0 0))) (names_of old) es h);
       }

@@ -1,4 +1,3 @@
-pub mod Counting
 pub mod Names
 pub mod Entries
 pub mod Declared

@@ -106,10 +106,10 @@ begun_array x k old new s t t' e b f h = go_array x old s t t' e b
     ∙ ap (λ (c : Context). run c (WantNum Length ∷ m sign.CloseBracket ∷ m sign.Semicolon ∷ s) (items t'))
     (sym (array_context x k old new f h))
 
-pub array_named : (x : List ℕ) (k : ℕ) (old new : Scope) (h : new.next_scalar ≤ new.scalars) → k ≡ old.arrays + 1 →
+pub array_named : (x : List ℕ) (k : ℕ) (old new : Scope) → k ≡ old.arrays + 1 →
     IsNamed x AnArray old new → names_of new ≡ (x, meaning.Array (record { 0 = old.arrays })) ∷ names_of old →
-    new.next_scalar ≡ old.next_scalar → IsArrayNamed x old (record new { arrays = k; counted = h })
-array_named x k old new h e g n i =
+    new.scalars ≡ old.scalars → IsArrayNamed x old (record new { arrays = k })
+array_named x k old new e g n i =
     let s = still x AnArray old new g in
     record {
       names = n;
@@ -147,8 +147,8 @@ begun_scalar x old new s t t' e b n h = go_scalar x old new s t t' e b n h
 
 pub scalar_named : (x : List ℕ) (id : ScalarId) (old new : Scope) →
     context_of new 0 0 ≡ one_scalar_more x (context_of old 0 0) →
-    names_of new ≡ (x, meaning.Scalar id (inside (context_of old 0 0))) ∷ names_of old → id.0 ≡ old.next_scalar →
-    new.next_scalar ≡ old.next_scalar + 1 → IsScalarNamed x old new
+    names_of new ≡ (x, meaning.Scalar id (inside (context_of old 0 0))) ∷ names_of old → id.0 ≡ old.scalars →
+    new.scalars ≡ old.scalars + 1 → IsScalarNamed x old new
 scalar_named x id old new h n i m =
     record {
       names = n ∙ ap (λ (k : ℕ). (x, meaning.Scalar (record { 0 = k }) (inside (context_of old 0 0))) ∷ names_of old) i;

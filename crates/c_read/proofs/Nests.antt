@@ -27,12 +27,12 @@ use Rattle.c_expressions.proofs.Expressions.{behind_less, first_then, kinds_appe
 use Rattle.c_expressions.proofs.Going.{put, put_is, put_same, stop_at}
 use Rattle.c_statements.specs.Blocks.{turned}
 use Rattle.c_statements.specs.Bodies.{IsBodyRead, IsLeft, IsSameBlock, inner_env}
-use Rattle.c_statements.specs.Loops.{IsGone, IsNamedMore, bounds_tokens, with_limit}
+use Rattle.c_statements.specs.Loops.{IsGone, bounds_tokens, with_limit}
 use Rattle.c_statements.specs.Simple.{counted, env_of, loops_in}
 use Rattle.c_statements.specs.Statements.{Env, in_loop}
 use Rattle.c_statements.proofs.Composes.{next_after}
 use Rattle.c_statements.proofs.Fronts.{scalars_behind}
-use Rattle.c_statements.proofs.Nesting.{back_now, env_inner, env_named}
+use Rattle.c_statements.proofs.Nesting.{back_now, env_inner}
 use Rattle.c_statements.proofs.Wholes.{told_body, told_loop}
 use Rattle.c_read.specs.Parts.{in_target}
 use Rattle.c_read.specs.Read.{AreNestRead, IsNestBodyRead, IsNestRead}
@@ -148,7 +148,7 @@ left_again s0 s2 s3 p e n = record {
   names = n ∙ p.names;
   target = λ h. ap (λ (c : Context). c.target) e ∙ p.target h;
   waiting = λ h. ap (λ (c : Context). c.choice) e ∙ p.waiting h;
-  scalars = omega (arith, p.scalars, ap (λ (c : Context). c.scalars) e);
+  statements = omega (arith, p.statements, ap (λ (c : Context). c.statements) e);
   boxes = ap (λ (c : Context). c.boxes) e ∙ p.boxes;
 }
 
@@ -163,12 +163,12 @@ flat_body depth env inner next before after xs z r = record {
 
 pub deep_body : (depth : ℕ) (s0 s1 s2 : Scope) (t : Turn) (u u' : Cursor) (after : Items) (xs : List Statement) →
     (depth ≡ 0 → ⊥) → context_of s1 0 0 ≡ opened (turned (turn_name (Some t)) s0) →
-    names_of s1 ≡ turn_names (Some t) ++ names_of s0 → s1.next_scalar ≡ s0.next_scalar → IsLeft s1 s2 →
+    names_of s1 ≡ turn_names (Some t) ++ names_of s0 → s1.scalars ≡ s0.scalars → IsLeft s1 s2 →
     (first_item u).terminal ≡ Mark sign.OpenBrace → behind u ≡ items u' →
-    AreNestRead (depth - 1) (env_of s1) s2.next_scalar (items u') after xs →
+    AreNestRead (depth - 1) (env_of s1) s2.scalars (items u') after xs →
     IsNestBodyRead depth (env_of s0) (inner_env (Some t) s0) (env_of s2) (items u) after xs
 deep_body depth s0 s1 s2 t u u' after xs z e h n p f b r =
-    let told = told_body (env_of s0) (inner_env (Some t) s0) (env_of s2) (env_of s1) s2.next_scalar u u' after xs f b
+    let told = told_body (env_of s0) (inner_env (Some t) s0) (env_of s2) (env_of s1) s2.scalars u u' after xs f b
     (env_inner s0 s1 (Some t) e h n) r.read (next_after s0 s1 s2 (back_now s0 s1 s2 (Some t) e h p) n) in
     record {
       read = told.0;
@@ -187,7 +187,7 @@ inside_turn s t e h =
       names = (t.name.now, meaning.Loop l) ∷ names_of s;
       boxes =
           boxes_of s;
-      scalars = s.next_scalar;
+      scalars = s.scalars;
       loops = n + 1;
       inside = true;
     } in v)) h
@@ -207,22 +207,22 @@ in_body env inner next before after xs r = (
   refl,
 )
 
-pub nest_tree : (depth : ℕ) (s0 s2 s3 s4 : Scope) (x : Bor (List ℕ)) (level : ℕ) (b : Bounds) (u u' : Cursor)
+pub nest_tree : (depth : ℕ) (s0 s1 s2 : Scope) (x : Bor (List ℕ)) (level : ℕ) (b : Bounds) (u u' : Cursor)
     (i2 i3 after : Items) (all : Vec Statement Global) →
-    (inside (context_of s0 0 0) || s0.target) ≡ true → IsNamedMore s0 s2 → s3 ≡ with_limit s2 b.end →
-    level ≡ loops_in (names_of s3) → (first_item u).terminal ≡ Fixed For → behind u ≡ items u' →
+    (inside (context_of s0 0 0) || s0.target) ≡ true → s1 ≡ with_limit s0 b.end →
+    level ≡ loops_in (names_of s1) → (first_item u).terminal ≡ Fixed For → behind u ≡ items u' →
     IsGone (Mark sign.OpenParen ∷ Fixed Uint64 ∷ Name x.now ∷ []) (items u') i2 → IsGone (bounds_tokens x.now b) i2 i3 →
-    IsNestBodyRead depth (env_of s3) (inner_env (Some (record { name = x; level = level })) s3) (env_of s4) i3 after all.items →
-    IsNestRead depth (in_target (env_of s0)) (in_target (env_of s4)) (items u) after (LoopOf b all)
-nest_tree depth s0 s2 s3 s4 x level b u u' i2 i3 after all g e2 e3 l f d g1 g2 r =
-    let same : env_of s3 ≡ env_of s0 = ap env_of e3 ∙ env_named s0 s2 e2 in
-    let on : (inside (context_of s3 0 0) || s3.target) ≡ true =
-    ap (λ (s : Scope). inside (context_of s 0 0) || s.target) e3 ∙ ap (λ (c : Context). inside c || c.target) e2.context ∙ g in
+    IsNestBodyRead depth (env_of s1) (inner_env (Some (record { name = x; level = level })) s1) (env_of s2) i3 after all.items →
+    IsNestRead depth (in_target (env_of s0)) (in_target (env_of s2)) (items u) after (LoopOf b all)
+nest_tree depth s0 s1 s2 x level b u u' i2 i3 after all g e l f d g1 g2 r =
+    let same : env_of s1 ≡ env_of s0 = ap env_of e in
+    let on : (inside (context_of s1 0 0) || s1.target) ≡ true =
+    ap (λ (s : Scope). inside (context_of s 0 0) || s.target) e ∙ g in
     let turn : Turn = record { name = x; level = level } in
-    let inner = in_body (env_of s3) (inner_env (Some turn) s3) (env_of s4) i3 after all.items r.read in
-    let told = told_loop (in_target (env_of s0)) (in_target (env_of s3)) (inner_env (Some turn) s3) (in_target (env_of s4))
+    let inner = in_body (env_of s1) (inner_env (Some turn) s1) (env_of s2) i3 after all.items r.read in
+    let told = told_loop (in_target (env_of s0)) (in_target (env_of s1)) (inner_env (Some turn) s1) (in_target (env_of s2))
     x.now b u u' i2 i3 after all f d g1 g2 (ap in_target same)
-    (inside_turn s3 turn on l ∙ ap (λ (v : Env). in_loop x.now (in_target v)) same) inner.0 in
+    (inside_turn s1 turn on l ∙ ap (λ (v : Env). in_loop x.now (in_target v)) same) inner.0 in
     record {
       read = told.0;
       nest = subst (λ (s : Stmt). IsLoopNest s depth) (sym told.1)

@@ -130,7 +130,7 @@ front_outside a b before after ps r p f =
     let same : loops_in (names_of b) ≡ loops_in (names_of a) =
     ap (λ (v : Env). v.loops) f.next_is ∙ loops_behind f.texts (env_of a) in
     record {
-      ready = record { target = p.target r.ready.target; loops = omega (arith, same, r.ready.loops, p.scalars) };
+      ready = record { target = p.target r.ready.target; loops = omega (arith, same, r.ready.loops, p.statements) };
       outside = p.inside ∙ r.outside;
       always = p.choice ∙ r.always;
       waiting = p.waiting r.waiting;

@@ -73,8 +73,8 @@ gone_six u0 u1 u2 u3 u4 u5 t0 t1 t2 t3 t4 t5 t6 e0 b0 e1 b1 e2 b2 e3 b3 e4 b4 e5
 
 -- ---- before the first token
 
-abbrev first_scope : (alloc : Heap) (frames : Vec Frame Heap) (boxes : Vec BoxedName Heap) → 0 ≤ 0 → Scope
-first_scope alloc frames boxes h = record {
+abbrev first_scope : (alloc : Heap) (frames : Vec Frame Heap) (boxes : Vec BoxedName Heap) → Scope
+first_scope alloc frames boxes = record {
   alloc = alloc;
   frames = frames;
   boxes = boxes;
@@ -85,9 +85,7 @@ first_scope alloc frames boxes h = record {
   cells = 0;
   arrays = 0;
   scalars = 0;
-  next_scalar = 0;
   statements = 0;
-  counted = h;
 }
 
 abbrev context_by : List Frame → List BoxedName → Context
@@ -105,10 +103,10 @@ front_by fs bs = record {
   };
 }
 
-pub start_is : (alloc : Heap) (frames : Vec Frame Heap) (boxes : Vec BoxedName Heap) (names : Vec GivenName Heap)
-    (h : 0 ≤ 0) → frames.items ≡ (let f : Frame = record { names = names; inside = false; choice = false } in f) ∷ [] →
-    names.items ≡ [] → boxes.items ≡ [] → IsStart (first_scope alloc frames boxes h)
-start_is alloc frames boxes names h e k b = record {
+pub start_is : (alloc : Heap) (frames : Vec Frame Heap) (boxes : Vec BoxedName Heap) (names : Vec GivenName Heap) →
+    frames.items ≡ (let f : Frame = record { names = names; inside = false; choice = false } in f) ∷ [] →
+    names.items ≡ [] → boxes.items ≡ [] → IsStart (first_scope alloc frames boxes)
+start_is alloc frames boxes names e k b = record {
   context = ap (λ (fs : List Frame). context_by fs boxes.items) e ∙ ap (context_by first) b
       ∙ ap (λ (ns : List GivenName). (let c : Context = record begin {
         frames = record {
@@ -197,7 +195,7 @@ module _ {Z : Type 0} where
   pub read_text : (s0 s1 s2 s3 : Scope) (es fs : List (String Z × ArrayInfo)) (i0 i1 i2 i3 i4 : Items) (n : ℕ)
       (p : Program) → IsStart s0 → AreGlobalsRead s0 s1 [] es i0 i1 → AreBoxesRead s1 s2 es fs i1 i2 →
       context_of s3 0 0 ≡ opened (turned None s2) → names_of s3 ≡ names_of s2 →
-      s3.next_scalar ≡ s2.next_scalar → IsGone main_tokens i2 i3 →
+      s3.scalars ≡ s2.scalars → IsGone main_tokens i2 i3 →
       AreInnerRead (env_of s3) n i3 i4 (pieces_of p.body.items) → terminals i4 ≡ End ∷ [] →
       map entry_of p.arrays.entries ≡ map entry_of fs → p.scalars ≡ n → AreLongest false p.body.items → IsTextRead i0 p
   read_text s0 s1 s2 s3 es fs i0 i1 i2 i3 i4 n p h r x e names next g b end entries count longest =

@@ -5,7 +5,7 @@ use Rattle.c_tokens.specs.declared.kind.Sign.TheVariants as sign
 use Rattle.base.specs.declared.tree.Bounds.{Bounds}
 use Rattle.c_grammar.specs.Lexeme.{For, Uint64}
 use Rattle.c_grammar.specs.Terminal.{Terminal, Fixed, Mark, Name}
-use Rattle.c_grammar.specs.Rules.{Context, opened}
+use Rattle.c_grammar.specs.Rules.{opened}
 use Rattle.c_grammar.specs.Grammar.{Slots, Head, Stmts, Repeat, Block, head_slots, body_opening, stmts, loop_slots}
 use Rattle.c_expressions.specs.declared.changes.Turn.{Turn}
 use Rattle.c_expressions.specs.declared.cursor.Cursor.{Cursor}
@@ -18,11 +18,11 @@ use Rattle.c_expressions.specs.Scopes.{context_of, names_of}
 use Rattle.c_expressions.proofs.Expressions.{first_then, kinds_append, behind_less, drops, drop_by, drop_one}
 use Rattle.c_statements.specs.Blocks.{turned}
 use Rattle.c_statements.specs.Bodies.{inner_env, IsLeft}
-use Rattle.c_statements.specs.Loops.{IsGone, IsNamedMore, bounds_tokens, with_limit}
+use Rattle.c_statements.specs.Loops.{IsGone, bounds_tokens, with_limit}
 use Rattle.c_statements.specs.Simple.{counted, env_of, loops_in}
 use Rattle.c_statements.specs.Statements.{Env, stmt_size, head_size, declared_in, more, in_loop, IsHead}
 use Rattle.c_statements.proofs.Composes.{next_after, block_back}
-use Rattle.c_statements.proofs.Nesting.{back_now, env_inner, env_named, inner_same, inner_turn}
+use Rattle.c_statements.proofs.Nesting.{back_now, env_inner, inner_same, inner_turn}
 use Rattle.c_statements.proofs.Wholes.{ended, kinds_ended, size_ended, gone_less}
 use Rattle.c_read.specs.declared.piece.Piece.{Piece}
 use Rattle.c_read.specs.Parts.{Placed, ArePieces, IsPiece}
@@ -66,24 +66,24 @@ block_piece env next before after ps p r m =
     }
 
 pub read_block : (s0 s1 s2 : Scope) (u u' : Cursor) (after : Items) (ps : List Placed) (p : Piece) → s0.target ≡ false →
-    context_of s1 0 0 ≡ opened (turned None (counted s0)) → names_of s1 ≡ names_of s0 → s1.next_scalar ≡ s0.next_scalar →
+    context_of s1 0 0 ≡ opened (turned None (counted s0)) → names_of s1 ≡ names_of s0 → s1.scalars ≡ s0.scalars →
     IsLeft s1 s2 → (first_item u).terminal ≡ Mark sign.OpenBrace → behind u ≡ items u' →
-    AreInnerRead (env_of s1) s2.next_scalar (items u') after ps → MakesBlock ps p →
+    AreInnerRead (env_of s1) s2.scalars (items u') after ps → MakesBlock ps p →
     IsPieceRead (env_of s0) (env_of s2) (items u) after p
 read_block s0 s1 s2 u u' after ps p g e h n l f b r m =
     block_piece (env_of s0) (env_of s2) (items u) after ps p
-    (read_braces (env_of s0) (env_of s0) (env_of s2) (env_of s1) s2.next_scalar u u' after ps f b
+    (read_braces (env_of s0) (env_of s0) (env_of s2) (env_of s1) s2.scalars u u' after ps f b
     (env_inner (counted s0) s1 None e h n ∙ inner_same (counted s0) g) r
     (next_after s0 s1 s2 (block_back s0 s1 s2 e h l) n)) m
 
 -- in a body that is opened, that of a loop with its name
 pub body_braces : (s0 s1 s2 : Scope) (t : Option Turn) (u u' : Cursor) (after : Items) (ps : List Placed) →
     context_of s1 0 0 ≡ opened (turned (turn_name t) s0) → names_of s1 ≡ turn_names t ++ names_of s0 →
-    s1.next_scalar ≡ s0.next_scalar → IsLeft s1 s2 → (first_item u).terminal ≡ Mark sign.OpenBrace → behind u ≡ items u' →
-    AreInnerRead (env_of s1) s2.next_scalar (items u') after ps →
+    s1.scalars ≡ s0.scalars → IsLeft s1 s2 → (first_item u).terminal ≡ Mark sign.OpenBrace → behind u ≡ items u' →
+    AreInnerRead (env_of s1) s2.scalars (items u') after ps →
     IsBlockRead (env_of s0) (inner_env t s0) (env_of s2) (items u) after ps
 body_braces s0 s1 s2 t u u' after ps e h n p f b r =
-    read_braces (env_of s0) (inner_env t s0) (env_of s2) (env_of s1) s2.next_scalar u u' after ps f b (env_inner s0 s1 t e h n) r
+    read_braces (env_of s0) (inner_env t s0) (env_of s2) (env_of s1) s2.scalars u u' after ps f b (env_inner s0 s1 t e h n) r
     (next_after s0 s1 s2 (back_now s0 s1 s2 t e h p) n)
 
 pub same_inner : (env inner inner' next : Env) (before after : Items) (ps : List Placed) → inner ≡ inner' →
@@ -127,20 +127,20 @@ read_turns env mid inner next x b i1 i2 i3 after ps p g h m f r makes =
     back : (is : Items) → drop 1 is ≡ i1 → i3 ≡ drop 14 i1 → drop 1 i3 ≡ drop 16 is
     back is e a = drops 15 1 is i3 (drop 1 i3) (drops 1 14 is i1 i3 (sym e) a) refl
 
-pub loop_turns : (s0 s2 s3 s4 s5 : Scope) (x : Bor (List ℕ)) (level : ℕ) (b : Bounds) (u u' : Cursor) (i1 i2 after : Items) (ps : List Placed) (p : Piece) →
-    s0.target ≡ false → IsNamedMore s0 s2 → s3 ≡ with_limit s2 b.end → level ≡ loops_in (names_of s3) →
+pub loop_turns : (s0 s1 s2 s3 : Scope) (x : Bor (List ℕ)) (level : ℕ) (b : Bounds) (u u' : Cursor) (i1 i2 after : Items) (ps : List Placed) (p : Piece) →
+    s0.target ≡ false → s1 ≡ with_limit s0 b.end → level ≡ loops_in (names_of s1) →
     IsGone (Mark sign.OpenParen ∷ Fixed Uint64 ∷ Name x.now ∷ []) i1 i2 → IsGone (bounds_tokens x.now b) i2 (items u) →
-    context_of s4 0 0 ≡ opened (turned (Some x.now) s3) → names_of s4 ≡ turn_names (Some (record { name = x; level = level })) ++ names_of s3 →
-    s4.next_scalar ≡ s3.next_scalar → IsLeft s4 s5 → (first_item u).terminal ≡ Mark sign.OpenBrace → behind u ≡ items u' →
-    AreInnerRead (env_of s4) s5.next_scalar (items u') after ps → MakesLoop b ps p →
-    IsLoopRead (env_of s0) (env_of s5) i1 after p
-loop_turns s0 s2 s3 s4 s5 x level b u u' i1 i2 after ps p g e2 e3 l g1 g2 o names n left f d r makes =
-    let same : env_of s3 ≡ env_of s0 = ap env_of e3 ∙ env_named s0 s2 e2 in
-    let quiet : s3.target ≡ false = ap (λ (s : Scope). s.target) e3 ∙ ap (λ (c : Context). c.target) e2.context ∙ g in
+    context_of s2 0 0 ≡ opened (turned (Some x.now) s1) → names_of s2 ≡ turn_names (Some (record { name = x; level = level })) ++ names_of s1 →
+    s2.scalars ≡ s1.scalars → IsLeft s2 s3 → (first_item u).terminal ≡ Mark sign.OpenBrace → behind u ≡ items u' →
+    AreInnerRead (env_of s2) s3.scalars (items u') after ps → MakesLoop b ps p →
+    IsLoopRead (env_of s0) (env_of s3) i1 after p
+loop_turns s0 s1 s2 s3 x level b u u' i1 i2 after ps p g e l g1 g2 o names n left f d r makes =
+    let same : env_of s1 ≡ env_of s0 = ap env_of e in
+    let quiet : s1.target ≡ false = ap (λ (s : Scope). s.target) e ∙ g in
     let turn : Turn = record { name = x; level = level } in
-    read_turns (env_of s0) (env_of s3) (inner_env (Some turn) s3) (env_of s5) x.now b i1 i2 (items u) after ps p g1 g2 same
-    (inner_turn s3 turn quiet l ∙ ap (in_loop x.now) same)
-    (body_braces s3 s4 s5 (Some turn) u u' after ps o names n left f d r) makes
+    read_turns (env_of s0) (env_of s1) (inner_env (Some turn) s1) (env_of s3) x.now b i1 i2 (items u) after ps p g1 g2 same
+    (inner_turn s1 turn quiet l ∙ ap (in_loop x.now) same)
+    (body_braces s1 s2 s3 (Some turn) u u' after ps o names n left f d r) makes
 
 -- the word of a loop, and the loop
 pub read_loop : (env mid next : Env) (t t' : Cursor) (after : Items) (p : Piece) → (first_item t).terminal ≡ Fixed For →

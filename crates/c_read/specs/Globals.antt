@@ -50,7 +50,7 @@ pub record IsStill (old new : Scope) : Type 0 where
 pub record IsArrayNamed (x : List ℕ) (old new : Scope) : Type 0 where
   pub names : names_of new ≡ (x, meaning.Array (record { 0 = old.arrays })) ∷ names_of old
   pub arrays : new.arrays ≡ old.arrays + 1
-  pub next : new.next_scalar ≡ old.next_scalar
+  pub next : new.scalars ≡ old.scalars
   pub boxes : (context_of new 0 0).boxes ≡ (context_of old 0 0).boxes
   pub inside_is : inside (context_of new 0 0) ≡ inside (context_of old 0 0)
   pub still : IsStill old new
@@ -58,9 +58,9 @@ pub record IsArrayNamed (x : List ℕ) (old new : Scope) : Type 0 where
 -- one scalar more is declared
 pub record IsScalarNamed (x : List ℕ) (old new : Scope) : Type 0 where
   pub names :
-      names_of new ≡ (x, meaning.Scalar (record { 0 = old.next_scalar }) (inside (context_of old 0 0))) ∷ names_of old
+      names_of new ≡ (x, meaning.Scalar (record { 0 = old.scalars }) (inside (context_of old 0 0))) ∷ names_of old
   pub arrays : new.arrays ≡ old.arrays
-  pub next : new.next_scalar ≡ old.next_scalar + 1
+  pub next : new.scalars ≡ old.scalars + 1
   pub boxes : (context_of new 0 0).boxes ≡ (context_of old 0 0).boxes
   pub inside_is : inside (context_of new 0 0) ≡ inside (context_of old 0 0)
   pub still : IsStill old new

@@ -2,6 +2,7 @@
 use Rattle.std.specs.Prelude.{◌≡◌, ℕ, suc, ◌+◌, ◌<◌, ◌≤◌, true, false, List, [], ◌∷◌, ◌++◌, length, drop, ◌⊎◌, Vec}
 use Rattle.std.specs.declared.alloc.Global.{Global}
 use Rattle.c_tokens.specs.declared.kind.Sign.TheVariants as sign
+use Rattle.c_tokens.specs.declared.limits.TheConstants.{MAX_STATEMENTS}
 use Rattle.base.specs.declared.tree.Place.{Place}
 use Rattle.base.specs.declared.tree.Region.{Region}
 use Rattle.base.specs.declared.tree.Part.{Part, Data as DataOf}
@@ -23,6 +24,11 @@ use Rattle.c_constructs.specs.declared.resolved.Construct.TheVariants as constru
 use Rattle.c_read.specs.declared.piece.Piece.{Piece}
 use Rattle.c_read.specs.declared.piece.Piece.TheVariants as piece
 use Rattle.c_read.specs.Parts.{Placed, in_target, pieces_of, AreLongest, ArePieces, IsPiece}
+
+-- one more statement has begun than loops stand around
+pub record HasBegun (s : Scope) : Type 0 where
+  pub loops : loops_in (names_of s) + 1 ≤ s.statements
+  pub few : s.statements ≤ MAX_STATEMENTS
 
 -- outside targets and ifs, where a directive may stand
 pub record IsOutside (s : Scope) : Type 0 where
@@ -106,15 +112,15 @@ AreDataRead env next before after ps =
     IsBlockRead env env next before after (pieces_of ps) ⊎ ((p : Piece) × AreAlone (place_of before) p ps ×
     (terminals before ≡ Fixed For ∷ terminals (drop 1 before)) × IsLoopRead env next (drop 1 before) after p)
 
--- the next block is that of a target, and none around is; each loop's name is counted
+-- the next block is that of a target, and none around is; its directive has begun as a statement
 pub record IsTargetNext (s : Scope) : Type 0 where
   pub target : s.target ≡ true
-  pub loops : loops_in (names_of s) ≤ s.scalars
+  pub begun : HasBegun s
 
 -- behind the line of a directive that a block or loop must follow
 abbrev pub IsOverNext : Construct → Scope → Type 0
 IsOverNext (construct.Target g depth) s = IsTargetNext s
-IsOverNext (construct.Data d) s = IsOutside s
+IsOverNext (construct.Data d) s = IsOutside s × HasBegun s
 
 -- the part of such a directive, from behind its line on
 abbrev pub IsOverRead : Env → Env → Construct → Items → Items → Part → Type 0

@@ -163,7 +163,7 @@ pub fn boxes<'a>(
     ensures tree { OnOk result (AreBoxesRead scope.old scope.new arrays.old.entries arrays.new.entries
         (items tokens.old) (items tokens.new)) }
     ensures names { OnOk result (names_of scope.new ≡ names_of scope.old) }
-    ensures next { OnOk result (scope.new.next_scalar ≡ scope.old.next_scalar) }
+    ensures next { OnOk result (scope.new.scalars ≡ scope.old.scalars) }
 {
     if !at_boxes(tokens) {
         return Ok(());

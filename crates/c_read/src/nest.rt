@@ -15,7 +15,7 @@ ghost use Rattle.c_statements.specs.Blocks.{turned};
 ghost use Rattle.c_statements.specs.Bodies.{inner_env, IsLeft, IsReady, IsSameBlock};
 ghost use Rattle.c_statements.specs.Simple.{env_of, loops_in};
 ghost use Rattle.c_read.specs.Parts.{in_target};
-ghost use Rattle.c_read.specs.Read.{AreNestRead, IsNestBodyRead, IsNestRead};
+ghost use Rattle.c_read.specs.Read.{AreNestRead, HasBegun, IsNestBodyRead, IsNestRead};
 
 use base::fault::ReadCode;
 use base::tree::Stmt;
@@ -32,7 +32,7 @@ pub fn nest<'a>(
     tokens: &mut Cursor<'a, '_>,
     depth: u8,
 ) -> Result<Stmt, ReadError>
-    requires loops { loops_in (names_of scope.old) ≤ scope.old.scalars }
+    requires begun { HasBegun scope.old }
     requires within { (inside (context_of scope.old 0 0) || scope.old.target) ≡ true }
     ensures read { (s : Stack) → Outcome result (run (context_of scope.old 0 0) (loop depth s) (items tokens.old))
         (run (context_of scope.new 0 0) s (items tokens.new)) }
@@ -58,7 +58,7 @@ fn nest_body<'a>(
     turn: Turn<'a>,
     depth: u8,
 ) -> Result<Vec<Stmt>, ReadError>
-    requires loops { loops_in (names_of scope.old) + 1 ≤ scope.old.scalars }
+    requires loops { loops_in (names_of scope.old) + 1 ≤ scope.old.statements }
     requires within { (inside (context_of scope.old 0 0) || scope.old.target) ≡ true }
     ensures read { (s : Stack) → Outcome result (run (turned (Some turn.entry.name.now) scope.old) (loop_body depth s)
         (items tokens.old)) (run (context_of scope.new 0 0) s (items tokens.new)) }
@@ -89,7 +89,7 @@ fn nested<'a>(
         (Nested depth ∷ Want (Mark sign.CloseBrace) (for Closes) ∷ s) (items tokens.old))
         (run (context_of scope.new 0 0) s (items tokens.new)) }
     ensures scope { OnOk result (IsLeft scope.old scope.new) }
-    ensures tree { IfOk result (λ v. AreNestRead depth (env_of scope.old) scope.new.next_scalar (items tokens.old)
+    ensures tree { IfOk result (λ v. AreNestRead depth (env_of scope.old) scope.new.scalars (items tokens.old)
         (items tokens.new) v.items) }
 {
     let mut body = Vec::new(scope.alloc);

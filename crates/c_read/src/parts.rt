@@ -15,7 +15,7 @@ ghost use Rattle.c_statements.specs.Simple.{env_of, is_atomic_line};
 ghost use Rattle.c_read.specs.Gathering.{so_far, IsGathered, IsNoHost};
 ghost use Rattle.c_read.specs.Parts.{AreLongest};
 ghost use Rattle.c_read.specs.declared.piece.Piece.TheVariants as piece;
-ghost use Rattle.c_read.specs.Read.{AreDataRead, AreInnerRead, IsLoopRead, IsOutside, IsOverNext, IsOverRead, IsPieceRead};
+ghost use Rattle.c_read.specs.Read.{AreDataRead, AreInnerRead, HasBegun, IsLoopRead, IsOutside, IsOverNext, IsOverRead, IsPieceRead};
 
 use crate::gathered::Gathered;
 use crate::piece::Piece;
@@ -83,7 +83,8 @@ fn looped<'a>(scope: &mut Scope<'a>, tokens: &mut Cursor<'a, '_>) -> Result<Piec
 #[cycle(piece)]
 #[tactic(auto, using(c_expressions::proofs::Outcomes::on_from))]
 fn turns<'a>(scope: &mut Scope<'a>, tokens: &mut Cursor<'a, '_>) -> Result<Piece, ReadError>
-    requires { IsOutside scope.old }
+    requires outside { IsOutside scope.old }
+    requires begun { HasBegun scope.old }
     ensures read { (s : Stack) → Outcome result (run (context_of scope.old 0 0) (loop 0 s) (items tokens.old))
         (run (context_of scope.new 0 0) s (items tokens.new)) }
     ensures scope { OnOk result (IsSameBlock scope.old scope.new) }
@@ -179,7 +180,8 @@ fn data_parts<'a>(
     scope: &mut Scope<'a>,
     tokens: &mut Cursor<'a, '_>,
 ) -> Result<Vec<Part>, ReadError>
-    requires { IsOutside scope.old }
+    requires outside { IsOutside scope.old }
+    requires begun { HasBegun scope.old }
     ensures read { (s : Stack) → Outcome result (run (context_of scope.old 0 0) (Under 0 ∷ s) (items tokens.old))
         (run (context_of scope.new 0 0) s (items tokens.new)) }
     ensures scope { OnOk result (IsSameBlock scope.old scope.new) }
@@ -212,7 +214,7 @@ pub fn gather<'a>(scope: &mut Scope<'a>, tokens: &mut Cursor<'a, '_>) -> Result<
     ensures read { (s : Stack) → Outcome result (run (context_of scope.old 0 0) (Body ∷ s) (items tokens.old))
         (run (context_of scope.new 0 0) s (items tokens.new)) }
     ensures scope { OnOk result (IsLeft scope.old scope.new) }
-    ensures tree { IfOk result (λ g. AreInnerRead (env_of scope.old) scope.new.next_scalar (items tokens.old)
+    ensures tree { IfOk result (λ g. AreInnerRead (env_of scope.old) scope.new.scalars (items tokens.old)
         (items tokens.new) (so_far g)) }
     ensures sound { IfOk result IsGathered }
 {

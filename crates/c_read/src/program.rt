@@ -45,7 +45,7 @@ fn main_head<'a>(scope: &mut Scope<'a>, tokens: &mut Cursor<'a, '_>) -> Result<(
         (run (context_of scope.new 0 0) (Body ∷ Want End (for Plain) ∷ s) (items tokens.new)) }
     ensures opened { OnOk result (context_of scope.new 0 0 ≡ opened (turned None scope.old)) }
     ensures names { OnOk result (names_of scope.new ≡ names_of scope.old) }
-    ensures next { OnOk result (scope.new.next_scalar ≡ scope.old.next_scalar) }
+    ensures next { OnOk result (scope.new.scalars ≡ scope.old.scalars) }
     ensures gone { OnOk result (IsGone main_tokens (items tokens.old) (items tokens.new)) }
 {
     tokens.expect_word(Word::Int)?;
@@ -66,7 +66,7 @@ fn main_parts<'a>(
     requires { IsOutside scope.old }
     ensures read { Outcome result (run (context_of scope.old 0 0) (Body ∷ Want End (for Plain) ∷ [])
         (items tokens.old)) None }
-    ensures tree { IfOk result (λ v. AreInnerRead (env_of scope.old) scope.new.next_scalar (items tokens.old)
+    ensures tree { IfOk result (λ v. AreInnerRead (env_of scope.old) scope.new.scalars (items tokens.old)
         (items tokens.new) (pieces_of v.items)) }
     ensures longest { IfOk result (λ v. AreLongest false v.items) }
     ensures over { OnOk result (terminals (items tokens.new) ≡ End ∷ []) }
@@ -91,7 +91,7 @@ fn program<'a>(scope: &mut Scope<'a>, tokens: &mut Cursor<'a, '_>) -> Result<Pro
     let body = main_parts(scope, tokens)?;
     Ok(Program {
         arrays,
-        scalars: scope.next_scalar,
+        scalars: scope.scalars,
         body,
     })
 }
@@ -118,7 +118,6 @@ fn new_scope<'a>(alloc: Global) -> Result<Scope<'a>, AllocError>
         cells: 0,
         arrays: 0,
         scalars: 0,
-        next_scalar: 0,
         statements: 0,
     })
 }

@@ -6,7 +6,7 @@ use Rattle.c_read.proofs.boxes.add_box.Goals as goal
 
 pub returns-clause-boxed : goal.returns-clause-boxed
 returns-clause-boxed c =
-    box_added c.args.name c.push.new.self c.args.scope.now _ c.args.arrays.now.entries c.insert.new.self.entries
+    box_added c.args.name c.push.new.self c.args.scope.now c.args.arrays.now.entries c.insert.new.self.entries
     c.in_ok-push.ensures.items
     (entry_more c.in_ok-text.text _ c.args.name.now c.args.arrays.now.entries c.insert.new.self.entries
     c.in_ok-insert.ensures.entries (c.in_ok-text.ensures.ok (IsUtf8-from_ascii c.args.name.now c.requires.ascii)) refl

@@ -15,10 +15,10 @@ use Rattle.c_read.proofs.nest.+nest.Goals as goal
 
 pub nest-returns-clause-tree : goal.nest-returns-clause-tree
 nest-returns-clause-tree t c = λ u e b.
-    nest_tree c.args.depth c.args.scope.now c.head_name.new.scope c.bounds.new.scope c.nest_body.new.scope
+    nest_tree c.args.depth c.args.scope.now c.bounds.new.scope c.nest_body.new.scope
     c.in_ok-name.name c.loops_around-level.result c.in_ok-bounds.bounds u c.args.tokens.now
     (items c.head_name.new.tokens) (items c.bounds.new.tokens) (items c.nest_body.new.tokens) c.in_ok-body.body
-    c.requires.within c.in_ok-name.ensures.scope c.in_ok-bounds.ensures.scope c.loops_around-level.ensures e b
+    c.requires.within c.in_ok-bounds.ensures.scope c.loops_around-level.ensures e b
     c.in_ok-name.ensures.gone c.in_ok-bounds.ensures.gone c.in_ok-body.ensures.tree
 
 pub nest_body-returns-clause-scope : goal.nest_body-returns-clause-scope
@@ -47,7 +47,7 @@ nested-returns-clause-read t c = λ s.
 
 pub nested-returns-clause-tree : goal.nested-returns-clause-tree
 nested-returns-clause-tree t c =
-    nested_tree c.args.depth c.close_body.new.scope.next_scalar (env_of c.args.scope.now) (env_of c.next_loop.new.scope)
+    nested_tree c.args.depth c.close_body.new.scope.scalars (env_of c.args.scope.now) (env_of c.next_loop.new.scope)
     (items c.args.tokens.now) c.next_loop.new.tokens c.close_body.new.tokens c.in_ok-turns.turns c.push.new.self.items
     (c.in_ok-push.ensures.items ∙ ap (λ (xs : List Statement). xs ++ c.in_ok-turns.turns ∷ []) c.new-body.ensures.items)
     (was_mark sign.CloseBrace c.next_loop.new.tokens (sym c.at.ensures ∙ c.if-not-at.false)) c.close_body.ensures.taken

@@ -13,7 +13,7 @@ use Rattle.c_expressions.proofs.Going.{was_mark, went}
 use Rattle.c_expressions.proofs.Outcomes.{failed_from}
 use Rattle.c_statements.specs.Simple.{env_of}
 use Rattle.c_statements.proofs.Composes.{block_scope, body_scope}
-use Rattle.c_statements.proofs.Levels.{same_again, same_limit, same_named, same_none}
+use Rattle.c_statements.proofs.Levels.{same_again, same_limit, same_none}
 use Rattle.c_statements.proofs.Nesting.{inner_same}
 use Rattle.c_statements.specs.Bodies.{inner_env}
 use Rattle.c_constructs.specs.declared.resolved.Construct.{Construct}
@@ -102,7 +102,7 @@ gather-pieces-preserved t c = record {
 
 pub gather-returns-clause-tree : goal.gather-returns-clause-tree
 gather-returns-clause-tree t c = front_ends (env_of c.args.scope.now) (env_of c.pieces.scope) (items c.args.tokens.now)
-    c.pieces.tokens c.close_body.new.tokens c.close_body.new.scope.next_scalar (so_far c.pieces.gathered)
+    c.pieces.tokens c.close_body.new.tokens c.close_body.new.scope.scalars (so_far c.pieces.gathered)
     c.pieces.invariant.tree (was_mark sign.CloseBrace c.pieces.tokens (sym c.at.ensures ∙ c.pieces-test.false))
     c.close_body.ensures.taken c.close_body.ensures.next
 
@@ -126,7 +126,7 @@ data_parts-returns-then-at-clause-tree t c =
     (items c.args.tokens.now) (items c.gather.new.tokens) ps) (sym c.in_ok-parts.ensures.pieces)
     (same_inner (env_of c.args.scope.now) (inner_env None c.args.scope.now) (env_of c.args.scope.now) (env_of c.gather.new.scope)
     (items c.args.tokens.now) (items c.gather.new.tokens) (so_far c.in_ok-gathered.gathered)
-    (inner_same c.args.scope.now c.requires.ready.target)
+    (inner_same c.args.scope.now c.requires.outside.ready.target)
     (body_braces c.args.scope.now c.open_body.new.scope c.gather.new.scope None c.args.tokens.now c.open_body.new.tokens
     (items c.gather.new.tokens) (so_far c.in_ok-gathered.gathered) c.in_ok-open_body.ensures.opened
     c.in_ok-open_body.ensures.names c.in_ok-open_body.ensures.next c.in_ok-gathered.ensures.scope
@@ -168,20 +168,18 @@ turns-returns-clause-read t c = λ s.
 
 pub turns-returns-clause-scope : goal.turns-returns-clause-scope
 turns-returns-clause-scope t c =
-    same_again c.args.scope.now c.head_name.new.scope c.gather.new.scope
-    (same_named c.args.scope.now c.head_name.new.scope c.in_ok-name.ensures.scope)
-    (same_again c.head_name.new.scope c.bounds.new.scope c.gather.new.scope
-    (same_limit c.head_name.new.scope c.bounds.new.scope c.in_ok-bounds.bounds.end c.in_ok-bounds.ensures.scope)
+    same_again c.args.scope.now c.bounds.new.scope c.gather.new.scope
+    (same_limit c.args.scope.now c.bounds.new.scope c.in_ok-bounds.bounds.end c.in_ok-bounds.ensures.scope)
     (body_scope c.bounds.new.scope c.open_body.new.scope c.gather.new.scope
     (Some (record { name = c.in_ok-name.name; level = c.loops_around-level.result }))
-    c.in_ok-open_body.ensures.opened c.in_ok-open_body.ensures.names c.in_ok-gathered.ensures.scope))
+    c.in_ok-open_body.ensures.opened c.in_ok-open_body.ensures.names c.in_ok-gathered.ensures.scope)
 
 pub turns-returns-clause-tree : goal.turns-returns-clause-tree
 turns-returns-clause-tree t c =
-    loop_turns c.args.scope.now c.head_name.new.scope c.bounds.new.scope c.open_body.new.scope c.gather.new.scope
+    loop_turns c.args.scope.now c.bounds.new.scope c.open_body.new.scope c.gather.new.scope
     c.in_ok-name.name c.loops_around-level.result c.in_ok-bounds.bounds c.bounds.new.tokens c.open_body.new.tokens
     (items c.args.tokens.now) (items c.head_name.new.tokens) (items c.gather.new.tokens)
-    (so_far c.in_ok-gathered.gathered) c.in_ok-turns.turns c.requires.ready.target c.in_ok-name.ensures.scope
+    (so_far c.in_ok-gathered.gathered) c.in_ok-turns.turns c.requires.outside.ready.target
     c.in_ok-bounds.ensures.scope c.loops_around-level.ensures c.in_ok-name.ensures.gone c.in_ok-bounds.ensures.gone
     c.in_ok-open_body.ensures.opened c.in_ok-open_body.ensures.names c.in_ok-open_body.ensures.next
     c.in_ok-gathered.ensures.scope c.in_ok-open_body.ensures.first c.in_ok-open_body.ensures.taken

@@ -7,5 +7,5 @@ use Rattle.c_read.proofs.program.main_parts.Goals as goal
 
 pub returns-clause-tree : goal.returns-clause-tree
 returns-clause-tree c =
-    subst (λ (ps : List Placed). AreInnerRead (env_of c.args.scope.now) c.gather.new.scope.next_scalar
+    subst (λ (ps : List Placed). AreInnerRead (env_of c.args.scope.now) c.gather.new.scope.scalars
     (items c.args.tokens.now) (items c.gather.new.tokens) ps) (sym c.in_ok-parts.ensures.pieces) c.in_ok-gathered.ensures.tree
