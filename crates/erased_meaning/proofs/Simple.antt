@@ -189,7 +189,7 @@ unfolding enter
 atomic_if_known l t known depth c env n s k =
     let one = known 0 (enter c (Line l, for Marks)) env n
     (record { names = s.names; boxes = s.boxes; inside_is = s.inside_is; target = s.target; turn = s.turn }) k.1 in
-    ((λ e. tt {0}, one.0.1), one.1)
+    ((λ e. tt {0}, one.0.1), one.1, one.2)
 
 pub show_known : (e : Term) → StmtKnown (Show e)
 unfolding breaks
