@@ -105,10 +105,10 @@ pub fn names(name: &[u8], middle: &[Token<'_, '_>]) -> bool
     }
 }
 
-fn begins_block(close: Token<'_, '_>, open: Token<'_, '_>) -> bool
-    ensures { result ≡ begins_block (seen close.entry) (seen open.entry) }
+fn begins_block(bracket: Token<'_, '_>, brace: Token<'_, '_>) -> bool
+    ensures { result ≡ begins_block (seen bracket.entry) (seen brace.entry) }
 {
-    close.terminal.is_sign(Sign::CloseParen) && open.terminal.is_sign(Sign::OpenBrace)
+    bracket.terminal.is_sign(Sign::CloseParen) && brace.terminal.is_sign(Sign::OpenBrace)
 }
 
 // `; NAME++) {` or `; ++NAME) {`

@@ -6,7 +6,7 @@ use Rattle.c_grammar.specs.Updates.{atomic_tokens, is_atomic, is_compare}
 use Rattle.directives.specs.declared.lexeme.PlacedLexeme.{PlacedLexeme}
 use Rattle.directives.specs.Seen.{ends_well, is_whole}
 use Rattle.directives.specs.Spells.{kinds_of}
-use Rattle.c_written.specs.Atomics.{ends_atomic}
+use Rattle.c_written.specs.Atomics.{ends_atomic, ends_compare}
 use Rattle.c_written.specs.Spots.{all_kinds}
 
 pub no_end : (ts : List PlacedLexeme) → length ts < 1 → false ≡ ends_atomic (all_kinds ts)
@@ -24,6 +24,23 @@ no_words [] h = refl
 no_words (a ∷ []) h = refl
 no_words (a ∷ b ∷ []) h = refl
 no_words (a ∷ b ∷ c ∷ ts) h = absurd (omega (arith, h))
+
+pub no_compare_end : (ts : List PlacedLexeme) → length ts < 2 → false ≡ ends_compare (all_kinds ts)
+no_compare_end [] h = refl
+no_compare_end (a ∷ []) h = refl
+no_compare_end (a ∷ b ∷ ts) h = absurd (omega (arith, h))
+
+pub late_compare_end : (ts : List PlacedLexeme) → 3 ≤ length ts → false ≡ ends_compare (all_kinds ts)
+late_compare_end [] h = absurd (omega (arith, h))
+late_compare_end (a ∷ []) h = absurd (omega (arith, h))
+late_compare_end (a ∷ b ∷ []) h = absurd (omega (arith, h))
+late_compare_end (a ∷ b ∷ c ∷ ts) h = refl
+
+pub no_compare : (ts : List PlacedLexeme) → length ts < 3 → false ≡ is_compare (all_kinds ts)
+no_compare [] h = refl
+no_compare (a ∷ []) h = refl
+no_compare (a ∷ b ∷ []) h = refl
+no_compare (a ∷ b ∷ c ∷ ts) h = absurd (omega (arith, h))
 
 -- without the word before the end
 without : (a b c d e : Bool) → (a && (b && (c && (d && e)))) ≡ true → (a && (b && (c && e))) ≡ true

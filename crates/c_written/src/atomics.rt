@@ -4,7 +4,7 @@ ghost use Rattle.std.specs.Prelude.{◌≡◌, IfOk, true};
 ghost use Rattle.c_grammar.specs.Updates.{atomic_tokens, behind_word, is_atomic, is_compare, mark_at};
 ghost use Rattle.directives.specs.Ahead.{seen_line};
 ghost use Rattle.directives.specs.Spells.{kinds_of};
-ghost use Rattle.c_written.specs.Atomics.{ends_atomic};
+ghost use Rattle.c_written.specs.Atomics.{ends_atomic, ends_compare};
 ghost use Rattle.c_written.specs.Forms.{all_placed};
 ghost use Rattle.c_terminals.specs.Held.{seen_written};
 ghost use Rattle.c_terminals.specs.Seen.{seen};
@@ -38,16 +38,24 @@ pub fn is_atomic(tokens: &[PlacedLexeme<'_>]) -> bool
     }
 }
 
+// Whether the line ends behind the word `compare`.
+fn ends_compare(tokens: &[PlacedLexeme<'_>]) -> bool
+    ensures { result ≡ ends_compare (all_kinds tokens.now) }
+{
+    match tokens {
+        [compare, end] => {
+            is_name(compare.lexeme, b"compare") && same_lexeme(Lexeme::Ended, end.lexeme)
+        }
+        _ => false,
+    }
+}
+
 /// Whether the words of a line are `atomic compare`, and nothing else.
 pub fn is_compare(tokens: &[PlacedLexeme<'_>]) -> bool
     ensures { result ≡ is_compare (all_kinds tokens.now) }
 {
     match tokens {
-        [_, _, word, compare, end] => {
-            is_name(word.lexeme, b"atomic")
-                && is_name(compare.lexeme, b"compare")
-                && same_lexeme(Lexeme::Ended, end.lexeme)
-        }
+        [_, _, word, behind @ ..] => is_name(word.lexeme, b"atomic") && ends_compare(behind),
         _ => false,
     }
 }
