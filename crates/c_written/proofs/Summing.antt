@@ -139,10 +139,10 @@ gathered_other : (x : List ℕ) (g : Bool) (d : ℕ) (s : Bool) (n m : ℕ) (ts 
 gathered_other x g d s n m ts t o h e f k l p =
     ap (is_gathered x g d s n) (begins_with ts t h e)
     ∙ rw (f, k) (other_is d 0 (seen t) (seen_all (behind ts))
-    (λ d s j. is_gathered x g d s (allowed_at x g s n (seen t) (seen_all (behind ts))) (seen_all (behind ts))))
-    ∙ ap (λ (q : Option (ℕ × Bool)). places q (λ d s. is_gathered x g d s (allowed_at x g s n (seen t) (seen_all (behind ts)))
+    (λ c u j. is_gathered x g c u (allowed_at x g s n (seen t) (seen_all (behind ts))) (seen_all (behind ts))))
+    ∙ ap (λ (q : Option (ℕ × Bool)). places q (λ c u. is_gathered x g c u (allowed_at x g s n (seen t) (seen_all (behind ts)))
     (seen_all (behind ts)))) (sym p)
-    ∙ ap (λ (j : ℕ). places o (λ d s. is_gathered x g d s j (seen_all (behind ts)))) (sym l)
+    ∙ ap (λ (j : ℕ). places o (λ c u. is_gathered x g c u j (seen_all (behind ts)))) (sym l)
 
 pub gathered_token : (x : List ℕ) (g : Bool) (d : ℕ) (s : Bool) (n m d' : ℕ) (s' : Bool) (ts : List Token) (t : Token) →
     1 ≤ length ts → t ≡ get_or ts 0 t → is_directive (seen t).terminal ≡ false → same (Name x) (seen t).terminal ≡ false →

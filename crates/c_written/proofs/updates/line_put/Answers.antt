@@ -30,8 +30,8 @@ returns-then-is_atomic c =
     ∙ c.if-is_atomic.true)
     c.new.ensures c.has_update-updates.ensures c.in_ok-atomic_line.ensures
 
-pub returns-then-has_extreme : goal.returns-then-has_extreme
-returns-then-has_extreme c =
+pub returns-then-branch : goal.returns-then-branch
+returns-then-branch c =
     compare_put c.args.token c.in-Line.line (seen_all c.args.behind.now) c.in_ok-has_extreme.field-0 _ c.in-Line.is
     (sym (c.is_combined.ensures ∙ ap (λ (ps : List Placed). is_combined (kinds_of ps)) c.tokens.ensures.tokens)
     ∙ c.if-is_combined.false)
@@ -39,4 +39,4 @@ returns-then-has_extreme c =
     ∙ c.if-is_atomic.false)
     (sym (c.is_compare.ensures ∙ ap (λ (ps : List Placed). is_compare (kinds_of ps)) c.tokens-3.ensures.tokens)
     ∙ c.if-is_compare.true)
-    c.in_ok-has_extreme.ensures c.if-has_extreme.true c.in_ok-compare_line.ensures
+    c.in_ok-has_extreme.ensures c.if-branch.true c.in_ok-compare_line.ensures

@@ -8,7 +8,7 @@ use Rattle.c_written.proofs.line_forms.Forms.bound.Goals as goal
 pub returns-then-begins_bound : goal.returns-then-begins_bound
 returns-then-begins_bound c =
     c.in_ok-or_product.ensures
-    ∙ ap (or_product (seen_values c.args.self.now.values.now) (all_placed c.args.rest.now)) c.worth.ensures
+    ∙ ap (or_product (seen_values c.args.self.now.values.now) (all_placed c.args.rest.now)) c.worth-bound.ensures
     ∙ bound_begins (seen_values c.args.self.now.values.now) (line_past c.args.self.now.past)
     (all_placed c.args.rest.now) c.args.tokens.now _ (sym c.if-begins_bound.ensures) c.requires c.in_ok-expression.ensures
 
