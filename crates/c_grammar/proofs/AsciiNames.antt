@@ -46,6 +46,7 @@ use Rattle.c_grammar.specs.Choices.{chosen}
 use Rattle.c_grammar.specs.Conditions.{decided}
 use Rattle.c_grammar.specs.Grids.{flat}
 use Rattle.c_grammar.specs.Counters.{counted}
+use Rattle.c_grammar.specs.Descents.{upward}
 use Rattle.c_grammar.specs.Privates.{owned}
 use Rattle.c_grammar.specs.Lasting.{lasting}
 use Rattle.c_grammar.specs.Unset.{zeroed}
@@ -62,6 +63,7 @@ use Rattle.c_grammar.proofs.AsciiMacros.{AreLexemesText, AreWholeText, IsLexemeT
 use Rattle.c_grammar.proofs.AsciiGrids.{flat_text}
 use Rattle.c_grammar.proofs.AsciiLasting.{lasting_text}
 use Rattle.c_grammar.proofs.AsciiCounters.{counted_text, zeroed_text}
+use Rattle.c_grammar.proofs.AsciiDescents.{upward_text}
 use Rattle.c_grammar.proofs.AsciiPrivates.{owned_text}
 use Rattle.c_grammar.proofs.AsciiDeclarations.{settled_text}
 use Rattle.c_grammar.proofs.AsciiUpdates.{commuting_text}
@@ -708,7 +710,8 @@ written_text is h =
     let rows : Items = in_rows types in
     let whole : Items = in_blocks nothing_read (undeclared false rows) in
     let loops : Items = counted whole in
-    let private : Items = owned loops in
+    let upwards : Items = upward loops in
+    let private : Items = owned upwards in
     let constant : Items = lasting private in
     let known : Items = settled Other (zeroed constant) in
     let numbered : Items = worked [] [] 0 known in
@@ -730,10 +733,10 @@ written_text is h =
     (choices_text straight (rectangular_text ended (looped_text decisions (decided_text (expanded arrays)
     (expanded_text (λ is h. worked_text is [] [] 0 h) arrays
     (pointed_text numbered (worked_text known [] [] 0 (settled_text (zeroed constant) Other (zeroed_text constant
-    (lasting_text private (owned_text loops (counted_text whole
+    (lasting_text private (owned_text upwards (upward_text loops (counted_text whole
     (blocks_text (undeclared false rows) nothing_read (undeclared_text rows false
     (rows_text types (typed_text calls 0
-    (printed_text (nested own) 0 (nested_text own (replaced_text is h)))))))))))))))))))))))))))
+    (printed_text (nested own) 0 (nested_text own (replaced_text is h))))))))))))))))))))))))))))
 
 all_but : (is : Items) (e : Item Terminal) → AreItemsText (is ++ e ∷ []) → AreItemsText is
 all_but [] e h = tt

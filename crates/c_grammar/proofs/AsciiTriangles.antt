@@ -16,11 +16,11 @@ use Rattle.c_grammar.proofs.AsciiFunctions.{take_text, drop_text}
 
 -- ---- the head
 
-abbrev TextParts : Parts → Type 0
+abbrev pub TextParts : Parts → Type 0
 TextParts p =
     AreItemsText p.front × AreItemsText p.start × AreItemsText p.middle × AreItemsText p.limit × AreItemsText p.back
 
-abbrev ArePartsText : Option Parts → Type 0
+abbrev pub ArePartsText : Option Parts → Type 0
 ArePartsText None = Unit {0}
 ArePartsText (Some p) = TextParts p
 
@@ -37,7 +37,7 @@ at_text is (s ∷ x ∷ []) a b = tt
 at_text is (s ∷ x ∷ l ∷ js) a b =
     behind_text is (s ∷ x ∷ []) l js (semicolon_at 0 js) a (b.0, (b.1.0, tt)) b.1.1.1
 
-by_text : (is : Items) (o : Option ℕ) → AreItemsText is → ArePartsText (cut_by is o)
+pub by_text : (is : Items) (o : Option ℕ) → AreItemsText is → ArePartsText (cut_by is o)
 by_text is None h = tt
 by_text is (Some n) h = go (nat_le 4 n)
   where
@@ -45,11 +45,11 @@ by_text is (Some n) h = go (nat_le 4 n)
     go true = at_text (take n is) (drop n is) (take_text n is h) (drop_text n is h)
     go false = tt
 
-abbrev IsNameText : Option (List ℕ) → Type 0
+abbrev pub IsNameText : Option (List ℕ) → Type 0
 IsNameText None = Unit {0}
 IsNameText (Some x) = IsAscii x
 
-of_text : (t : Terminal) → IsAsciiTerminal t → IsNameText (name_of t)
+pub of_text : (t : Terminal) → IsAsciiTerminal t → IsNameText (name_of t)
 of_text (Fixed w) h = tt
 of_text (Mark s) h = tt
 of_text (Name x) h = h

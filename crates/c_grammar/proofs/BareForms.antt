@@ -13,6 +13,7 @@ use Rattle.c_grammar.specs.Nesting.{nested}
 use Rattle.c_grammar.specs.Macros.{replaced}
 use Rattle.c_grammar.specs.DeclaredFunctions.{undeclared}
 use Rattle.c_grammar.specs.Counters.{counted}
+use Rattle.c_grammar.specs.Descents.{upward}
 use Rattle.c_grammar.specs.Privates.{owned}
 use Rattle.c_grammar.specs.Lasting.{lasting}
 use Rattle.c_grammar.specs.Unset.{zeroed}
@@ -44,6 +45,7 @@ use Rattle.c_grammar.proofs.BareDeclaredFunctions.{undeclared_bare}
 use Rattle.c_grammar.proofs.BareFunctions.{expanded_bare}
 use Rattle.c_grammar.proofs.BareLasting.{lasting_bare}
 use Rattle.c_grammar.proofs.BareCounters.{counted_bare, zeroed_bare}
+use Rattle.c_grammar.proofs.BareDescents.{upward_bare}
 use Rattle.c_grammar.proofs.BarePointers.{pointed_bare}
 use Rattle.c_grammar.proofs.BarePrivates.{owned_bare}
 use Rattle.c_grammar.proofs.BareDeclarations.{settled_bare}
@@ -598,7 +600,8 @@ written_bare is =
     let u : Items = undeclared false s in
     let b : Items = in_blocks nothing_read u in
     let l : Items = counted b in
-    let o : Items = owned l in
+    let v : Items = upward l in
+    let o : Items = owned v in
     let w : Items = lasting o in
     let d : Items = settled Other (zeroed w) in
     let c : Items = worked [] [] 0 d in
@@ -619,7 +622,8 @@ written_bare is =
     let since_declared : Items → Items = λ js.
     since_defined (chosen (rectangular (looped (decided (expanded (pointed (worked [] [] 0 js))))))) in
     let since_zeroed : Items → Items = λ js. since_declared (settled Other js) in
-    let since_counted : Items → Items = λ js. since_zeroed (zeroed (lasting (owned js))) in
+    let since_upward : Items → Items = λ js. since_zeroed (zeroed (lasting (owned js))) in
+    let since_counted : Items → Items = λ js. since_upward (upward js) in
     let since_blocks : Items → Items = λ js. since_counted (counted js) in
     let since_structs : Items → Items = λ js. since_blocks (in_blocks nothing_read (undeclared false js)) in
     let since_typed : Items → Items = λ js. since_structs (in_rows js) in
@@ -631,7 +635,8 @@ written_bare is =
     ∙ ap (λ (js : Items). since_blocks (in_blocks nothing_read js)) (undeclared_bare s false)
     ∙ ap since_blocks (blocks_bare u nothing_read)
     ∙ ap since_counted (counted_bare b)
-    ∙ ap (λ (js : Items). since_zeroed (zeroed (lasting js))) (owned_bare l)
+    ∙ ap since_upward (upward_bare l)
+    ∙ ap (λ (js : Items). since_zeroed (zeroed (lasting js))) (owned_bare v)
     ∙ ap (λ (js : Items). since_zeroed (zeroed js)) (lasting_bare o)
     ∙ ap since_zeroed (zeroed_bare w)
     ∙ ap since_declared (settled_bare (zeroed w) Other)

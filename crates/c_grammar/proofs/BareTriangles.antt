@@ -14,10 +14,10 @@ use Rattle.c_grammar.proofs.BareFunctions.{take_plain, drop_plain}
 
 -- ---- the head has no directive line
 
-abbrev PlainParts : Parts → Type 0
+abbrev pub PlainParts : Parts → Type 0
 PlainParts p = ArePlain p.front × ArePlain p.start × ArePlain p.middle × ArePlain p.limit × ArePlain p.back
 
-abbrev ArePartsPlain : Option Parts → Type 0
+abbrev pub ArePartsPlain : Option Parts → Type 0
 ArePartsPlain None = Unit {0}
 ArePartsPlain (Some p) = PlainParts p
 
@@ -34,7 +34,7 @@ at_plain is (s ∷ x ∷ []) a b = tt
 at_plain is (s ∷ x ∷ l ∷ js) a b =
     behind_plain is (s ∷ x ∷ []) l js (semicolon_at 0 js) a (b.0, (b.1.0, tt)) b.1.1.1
 
-by_plain : (is : Items) (o : Option ℕ) → ArePlain is → ArePartsPlain (cut_by is o)
+pub by_plain : (is : Items) (o : Option ℕ) → ArePlain is → ArePartsPlain (cut_by is o)
 by_plain is None h = tt
 by_plain is (Some n) h = go (nat_le 4 n)
   where
