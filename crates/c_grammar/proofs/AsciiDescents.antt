@@ -3,7 +3,7 @@ use Rattle.std.proofs.Common.{ℕ, zero, suc, ◌+◌, Bool, true, false, cond, 
 use Rattle.std.specs.Prelude.{◌&&◌, ◌||◌, nat_le, nat_lt}
 use Rattle.std.specs.Str.{IsAscii, bytes_eq}
 use Rattle.c_tokens.specs.declared.kind.Sign.TheVariants as sign
-use Rattle.c_grammar.specs.Lexeme.{Lexeme, Reserved, Signed, Worded, Numbered, Strange, Ended, For}
+use Rattle.c_grammar.specs.Lexeme.{For}
 use Rattle.c_grammar.specs.Terminal.{Terminal, Fixed, Mark, Name, Num, Line, Unknown, Unworked, End, same}
 use Rattle.c_grammar.specs.Texts.{Item}
 use Rattle.c_grammar.specs.Lines.{is_omp}
@@ -11,39 +11,40 @@ use Rattle.c_grammar.specs.Blocks.{Items, at, bare, is_directive}
 use Rattle.c_grammar.specs.AsciiNames.{IsAsciiTerminal}
 use Rattle.c_grammar.specs.Constants.{is_mark, with_tokens}
 use Rattle.c_grammar.specs.Counters.{is_type}
-use Rattle.c_grammar.specs.Expressions.{as_terminal, placed_of}
+use Rattle.c_grammar.specs.Expressions.{placed_of}
 use Rattle.c_grammar.specs.Triangles.{Parts, cut, max_head, max_open, name_of, semicolon_at}
-use Rattle.c_grammar.specs.Descents.{Loop, Onward, Open, Plain, Small, State, Turned, all_at, before_sum, begin, behind, behind_sum, block_of, blocks_behind, head, in_brackets, inside, is_descent, len, lexeme_of, lexemes_of, line_for, loop_at, loop_in, loop_named, loop_of, loop_with, name_in, next_behind, one_more, put, put_all, put_on_line, small_in, small_named, stand, stands, stands_in, stands_of, step, turned_on, upward, upward_in, upward_on, upward_step}
+use Rattle.c_grammar.specs.Descents.{Called, Counted, Loop, Onward, Open, Part, Plain, Signed, Small, State, Turned, all_at, before_sum, begin, behind, behind_sum, block_of, blocks_behind, head, in_brackets, inside, is_descent, len, part_of, parts_of, line_for, loop_at, loop_in, loop_named, loop_of, loop_with, name_in, next_behind, one_more, put, put_all, put_on_line, small_in, small_named, stand, stands, stands_in, stands_of, step, terminal_of, turned_on, upward, upward_in, upward_on, upward_step}
 use Rattle.c_grammar.proofs.AsciiTokens.{AreItemsText, bare_text, both_text, chosen_text as either_text}
 use Rattle.c_grammar.proofs.AsciiFunctions.{take_text}
 use Rattle.c_grammar.proofs.AsciiTriangles.{ArePartsText, IsNameText, TextParts, by_text, of_text}
 
 -- ---- the open blocks
 
-abbrev IsLexemeText : Lexeme → Type 0
-IsLexemeText (Worded x) = IsAscii x
-IsLexemeText t = Unit {0}
+abbrev IsPartText : Part → Type 0
+IsPartText (Signed s) = Unit {0}
+IsPartText (Called x) = IsAscii x
+IsPartText (Counted n) = Unit {0}
 
-abbrev AreLexemesText : List Lexeme → Type 0
-AreLexemesText [] = Unit {0}
-AreLexemesText (t ∷ ts) = IsLexemeText t × AreLexemesText ts
+abbrev ArePartsOfText : List Part → Type 0
+ArePartsOfText [] = Unit {0}
+ArePartsOfText (t ∷ ts) = IsPartText t × ArePartsOfText ts
 
 abbrev IsOpenText : Open → Type 0
 IsOpenText Plain = Unit {0}
 IsOpenText (Small x) = Unit {0}
-IsOpenText (Turned x small ts) = AreLexemesText ts
+IsOpenText (Turned x small ts) = ArePartsOfText ts
 
 abbrev AreOpenText : List Open → Type 0
 AreOpenText [] = Unit {0}
 AreOpenText (o ∷ os) = IsOpenText o × AreOpenText os
 
-both_lexemes : (ts us : List Lexeme) → AreLexemesText ts → AreLexemesText us → AreLexemesText (ts ++ us)
-both_lexemes [] us h k = k
-both_lexemes (t ∷ ts) us h k = (h.0, both_lexemes ts us h.1 k)
+both_parts : (ts us : List Part) → ArePartsOfText ts → ArePartsOfText us → ArePartsOfText (ts ++ us)
+both_parts [] us h k = k
+both_parts (t ∷ ts) us h k = (h.0, both_parts ts us h.1 k)
 
-abbrev StandsText : Option (List Lexeme) → Type 0
+abbrev StandsText : Option (List Part) → Type 0
 StandsText None = Unit {0}
-StandsText (Some ts) = AreLexemesText ts
+StandsText (Some ts) = ArePartsOfText ts
 
 found_text : (os : List Open) (x : List ℕ) → AreOpenText os → StandsText (stands_in os x)
 found_text [] x h = tt
@@ -67,19 +68,16 @@ of_name os End h = tt
 
 -- ---- tokens
 
-terminal_text : (t : Lexeme) → IsLexemeText t → IsAsciiTerminal (as_terminal t)
-terminal_text (Reserved w) h = tt
+terminal_text : (t : Part) → IsPartText t → IsAsciiTerminal (terminal_of t)
 terminal_text (Signed s) h = tt
-terminal_text (Worded x) h = h
-terminal_text (Numbered n) h = tt
-terminal_text Strange h = tt
-terminal_text Ended h = tt
+terminal_text (Called x) h = h
+terminal_text (Counted n) h = tt
 
-all_text : (i : Item Terminal) (ts : List Lexeme) → AreLexemesText ts → AreItemsText (all_at i ts)
+all_text : (i : Item Terminal) (ts : List Part) → ArePartsOfText ts → AreItemsText (all_at i ts)
 all_text i [] h = tt
 all_text i (t ∷ ts) h = (terminal_text t h.0, all_text i ts h.1)
 
-stand_text : (free : Bool) (i : Item Terminal) (o : Option (List Lexeme)) → IsAsciiTerminal i.terminal → StandsText o →
+stand_text : (free : Bool) (i : Item Terminal) (o : Option (List Part)) → IsAsciiTerminal i.terminal → StandsText o →
     AreItemsText (stand free i o)
 stand_text free i None h k = (h, tt)
 stand_text free i (Some ts) h k =
@@ -96,19 +94,19 @@ put_all_text [] os free o h = tt
 put_all_text (i ∷ is) os free o h =
     both_text (put os free i is) _ (put_text os free i is o h.0) (put_all_text is os (before_sum i) o h.1)
 
-lexeme_text : (t : Terminal) → IsAsciiTerminal t → IsLexemeText (lexeme_of t)
-lexeme_text (Name x) h = h
-lexeme_text (Fixed w) h = tt
-lexeme_text (Mark s) h = tt
-lexeme_text (Num n) h = tt
-lexeme_text (Line ts) h = tt
-lexeme_text Unknown h = tt
-lexeme_text Unworked h = tt
-lexeme_text End h = tt
+part_text : (t : Terminal) → IsAsciiTerminal t → IsPartText (part_of t)
+part_text (Name x) h = h
+part_text (Fixed w) h = tt
+part_text (Mark s) h = tt
+part_text (Num n) h = tt
+part_text (Line ts) h = tt
+part_text Unknown h = tt
+part_text Unworked h = tt
+part_text End h = tt
 
-lexemes_text : (is : Items) → AreItemsText is → AreLexemesText (lexemes_of is)
-lexemes_text [] h = tt
-lexemes_text (i ∷ is) h = (lexeme_text i.terminal h.0, lexemes_text is h.1)
+parts_of_text : (is : Items) → AreItemsText is → ArePartsOfText (parts_of is)
+parts_of_text [] h = tt
+parts_of_text (i ∷ is) h = (part_text i.terminal h.0, parts_of_text is h.1)
 
 -- ---- the head
 
@@ -194,10 +192,10 @@ head_text l h =
     both_text l.parts.front _ h.1.0 (both_text l.first _ h.2 (both_text l.parts.middle _ h.1.2
     (tt, both_text l.last (step l) h.3 (steps_text (take 5 l.parts.back) (take_text 5 l.parts.back h.1.4)))))
 
-stands_text : (l : Loop) → IsLoopText (Some l) → AreLexemesText (stands l)
+stands_text : (l : Loop) → IsLoopText (Some l) → ArePartsOfText (stands l)
 stands_text l h =
-    both_lexemes (lexemes_of l.first) _ (lexemes_text l.first h.2)
-    (tt, both_lexemes (lexemes_of l.last) _ (lexemes_text l.last h.3) (tt, (h.0, tt)))
+    both_parts (parts_of l.first) _ (parts_of_text l.first h.2)
+    (tt, both_parts (parts_of l.last) _ (parts_of_text l.last h.3) (tt, (h.0, tt)))
 
 -- ---- all tokens
 

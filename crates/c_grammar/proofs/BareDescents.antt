@@ -2,14 +2,14 @@
 use Rattle.std.proofs.Common.{◌≡◌, ◌∙◌, ℕ, zero, suc, ◌+◌, Bool, true, false, cond, List, [], ◌∷◌, ◌++◌, length, map, take, Option, Some, None, refl, ap}
 use Rattle.std.specs.Prelude.{◌&&◌, nat_le, nat_lt}
 use Rattle.c_tokens.specs.declared.kind.Sign.TheVariants as sign
-use Rattle.c_grammar.specs.Lexeme.{Lexeme, Reserved, Signed, Worded, Numbered, Strange, Ended, For}
+use Rattle.c_grammar.specs.Lexeme.{For}
 use Rattle.c_grammar.specs.Terminal.{Terminal, Fixed, Mark, Name, Num, Line, Unknown, Unworked, End, same}
 use Rattle.c_grammar.specs.Texts.{Item}
 use Rattle.c_grammar.specs.Blocks.{Items, at, bare, is_directive}
 use Rattle.c_grammar.specs.Constants.{is_mark}
-use Rattle.c_grammar.specs.Expressions.{as_terminal, placed_of}
+use Rattle.c_grammar.specs.Expressions.{placed_of}
 use Rattle.c_grammar.specs.Triangles.{Parts, cut, max_head, max_open, semicolon_at}
-use Rattle.c_grammar.specs.Descents.{Loop, Onward, Open, State, all_at, before_sum, begin, behind, behind_sum, head, in_brackets, inside, is_descent, len, line_for, loop_at, loop_in, loop_named, loop_of, loop_with, name_in, one_more, put, put_all, put_on_line, small_in, stand, stands_of, step, turned_on, upward, upward_in, upward_on, upward_step}
+use Rattle.c_grammar.specs.Descents.{Called, Counted, Loop, Onward, Open, Part, Signed, State, all_at, before_sum, begin, behind, behind_sum, head, in_brackets, inside, is_descent, len, line_for, loop_at, loop_in, loop_named, loop_of, loop_with, name_in, one_more, put, put_all, put_on_line, small_in, stand, stands_of, step, terminal_of, turned_on, upward, upward_in, upward_on, upward_step}
 use Rattle.c_grammar.proofs.BareTokens.{ArePlain, IsBare, IsPlain, both_plain, either_plain, one, plain_bare, same_bare, some}
 use Rattle.c_grammar.proofs.BareFunctions.{take_plain}
 use Rattle.c_grammar.proofs.BarePresence.{omp_stays}
@@ -17,19 +17,16 @@ use Rattle.c_grammar.proofs.BareTriangles.{ArePartsPlain, PlainParts, by_plain}
 
 -- ---- what stands for a name has no directive line
 
-lexeme_plain : (i : Item Terminal) (t : Lexeme) → IsPlain (at i (as_terminal t))
-lexeme_plain i (Reserved w) = refl
-lexeme_plain i (Signed s) = refl
-lexeme_plain i (Worded x) = refl
-lexeme_plain i (Numbered n) = refl
-lexeme_plain i Strange = refl
-lexeme_plain i Ended = refl
+part_plain : (i : Item Terminal) (t : Part) → IsPlain (at i (terminal_of t))
+part_plain i (Signed s) = refl
+part_plain i (Called x) = refl
+part_plain i (Counted n) = refl
 
-all_plain : (i : Item Terminal) (ts : List Lexeme) → ArePlain (all_at i ts)
+all_plain : (i : Item Terminal) (ts : List Part) → ArePlain (all_at i ts)
 all_plain i [] = tt
-all_plain i (t ∷ ts) = (lexeme_plain i t, all_plain i ts)
+all_plain i (t ∷ ts) = (part_plain i t, all_plain i ts)
 
-stand_plain : (free : Bool) (i : Item Terminal) (o : Option (List Lexeme)) → IsPlain i → ArePlain (stand free i o)
+stand_plain : (free : Bool) (i : Item Terminal) (o : Option (List Part)) → IsPlain i → ArePlain (stand free i o)
 stand_plain free i None h = (h, tt)
 stand_plain free i (Some ts) h =
     either_plain free (all_at i ts) (in_brackets i (all_at i ts)) (all_plain i ts)

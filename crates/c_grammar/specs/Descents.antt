@@ -3,14 +3,16 @@
 -- are visible at once differ, so a name in the block is the loop's. What stands for the name of a loop around is put first.
 use Rattle.std.specs.Prelude.{ℕ, zero, suc, ◌+◌, ◌-◌, ◌^◌, ◌==◌, nat_le, nat_lt, Bool, true, false, not, ◌&&◌, ◌||◌, if◌then◌else◌, List, [], ◌∷◌, ◌++◌, length, map, take, drop, Option, Some, None}
 use Rattle.std.specs.Str.{bytes_eq}
+use Rattle.c_tokens.specs.declared.kind.Sign.{Sign}
 use Rattle.c_tokens.specs.declared.kind.Sign.TheVariants as sign
-use Rattle.c_grammar.specs.Lexeme.{Lexeme, Signed, Worded, Numbered, Strange, Placed, Int, For}
+use Rattle.c_grammar.specs.Lexeme as lexeme
+use Rattle.c_grammar.specs.Lexeme.{Lexeme, Worded, Numbered, Placed, Int, For}
 use Rattle.c_grammar.specs.Terminal.{Terminal, Fixed, Mark, Name, Num, Line, same}
 use Rattle.c_grammar.specs.Texts.{Item}
 use Rattle.c_grammar.specs.Blocks.{Items, at, bare, is_directive}
 use Rattle.c_grammar.specs.Constants.{is_mark, is_name, is_number, with_tokens}
 use Rattle.c_grammar.specs.Counters.{is_type}
-use Rattle.c_grammar.specs.Expressions.{as_terminal, placed_of}
+use Rattle.c_grammar.specs.Expressions.{placed_of}
 use Rattle.c_grammar.specs.LineForms as lines
 use Rattle.c_grammar.specs.LineForms.{is_sign}
 use Rattle.c_grammar.specs.Lines.{is_omp}
@@ -19,15 +21,21 @@ use Rattle.c_grammar.specs.Triangles.{Parts, begins_block, cut, max_head, max_op
 
 -- ---- the open blocks
 
+-- a token of what stands for a name: a sign, a name, a number or a bad one
+pub data Part : Type 0 where
+  Signed : (s : Sign) → Part
+  Called : (x : List ℕ) → Part
+  Counted : (n : Option ℕ) → Part
+
 -- an open block: of a loop that counts up and whose name is an int; of one that counts down, its name, whether that is an int,
 -- and what stands for it
 pub data Open : Type 0 where
   Plain : Open
   Small : (name : List ℕ) → Open
-  Turned : (name : List ℕ) (small : Bool) (stands : List Lexeme) → Open
+  Turned : (name : List ℕ) (small : Bool) (stands : List Part) → Open
 
 -- what stands for a name
-abbrev pub stands_in : List Open → List ℕ → Option (List Lexeme)
+abbrev pub stands_in : List Open → List ℕ → Option (List Part)
 stands_in [] x = None
 stands_in (Plain ∷ os) x = stands_in os x
 stands_in (Small y ∷ os) x = stands_in os x
@@ -42,17 +50,23 @@ is_small (Turned y small ts ∷ os) x = (small && bytes_eq y x) || is_small os x
 
 -- ---- tokens outside of directive lines
 
-abbrev pub lexeme_of : Terminal → Lexeme
-lexeme_of (Mark s) = Signed s
-lexeme_of (Name x) = Worded x
-lexeme_of (Num n) = Numbered n
-lexeme_of t = Strange
+abbrev pub terminal_of : Part → Terminal
+terminal_of (Signed s) = Mark s
+terminal_of (Called x) = Name x
+terminal_of (Counted n) = Num n
 
-abbrev pub lexemes_of : Items → List Lexeme
-lexemes_of is = map (λ i. lexeme_of i.terminal) is
+-- that of a token of a bound
+abbrev pub part_of : Terminal → Part
+part_of (Mark s) = Signed s
+part_of (Name x) = Called x
+part_of (Num n) = Counted n
+part_of t = Counted None
 
-abbrev pub all_at : Item Terminal → List Lexeme → Items
-all_at i ts = map (λ t. at i (as_terminal t)) ts
+abbrev pub parts_of : Items → List Part
+parts_of is = map (λ i. part_of i.terminal) is
+
+abbrev pub all_at : Item Terminal → List Part → Items
+all_at i ts = map (λ t. at i (terminal_of t)) ts
 
 -- behind the token a sum may stand without brackets
 abbrev pub before_sum : Item Terminal → Bool
@@ -70,11 +84,11 @@ abbrev pub in_brackets : Item Terminal → Items → Items
 in_brackets i is = at i (Mark sign.OpenParen) ∷ (is ++ at i (Mark sign.CloseParen) ∷ [])
 
 -- a token, or what stands for it
-abbrev pub stand : Bool → Item Terminal → Option (List Lexeme) → Items
+abbrev pub stand : Bool → Item Terminal → Option (List Part) → Items
 stand free i None = i ∷ []
 stand free i (Some ts) = if free then all_at i ts else in_brackets i (all_at i ts)
 
-abbrev pub stands_of : List Open → Terminal → Option (List Lexeme)
+abbrev pub stands_of : List Open → Terminal → Option (List Part)
 stands_of os (Name x) = stands_in os x
 stands_of os t = None
 
@@ -87,6 +101,11 @@ put_all os free [] = []
 put_all os free (i ∷ is) = put os free i is ++ put_all os (before_sum i) is
 
 -- ---- directive lines
+
+abbrev pub lexeme_of : Part → Lexeme
+lexeme_of (Signed s) = lexeme.Signed s
+lexeme_of (Called x) = Worded x
+lexeme_of (Counted n) = Numbered n
 
 abbrev pub depth_behind : ℕ → Lexeme → ℕ
 depth_behind d t =
@@ -103,12 +122,13 @@ ends_term (p ∷ ps) =
     is_sign sign.Minus p.lexeme
 
 -- where no sum may stand, a bracket is put before the name, which is a fault there
-abbrev pub stand_on_line : Bool → Placed → Option (List Lexeme) → List Placed
+abbrev pub stand_on_line : Bool → Placed → Option (List Part) → List Placed
 stand_on_line free p None = p ∷ []
 stand_on_line free p (Some ts) =
-    if free then lines.all_at p.column ts else lines.all_at p.column (Signed sign.OpenParen ∷ []) ++ p ∷ []
+    if free then lines.all_at p.column (map lexeme_of ts)
+    else record { lexeme = lexeme.Signed sign.OpenParen; column = p.column } ∷ p ∷ []
 
-abbrev pub stands_for : List Open → Lexeme → Option (List Lexeme)
+abbrev pub stands_for : List Open → Lexeme → Option (List Part)
 stands_for os (Worded x) = stands_in os x
 stands_for os t = None
 
@@ -250,8 +270,8 @@ head l =
     p.front ++ (l.first ++ (p.middle ++ (at p.compares (Mark sign.LessEqual) ∷ (l.last ++ step l))))
 
 -- in the block, for the name
-abbrev pub stands : Loop → List Lexeme
-stands l = lexemes_of l.first ++ Signed sign.Plus ∷ (lexemes_of l.last ++ Signed sign.Minus ∷ Worded l.name ∷ [])
+abbrev pub stands : Loop → List Part
+stands l = parts_of l.first ++ Signed sign.Plus ∷ (parts_of l.last ++ Signed sign.Minus ∷ Called l.name ∷ [])
 
 -- how many tokens of the source its head has
 abbrev pub len : Loop → ℕ

@@ -20,6 +20,7 @@ mod UnlinedStructs
 mod UnlinedChoices
 mod UnlinedLoops
 mod UnlinedTriangles
+mod UnlinedDescents
 mod UnlinedGrids
 mod UnlinedDeclarations
 mod UnlinedCounters

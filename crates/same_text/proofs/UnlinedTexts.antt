@@ -15,6 +15,7 @@ use Rattle.c_grammar.specs.Choices.{chosen}
 use Rattle.c_grammar.specs.Conditions.{decided}
 use Rattle.c_grammar.specs.Grids.{flat}
 use Rattle.c_grammar.specs.Counters.{counted}
+use Rattle.c_grammar.specs.Descents.{upward}
 use Rattle.c_grammar.specs.Privates.{owned}
 use Rattle.c_grammar.specs.Lasting.{lasting}
 use Rattle.c_grammar.specs.Unset.{zeroed}
@@ -43,6 +44,7 @@ use Rattle.same_text.proofs.UnlinedConditions.{decided_unlined}
 use Rattle.same_text.proofs.UnlinedGrids.{flat_unlined}
 use Rattle.same_text.proofs.UnlinedLasting.{lasting_unlined}
 use Rattle.same_text.proofs.UnlinedCounters.{counted_unlined, zeroed_unlined}
+use Rattle.same_text.proofs.UnlinedDescents.{upward_unlined}
 use Rattle.same_text.proofs.UnlinedPrivates.{owned_unlined}
 use Rattle.same_text.proofs.UnlinedDeclarations.{settled_unlined}
 use Rattle.same_text.proofs.UnlinedBoxes.{announced_unlined, boxed_unlined}
@@ -72,7 +74,8 @@ written_unlined is =
     let u : Items = undeclared false s in
     let b : Items = in_blocks nothing_read u in
     let l : Items = counted b in
-    let o : Items = owned l in
+    let v : Items = upward l in
+    let o : Items = owned v in
     let w : Items = lasting o in
     let d : Items = settled Other (zeroed w) in
     let c : Items = worked [] [] 0 d in
@@ -93,7 +96,8 @@ written_unlined is =
     let since_declared : Items → Items = λ js.
     since_defined (chosen (rectangular (looped (decided (expanded (pointed (worked [] [] 0 js))))))) in
     let since_zeroed : Items → Items = λ js. since_declared (settled Other js) in
-    let since_counted : Items → Items = λ js. since_zeroed (zeroed (lasting (owned js))) in
+    let since_upward : Items → Items = λ js. since_zeroed (zeroed (lasting (owned js))) in
+    let since_counted : Items → Items = λ js. since_upward (upward js) in
     let since_blocks : Items → Items = λ js. since_counted (counted js) in
     let since_structs : Items → Items = λ js. since_blocks (in_blocks nothing_read (undeclared false js)) in
     let since_typed : Items → Items = λ js. since_structs (in_rows js) in
@@ -105,7 +109,8 @@ written_unlined is =
     ∙ ap (λ (js : Items). since_blocks (in_blocks nothing_read js)) (undeclared_unlined s false)
     ∙ ap since_blocks (blocks_unlined u nothing_read)
     ∙ ap since_counted (counted_unlined b)
-    ∙ ap (λ (js : Items). since_zeroed (zeroed (lasting js))) (owned_unlined l)
+    ∙ ap since_upward (upward_unlined l)
+    ∙ ap (λ (js : Items). since_zeroed (zeroed (lasting js))) (owned_unlined v)
     ∙ ap (λ (js : Items). since_zeroed (zeroed js)) (lasting_unlined o)
     ∙ ap since_zeroed (zeroed_unlined w)
     ∙ ap since_declared (settled_unlined (zeroed w) Other)

@@ -40,7 +40,7 @@ semicolon_same [] n = refl
 semicolon_same (i ∷ is) n =
     ap (λ (o : Option ℕ). cond (is_mark sign.Semicolon i) (Some n) o) (semicolon_same is (n + 1))
 
-abbrev parts_unlined : Parts → Parts
+abbrev pub parts_unlined : Parts → Parts
 parts_unlined p = record {
   front = all_unlined p.front;
   start = all_unlined p.start;
@@ -81,7 +81,7 @@ by_same is (Some n) = go (nat_le 4 n)
         ap₂ (λ (js ks : Items). cut_at js ks) (take_unlined n is) (drop_unlined n is) ∙ at_same (take n is) (drop n is)
     go false = refl
 
-cut_same : (is : Items) → cut (all_unlined is) ≡ option_map parts_unlined (cut is)
+pub cut_same : (is : Items) → cut (all_unlined is) ≡ option_map parts_unlined (cut is)
 cut_same is = ap (cut_by (all_unlined is)) (semicolon_same is 0) ∙ by_same is (semicolon_at 0 is)
 
 name_same : (is : Items) → name_in (all_unlined is) ≡ name_in is
@@ -91,7 +91,7 @@ name_same (o ∷ t ∷ []) = refl
 name_same (o ∷ t ∷ x ∷ []) = refl
 name_same (o ∷ t ∷ x ∷ e ∷ is) = refl
 
-names_same : (x : List ℕ) (is : Items) → names x (all_unlined is) ≡ names x is
+pub names_same : (x : List ℕ) (is : Items) → names x (all_unlined is) ≡ names x is
 names_same x [] = refl
 names_same x (s ∷ []) = refl
 names_same x (s ∷ i ∷ is) = refl

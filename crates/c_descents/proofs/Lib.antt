@@ -1,0 +1,2 @@
+pub mod Innermost
+pub mod Wholes
