@@ -12,6 +12,7 @@ ghost use Rattle.c_grammar.specs.Constants.{undefined, worked};
 ghost use Rattle.c_grammar.specs.Counters.{counted};
 ghost use Rattle.c_grammar.specs.Declarations.{Other, settled};
 ghost use Rattle.c_grammar.specs.DeclaredFunctions.{undeclared};
+ghost use Rattle.c_grammar.specs.Descents.{upward};
 ghost use Rattle.c_grammar.specs.Functions.{expanded};
 ghost use Rattle.c_grammar.specs.Grids.{flat};
 ghost use Rattle.c_grammar.specs.Initial.{initialized, no_globals};
@@ -52,6 +53,7 @@ use crate::types::typed;
 use crate::unset::zeroed;
 use crate::updates::commuting;
 use c_choices::chosen;
+use c_descents::upward;
 use c_loops::looped;
 use c_macros::replaced;
 use c_structs::in_rows;
@@ -113,10 +115,11 @@ fn raw<'a>(alloc: Global, bytes: &'a [u8]) -> Result<Vec<Written<'a>>, AllocErro
 }
 
 /// The tokens with their combined constructs, calls of `printf`, types, structs as rows, blocks, declarations, names of loops
-/// and constants, and without the lines that declare functions and the clauses `private`.
+/// and constants, with loops that count up in the place of those that count down, and without the lines that declare
+/// functions and the clauses `private`.
 fn with_constants<'a>(alloc: Global, raw: &[Written<'a>]) -> Result<Vec<Written<'a>>, AllocError>
     ensures { IfOk result (λ v. written_all v.items ≡
-        worked [] [] 0 (settled Other (zeroed (lasting (owned (counted (in_blocks nothing_read (undeclared false (in_rows (typed 0 (printed 0 (nested (replaced (written_all raw.now)))))))))))))) }
+        worked [] [] 0 (settled Other (zeroed (lasting (owned (upward (counted (in_blocks nothing_read (undeclared false (in_rows (typed 0 (printed 0 (nested (replaced (written_all raw.now))))))))))))))) }
 {
     let tokens = borrowed(alloc, raw)?;
     let tokens = replaced(alloc, &tokens)?;
@@ -128,6 +131,8 @@ fn with_constants<'a>(alloc: Global, raw: &[Written<'a>]) -> Result<Vec<Written<
     let tokens = undeclared(alloc, &tokens)?;
     let tokens = in_blocks(alloc, &tokens)?;
     let tokens = counted(alloc, &tokens)?;
+    let tokens = upward(alloc, &tokens)?;
+    let tokens = borrowed(alloc, &tokens)?;
     let tokens = owned(alloc, &tokens)?;
     let tokens = borrowed(alloc, &tokens)?;
     let tokens = lasting(alloc, &tokens)?;

@@ -15,7 +15,7 @@ pub struct Telling {
 
 // A loop.
 const LOOP: &str =
-    "a loop counts upwards, `for (uint64_t i = NUM; i < NUM; i += NUM) { .. }`, also with `int i`, with `i <= NUM` and with `i++`, each NUM a constant expression; `int i;` before it, in a block, lets it begin with `i = NUM`";
+    "a loop counts upwards, `for (uint64_t i = NUM; i < NUM; i += NUM) { .. }`, also with `int i`, with `i <= NUM` and with `i++`, or down, `for (int i = NUM; i >= NUM; i--) { .. }`, also with `i > NUM`, each NUM a constant expression; `int i;` before it, in a block, lets it begin with `i = NUM`";
 
 const MAIN: &str = "a program is its globals, and then `int main(void) { .. }`";
 

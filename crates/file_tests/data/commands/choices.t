@@ -25,7 +25,7 @@ $ ompc explain choice_in_a_head.c
 choice_in_a_head.c:3:26: error: `(` cannot stand here [E102]
     3 | for (uint64_t i = 0; i < (A[0] ? 8 : 4); i++) { A[i] = 1; }
       |                          ^
-choice_in_a_head.c:3:26: help: a loop counts upwards, `for (uint64_t i = NUM; i < NUM; i += NUM) { .. }`, also with `int i`, with `i <= NUM` and with `i++`, each NUM a constant expression; `int i;` before it, in a block, lets it begin with `i = NUM`
+choice_in_a_head.c:3:26: help: a loop counts upwards, `for (uint64_t i = NUM; i < NUM; i += NUM) { .. }`, also with `int i`, with `i <= NUM` and with `i++`, or down, `for (int i = NUM; i >= NUM; i--) { .. }`, also with `i > NUM`, each NUM a constant expression; `int i;` before it, in a block, lets it begin with `i = NUM`
 [1]
 $ ompc explain choice_without_a_colon.c
 choice_without_a_colon.c:3:13: error: `?` begins no token [E101]

@@ -5,7 +5,7 @@ $ ompc explain forms/counts_down.c
 forms/counts_down.c:3:30: error: `--` cannot stand here [E102]
     3 | for (uint64_t i = 0; i < 8; i--) { A[i & 3] = i; }
       |                              ^~
-forms/counts_down.c:3:30: help: a loop counts upwards, `for (uint64_t i = NUM; i < NUM; i += NUM) { .. }`, also with `int i`, with `i <= NUM` and with `i++`, each NUM a constant expression; `int i;` before it, in a block, lets it begin with `i = NUM`
+forms/counts_down.c:3:30: help: a loop counts upwards, `for (uint64_t i = NUM; i < NUM; i += NUM) { .. }`, also with `int i`, with `i <= NUM` and with `i++`, or down, `for (int i = NUM; i >= NUM; i--) { .. }`, also with `i > NUM`, each NUM a constant expression; `int i;` before it, in a block, lets it begin with `i = NUM`
 [1]
 $ ompc explain forms/limit_of_all.c
 forms/limit_of_all.c:3:27: error: `18446744073709551615` is no limit that can stand behind `<=` [E108]
@@ -29,13 +29,13 @@ $ ompc explain forms/scalar_limit.c
 forms/scalar_limit.c:4:26: error: `x` cannot stand here [E102]
     4 | for (uint64_t i = 0; i < x; i += 1) { A[i] = i; }
       |                          ^
-forms/scalar_limit.c:4:26: help: a loop counts upwards, `for (uint64_t i = NUM; i < NUM; i += NUM) { .. }`, also with `int i`, with `i <= NUM` and with `i++`, each NUM a constant expression; `int i;` before it, in a block, lets it begin with `i = NUM`
+forms/scalar_limit.c:4:26: help: a loop counts upwards, `for (uint64_t i = NUM; i < NUM; i += NUM) { .. }`, also with `int i`, with `i <= NUM` and with `i++`, or down, `for (int i = NUM; i >= NUM; i--) { .. }`, also with `i > NUM`, each NUM a constant expression; `int i;` before it, in a block, lets it begin with `i = NUM`
 [1]
 $ ompc explain forms/loop_of_short.c
 forms/loop_of_short.c:3:6: error: `short` cannot stand here [E102]
     3 | for (short i = 0; i < 4; i += 1) { A[i] = i; }
       |      ^~~~~
-forms/loop_of_short.c:3:6: help: a loop counts upwards, `for (uint64_t i = NUM; i < NUM; i += NUM) { .. }`, also with `int i`, with `i <= NUM` and with `i++`, each NUM a constant expression; `int i;` before it, in a block, lets it begin with `i = NUM`
+forms/loop_of_short.c:3:6: help: a loop counts upwards, `for (uint64_t i = NUM; i < NUM; i += NUM) { .. }`, also with `int i`, with `i <= NUM` and with `i++`, or down, `for (int i = NUM; i >= NUM; i--) { .. }`, also with `i > NUM`, each NUM a constant expression; `int i;` before it, in a block, lets it begin with `i = NUM`
 [1]
 $ ompc explain forms/while_loop.c
 forms/while_loop.c:2:1: error: `while` is not declared here [E103]

@@ -20,7 +20,7 @@ $ ompc explain loop_of_a_local.c
 loop_of_a_local.c:4:6: error: `i` cannot stand here [E102]
     4 | for (i = 0; i < 8; i++) { A[i] = 1; }
       |      ^
-loop_of_a_local.c:4:6: help: a loop counts upwards, `for (uint64_t i = NUM; i < NUM; i += NUM) { .. }`, also with `int i`, with `i <= NUM` and with `i++`, each NUM a constant expression; `int i;` before it, in a block, lets it begin with `i = NUM`
+loop_of_a_local.c:4:6: help: a loop counts upwards, `for (uint64_t i = NUM; i < NUM; i += NUM) { .. }`, also with `int i`, with `i <= NUM` and with `i++`, or down, `for (int i = NUM; i >= NUM; i--) { .. }`, also with `i > NUM`, each NUM a constant expression; `int i;` before it, in a block, lets it begin with `i = NUM`
 [1]
 # their type in C is that of the declaration
 $ ompc explain loop_of_an_int.c
