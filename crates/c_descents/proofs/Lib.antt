@@ -1,2 +1,3 @@
 pub mod Innermost
 pub mod Wholes
+pub mod Heading

@@ -46,6 +46,7 @@ fn small_or_plain<'a>(name: Option<&'a [u8]>) -> Open<'a>
 }
 
 // The name that a loop has which counts up, where it is an `int`, by the tokens behind the word `for`.
+#[tactic(auto, using(crate::proofs::Heading::block_small, crate::proofs::Heading::block_plain))]
 fn small_name<'a>(alloc: Global, rest: &[Token<'a, '_>]) -> Result<Option<&'a [u8]>, AllocError>
     ensures { IfOk result (λ o. seen_next o ≡ block_of (bare (seen_all rest.now))) }
 {
@@ -91,9 +92,9 @@ impl<'a> Descents<'a> {
             self.done.push(Written::of(self.alloc, token)?)?;
             return Ok(());
         };
-        let line = line_with(self.alloc, &self.blocks, line)?;
+        let written = line_with(self.alloc, &self.blocks, line)?;
         self.done.push(Written {
-            terminal: WrittenTerminal::Line(line),
+            terminal: WrittenTerminal::Line(written),
             line: token.line,
             column: token.column,
         })?;
@@ -139,11 +140,11 @@ impl<'a> Descents<'a> {
     }
 
     // The word `for` of a loop that counts down.
-    fn put_loop(
+    fn put_loop<'l>(
         &mut self,
-        token: Token<'a, '_>,
-        own: Loop<'a, '_, '_>,
-        rest: &[Token<'a, '_>],
+        token: Token<'a, 'l>,
+        own: Loop<'a, 'l, '_>,
+        rest: &[Token<'a, 'l>],
     ) -> Result<(), AllocError>
         requires { self.now.left ≡ 0 }
         ensures { OnOk result (loop_put self.old (seen token.entry) (seen_loop own.entry) (bare (seen_all rest.now)) (seen_all rest.now) ≡
@@ -175,7 +176,11 @@ impl<'a> Descents<'a> {
     }
 
     // The word `for`, before others.
-    fn take_for(&mut self, token: Token<'a, '_>, rest: &[Token<'a, '_>]) -> Result<(), AllocError>
+    fn take_for<'l>(
+        &mut self,
+        token: Token<'a, 'l>,
+        rest: &[Token<'a, 'l>],
+    ) -> Result<(), AllocError>
         requires { self.now.left ≡ 0 }
         ensures { OnOk result (for_with self.old (seen token.entry) (bare (seen_all rest.now)) (seen_all rest.now) ≡
             with_descents self.new (seen_all rest.now)) }
@@ -190,7 +195,7 @@ impl<'a> Descents<'a> {
     }
 
     /// The next token, before others.
-    fn take(&mut self, token: Token<'a, '_>, rest: &[Token<'a, '_>]) -> Result<(), AllocError>
+    fn take<'l>(&mut self, token: Token<'a, 'l>, rest: &[Token<'a, 'l>]) -> Result<(), AllocError>
         ensures { OnOk result (with_descents self.old (seen token.entry ∷ seen_all rest.now) ≡
             with_descents self.new (seen_all rest.now)) }
     {
