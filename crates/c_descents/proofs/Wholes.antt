@@ -87,8 +87,8 @@ line_whole [] os d free e = absurd cc
 line_whole (p ∷ []) os d free e =
     ap (λ (qs : List Placed). is_whole (qs ++ [])) (last_put os d free p (first_true (ends_well p.lexeme true) true e)) ∙ e
 line_whole (p ∷ q ∷ ps) os d free e =
-    put_whole os d free p (q ∷ ps) _ (first_true (ends_well p.lexeme false) (all_end_well (q ∷ ps)) e)
-    (line_whole (q ∷ ps) os _ _ (second_true (ends_well p.lexeme false) (all_end_well (q ∷ ps)) e))
+    put_whole os d free p (q ∷ ps) (put_on_line os (depth_behind d p.lexeme) (begins_term p.lexeme) (q ∷ ps)) (first_true (ends_well p.lexeme false) (all_end_well (q ∷ ps)) e)
+    (line_whole (q ∷ ps) os (depth_behind d p.lexeme) (begins_term p.lexeme) (second_true (ends_well p.lexeme false) (all_end_well (q ∷ ps)) e))
 
 -- ---- the words of the directive
 

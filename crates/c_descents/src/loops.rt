@@ -172,7 +172,7 @@ fn with(len: usize, more: usize) -> Result<usize, AllocError>
 impl<'a, 'l, 's> Loop<'a, 'l, 's> {
     ghost use Rattle.std.specs.Prelude.{◌≡◌, ◌++◌, IfOk, OnOk};
     ghost use Rattle.c_grammar.specs.Descents.{head, len, stands, step};
-    ghost use Rattle.c_descents.specs.Loops.{seen_loop};
+    ghost use Rattle.c_descents.specs.Loops.{back_of, front_of, seen_loop};
     ghost use Rattle.c_descents.specs.Parts.{all_parts};
     ghost use Rattle.c_terminals.specs.Seen.{seen_all};
 
@@ -208,15 +208,32 @@ impl<'a, 'l, 's> Loop<'a, 'l, 's> {
         put_steps(done, &self.parts.back[..len])
     }
 
-    /// The head with which it counts up.
-    pub fn put_head(&self, done: &mut Vec<Token<'a, 'l>>) -> Result<(), AllocError>
-        ensures { OnOk result (seen_all done.new.items ≡ seen_all done.old.items ++ head (seen_loop self.now)) }
+    // `( TYPE NAME =`, the first number and `; NAME`.
+    fn put_front(&self, done: &mut Vec<Token<'a, 'l>>) -> Result<(), AllocError>
+        ensures { OnOk result (seen_all done.new.items ≡ seen_all done.old.items ++ front_of (seen_loop self.now)) }
     {
         done.extend_from_slice(self.parts.front)?;
         done.extend_from_slice(&self.first)?;
         done.extend_from_slice(self.parts.middle)?;
+        Ok(())
+    }
+
+    // `<=`, the last number and the step.
+    fn put_back(&self, done: &mut Vec<Token<'a, 'l>>) -> Result<(), AllocError>
+        ensures { OnOk result (seen_all done.new.items ≡ seen_all done.old.items ++ back_of (seen_loop self.now)) }
+    {
         done.push(self.parts.compares.at(Terminal::Sign(Sign::LessEqual)))?;
         done.extend_from_slice(&self.last)?;
-        self.put_step(done)
+        self.put_step(done)?;
+        Ok(())
+    }
+
+    /// The head with which it counts up.
+    pub fn put_head(&self, done: &mut Vec<Token<'a, 'l>>) -> Result<(), AllocError>
+        ensures { OnOk result (seen_all done.new.items ≡ seen_all done.old.items ++ head (seen_loop self.now)) }
+    {
+        self.put_front(done)?;
+        self.put_back(done)?;
+        Ok(())
     }
 }
