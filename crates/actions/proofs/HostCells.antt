@@ -1,35 +1,27 @@
 -- One cell of the host memory.
-use Rattle.std.proofs.Common.{◌≡◌, ◌⊎◌, ℕ, zero, suc, ◌+◌, ◌-◌, ◌==◌, ◌∷◌, [], Bool, true, false, List, map, length, Some, refl, sym, ◌∙◌, ap, inl, inr, arith, Vec, Global}
+use Rattle.std.proofs.Common.{◌≡◌, ◌⊎◌, ℕ, ◌+◌, ◌-◌, ◌==◌, ◌∷◌, [], Bool, true, false, List, length, Some, refl, sym, ◌∙◌, ap, inl, inr, arith}
 use Rattle.std.specs.Prelude.{if◌then◌else◌, nat_lt, slice_get, slice_index, slice_range}
 use Rattle.std.proofs.lemmas.Bool.{and_parts, and_from, eqb-true, eq-eqb, ltb-true, cases_Bool}
 use mathlib.Core.Path.{fun_ext}
 use Rattle.base.specs.declared.item.Cell.{Cell}
 use Rattle.base.specs.declared.item.Section.{Section}
-use Rattle.base.specs.declared.memory.Memory.{Memory as Arrays}
-use Rattle.base.specs.Arrays.{IsWithin, items_of, length_of, lengths_of, memory_of, row_of}
+use Rattle.host_memory.specs.declared.memory.Memory.{Memory as Arrays}
+use Rattle.host_memory.specs.Arrays.{IsWithin, lengths_of, memory_of, row_of}
+use Rattle.host_memory.proofs.HostRows.{row_length}
 use Rattle.base.specs.Memory.{end_of, is_cell, is_in, same_cell, within}
 use Rattle.base.proofs.Sections.{in_parts, in_from, first_in}
 use Rattle.present.proofs.Copies.{host_number}
 use Rattle.actions.specs.Acting.{alone}
 
-pub length_at : (m : Arrays) (a : ℕ) → slice_index (lengths_of m) a ≡ length (row_of m a)
-length_at m a = go m.arrays.items a
-  where
-    go : (rows : List (Vec ℕ Global)) (a : ℕ) →
-        slice_index (map length_of rows) a ≡ length (items_of (slice_get rows a))
-    go [] a = refl
-    go (x ∷ rows) zero = refl
-    go (x ∷ rows) (suc a) = go rows a
-
 pub has_length : (m : Arrays) (c : Cell) (n : ℕ) → n ≡ length (row_of m c.array.0) →
     nat_lt c.index n ≡ is_cell (lengths_of m) c
-has_length m c n e = ap (nat_lt c.index) (e ∙ sym (length_at m c.array.0))
+has_length m c n e = ap (nat_lt c.index) (e ∙ sym (row_length m c.array.0))
 
 module _ (m : Arrays) (c : Cell) where
   pub cell_within : is_cell (lengths_of m) c ≡ true → IsWithin m (alone c)
   cell_within e =
       let l = ltb-true c.index (slice_index (lengths_of m) c.array.0) e in
-      let s = length_at m c.array.0 in
+      let s = row_length m c.array.0 in
       record { has_cells = omega arith; end = omega arith }
 
   pub number_there : is_cell (lengths_of m) c ≡ true →

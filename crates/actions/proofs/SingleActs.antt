@@ -2,8 +2,8 @@
 use Rattle.std.proofs.Common.{◌≡◌, ℕ, Bool, true, Option, Some, refl, sym, ◌∙◌, subst}
 use Rattle.std.specs.Prelude.{IsSomeAnd, if◌then◌else◌, option_map}
 use Rattle.base.specs.declared.item.Cell.{Cell}
-use Rattle.base.specs.declared.memory.Memory.{Memory as Arrays}
-use Rattle.base.specs.Arrays.{lengths_of, memory_of}
+use Rattle.host_memory.specs.declared.memory.Memory.{Memory as Arrays}
+use Rattle.host_memory.specs.Arrays.{lengths_of, memory_of}
 use Rattle.base.specs.Map.{Device, Memories}
 use Rattle.base.specs.Memory.{is_cell, same_cell}
 use Rattle.fine_machine.specs.Action.{loaded, on_cell, with_host}

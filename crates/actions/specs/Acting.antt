@@ -5,8 +5,8 @@ use Rattle.base.specs.declared.item.MapItem.{MapItem}
 use Rattle.base.specs.declared.item.Section.{Section}
 use Rattle.base.specs.declared.fault.RunFault.{RunFault}
 use Rattle.base.specs.declared.fault.RunFault.TheVariants as fault
-use Rattle.base.specs.declared.memory.Memory.{Memory as Arrays}
-use Rattle.base.specs.Arrays.{lengths_of}
+use Rattle.host_memory.specs.declared.memory.Memory.{Memory as Arrays}
+use Rattle.host_memory.specs.Arrays.{lengths_of}
 use Rattle.base.specs.Memory.{is_cell}
 use Rattle.base.specs.Map.{Device}
 use Rattle.fine_machine.specs.Action.{act}

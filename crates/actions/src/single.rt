@@ -1,9 +1,9 @@
 // A single action on the memories.
 
 ghost use Rattle.std.specs.Prelude.{◌≡◌, IfErr, IfOk, OnErr, OnOk, Bool, true, [], ◌∷◌, if◌then◌else◌};
-ghost use Rattle.base.specs.Arrays.{lengths_of, memory_of};
+ghost use Rattle.host_memory.specs.Arrays.{lengths_of, memory_of};
 ghost use Rattle.base.specs.Memory.{is_cell, same_cell};
-ghost use Rattle.base.specs.declared.memory.Memory.{Memory as Arrays};
+ghost use Rattle.host_memory.specs.declared.memory.Memory.{Memory as Arrays};
 ghost use Rattle.present.specs.Blocks.{IsSection};
 ghost use Rattle.present.specs.Table.{CountFits, HasRoom, IsAbsent, IsKept, IsUnchanged};
 ghost use Rattle.actions.specs.Acting.{Acts, CountsOn, FitsIn, InHost, IsActFault, IsDone, IsRefused, alone, decides, gives};
@@ -14,8 +14,8 @@ ghost use Rattle.fine_machine.specs.Left as left;
 use crate::action::{Action, Given};
 use base::fault::RunFault;
 use base::item::{Cell, MapItem, Section};
-use base::memory::Memory;
 use base::tree::CombineOp;
+use host_memory::Memory;
 use operators::of_combined;
 use present::Table;
 

@@ -3,7 +3,6 @@ pub mod Updates
 pub mod Runs
 pub mod Closing
 pub mod Places
-pub mod HostRows
 pub mod Nils
 pub mod Leasts
 pub mod Sections

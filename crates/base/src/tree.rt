@@ -223,6 +223,14 @@ impl Default for DeviceId {
     }
 }
 
+/// The device of a directive as it is written.
+#[derive(Clone, Copy)]
+pub enum DeviceText {
+    Fixed(DeviceId),
+    /// The value of a loop around, by how many loops stand around that one.
+    LoopName(u32),
+}
+
 /// A map item as it is written.
 #[derive(Drop, Default)]
 pub struct MapText<K> {
@@ -250,7 +258,7 @@ pub struct DependText {
 pub struct Tasking {
     pub nowait: bool,
     pub depends: SmallVec<DependText, 2>,
-    pub device: DeviceId,
+    pub device: DeviceText,
 }
 
 /// A `target`: the place of its `#`, and its clauses.
@@ -266,7 +274,7 @@ pub struct Target {
 pub struct Data {
     pub place: Place,
     pub maps: SmallVec<MapText<RegionKind>, 2>,
-    pub device: DeviceId,
+    pub device: DeviceText,
 }
 
 /// A directive that stands alone.

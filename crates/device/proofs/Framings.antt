@@ -10,7 +10,7 @@ use Rattle.base.specs.declared.item.ItemKind.{ItemKind}
 use Rattle.base.specs.declared.item.ItemKind.TheVariants as kind
 use Rattle.base.specs.declared.tree.Program.{Program}
 use Rattle.base.specs.declared.tree.Region.{Region}
-use Rattle.base.specs.Arrays.{lengths_of, memory_of}
+use Rattle.host_memory.specs.Arrays.{lengths_of, memory_of}
 use Rattle.base.specs.Memory.{View, Scalars, view_of}
 use Rattle.base.specs.Meaning.{run_region}
 use Rattle.base.specs.Items.{Work, Plan, plan}

@@ -7,7 +7,7 @@ use Rattle.base.specs.declared.item.Item.{Item}
 use Rattle.base.specs.declared.item.ItemKind.TheVariants as kind
 use Rattle.base.specs.declared.tree.Region.{Region}
 use Rattle.base.specs.Accepted.{is_target}
-use Rattle.base.specs.Arrays.{lengths_of}
+use Rattle.host_memory.specs.Arrays.{lengths_of}
 use Rattle.base.specs.Items.{Work, plan}
 use Rattle.base.specs.Machine.{enabled}
 use Rattle.base.specs.Turns.{Independent, turns_at}

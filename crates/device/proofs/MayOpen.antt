@@ -9,9 +9,9 @@ use Rattle.base.specs.declared.item.Event.TheVariants as event
 use Rattle.base.specs.declared.item.Item.{Item}
 use Rattle.base.specs.declared.item.ItemKind.{ItemKind}
 use Rattle.base.specs.declared.item.MapItem.{MapItem}
-use Rattle.base.specs.declared.memory.Memory.{Memory as Arrays}
+use Rattle.host_memory.specs.declared.memory.Memory.{Memory as Arrays}
 use Rattle.base.specs.declared.tree.Program.{Program}
-use Rattle.base.specs.Arrays.{lengths_of, row_of}
+use Rattle.host_memory.specs.Arrays.{lengths_of, row_of}
 use Rattle.base.specs.Memory.{end_of}
 use Rattle.base.specs.Items.{Work, plan}
 use Rattle.base.specs.Map.{Block, in_use, memories_at, need}
@@ -42,7 +42,7 @@ use Rattle.device.proofs.Starts.{as_many}
 use Rattle.std.proofs.Common.{get_or}
 use Rattle.std.proofs.lemmas.Option.{slice_get-get_or}
 use Rattle.device.proofs.Counts.{table_counts}
-use Rattle.device.proofs.Moving.{row_length}
+use Rattle.host_memory.proofs.HostRows.{row_length}
 use Rattle.device.proofs.Tables.{are_kept, each_table, still_alike}
 use Rattle.device.proofs.Openings.{is_opened, on_work, opens_by, shown_memories}
 use Rattle.device.proofs.Reaching.{Next, asked, before, next}
@@ -112,7 +112,7 @@ module _ (p : Program) (now : Arrays) (w : Work) (fine : IsFine (plan p).lengths
   within k m e =
       let s = section_at k m e in
       let n : length (row_of now m.section.array.0) ≡ slice_index (plan p).lengths m.section.array.0 =
-      row_length now m.section.array.0 ∙ ap (λ ls. slice_index ls m.section.array.0) lengths in
+      sym (row_length now m.section.array.0) ∙ ap (λ ls. slice_index ls m.section.array.0) lengths in
       record { has_cells = s.0; end = (let u = s.1 in omega arith) }
 
 -- what is known of an item of a run

@@ -1,16 +1,14 @@
 -- Rules in turn, and what the table and the host memory show after them.
-use Rattle.std.proofs.Common.{◌≡◌, ◌+◌, ◌<◌, ◌≤◌, ℕ, zero, suc, List, [], ◌∷◌, map, get_or, length, drop, Option, Some, None, refl, sym, ap, ◌∙◌, subst, arith}
+use Rattle.std.proofs.Common.{◌≡◌, ◌+◌, ◌<◌, ◌≤◌, ℕ, List, [], ◌∷◌, get_or, length, drop, Option, Some, None, refl, sym, ap, ◌∙◌, subst}
 use Rattle.std.proofs.lemmas.Option.{same_Some}
 use Rattle.std.proofs.lemmas.List.{drop_all}
 use Rattle.base.specs.declared.item.MapItem.{MapItem}
-use Rattle.base.specs.declared.memory.Memory.{Memory as Arrays}
+use Rattle.host_memory.specs.declared.memory.Memory.{Memory as Arrays}
 use Rattle.base.specs.Map.{Memories, in_turn}
 use Rattle.present.specs.declared.Table.{Table}
-use Rattle.std.specs.Prelude.{Vec, slice_get, slice_index}
-use Rattle.std.specs.declared.alloc.Global.{Global}
 use Rattle.std.proofs.lemmas.Option.{slice_get-get_or}
-use Rattle.base.specs.declared.item.Section.{Section}
-use Rattle.base.specs.Arrays.{IsWithin, items_of, length_of, lengths_of, row_of}
+use Rattle.host_memory.specs.Arrays.{IsWithin, lengths_of}
+use Rattle.host_memory.proofs.HostRows.{same_within}
 use Rattle.present.specs.Table.{Are, IsKept, AreWithin, memories}
 use Rattle.present.proofs.NeededCells.{drop_item}
 use Rattle.device.specs.Moves.{Goes, Leads}
@@ -57,24 +55,6 @@ module _ (f : MapItem → Memories → Option Memories) (item : MapItem) (rest :
 
 pub none_leads : (f : MapItem → Memories → Option Memories) (t : Table) (h : Arrays) → Leads (in_turn f []) t h t h
 none_leads f t h d m shown e = subst (λ x. Are h t x) (same_Some (memories h d) m e) (record { host = refl; shown = shown })
-
--- how many cells an array has
-pub row_length : (h : Arrays) (a : ℕ) → length (row_of h a) ≡ slice_index (lengths_of h) a
-row_length h a = go h.arrays.items a
-  where
-    go : (rows : List (Vec ℕ Global)) (a : ℕ) → length (items_of (slice_get rows a)) ≡ slice_index (map length_of rows) a
-    go [] a = refl
-    go (row ∷ rows) zero = refl
-    go (row ∷ rows) (suc a) = go rows a
-
-pub same_within : (h h' : Arrays) (s : Section) → lengths_of h' ≡ lengths_of h → IsWithin h s → IsWithin h' s
-same_within h h' s e w = record {
-  has_cells = w.has_cells;
-  end =
-      let same : length (row_of h s.array.0) ≡ length (row_of h' s.array.0) =
-      row_length h s.array.0 ∙ ap (λ ls. slice_index ls s.array.0) (sym e) ∙ sym (row_length h' s.array.0) in
-      let k = w.end in omega arith;
-}
 
 -- after the first i of these map items
 pub record InTheMidst (f : MapItem → Memories → Option Memories) (maps : List MapItem) (i : ℕ) (t0 : Table) (h0 : Arrays)

@@ -10,8 +10,8 @@ use Rattle.base.specs.declared.item.Item.{Item}
 use Rattle.base.specs.declared.item.ItemKind.{ItemKind}
 use Rattle.base.specs.declared.item.ItemKind.TheVariants as kind
 use Rattle.base.specs.declared.item.Event.TheVariants as event
-use Rattle.base.specs.declared.memory.Memory.{Memory as Arrays}
-use Rattle.base.specs.Arrays.{lengths_of}
+use Rattle.host_memory.specs.declared.memory.Memory.{Memory as Arrays}
+use Rattle.host_memory.specs.Arrays.{lengths_of}
 use Rattle.base.specs.Items.{Work, Plan}
 use Rattle.base.specs.Map.{Device, Fill, Memories, memories_at}
 use Rattle.base.specs.Memory.{changed}

@@ -2,7 +2,7 @@
 use Rattle.std.proofs.Common.{◌≡◌, ℕ, zero, suc, List, [], ◌∷◌, Option, refl, sym, ap, ◌∙◌, subst}
 use Rattle.std.specs.List.{slice_set}
 use Rattle.base.specs.declared.item.ItemKind.{ItemKind}
-use Rattle.base.specs.declared.memory.Memory.{Memory as Arrays}
+use Rattle.host_memory.specs.declared.memory.Memory.{Memory as Arrays}
 use Rattle.frames.specs.Reach.{in_reach}
 use Rattle.frames.specs.Views.{every}
 use Rattle.kernel.specs.declared.frames.Frame.{Frame}
@@ -15,21 +15,13 @@ use Rattle.device.specs.Opening.{HasCells, IsFilled}
 use Rattle.device.specs.declared.devices.Devices.{Devices}
 use Rattle.device.specs.Devices.{AreKept, Becomes, LooksTheSame}
 use Rattle.device.specs.Moves.{Leads}
+use Rattle.present.proofs.SameHost.{shows_unchanged}
 use Rattle.device.proofs.Tables.{are_kept, here, same_table}
 
 set_again : {A : Type 0} (xs : List A) (i : ℕ) (x y : A) → slice_set (slice_set xs i x) i y ≡ slice_set xs i y
 set_again [] i x y = refl
 set_again (z ∷ xs) zero x y = refl
 set_again (z ∷ xs) (suc i) x y = ap (λ zs. z ∷ zs) (set_again xs i x y)
-
--- what a table shows is told by what is seen of it
-pub shows_unchanged : (t t' : Table) → IsUnchanged t t' → (d : Device) → Shows t d → Shows t' d
-shows_unchanged t t' u d h = record {
-  apart = h.apart;
-  blocks = λ c. h.blocks c ∙ sym (ap (λ f. f c) u.blocks);
-  numbers = λ c. h.numbers c ∙ sym (ap (λ f. f c) u.numbers);
-  in_use = h.in_use ∙ sym u.in_use;
-}
 
 module _ (d : ℕ) (old now new : Devices) (tab : Table) (b : Becomes d old now tab) (same : LooksTheSame d now new) where
   -- the table that looks the same is the one that it became before

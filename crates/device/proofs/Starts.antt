@@ -4,7 +4,7 @@ use Rattle.std.specs.Prelude.{replicate, option_map, slice_get, slice_index}
 use Rattle.std.proofs.lemmas.Bool.{true≢false}
 use Rattle.std.proofs.lemmas.List.{length-map, length-replicate}
 use Rattle.base.specs.declared.item.Item.{Item}
-use Rattle.base.specs.Arrays.{memory_of, lengths_of}
+use Rattle.host_memory.specs.Arrays.{memory_of, lengths_of}
 use Rattle.base.specs.Memory.{zeros}
 use Rattle.base.specs.Items.{Work, Plan}
 use Rattle.base.specs.Machine.{start}

@@ -6,7 +6,7 @@ use Rattle.base.specs.declared.item.Item.{Item}
 use Rattle.base.specs.declared.item.MapItem.{MapItem}
 use Rattle.base.specs.declared.item.Event.TheVariants as event
 use Rattle.base.specs.declared.tree.Region.{Region}
-use Rattle.base.specs.Arrays.{memory_of, lengths_of}
+use Rattle.host_memory.specs.Arrays.{memory_of, lengths_of}
 use Rattle.base.specs.Memory.{View, Scalars}
 use Rattle.base.specs.Meaning.{run_region}
 use Rattle.base.specs.Items.{Work, Plan}

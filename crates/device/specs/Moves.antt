@@ -6,7 +6,7 @@ use Rattle.base.specs.declared.item.ItemKind.{ItemKind}
 use Rattle.base.specs.declared.item.ItemKind.TheVariants as kind
 use Rattle.base.specs.declared.fault.RunFault.{RunFault}
 use Rattle.base.specs.declared.fault.RunFault.TheVariants as fault
-use Rattle.base.specs.declared.memory.Memory.{Memory as Arrays}
+use Rattle.host_memory.specs.declared.memory.Memory.{Memory as Arrays}
 use Rattle.base.specs.Map.{Block, Device, Fill, Memories, enter, in_turn, leave, update}
 use Rattle.present.specs.declared.Table.{Table}
 use Rattle.base.specs.Memory.{View}

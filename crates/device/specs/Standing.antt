@@ -4,7 +4,7 @@ use Rattle.base.specs.declared.item.Event.{Event}
 use Rattle.base.specs.declared.item.ItemKind.{ItemKind}
 use Rattle.base.specs.declared.item.ItemKind.TheVariants as kind
 use Rattle.base.specs.declared.tree.Region.{Region}
-use Rattle.base.specs.Arrays.{memory_of, lengths_of}
+use Rattle.host_memory.specs.Arrays.{memory_of, lengths_of}
 use Rattle.base.specs.Memory.{View, Scalars}
 use Rattle.base.specs.Meaning.{Run as Region_run, run_region}
 use Rattle.base.specs.Items.{Work, Plan}

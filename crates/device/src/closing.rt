@@ -2,7 +2,7 @@
 
 ghost use Rattle.std.specs.Prelude.{◌≡◌, ◌<◌, ◌≤◌, ◌^◌, true, false, None, OnErr, OnOk, length, map};
 ghost use Rattle.std.specs.List.{slice_set};
-ghost use Rattle.base.specs.Arrays.{lengths_of};
+ghost use Rattle.host_memory.specs.Arrays.{lengths_of};
 ghost use Rattle.base.specs.declared.item.Event.TheVariants as event;
 ghost use Rattle.taskgraph.specs.Board.{allows};
 ghost use Rattle.frames.specs.Views.{AreCells};

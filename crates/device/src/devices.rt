@@ -1,7 +1,7 @@
 // The storage of each device.
 
 ghost use Rattle.std.specs.Prelude.{◌≡◌, ◌+◌, ◌<◌, ◌≤◌, ◌^◌, [], true, Some, None, IfErr, OnErr, OnOk, length};
-ghost use Rattle.base.specs.Arrays.{lengths_of};
+ghost use Rattle.host_memory.specs.Arrays.{lengths_of};
 ghost use Rattle.frames.specs.Views.{AreCells};
 ghost use Rattle.kernel.specs.Rows.{cells_stored};
 ghost use Rattle.present.specs.Table.{AreSections, AreWithin, HasRoom, fill_of};
@@ -11,8 +11,8 @@ ghost use Rattle.device.specs.Moves.{AreCounted, Goes, IsMapsFault, LeavesFrom, 
 use crate::moves::{leave_maps, open_maps};
 use base::fault::RunFault;
 use base::item::{ItemKind, MapItem};
-use base::memory::Memory;
 use base::tree::DeviceId;
+use host_memory::Memory;
 use kernel::KeptRow;
 use present::Table;
 use std::alloc::Global;

@@ -2,7 +2,7 @@
 
 ghost use Rattle.std.specs.Prelude.{◌≡◌, ◌<◌, false, IfOk, length};
 ghost use Rattle.base.specs.Accepted.{is_host, is_target};
-ghost use Rattle.base.specs.Arrays.{lengths_of};
+ghost use Rattle.host_memory.specs.Arrays.{lengths_of};
 ghost use Rattle.base.specs.Items.{plan};
 ghost use Rattle.device.specs.Framing.{Captures, FramesWell};
 ghost use Rattle.device.specs.Opening.{IsEmpty};

@@ -1,7 +1,7 @@
 // Exits and updates in turn, none of which overlaps a block in part.
 
 ghost use Rattle.std.specs.Prelude.{◌≡◌, ◌+◌, ◌≤◌, ◌^◌, true, IfErr, OnErr, OnOk, length};
-ghost use Rattle.base.specs.Arrays.{IsWithin, lengths_of};
+ghost use Rattle.host_memory.specs.Arrays.{IsWithin, lengths_of};
 ghost use Rattle.base.specs.Map.{in_turn, leave, update};
 ghost use Rattle.present.specs.Blocks.{IsSection};
 ghost use Rattle.present.specs.Table.{AreSections, AreWithin, HasRoom, IsKept, IsUnchanged, entries, fill_of};
@@ -11,8 +11,8 @@ ghost use Rattle.device.specs.Moves.{AreCounted, Goes, IsMapsFault, Leads, Leave
 
 use base::fault::RunFault;
 use base::item::{ItemKind, MapItem, MapKind};
-use base::memory::Memory;
 use frames::store_kernel;
+use host_memory::Memory;
 use kernel::KeptRow;
 use present::Table;
 
@@ -61,12 +61,13 @@ pub fn leave_maps(table: &mut Table, host: &mut Memory, rows: &[KeptRow], maps: 
 }
 
 // Copies a section to the device.
-fn bring_in(table: &mut Table, host: &Memory, item: &MapItem)
+fn bring_in(table: &mut Table, host: &mut Memory, item: &MapItem)
     requires section { IsSection item.now.section }
-    requires within { IsWithin host.now item.now.section }
+    requires within { IsWithin host.old item.now.section }
     requires to { item.now.kind ≡ MapKind.To }
-    requires goes { Goes (update item.now) table.old host.now }
-    ensures brought { Leads (update item.now) table.old host.now table.new host.now }
+    requires goes { Goes (update item.now) table.old host.old }
+    ensures brought { Leads (update item.now) table.old host.old table.new host.new }
+    ensures lengths { lengths_of host.new ≡ lengths_of host.old }
     ensures kept { IsKept table.old table.new }
 {
     match table.copy_in(&item.section, host) {
@@ -76,13 +77,14 @@ fn bring_in(table: &mut Table, host: &Memory, item: &MapItem)
 }
 
 // Copies a section to the host.
-fn bring_out(table: &Table, host: &mut Memory, item: &MapItem)
+fn bring_out(table: &mut Table, host: &mut Memory, item: &MapItem)
     requires section { IsSection item.now.section }
     requires within { IsWithin host.old item.now.section }
     requires from { item.now.kind ≡ MapKind.From }
-    requires goes { Goes (update item.now) table.now host.old }
-    ensures brought { Leads (update item.now) table.now host.old table.now host.new }
+    requires goes { Goes (update item.now) table.old host.old }
+    ensures brought { Leads (update item.now) table.old host.old table.new host.new }
     ensures lengths { lengths_of host.new ≡ lengths_of host.old }
+    ensures kept { IsKept table.old table.new }
 {
     match table.copy_out(&item.section, host) {
         Err(_) => {}
@@ -134,19 +136,21 @@ pub fn update_all(table: &mut Table, host: &mut Memory, maps: &[MapItem])
 // Several entries, or none of them.
 fn enter_all(
     table: &mut Table,
-    host: &Memory,
+    host: &mut Memory,
     entered: &mut u64,
     maps: &[MapItem],
 ) -> Result<(), RunFault>
     requires sections { AreSections maps.now }
-    requires within { AreWithin host.now maps.now }
+    requires within { AreWithin host.old maps.now }
     requires counted { AreCounted table.old entered.old }
-    requires goes { Goes (entries table.old maps.now) table.old host.now }
-    ensures entered { OnOk result (Leads (entries table.old maps.now) table.old host.now table.new host.now) }
+    requires goes { Goes (entries table.old maps.now) table.old host.old }
+    ensures entered { OnOk result (Leads (entries table.old maps.now) table.old host.old table.new host.new) }
     ensures number { OnOk result (entered.new ≡ entered.old + length maps.now) }
     ensures room { OnOk result (HasRoom table.old maps.now) }
     ensures fault { IfErr result (IsMapsFault table.old ItemKind.Enter maps.now) }
     ensures unchanged { OnErr result (IsUnchanged table.old table.new × (entered.new ≡ entered.old)) }
+    ensures same_host { OnErr result (host.new ≡ host.old) }
+    ensures lengths { lengths_of host.new ≡ lengths_of host.old }
     ensures kept { IsKept table.old table.new }
 {
     let more = maps.len() as u64;

@@ -13,7 +13,7 @@ ghost use Rattle.device.specs.Standing.{IsAt, Follows, Stays, issue_of};
 use crate::devices::Devices;
 use crate::output::Output;
 use crate::shared_frame::SharedFrame;
-use base::memory::Memory;
+use host_memory::Memory;
 use kernel::Scalars;
 use lower::Image;
 use std::alloc::{AllocError, Global};

@@ -2,7 +2,7 @@
 
 ghost use Rattle.std.specs.Prelude.{◌≡◌, ◌++◌, ◌∷◌, [], true, IsTrue, IfErr, IfOk, is_ok, OnOk, OnErr, None, length, map, option_map, replicate, List};
 ghost use Rattle.base.specs.declared.item.Event.{Event};
-ghost use Rattle.base.specs.Arrays.{memory_of};
+ghost use Rattle.host_memory.specs.Arrays.{memory_of};
 ghost use Rattle.base.specs.Items.{plan};
 ghost use Rattle.base.specs.Meaning.{output_of};
 ghost use Rattle.base.specs.Headline.{AreNumbers};
@@ -16,8 +16,8 @@ ghost use Rattle.device.specs.Running.{IsReached};
 use crate::standing::Standing;
 use base::fault::RunFault;
 use base::item::{Cell, Event, Section};
-use base::memory::Memory;
 use base::tree::{DeviceId, Program};
+use host_memory::Memory;
 use lower::Image;
 use std::alloc::{AllocError, Global};
 use std::marker::Model;

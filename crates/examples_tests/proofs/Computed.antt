@@ -31,7 +31,8 @@ use Rattle.base.specs.declared.tree.Part.{Part}
 use Rattle.base.specs.declared.tree.Part.TheVariants as part
 use Rattle.base.specs.declared.tree.Region.{Region}
 use Rattle.base.specs.declared.tree.Directive.TheVariants as directive
-use Rattle.base.specs.declared.tree.DeviceId.{DeviceId}
+use Rattle.base.specs.declared.tree.DeviceText.{DeviceText}
+use Rattle.base.specs.declared.tree.DeviceText.TheVariants as on
 use Rattle.base.specs.declared.tree.Tasking.{Tasking}
 use Rattle.base.specs.declared.tree.Target.{Target}
 use Rattle.base.specs.declared.tree.UpdateText.{UpdateText}
@@ -158,8 +159,8 @@ module _ (v : Vec (Unit {0}) Global) (p : Box (Unit {0}) Global) where
   abbrev map_item : {K : Type 0} → K → SectionText → MapText K
   map_item kind s = record { kind = kind; always = false; present = false; section = s }
 
-  abbrev first_device : DeviceId
-  first_device = record { number = 0; in_range = lit< tt }
+  abbrev first_device : DeviceText
+  first_device = on.Fixed (record { number = 0; in_range = lit< tt })
 
   abbrev tasking : Bool → Tasking
   tasking nowait =

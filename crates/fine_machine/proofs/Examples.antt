@@ -20,7 +20,8 @@ use Rattle.base.specs.declared.tree.Part.{Part}
 use Rattle.base.specs.declared.tree.Part.TheVariants as part
 use Rattle.base.specs.declared.tree.Region.{Region}
 use Rattle.base.specs.declared.tree.Directive.TheVariants as directive
-use Rattle.base.specs.declared.tree.DeviceId.{DeviceId}
+use Rattle.base.specs.declared.tree.DeviceText.{DeviceText}
+use Rattle.base.specs.declared.tree.DeviceText.TheVariants as on
 use Rattle.base.specs.declared.tree.Tasking.{Tasking}
 use Rattle.base.specs.declared.tree.Target.{Target}
 use Rattle.base.specs.declared.tree.UpdateText.{UpdateText}
@@ -69,13 +70,13 @@ module _ (v : Vec (Unit {0}) Global) (p : Box (Unit {0}) Global) where
   abbrev map_item : {K : Type 0} → K → SectionText → MapText K
   map_item kind s = record { kind = kind; always = false; present = false; section = s }
 
-  abbrev first_device : DeviceId
-  first_device = record { number = 0; in_range = lit< tt }
+  abbrev first_device : DeviceText
+  first_device = on.Fixed (record { number = 0; in_range = lit< tt })
 
-  abbrev second_device : DeviceId
-  second_device = record { number = 1; in_range = lit< tt }
+  abbrev second_device : DeviceText
+  second_device = on.Fixed (record { number = 1; in_range = lit< tt })
 
-  abbrev tasking_on : DeviceId → Bool → Tasking
+  abbrev tasking_on : DeviceText → Bool → Tasking
   tasking_on device nowait =
       record { nowait = nowait; device = device; depends = record { items = []; capacity = 2 } }
 
@@ -131,12 +132,12 @@ module _ (v : Vec (Unit {0}) Global) (p : Box (Unit {0}) Global) where
   its_history = refl
 
   -- the same on two devices: each has an array of its own, and one is brought back
-  abbrev entered_on : DeviceId → Part
+  abbrev entered_on : DeviceText → Part
   entered_on d =
       part.Alone here (directive.Enter (record { items = map_item entered.To (whole a) ∷ []; capacity = 2 })
       (tasking_on d false))
 
-  abbrev added_on : DeviceId → Part
+  abbrev added_on : DeviceText → Part
   added_on d =
       part.Target (record {
         place = here;
@@ -146,7 +147,7 @@ module _ (v : Vec (Unit {0}) Global) (p : Box (Unit {0}) Global) where
       (region (Store a here (Number 0) (Value (Binary' Add p (at_a (Number 0)) p (Number 1))) ∷ []) (lit< tt))
 
   -- an update from a device on which the array is to be present
-  abbrev back_from : DeviceId → Part
+  abbrev back_from : DeviceText → Part
   back_from d =
       let u : UpdateText = record { kind = updated.From; present = true; section = whole a } in part.Alone here
       (directive.Update (record { items = u ∷ []; capacity = 2 }) (tasking_on d false))

@@ -1,14 +1,15 @@
 -- Rows that have the cells of a view, as the cells of a frame.
-use Rattle.std.proofs.Common.{◌≡◌, ◌⊎◌, ℕ, zero, suc, ◌+◌, ◌-◌, ◌<◌, ◌≤◌, ◌^◌, Bool, true, false, List, [], ◌∷◌, ◌++◌, length, get_or, map, Option, Some, None, refl, sym, ap, ◌∙◌, inl, inr, true≢false, subst, length-append, arith, Vec, Global}
+use Rattle.std.proofs.Common.{◌≡◌, ◌⊎◌, ℕ, zero, suc, ◌+◌, ◌-◌, ◌<◌, ◌≤◌, ◌^◌, Bool, true, false, List, [], ◌∷◌, ◌++◌, length, get_or, Option, Some, None, refl, sym, ap, ◌∙◌, inl, inr, true≢false, subst, length-append, arith}
 use Rattle.std.specs.Prelude.{nat_le, nat_lt, slice_get, slice_index, slice_range, if◌then◌else◌}
 use Rattle.std.proofs.lemmas.Bool.{cases_Bool, leb-true, leb-false, ltb-true, ltb-false, lt-ltb}
 use Rattle.std.proofs.lemmas.Option.{slice_get-get_or, slice_get_within}
 use mathlib.Core.Path.{fun_ext}
 use Rattle.base.specs.declared.item.Cell.{Cell}
 use Rattle.base.specs.declared.item.Section.{Section}
-use Rattle.base.specs.declared.memory.Memory.{Memory as Arrays}
+use Rattle.host_memory.specs.declared.memory.Memory.{Memory as Arrays}
 use Rattle.base.specs.Memory.{View, end_of, is_in, view_of}
-use Rattle.base.specs.Arrays.{IsWithin, items_of, length_of, lengths_of, memory_of, row_of}
+use Rattle.host_memory.specs.Arrays.{IsWithin, lengths_of, memory_of, row_of}
+use Rattle.host_memory.proofs.HostRows.{row_length}
 use Rattle.base.proofs.Places.{get_left, get_right}
 use Rattle.kernel.specs.declared.frames.Row.{Row}
 use Rattle.base.specs.Rows.{at_index}
@@ -61,19 +62,11 @@ row_none view s none =
     let a = p.above in let b = p.below in absurd (omega arith)))
 
 -- cells of the host
-pub length_at : (m : Arrays) (a : ℕ) → slice_index (lengths_of m) a ≡ length (row_of m a)
-length_at m a = go m.arrays.items a
-  where
-    go : (rows : List (Vec ℕ Global)) (a : ℕ) → slice_index (map length_of rows) a ≡ length (items_of (slice_get rows a))
-    go [] a = refl
-    go (x ∷ rows) zero = refl
-    go (x ∷ rows) (suc a) = go rows a
-
 pub host_view : (m : Arrays) (c : Cell) → c.index < length (row_of m c.array.0) →
     view_of (lengths_of m) (memory_of m) c ≡ Some (memory_of m c)
 host_view m c h =
     ap (λ (t : Bool). if t then Some (memory_of m c) else None)
-    (lt-ltb c.index (slice_index (lengths_of m) c.array.0) (let l = length_at m c.array.0 in omega arith))
+    (lt-ltb c.index (slice_index (lengths_of m) c.array.0) (let l = row_length m c.array.0 in omega arith))
 
 pub row_of_host : (m : Arrays) (s : Section) → IsWithin m s → (i : ℕ) →
     at_index s.first (slice_range (row_of m s.array.0) s.first (end_of s)) i
@@ -88,7 +81,7 @@ row_of_host m s w =
 pub within_host : (m : Arrays) (s : Section) → 1 ≤ s.length →
     (1 ≤ s.length → end_of s ≤ slice_index (lengths_of m) s.array.0) → IsWithin m s
 within_host m s some h =
-    record { has_cells = some; end = subst (λ n. end_of s ≤ n) (length_at m s.array.0) (h some) }
+    record { has_cells = some; end = subst (λ n. end_of s ≤ n) (row_length m s.array.0) (h some) }
 
 pub empty_row : (view : View) (s : Section) (xs : List ℕ) → s.length ≡ 0 → xs ≡ [] → (r : Row) →
     numbers_in r.cells ≡ xs → r.first ≡ s.first → IsRow view s r

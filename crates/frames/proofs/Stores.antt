@@ -7,9 +7,11 @@ use mathlib.Core.Path.{fun_ext}
 use Rattle.base.specs.declared.item.Cell.{Cell}
 use Rattle.base.specs.declared.item.Section.{Section}
 use Rattle.base.specs.declared.tree.ArrayId.{ArrayId}
-use Rattle.base.specs.declared.memory.Memory.{Memory as Arrays}
+use Rattle.host_memory.specs.declared.memory.Memory.{Memory as Arrays}
 use Rattle.base.specs.Memory.{Memory, View, is_in, within}
-use Rattle.base.specs.Arrays.{items_of, row_of}
+use Rattle.host_memory.specs.Arrays.{items_of, row_of}
+use Rattle.shared_row.specs.declared.shared.SharedRow.{SharedRow}
+use Rattle.shared_row.specs.declared.shared.SharedRow.TheVariants as row
 use Rattle.base.specs.Rows.{at_index, if_marked}
 use Rattle.present.specs.Rows.{marked_at, marked_in}
 use Rattle.base.proofs.Sections.{in_parts, in_from}
@@ -25,9 +27,10 @@ small_vec v = let s = v.small in let o = v.ok in omega (arith, s, o.0, o.1)
 pub row_small : (m : Arrays) (a : ℕ) → length (row_of m a) < 2 ^ 64
 row_small m a = go (slice_get m.arrays.items a)
   where
-    go : (o : Option (Vec ℕ Global)) → length (items_of o) < 2 ^ 64
+    go : (o : Option SharedRow) → length (items_of o) < 2 ^ 64
     go None = omega arith
-    go (Some v) = small_vec v
+    go (Some (row.Sole numbers)) = small_vec numbers
+    go (Some (row.Shared several)) = small_vec several.row.value
 
 -- Marks.
 

@@ -1,7 +1,7 @@
 // The host memory's part of a frame, and what a run leaves in it.
 
 ghost use Rattle.std.specs.Prelude.{◌≡◌, ◌+◌, ◌-◌, ◌<◌, ◌≤◌, ◌^◌, All, ℕ, true, Some, IfOk, length, slice_get, slice_index};
-ghost use Rattle.base.specs.Arrays.{lengths_of, memory_of, row_of};
+ghost use Rattle.host_memory.specs.Arrays.{lengths_of, memory_of, row_of};
 ghost use Rattle.base.specs.Memory.{end_of, view_of, within};
 ghost use Rattle.frames.specs.Reach.{AreRuns, in_reach};
 ghost use Rattle.frames.specs.Rows.{AreNumbers, AreRows, IsRow, run_from};
@@ -12,8 +12,8 @@ ghost use Rattle.present.specs.Rows.{marked_in};
 ghost use Rattle.regions.specs.Footprints.{BoundedScalars, BoundedView};
 
 use base::item::{LoopValues, Section};
-use base::memory::Memory;
 use base::tree::ArrayId;
+use host_memory::Memory;
 use kernel::{Frame, KeptRow, Row, Scalars};
 use shared_row::{Marks, RowCells};
 use std::alloc::{AllocError, Global};

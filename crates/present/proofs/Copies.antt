@@ -6,10 +6,11 @@ use Rattle.std.proofs.lemmas.Option.{slice_get-get_or, unwrap_or-slice_get, get_
 use Rattle.std.proofs.lemmas.List.Edits.{length-between}
 use Rattle.base.specs.declared.item.Cell.{Cell}
 use Rattle.base.specs.declared.item.Section.{Section}
-use Rattle.base.specs.declared.memory.Memory.{Memory as Arrays}
+use Rattle.host_memory.specs.declared.memory.Memory.{Memory as Arrays}
 use Rattle.base.specs.Memory.{Memory, end_of, is_in, is_inside, within}
 use Rattle.base.specs.Map.{Device}
-use Rattle.base.specs.Arrays.{IsWithin, memory_of, overwritten, row_of}
+use Rattle.base.specs.Arrays.{overwritten}
+use Rattle.host_memory.specs.Arrays.{IsWithin, memory_of, row_of}
 use Rattle.base.proofs.Places.{get_take, get_drop, overwritten_before, overwritten_in, overwritten_after}
 use Rattle.shared_row.specs.Rows.{numbers_of}
 use Rattle.present.specs.declared.block.Block.{Block}

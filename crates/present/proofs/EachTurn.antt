@@ -4,8 +4,8 @@ use Rattle.std.specs.Prelude.{IsSomeAnd, option_map, if◌then◌else◌}
 use Rattle.base.specs.declared.item.MapItem.{MapItem}
 use Rattle.base.specs.declared.fault.RunFault.{RunFault}
 use Rattle.base.specs.declared.fault.RunFault.TheVariants as fault
-use Rattle.base.specs.declared.memory.Memory.{Memory as Arrays}
-use Rattle.base.specs.Arrays.{memory_of}
+use Rattle.host_memory.specs.declared.memory.Memory.{Memory as Arrays}
+use Rattle.host_memory.specs.Arrays.{memory_of}
 use Rattle.base.specs.Map.{Block as Present, Device, Memories, Move, Inside, presence, entry, enter, in_turn, copy_in, when, created, blocks_after, need}
 use Rattle.present.specs.declared.Table.{Table}
 use Rattle.present.specs.Blocks.{IsSection, present}

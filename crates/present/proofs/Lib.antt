@@ -18,3 +18,4 @@ pub mod WholeRows
 pub mod RunMarks
 pub mod Adopting
 pub mod SameNumbers
+pub mod SameHost

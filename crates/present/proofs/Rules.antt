@@ -5,9 +5,9 @@ use Rattle.base.specs.declared.item.Section.{Section}
 use Rattle.base.specs.declared.item.MapItem.{MapItem}
 use Rattle.base.specs.declared.fault.RunFault.{RunFault}
 use Rattle.base.specs.declared.fault.RunFault.TheVariants as fault
-use Rattle.base.specs.declared.memory.Memory.{Memory as Arrays}
+use Rattle.host_memory.specs.declared.memory.Memory.{Memory as Arrays}
 use Rattle.base.specs.Memory.{is_inside, within}
-use Rattle.base.specs.Arrays.{memory_of}
+use Rattle.host_memory.specs.Arrays.{memory_of}
 use Rattle.base.specs.Map.{Block as Present, Device, Fill, Memories, Move, Absent, Inside, InPart, presence, counted, without, entry, enter, leave, update, exit_count, exit_copies, copy_in, copy_out, when, with_blocks, with_cells}
 use Rattle.present.specs.declared.Table.{Table}
 use Rattle.present.specs.declared.block.Block.{Block}

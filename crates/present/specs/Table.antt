@@ -4,11 +4,11 @@ use Rattle.base.specs.declared.item.Cell.{Cell}
 use Rattle.base.specs.declared.item.Section.{Section}
 use Rattle.base.specs.declared.item.MapItem.{MapItem}
 use Rattle.base.specs.declared.item.MapKind.TheVariants.{To, From}
-use Rattle.base.specs.declared.memory.Memory.{Memory as Arrays}
+use Rattle.host_memory.specs.declared.memory.Memory.{Memory as Arrays}
 use Rattle.base.specs.declared.fault.RunFault.{RunFault}
 use Rattle.base.specs.declared.fault.RunFault.TheVariants as fault
 use Rattle.base.specs.Memory.{Memory, View, within}
-use Rattle.base.specs.Arrays.{memory_of, IsWithin}
+use Rattle.host_memory.specs.Arrays.{memory_of, IsWithin}
 use Rattle.base.specs.Map.{Block, Device, Fill, Memories, Move, Presence, Absent, Inside, InPart, presence, counted, without, entry, exit, exit_count, exit_copies, enter, in_turn, need}
 use Rattle.present.specs.declared.Table.{Table}
 use Rattle.present.specs.declared.presence.Presence.{Presence as Place}

@@ -1,12 +1,10 @@
 // A block of device storage.
 
-ghost use Rattle.std.specs.Prelude.{◌≡◌, ◌+◌, ◌<◌, ◌≤◌, Some, length, slice_get, slice_set};
-ghost use Rattle.base.specs.Arrays.{overwritten};
+ghost use Rattle.std.specs.Prelude.{◌≡◌, ◌<◌, Some, length, slice_get, slice_set};
 ghost use Rattle.base.specs.Map.{entry_copies, exit_copies, exit_count};
 ghost use Rattle.shared_row.specs.Rows.{numbers_of};
 
 use base::item::{MapItem, MapKind, Section};
-use base::memory::overwrite;
 use shared_row::SharedRow;
 use std::alloc::Global;
 
@@ -69,18 +67,6 @@ pub fn set_number(alloc: Global, values: &mut SharedRow, at: u64, number: u64)
     values.own(alloc);
     match values {
         SharedRow::Sole(values) => values[at as usize] = number,
-        SharedRow::Shared(_) => unreachable!(),
-    }
-}
-
-/// Writes these numbers over those from the place `at` on.
-pub fn set_numbers(alloc: Global, values: &mut SharedRow, at: u64, numbers: &[u64])
-    requires { at + length numbers.now ≤ length (numbers_of values.old) }
-    ensures { numbers_of values.new ≡ overwritten (numbers_of values.old) at numbers.now }
-{
-    values.own(alloc);
-    match values {
-        SharedRow::Sole(values) => overwrite(values, at, numbers),
         SharedRow::Shared(_) => unreachable!(),
     }
 }

@@ -1,7 +1,7 @@
 // Entries.
 
 ghost use Rattle.std.specs.Prelude.{◌≡◌, ◌+◌, ◌<◌, ◌≤◌, [], ◌∷◌, IfOk, IfErr, OnOk, OnErr, length};
-ghost use Rattle.base.specs.Arrays.{IsWithin};
+ghost use Rattle.host_memory.specs.Arrays.{IsSameMemory, IsWithin};
 ghost use Rattle.base.specs.Map.{enter};
 ghost use Rattle.present.specs.Blocks.{IsSection};
 ghost use Rattle.present.specs.Found.{IsAbsentAt};
@@ -13,7 +13,7 @@ use crate::block::{Block, copies_in};
 use crate::find::{Found, find};
 use base::fault::RunFault;
 use base::item::{MapItem, Section};
-use base::memory::Memory;
+use host_memory::Memory;
 use shared_row::SharedRow;
 use std::alloc::AllocError;
 
@@ -125,15 +125,16 @@ impl Table {
     /// One entry: creation, count and copy. The error is `DeviceFull` where it would create more cells than there is
     /// room for, `Absent` where the section overlaps a block in part, or is to be present and is absent, or
     /// `OutOfMemory`.
-    pub fn enter(&mut self, item: &MapItem, host: &Memory) -> Result<(), RunFault>
+    pub fn enter(&mut self, item: &MapItem, host: &mut Memory) -> Result<(), RunFault>
         requires section { IsSection item.now.section }
-        requires within { IsWithin host.now item.now.section }
+        requires within { IsWithin host.old item.now.section }
         requires count { CountFits self.old 1 item.now.section }
-        ensures entered { OnOk result (Does (enter (fill_of self.old) item.now) self.old host.now self.new host.now) }
+        ensures entered { OnOk result (Does (enter (fill_of self.old) item.now) self.old host.old self.new host.new) }
         ensures room { OnOk result (HasRoom self.old (item.now ∷ [])) }
         ensures fault { IfErr result (IsEntryFault self.old (item.now ∷ []) (Fails (enter
-            (fill_of self.old) item.now) self.old host.now)) }
-        ensures unchanged { OnErr result (IsUnchanged self.old self.new) }
+            (fill_of self.old) item.now) self.old host.old)) }
+        ensures unchanged { OnErr result (IsUnchanged self.old self.new × (host.new ≡ host.old)) }
+        ensures same_host { IsSameMemory host.old host.new }
         ensures kept { IsKept self.old self.new }
     {
         let counted = match self.count(item) {

@@ -1,7 +1,7 @@
 // Exits.
 
 ghost use Rattle.std.specs.Prelude.{◌≡◌, ◌<◌, IfErr, IfOk, OnErr, OnOk, length};
-ghost use Rattle.base.specs.Arrays.{IsWithin, lengths_of};
+ghost use Rattle.host_memory.specs.Arrays.{IsWithin, lengths_of};
 ghost use Rattle.base.specs.Map.{Device, leave};
 ghost use Rattle.present.specs.Blocks.{IsSection};
 ghost use Rattle.present.specs.Found.{IsInsideAt};
@@ -13,7 +13,7 @@ use crate::block::{copies_out, left};
 use crate::find::{Found, find};
 use base::fault::RunFault;
 use base::item::{MapItem, Section};
-use base::memory::Memory;
+use host_memory::Memory;
 
 impl Table {
     // Removes the block that stands here.

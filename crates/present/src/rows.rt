@@ -12,10 +12,10 @@ ghost use Rattle.shared_row.specs.Rows.{lent_numbers, marks_of, numbers_in, numb
 use crate::Table;
 use crate::block::Block;
 use crate::find::{Found, MOST_CELLS, find};
-use crate::update::part;
 use base::item::Section;
 use base::memory::overwrite;
 use base::tree::ArrayId;
+use host_memory::part;
 use shared_row::{LentRow, Marks, RowCells, SharedRow};
 use std::alloc::Global;
 use std::sync::Arc;

@@ -1,5 +1,6 @@
 -- Rows of numbers by value.
-use Rattle.std.specs.Prelude.{ℕ, ◌-◌, Bool, true, false, List, ◌++◌, replicate, slice_range, ◌+◌, vec_capacity}
+use Rattle.std.specs.Prelude.{ℕ, ◌≡◌, ◌≤◌, ◌-◌, Bool, true, false, List, [], ◌++◌, Vec, replicate, slice_range, ◌+◌, vec_capacity}
+use Rattle.std.specs.declared.alloc.Global.{Global}
 use Rattle.shared_row.specs.declared.shared.SharedRow.{SharedRow}
 use Rattle.shared_row.specs.declared.shared.SharedRow.TheVariants as row
 use Rattle.shared_row.specs.declared.several.LentRow.{LentRow}
@@ -34,3 +35,8 @@ room_in (cells.Lent lent) = lent.count
 abbrev pub marks_of : ℕ → Marks → List Bool
 marks_of n (marks.Run first end) = replicate first false ++ (replicate (end - first) true ++ replicate (n - end) false)
 marks_of n (marks.Each each) = each.items
+
+-- room for so many numbers, with none yet
+pub record IsRoom (n : ℕ) (room : Vec ℕ Global) : Type 0 where
+  pub empty : room.items ≡ []
+  pub fits : n ≤ vec_capacity room

@@ -1,7 +1,7 @@
 // Numbers with one owner or with several.
 
-ghost use Rattle.std.specs.Prelude.{◌≡◌, [], false, true, IfErr, IfOk, length};
-ghost use Rattle.shared_row.specs.Rows.{is_sole, numbers_of};
+ghost use Rattle.std.specs.Prelude.{◌≡◌, [], false, true, IfErr, IfOk, IfSome, length};
+ghost use Rattle.shared_row.specs.Rows.{IsRoom, is_sole, numbers_of};
 
 use crate::several::Several;
 use std::alloc::Global;
@@ -15,19 +15,50 @@ pub enum SharedRow {
     Shared(Several),
 }
 
+// Two rooms for as many numbers as the row has: its numbers' own, if they have no other owner, and a new one where there
+// is memory for it.
+fn rooms(alloc: Global, row: SharedRow) -> (Vec<u64>, Option<Vec<u64>>)
+    ensures first { IsRoom (length (numbers_of row)) result.0 }
+    ensures second { IfSome result.1 (IsRoom (length (numbers_of row))) }
+{
+    match row {
+        SharedRow::Sole(mut numbers) => {
+            let more = Vec::with_capacity(alloc, numbers.len());
+            numbers.clear();
+            (numbers, more.ok())
+        }
+        SharedRow::Shared(Several { row, room }) => match Arc::try_unwrap(row) {
+            Ok(mut numbers) => {
+                numbers.clear();
+                (numbers, Some(room))
+            }
+            Err(row) => {
+                let more = Vec::with_capacity(alloc, row.len());
+                (room, more.ok())
+            }
+        },
+    }
+}
+
+// The numbers, copied into room for them.
+fn filled(mut room: Vec<u64>, numbers: &[u64]) -> Vec<u64>
+    requires { IsRoom (length numbers.now) room }
+    ensures { result.items ≡ numbers.now }
+{
+    if room.extend_from_slice(numbers).is_err() {
+        unreachable!()
+    }
+    room
+}
+
 // The numbers with one owner.
 fn alone(several: Several) -> Vec<u64>
     ensures { result.items ≡ several.row.value.items }
 {
-    let Several { row, mut room } = several;
+    let Several { row, room } = several;
     match Arc::try_unwrap(row) {
         Ok(numbers) => numbers,
-        Err(row) => {
-            if room.extend_from_slice(&row).is_err() {
-                unreachable!()
-            }
-            room
-        }
+        Err(row) => filled(room, &row),
     }
 }
 
@@ -121,5 +152,28 @@ impl SharedRow {
         };
         *self = SharedRow::Shared(Several { row, room });
         true
+    }
+
+    /// The numbers become those of another row, which are as many. From then on they are in memory once, unless there is
+    /// no memory for that: then they are copied.
+    pub fn copy_from(&mut self, alloc: Global, other: &mut SharedRow)
+        requires { length (numbers_of self.old) ≡ length (numbers_of other.old) }
+        ensures copied { numbers_of self.new ≡ numbers_of other.old }
+        ensures same { numbers_of other.new ≡ numbers_of other.old }
+    {
+        if let SharedRow::Shared(several) = other {
+            if self.adopt(alloc, &several.row) {
+                return;
+            }
+        }
+        let (first, second) = rooms(alloc, replace(self, SharedRow::Sole(Vec::new(alloc))));
+        let Some(second) = second else {
+            *self = SharedRow::Sole(filled(first, other.numbers()));
+            return;
+        };
+        *self = match other.share(alloc, first) {
+            Ok(row) => SharedRow::Shared(Several { row, room: second }),
+            Err(first) => SharedRow::Sole(filled(first, other.numbers())),
+        };
     }
 }

@@ -9,7 +9,7 @@ use Rattle.fine_machine.specs.Action.{act}
 use Rattle.fine_machine.specs.Left.{Answer, Request, Load, Store, Combine, Enter, Leave, Remove, CopyIn, CopyOut}
 use Rattle.fine_machine.specs.Machine.{Condition, Opened, State, as_whole, whole_condition}
 use Rattle.base.specs.Items.{Plan}
-use Rattle.base.specs.Arrays.{lengths_of}
+use Rattle.host_memory.specs.Arrays.{lengths_of}
 use Rattle.present.specs.Table.{Are, fill_of, memories}
 use Rattle.device.specs.Moves.{CountsAtMost}
 use Rattle.device.proofs.Counts.{more}

@@ -4,8 +4,8 @@ use Rattle.std.specs.Prelude.{slice_get, nat_lt, ◌+◌, option_map}
 use Rattle.std.proofs.lemmas.Bool.{false≢true}
 use Rattle.std.proofs.lemmas.Option.{slice_get_within}
 use Rattle.base.specs.declared.item.Event.TheVariants.{Step}
-use Rattle.base.specs.declared.memory.Memory.{Memory as Arrays}
-use Rattle.base.specs.Arrays.{lengths_of}
+use Rattle.host_memory.specs.declared.memory.Memory.{Memory as Arrays}
+use Rattle.host_memory.specs.Arrays.{lengths_of}
 use Rattle.base.specs.Items.{Plan, Work}
 use Rattle.base.specs.Map.{Fill, Memories, in_use, memories_at}
 use Rattle.base.specs.Memory.{Memory, is_cell}

@@ -3,12 +3,12 @@ use Rattle.std.proofs.Common.{◌≡◌, ◌+◌, ◌-◌, ◌<◌, ℕ, zero, s
 use Rattle.std.specs.Prelude.{slice_get, slice_index, slice_range, unwrap_or}
 use Rattle.std.specs.List.{range_with_len}
 use Rattle.std.proofs.lemmas.List.{map-append, take_more}
-use Rattle.base.specs.declared.memory.Memory.{Memory as Arrays}
+use Rattle.host_memory.specs.declared.memory.Memory.{Memory as Arrays}
 use Rattle.base.specs.declared.tree.ArrayId.{ArrayId}
 use Rattle.base.specs.Answer.{array_values}
-use Rattle.base.specs.Arrays.{lengths_of, memory_of, row_of}
+use Rattle.host_memory.specs.Arrays.{lengths_of, memory_of, row_of}
 use Rattle.device.specs.Answering.{final_of}
-use Rattle.device.proofs.Moving.{row_length}
+use Rattle.host_memory.proofs.HostRows.{row_length}
 use Rattle.stepper.specs.Answering.{row_in}
 
 all_values : (f : ℕ → ℕ) (xs : List ℕ) (a : ℕ) → ((k : ℕ) → k < length xs → f (a + k) ≡ slice_index xs k) →
@@ -36,7 +36,7 @@ nought k = omega arith
 pub row_values : (host : Arrays) (a : ArrayId) →
     array_values (memory_of host) a.0 (slice_index (lengths_of host) a.0) ≡ row_of host a.0
 row_values host a =
-    ap (λ n. array_values (memory_of host) a.0 n) (sym (row_length host a.0))
+    ap (λ n. array_values (memory_of host) a.0 n) (row_length host a.0)
     ∙ all_values (λ j. memory_of host (record { array = record { 0 = a.0 }; index = j })) (row_of host a.0) 0
     (λ k lt.
     ap (λ j. memory_of host (record { array = record { 0 = a.0 }; index = j })) (nought k) ∙ value_is (row_of host a.0) k)

@@ -4,7 +4,7 @@ use Rattle.std.specs.Prelude.{replicate, slice_index, None}
 use Rattle.std.proofs.lemmas.Bool.{true≢false}
 use Rattle.std.proofs.lemmas.List.{length-replicate}
 use Rattle.base.specs.declared.item.Item.{Item}
-use Rattle.base.specs.Arrays.{memory_of, lengths_of}
+use Rattle.host_memory.specs.Arrays.{memory_of, lengths_of}
 use Rattle.base.specs.Memory.{zeros}
 use Rattle.base.specs.Items.{Plan}
 use Rattle.fine_machine.specs.Machine.{start}

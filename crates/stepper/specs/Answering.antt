@@ -8,10 +8,10 @@ use Rattle.base.specs.declared.item.Event.{Event}
 use Rattle.base.specs.declared.item.Event.TheVariants.{Step}
 use Rattle.base.specs.declared.tree.Program.{Program}
 use Rattle.base.specs.Accepted.{IsAccepted, IsFault, Range}
-use Rattle.base.specs.declared.memory.Memory.{Memory as Arrays}
+use Rattle.host_memory.specs.declared.memory.Memory.{Memory as Arrays}
 use Rattle.base.specs.declared.tree.ArrayId.{ArrayId}
 use Rattle.base.specs.Answer.{array_values, finals_in, marked_values}
-use Rattle.base.specs.Arrays.{lengths_of, memory_of}
+use Rattle.host_memory.specs.Arrays.{lengths_of, memory_of}
 use Rattle.mapcheck.specs.Third.{AreMarked}
 use Rattle.base.specs.Headline.{IsFill}
 use Rattle.base.specs.Items.{Plan, plan}

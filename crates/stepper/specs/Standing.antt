@@ -8,7 +8,7 @@ use Rattle.base.specs.declared.item.ItemKind.TheVariants as kind
 use Rattle.base.specs.declared.tree.Region.{Region}
 use Rattle.base.specs.declared.fault.RunFault.{RunFault}
 use Rattle.base.specs.declared.fault.RunFault.TheVariants as fault
-use Rattle.base.specs.Arrays.{memory_of, lengths_of}
+use Rattle.host_memory.specs.Arrays.{memory_of, lengths_of}
 use Rattle.base.specs.Memory.{Scalars}
 use Rattle.base.specs.Items.{Work, Plan}
 use Rattle.base.specs.Map.{Block, Fill, in_use, need}
@@ -17,7 +17,7 @@ use Rattle.fine_machine.specs.Left.{Left, Asks, Finished, Request, Enter, Load, 
 use Rattle.fine_machine.specs.Machine.{State, Condition, Untouched, Generated, Opened, Closed, Passed, as_whole, captured_by, device_of, enabled, step, whole_condition}
 use Rattle.taskgraph.specs.Board.{Stands}
 use Rattle.present.specs.declared.Table.{Table}
-use Rattle.base.specs.declared.memory.Memory.{Memory as Arrays}
+use Rattle.host_memory.specs.declared.memory.Memory.{Memory as Arrays}
 use Rattle.device.specs.declared.devices.Devices.{Devices}
 use Rattle.device.specs.Devices.{AreAlike, Becomes, ShowAll, fresh_of}
 use Rattle.device.specs.Moves.{CountsAtMost}

@@ -7,8 +7,8 @@ ghost use Rattle.fine_machine.specs.Machine.{start};
 ghost use Rattle.stepper.specs.Standing.{IsAt};
 
 use crate::standing::{Slot, Standing};
-use base::memory::Memory;
 use device::Devices;
+use host_memory::Memory;
 use kernel::Scalars;
 use outline::Outlined;
 use std::alloc::{AllocError, Global};

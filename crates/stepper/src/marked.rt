@@ -2,14 +2,14 @@
 
 ghost use Rattle.std.specs.Prelude.{◌≡◌, [], IfErr, IfOk, map, slice_index};
 ghost use Rattle.base.specs.Answer.{array_values};
-ghost use Rattle.base.specs.Arrays.{lengths_of, memory_of};
+ghost use Rattle.host_memory.specs.Arrays.{lengths_of, memory_of};
 ghost use Rattle.device.specs.Answering.{final_of};
 ghost use Rattle.stepper.specs.Answering.{AreShown, IsShownFault, row_in};
 
 use base::fault::{CheckFault, RunFault};
 use base::item::Section;
-use base::memory::Memory;
 use base::tree::ArrayId;
+use host_memory::Memory;
 use mapcheck::check;
 use outline::Outlined;
 use std::alloc::{AllocError, Global};

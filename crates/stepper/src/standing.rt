@@ -9,8 +9,8 @@ ghost use Rattle.device.specs.Devices.{HaveRoom, fresh_of};
 ghost use Rattle.stepper.specs.Standing.{FailsAt, Follows, IsAt};
 
 use actions::Control;
-use base::memory::Memory;
 use device::Devices;
+use host_memory::Memory;
 use kernel::Scalars;
 use outline::Outlined;
 use std::alloc::{AllocError, Global};

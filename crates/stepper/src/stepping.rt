@@ -9,9 +9,9 @@ ghost use Rattle.stepper.specs.Standing.{ActsOn, FollowsOn, HasCounted, HasRoomA
 use crate::standing::{Slot, Standing};
 use actions::{Action, Given, act};
 use base::fault::RunFault;
-use base::memory::Memory;
 use base::tree::DeviceId;
 use device::Devices;
+use host_memory::Memory;
 use std::mem::replace;
 
 // Does an action on the host memory and a device.

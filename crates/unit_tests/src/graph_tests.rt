@@ -3,8 +3,8 @@
 use base::fault::{CheckFault, OrderFault, RangeCode, RangeFault, Refusal, RefusalCode};
 use base::item::Cell;
 use base::tree::{
-    ArrayId, ArrayInfo, Bound, Bounds, DependKind, DependText, DeviceId, Directive, EnterKind,
-    MapText, Part, Place, Program, SectionText, Tasking, Term,
+    ArrayId, ArrayInfo, Bound, Bounds, DependKind, DependText, DeviceId, DeviceText, Directive,
+    EnterKind, MapText, Part, Place, Program, SectionText, Tasking, Term,
 };
 use graph::{graph_text, message_graph};
 use indexmap::IndexMap;
@@ -35,7 +35,7 @@ fn enter(
     let tasking = Tasking {
         nowait,
         depends,
-        device: DeviceId::default(),
+        device: DeviceText::Fixed(DeviceId::default()),
     };
     let place = Place { line, column: 1 };
     Ok(Part::Alone(place, Directive::Enter(maps, tasking)))
@@ -342,7 +342,7 @@ fn depending(alloc: Global, kind: DependKind, first: u64, end: u64) -> Result<Pa
     let tasking = Tasking {
         nowait: true,
         depends,
-        device: DeviceId::default(),
+        device: DeviceText::Fixed(DeviceId::default()),
     };
     let maps = SmallVec::new(alloc);
     Ok(Part::Alone(Place::default(), Directive::Enter(maps, tasking)))

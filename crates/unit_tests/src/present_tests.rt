@@ -1,14 +1,14 @@
 // What no contract says: rows of worked answers, and what created storage holds.
 
 ghost use Rattle.std.specs.Prelude.{IsTrue};
-ghost use Rattle.base.specs.Arrays.{IsWithin};
+ghost use Rattle.host_memory.specs.Arrays.{IsWithin};
 ghost use Rattle.present.specs.Blocks.{IsSection};
 ghost use Rattle.present.specs.Table.{AreSections, AreWithin, CountFits, CountsFit};
 
 use base::fault::RunFault;
 use base::item::{Cell, MapItem, MapKind, Section};
-use base::memory::Memory;
 use base::tree::ArrayId;
+use host_memory::Memory;
 use present::Table;
 use std::test::Fail;
 
@@ -44,7 +44,7 @@ fn there(kind: MapKind, section: Section) -> MapItem {
     }
 }
 
-fn always(kind: MapKind, section: Section) -> MapItem {
+pub(crate) fn always(kind: MapKind, section: Section) -> MapItem {
     MapItem {
         kind,
         always: true,
@@ -119,7 +119,7 @@ fn may_enter_all(table: &Table, host: &Memory, items: &[MapItem]) -> bool
 }
 
 /// What an entry comes to, `OtherState` where it may not be asked for.
-pub(crate) fn enter(table: &mut Table, item: &MapItem, host: &Memory) -> Result<(), RunFault> {
+pub(crate) fn enter(table: &mut Table, item: &MapItem, host: &mut Memory) -> Result<(), RunFault> {
     let section = &item.section;
     if is_section(section) && is_within(host, section) && may_count(table, section) {
         return table.enter(item, host);
@@ -128,7 +128,7 @@ pub(crate) fn enter(table: &mut Table, item: &MapItem, host: &Memory) -> Result<
 }
 
 /// What an exit comes to, `OtherState` where it may not be asked for.
-fn exit(table: &mut Table, item: &MapItem, host: &mut Memory) -> Result<(), RunFault> {
+pub(crate) fn exit(table: &mut Table, item: &MapItem, host: &mut Memory) -> Result<(), RunFault> {
     if is_section(&item.section) && is_within(host, &item.section) {
         return table.exit(item, host);
     }
@@ -136,7 +136,7 @@ fn exit(table: &mut Table, item: &MapItem, host: &mut Memory) -> Result<(), RunF
 }
 
 /// What entries of several items come to, `OtherState` where they may not be asked for.
-fn enter_all(table: &mut Table, items: &[MapItem], host: &Memory) -> Result<(), RunFault> {
+fn enter_all(table: &mut Table, items: &[MapItem], host: &mut Memory) -> Result<(), RunFault> {
     if may_enter_all(table, host, items) {
         return table.enter_all(items, host);
     }
@@ -158,7 +158,7 @@ pub(crate) fn set(host: &mut Memory, section: &Section, numbers: &[u64]) -> bool
 }
 
 // Whether the host has these numbers in a section.
-fn holds(host: &Memory, section: &Section, numbers: &[u64]) -> bool {
+pub(crate) fn holds(host: &Memory, section: &Section, numbers: &[u64]) -> bool {
     is_within(host, section) && host.section(section) == numbers
 }
 
@@ -167,7 +167,7 @@ fn is_in(table: &Table, cell: Cell, block: Section, count: u64) -> bool {
     table.lookup(cell) == Some((block, count))
 }
 
-fn has(table: &Table, cell: Cell, number: u64) -> bool {
+pub(crate) fn has(table: &Table, cell: Cell, number: u64) -> bool {
     table.load(cell) == Some(number)
 }
 
@@ -176,7 +176,7 @@ fn is_absent(table: &Table, cell: Cell) -> bool {
 }
 
 // The block is entered with the cells of the host.
-fn is_entered(table: &mut Table, host: &Memory, all: Section) -> bool {
+fn is_entered(table: &mut Table, host: &mut Memory, all: Section) -> bool {
     enter(table, &item(MapKind::To, all), host).is_ok()
         && is_in(table, cell(0, 3), all, 1)
         && is_absent(table, cell(0, 4))
@@ -184,14 +184,14 @@ fn is_entered(table: &mut Table, host: &Memory, all: Section) -> bool {
 }
 
 // Entered a second time, the block counts two and has the cells of the first time.
-fn is_entered_again(table: &mut Table, host: &Memory, all: Section) -> bool {
+fn is_entered_again(table: &mut Table, host: &mut Memory, all: Section) -> bool {
     enter(table, &item(MapKind::To, section(0, 1, 2)), host).is_ok()
         && is_in(table, cell(0, 0), all, 2)
         && has(table, cell(0, 1), 11)
 }
 
 // With `always`, the cells that are named are copied, and no other.
-fn is_copied_always(table: &mut Table, host: &Memory, all: Section) -> bool {
+fn is_copied_always(table: &mut Table, host: &mut Memory, all: Section) -> bool {
     enter(table, &always(MapKind::To, section(0, 0, 1)), host).is_ok()
         && is_in(table, cell(0, 0), all, 3)
         && has(table, cell(0, 0), 20)
@@ -203,15 +203,15 @@ fn one_table(rt: HostRuntime) -> Result<(), Fail> {
     let mut host = Memory::new(rt.alloc(), &[8, 8])?;
     let mut table = Table::new(rt.alloc(), 8);
     let all = section(0, 0, 4);
-    assert!(rt; set(&mut host, &all, &[10, 11, 12, 13]) && is_entered(&mut table, &host, all));
+    assert!(rt; set(&mut host, &all, &[10, 11, 12, 13]) && is_entered(&mut table, &mut host, all));
     assert!(rt; set(&mut host, &all, &[20, 21, 22, 23]));
     assert!(rt;
-        is_entered_again(&mut table, &host, all) && is_copied_always(&mut table, &host, all)
+        is_entered_again(&mut table, &mut host, all) && is_copied_always(&mut table, &mut host, all)
     );
     Ok(())
 }
 
-fn is_entered_times(table: &mut Table, host: &Memory, item: &MapItem, times: u32) -> bool {
+fn is_entered_times(table: &mut Table, host: &mut Memory, item: &MapItem, times: u32) -> bool {
     for _ in 0..times {
         if enter(table, item, host).is_err() {
             return false;
@@ -221,7 +221,7 @@ fn is_entered_times(table: &mut Table, host: &Memory, item: &MapItem, times: u32
 }
 
 // Entered three times, with a number stored on the device.
-fn is_stored(table: &mut Table, host: &Memory, all: Section) -> bool {
+fn is_stored(table: &mut Table, host: &mut Memory, all: Section) -> bool {
     is_entered_times(table, host, &item(MapKind::To, all), 3)
         && table.store(cell(0, 0), 7)
         && !table.store(cell(1, 0), 7)
@@ -249,7 +249,7 @@ fn exits(rt: HostRuntime) -> Result<(), Fail> {
     let mut host = Memory::new(rt.alloc(), &[8])?;
     let mut table = Table::new(rt.alloc(), 8);
     let all = section(0, 0, 4);
-    assert!(rt; set(&mut host, &all, &[10, 11, 12, 13]) && is_stored(&mut table, &host, all));
+    assert!(rt; set(&mut host, &all, &[10, 11, 12, 13]) && is_stored(&mut table, &mut host, all));
     assert!(rt; is_left_always(&mut table, &mut host, all));
     assert!(rt; set(&mut host, &all, &[20, 21, 22, 23]) && is_left(&mut table, &mut host, all));
     Ok(())
@@ -267,7 +267,7 @@ fn is_refused(table: &mut Table, host: &mut Memory, all: Section) -> bool {
 }
 
 // What has room is created, and holds what created storage holds.
-fn is_created(table: &mut Table, host: &Memory) -> bool {
+fn is_created(table: &mut Table, host: &mut Memory) -> bool {
     enter(table, &item(MapKind::Alloc, section(1, 0, 4)), host).is_ok()
         && has(table, cell(1, 3), CREATED)
 }
@@ -277,8 +277,8 @@ fn refusals(rt: HostRuntime) -> Result<(), Fail> {
     let mut host = Memory::new(rt.alloc(), &[8, 8])?;
     let mut table = Table::new(rt.alloc(), 8);
     let all = section(0, 0, 4);
-    assert!(rt; enter(&mut table, &item(MapKind::To, all), &host).is_ok());
-    assert!(rt; is_refused(&mut table, &mut host, all) && is_created(&mut table, &host));
+    assert!(rt; enter(&mut table, &item(MapKind::To, all), &mut host).is_ok());
+    assert!(rt; is_refused(&mut table, &mut host, all) && is_created(&mut table, &mut host));
     Ok(())
 }
 
@@ -294,13 +294,13 @@ fn deletion(rt: HostRuntime) -> Result<(), Fail> {
     let mut host = Memory::new(rt.alloc(), &[2])?;
     let mut table = Table::new(rt.alloc(), 2);
     let all = section(0, 0, 2);
-    assert!(rt; is_entered_times(&mut table, &host, &item(MapKind::ToFrom, all), 3));
+    assert!(rt; is_entered_times(&mut table, &mut host, &item(MapKind::ToFrom, all), 3));
     assert!(rt; is_deleted(&mut table, &mut host, all));
     Ok(())
 }
 
 // What has no room, or is there in part, is refused whole.
-fn is_refused_whole(table: &mut Table, host: &Memory, all: Section) -> bool {
+fn is_refused_whole(table: &mut Table, host: &mut Memory, all: Section) -> bool {
     let over = [
         item(MapKind::To, all),
         item(MapKind::Alloc, section(1, 0, 5)),
@@ -316,7 +316,7 @@ fn is_refused_whole(table: &mut Table, host: &Memory, all: Section) -> bool {
 }
 
 // Two blocks for three items, the last of which is in the first block.
-fn are_entered(table: &mut Table, host: &Memory, all: Section) -> bool {
+fn are_entered(table: &mut Table, host: &mut Memory, all: Section) -> bool {
     let other = section(1, 0, 4);
     let three = [
         item(MapKind::To, all),
@@ -337,12 +337,14 @@ fn several(rt: HostRuntime) -> Result<(), Fail> {
     let mut table = Table::new(rt.alloc(), 8);
     let all = section(0, 0, 4);
     assert!(rt; set(&mut host, &all, &[10, 11, 12, 13]));
-    assert!(rt; is_refused_whole(&mut table, &host, all) && are_entered(&mut table, &host, all));
+    assert!(rt;
+        is_refused_whole(&mut table, &mut host, all) && are_entered(&mut table, &mut host, all)
+    );
     Ok(())
 }
 
 // What is to be present and is not is refused, and nothing has changed; it needs no room.
-fn is_missing(table: &mut Table, host: &Memory, all: Section) -> bool {
+fn is_missing(table: &mut Table, host: &mut Memory, all: Section) -> bool {
     let alone = [there(MapKind::To, all)];
     need(table, &alone, host, 0)
         && enter(table, &there(MapKind::To, all), host) == Err(RunFault::Absent)
@@ -350,7 +352,7 @@ fn is_missing(table: &mut Table, host: &Memory, all: Section) -> bool {
 }
 
 // Where it is there, it is entered as any other.
-fn is_there(table: &mut Table, host: &Memory, all: Section) -> bool {
+fn is_there(table: &mut Table, host: &mut Memory, all: Section) -> bool {
     enter(table, &item(MapKind::To, all), host).is_ok()
         && enter(table, &there(MapKind::To, section(0, 1, 2)), host).is_ok()
         && is_in(table, cell(0, 0), all, 2)
@@ -358,9 +360,9 @@ fn is_there(table: &mut Table, host: &Memory, all: Section) -> bool {
 
 #[test]
 fn presence(rt: HostRuntime) -> Result<(), Fail> {
-    let host = Memory::new(rt.alloc(), &[8])?;
+    let mut host = Memory::new(rt.alloc(), &[8])?;
     let mut table = Table::new(rt.alloc(), 8);
     let all = section(0, 0, 4);
-    assert!(rt; is_missing(&mut table, &host, all) && is_there(&mut table, &host, all));
+    assert!(rt; is_missing(&mut table, &mut host, all) && is_there(&mut table, &mut host, all));
     Ok(())
 }

@@ -1,9 +1,9 @@
 // Rows across two blocks with a gap.
 
-use crate::present_tests::{cell, enter, item, section, set};
+use crate::present_tests::{always, cell, enter, exit, has, holds, item, section, set};
 use base::item::{MapKind, Section};
-use base::memory::Memory;
 use base::tree::ArrayId;
+use host_memory::Memory;
 use present::Table;
 use shared_row::{LentRow, Marks, RowCells};
 use std::alloc::{AllocError, Global};
@@ -88,5 +88,45 @@ fn a_lent_row_keeps_its_numbers(rt: HostRuntime) -> Result<(), Fail> {
     let after = lent(alloc, &mut table)?;
     assert!(rt; has_numbers(&before, &[15, 16]) && has_numbers(&after, &[80, 81]));
     assert!(rt; reads(alloc, &table, 5, &[80, 81])?);
+    Ok(())
+}
+
+// The host and two devices have array 0, each with the numbers of the host.
+fn are_shared(host: &mut Memory, first: &mut Table, second: &mut Table) -> bool {
+    let all = section(0, 0, 4);
+    set(host, &all, &[1, 2, 3, 4])
+        && enter(first, &item(MapKind::To, all), host).is_ok()
+        && enter(second, &item(MapKind::To, all), host).is_ok()
+}
+
+// A store of the host and one of a device are seen by none of the others.
+fn are_apart(host: &mut Memory, first: &mut Table, second: &Table) -> bool {
+    set(host, &section(0, 1, 1), &[9])
+        && first.store(cell(0, 2), 8)
+        && holds(host, &section(0, 0, 4), &[1, 9, 3, 4])
+        && has(first, cell(0, 1), 2)
+        && has(first, cell(0, 2), 8)
+        && has(second, cell(0, 1), 2)
+        && has(second, cell(0, 2), 3)
+}
+
+// A copy to the one device, and one from the other as its block goes.
+fn are_copied(host: &mut Memory, first: &mut Table, second: &mut Table) -> bool {
+    let all = section(0, 0, 4);
+    enter(second, &always(MapKind::To, all), host).is_ok()
+        && has(second, cell(0, 1), 9)
+        && exit(first, &item(MapKind::From, all), host).is_ok()
+        && holds(host, &all, &[1, 2, 8, 4])
+        && has(second, cell(0, 1), 9)
+}
+
+#[test]
+fn a_shared_array_changes_on_one_side(rt: HostRuntime) -> Result<(), Fail> {
+    let mut host = Memory::new(rt.alloc(), &[4])?;
+    let mut first = Table::new(rt.alloc(), 4);
+    let mut second = first.another();
+    assert!(rt; are_shared(&mut host, &mut first, &mut second));
+    assert!(rt; are_apart(&mut host, &mut first, &second));
+    assert!(rt; are_copied(&mut host, &mut first, &mut second));
     Ok(())
 }

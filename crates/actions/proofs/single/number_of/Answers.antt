@@ -1,6 +1,6 @@
 use Rattle.std.proofs.Common.{sym, ◌∙◌, subst}
 use Rattle.std.proofs.lemmas.Option.{get_or_from_slice_get, slice_get_within}
-use Rattle.base.specs.Arrays.{IsWithin, memory_of}
+use Rattle.host_memory.specs.Arrays.{IsWithin, memory_of}
 use Rattle.actions.proofs.HostCells.{cell_within, read_alone}
 use Rattle.actions.proofs.single.number_of.Goals as goal
 

@@ -1,5 +1,5 @@
 use Rattle.std.proofs.Common.{sym, ◌∙◌, subst}
-use Rattle.base.specs.Arrays.{IsWithin, memory_of}
+use Rattle.host_memory.specs.Arrays.{IsWithin, memory_of}
 use Rattle.actions.proofs.HostCells.{cell_within, set_alone}
 use Rattle.actions.proofs.single.set_number.Goals as goal
 

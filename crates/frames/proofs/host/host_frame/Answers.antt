@@ -1,4 +1,4 @@
-use Rattle.base.specs.Arrays.{lengths_of, memory_of}
+use Rattle.host_memory.specs.Arrays.{lengths_of, memory_of}
 use Rattle.base.specs.Memory.{view_of}
 use Rattle.frames.proofs.RowViews.{cells_in_reach, rows_bounded}
 use Rattle.frames.proofs.host.host_frame.Goals as goal

@@ -1,5 +1,5 @@
 use Rattle.std.proofs.Common.{refl, sym, subst, ◌∙◌, arith}
-use Rattle.base.specs.Arrays.{lengths_of, memory_of}
+use Rattle.host_memory.specs.Arrays.{lengths_of, memory_of}
 use Rattle.base.specs.Memory.{view_of}
 use Rattle.shared_row.specs.declared.lent.RowCells.TheVariants as cells
 use Rattle.frames.specs.Rows.{AreNumbers}

@@ -1,6 +1,6 @@
 use Rattle.std.proofs.Common.{arith}
 use Rattle.base.specs.declared.item.Section.{Section}
-use Rattle.base.specs.Arrays.{lengths_of, memory_of}
+use Rattle.host_memory.specs.Arrays.{lengths_of, memory_of}
 use Rattle.base.specs.Memory.{view_of}
 use Rattle.frames.specs.Rows.{IsRow}
 use Rattle.frames.proofs.RowViews.{grown_more}

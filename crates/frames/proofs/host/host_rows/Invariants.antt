@@ -1,4 +1,4 @@
-use Rattle.base.specs.Arrays.{lengths_of, memory_of}
+use Rattle.host_memory.specs.Arrays.{lengths_of, memory_of}
 use Rattle.base.specs.Memory.{view_of}
 use Rattle.frames.specs.Rows.{IsRow}
 use Rattle.frames.proofs.RowViews.{Grown}

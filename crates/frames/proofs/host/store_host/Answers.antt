@@ -1,7 +1,7 @@
 use Rattle.std.proofs.Common.{◌≡◌, ◌≤◌, ◌^◌, ℕ, Some, sym, ◌∙◌, ap, subst, arith}
 use Rattle.std.proofs.lemmas.Option.{slice_get-get_or}
 use mathlib.Core.Path.{fun_ext}
-use Rattle.base.specs.Arrays.{lengths_of, memory_of}
+use Rattle.host_memory.specs.Arrays.{lengths_of, memory_of}
 use Rattle.present.specs.Rows.{marked_in}
 use Rattle.shared_row.specs.Rows.{numbers_in}
 use Rattle.kernel.specs.Rows.{marks_kept}

@@ -1,5 +1,5 @@
 use Rattle.std.proofs.Common.{◌≡◌}
-use Rattle.base.specs.Arrays.{lengths_of, memory_of}
+use Rattle.host_memory.specs.Arrays.{lengths_of, memory_of}
 use Rattle.frames.specs.Views.{with_stored}
 use Rattle.frames.proofs.StoredRows.{stored_upto}
 use Rattle.frames.proofs.host.store_host.Given as goal

@@ -4,10 +4,10 @@ use Rattle.std.proofs.lemmas.List.Edits.{length-between}
 use Rattle.std.proofs.lemmas.Option.{slice_get-get_or}
 use mathlib.Core.Path.{fun_ext}
 use Rattle.base.specs.declared.item.Cell.{Cell}
-use Rattle.base.specs.Arrays.{lengths_of, memory_of, row_of}
+use Rattle.host_memory.specs.Arrays.{lengths_of, memory_of, row_of}
 use Rattle.frames.specs.Rows.{run_from}
 use Rattle.frames.specs.Views.{with_stored}
-use Rattle.frames.proofs.RowViews.{length_at}
+use Rattle.host_memory.proofs.HostRows.{row_length}
 use Rattle.frames.proofs.Stores.{below_all, below_run, below_skip, place_there, row_small}
 use Rattle.frames.proofs.host.store_marked.Goals as goal
 
@@ -19,7 +19,7 @@ overflow_add-first c =
     let on = slice_get-get_or marks c.places.i false (omega (arith, within)) ∙ ap Some c.if-marks-i.true in
     let there = place_there c.args.array c.args.first c.args.numbers.now marks (lengths_of host) c.places.i
     c.requires.count on c.requires.cells in
-    omega (arith, there, length_at host c.args.array.0, row_small host c.args.array.0)
+    omega (arith, there, row_length host c.args.array.0, row_small host c.args.array.0)
 
 pub store_run-requires-clause-some : goal.store_run-requires-clause-some
 store_run-requires-clause-some c =
@@ -44,7 +44,7 @@ store_run-requires-clause-cells c =
     let last = c.marked_end-end.ensures.marked (end - 1) (omega (arith, from)) (omega (arith, from)) in
     let there = place_there c.args.array c.args.first c.args.numbers.now c.args.marks.now (lengths_of host) (end - 1)
     c.requires.count last c.requires.cells in
-    let now = sym (length_at c.places.host a) ∙ ap (λ l. slice_index l a) c.places.invariant.lengths in
+    let now = sym (row_length c.places.host a) ∙ ap (λ l. slice_index l a) c.places.invariant.lengths in
     subst (λ n. c.args.first + c.places.i + n ≤ length (row_of c.places.host a)) (sym part)
     (omega (arith, there, now, from))
 

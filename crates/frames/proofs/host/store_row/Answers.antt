@@ -2,7 +2,7 @@ use Rattle.std.proofs.Common.{◌≡◌, ◌+◌, ◌-◌, ◌≤◌, length, sy
 use Rattle.std.specs.Prelude.{slice_index, slice_range}
 use Rattle.std.proofs.lemmas.List.Edits.{length-between}
 use Rattle.base.specs.declared.item.Cell.{Cell}
-use Rattle.base.specs.Arrays.{lengths_of, memory_of, row_of}
+use Rattle.host_memory.specs.Arrays.{lengths_of, memory_of, row_of}
 use Rattle.base.specs.Memory.{within}
 use Rattle.shared_row.specs.Rows.{marks_of, numbers_in}
 use Rattle.shared_row.specs.declared.marks.Marks.TheVariants as marks
@@ -10,7 +10,7 @@ use Rattle.present.specs.Rows.{marked_in}
 use Rattle.present.proofs.RunMarks.{mark_in, run_bound}
 use Rattle.frames.specs.Rows.{run_from}
 use Rattle.frames.specs.Views.{AreCells, with_stored}
-use Rattle.frames.proofs.RowViews.{length_at}
+use Rattle.host_memory.proofs.HostRows.{row_length}
 use Rattle.frames.proofs.Stores.{place_there, row_small}
 use Rattle.frames.proofs.RunStores.{none_stored, run_stored}
 use Rattle.frames.proofs.host.store_row.Goals as goal
@@ -29,7 +29,7 @@ overflow_add-row c =
     let some = c.if-from-end.true in
     let there = place_there c.args.array row.first numbers (marks_of n (marks.Run from end)) (lengths_of host) from long
     (mark_in n from end long from (omega arith) some) cells in
-    omega (arith, there, length_at host c.args.array.0, row_small host c.args.array.0)
+    omega (arith, there, row_length host c.args.array.0, row_small host c.args.array.0)
 
 pub store_run-requires-clause-cells : goal.store_run-requires-clause-cells
 store_run-requires-clause-cells c =
@@ -51,7 +51,7 @@ store_run-requires-clause-cells c =
     let part : length (slice_range c.numbers-numbers.result.now from end) ≡ end - from =
     length-between c.numbers-numbers.result.now from end (omega (arith, bound, same)) in
     subst (λ k. row.first + from + k ≤ length (row_of host a)) (sym part)
-    (omega (arith, there, length_at host a, some))
+    (omega (arith, there, row_length host a, some))
 
 pub returns-then-from-end-clause-stored : goal.returns-then-from-end-clause-stored
 returns-then-from-end-clause-stored c =

@@ -1,10 +1,12 @@
-use Rattle.std.proofs.Common.{◌+◌, ◌<◌, length, drop, get_or, false, sym, subst, arith}
+use Rattle.std.proofs.Common.{◌+◌, ◌<◌, length, drop, get_or, false, sym, ◌∙◌, subst, arith}
 use Rattle.std.proofs.lemmas.Option.{slice_get-get_or}
 use Rattle.std.specs.Prelude.{IsSomeAnd}
 use Rattle.base.specs.declared.item.MapItem.{MapItem}
 use Rattle.base.specs.declared.item.MapKind.TheVariants.{To}
 use Rattle.base.specs.Map.{enter, in_turn}
-use Rattle.present.specs.Table.{Are, Fails, IsPartFault, SomeRoom, fill_of, memories}
+use Rattle.host_memory.proofs.HostRows.{same_within}
+use Rattle.present.specs.Table.{Are, Does, Fails, IsPartFault, Shows, SomeRoom, fill_of, memories, with_host_if}
+use Rattle.present.proofs.SameHost.{same_host}
 use Rattle.present.proofs.NeededCells.{drop_item}
 use Rattle.present.proofs.Undone.{can_uncount, uncounted}
 use Rattle.present.proofs.EachTurn.{part_fault, later_fault, no_first, counts_left, room_left, turn_fails, turn_done}
@@ -68,7 +70,7 @@ pub uncount-requires : goal.uncount-requires
 uncount-requires m c =
     let k = c.in-Ok.counted in
     can_uncount c.args.self.now c.count.new.self (get_or c.args.items.now c.args.from other) k.at k.copies k.creates
-    c.in-Ok.ensures.counted c.enter_each.new.self c.in-Err-enter_each.ensures.unchanged
+    c.in-Ok.ensures.counted c.enter_each.new.self c.in-Err-enter_each.ensures.unchanged.0
 
 pub bring_in_if-requires-clause-section : goal.bring_in_if-requires-clause-section
 bring_in_if-requires-clause-section m c =
@@ -80,7 +82,8 @@ pub bring_in_if-requires-clause-within : goal.bring_in_if-requires-clause-within
 bring_in_if-requires-clause-within m c =
     let items = c.args.items.now in
     let within : c.args.from < length items = omega arith in
-    c.requires.within c.args.from (get_or items c.args.from other) (slice_get-get_or items c.args.from other within)
+    same_within c.args.host.now c.enter_each.new.host _ c.enter_each.ensures.same_host.lengths
+    (c.requires.within c.args.from (get_or items c.args.from other) (slice_get-get_or items c.args.from other within))
 
 pub returns-in-Err-enter_each-clause-fault : goal.returns-in-Err-enter_each-clause-fault
 returns-in-Err-enter_each-clause-fault m c =
@@ -100,10 +103,12 @@ returns-in-Err-enter_each-clause-fault m c =
 
 pub returns-in-Err-enter_each-clause-unchanged : goal.returns-in-Err-enter_each-clause-unchanged
 returns-in-Err-enter_each-clause-unchanged m c =
-    let k = c.in-Ok.counted in
-    uncounted c.args.self.now c.count.new.self (get_or c.args.items.now c.args.from other) k.at k.copies k.creates
-    c.in-Ok.ensures.counted c.enter_each.new.self c.uncount.new.self c.in-Err-enter_each.ensures.unchanged
-    c.uncount.ensures.uncounted
+    let k = c.in-Ok.counted in (
+      uncounted c.args.self.now c.count.new.self (get_or c.args.items.now c.args.from other) k.at k.copies k.creates
+          c.in-Ok.ensures.counted c.enter_each.new.self c.uncount.new.self c.in-Err-enter_each.ensures.unchanged.0
+          c.uncount.ensures.uncounted,
+      c.in-Err-enter_each.ensures.unchanged.1,
+    )
 
 pub returns-in-Ok-enter_each-clause-entered : goal.returns-in-Ok-enter_each-clause-entered
 returns-in-Ok-enter_each-clause-entered m c d sh =
@@ -115,11 +120,20 @@ returns-in-Ok-enter_each-clause-entered m c d sh =
     let item = get_or items c.args.from other in
     let rest = drop (c.args.from + 1) items in
     let w = c.requires.sections c.args.from item (slice_get-get_or items c.args.from other within) in
-    subst (λ xs. IsSomeAnd (in_turn (enter (fill_of t)) xs (memories host d)) (Are host c.bring_in_if.new.self))
+    let mid = c.enter_each.new.host in
+    let same = c.enter_each.ensures.same_host.memory in
+    let does : Does (in_turn (enter (fill_of c.count.new.self)) rest) c.count.new.self host c.enter_each.new.self host =
+    λ x shown. same_host (in_turn (enter (fill_of c.count.new.self)) rest (memories host x)) mid host
+    c.enter_each.new.self (sym same) (c.in-Ok-enter_each.ensures.entered x shown) in
+    same_host (in_turn (enter (fill_of t)) (drop c.args.from items) (memories host d)) host c.bring_in_if.new.host c.bring_in_if.new.self
+    (c.bring_in_if.ensures.same.memory ∙ same)
+    (subst (λ xs. IsSomeAnd (in_turn (enter (fill_of t)) xs (memories host d)) (Are host c.bring_in_if.new.self))
     (sym (drop_item items c.args.from other within))
     (turn_done t c.count.new.self item k.at k.copies w k.creates c.in-Ok.ensures.counted host rest d sh
     c.in-Ok.ensures.kept.fill
-    c.enter_each.new.self c.bring_in_if.new.self c.in-Ok-enter_each.ensures.entered c.bring_in_if.ensures.brought)
+    c.enter_each.new.self c.bring_in_if.new.self does
+    (λ x b shown there. subst (λ m. Shows c.bring_in_if.new.self (with_host_if k.copies item.section m x)) same
+    (c.bring_in_if.ensures.brought x b shown there))))
 
 pub returns-then-from-items-clause-entered : goal.returns-then-from-items-clause-entered
 returns-then-from-items-clause-entered t c = grind (arith, common_steps)

@@ -1,60 +1,90 @@
-use Rattle.std.proofs.Common.{◌≡◌, ◌+◌, ◌-◌, length, ap, sym, ◌∙◌, arith}
-use Rattle.std.specs.Prelude.{slice_index, slice_range}
+use Rattle.std.proofs.Common.{◌≡◌, ap, refl, sym, ◌∙◌, arith}
 use mathlib.Core.Path.{fun_ext}
-use Rattle.base.specs.declared.item.Cell.{Cell}
-use Rattle.base.specs.Arrays.{memory_of}
-use Rattle.base.specs.Memory.{is_inside, within}
+use Rattle.host_memory.specs.Arrays.{memory_of}
+use Rattle.base.specs.Memory.{is_inside}
+use Rattle.base.proofs.Places.{get_set_same}
 use Rattle.std.proofs.lemmas.Option.{slice_get_within}
 use Rattle.present.specs.declared.block.Block.{Block}
-use Rattle.present.proofs.Orders.{stored_each}
+use Rattle.present.specs.Rows.{HasSameNumbers}
+use Rattle.present.proofs.Orders.{stored_each, stored_from, stored_set, cells_set}
 use Rattle.present.proofs.Founds.{one_block}
 use Rattle.present.proofs.BlockReads.{read_block}
-use Rattle.present.proofs.Copies.{offset_fits, part_length, brought_out}
+use Rattle.present.proofs.Copies.{offset_fits, brought_out}
+use Rattle.present.proofs.SameNumbers.{is_stored_same, same_block_at, same_number_at}
 use Rattle.present.proofs.Table.bring_out_at.Goals as goal
 
-pub part-numbers-requires : goal.part-numbers-requires
-part-numbers-requires c =
+pub copy_section_from-requires-clause-fits : goal.copy_section_from-requires-clause-fits
+copy_section_from-requires-clause-fits c =
     let t = c.args.self.now in
     let s = c.args.section.now in
-    let b = c.index-block.result.now in
+    let b = c.index_mut-block.result.now in
     let r = c.requires.inside in
     let e = read_block t.blocks.items c.args.at b
-    (slice_get_within t.blocks.items c.args.at r.block r.is) c.index-block.ensures in
+    (slice_get_within t.blocks.items c.args.at r.block r.is) c.index_mut-block.ensures.value in
     let same : r.block ≡ b = one_block _ r.block b r.is e in
     let inside : is_inside s b.section ≡ _ = ap (λ (x : Block). is_inside s x.section) (sym same) ∙ r.inside in
     let fits = offset_fits b s (stored_each t.blocks.items t.stored c.args.at b e) inside in
-    let items = ap length c.numbers.ensures in
-    omega (arith, fits, items)
+    omega (arith, fits)
 
-pub set_section-requires-clause-length : goal.set_section-requires-clause-length
-set_section-requires-clause-length c =
+pub invariant_of-self : goal.invariant_of-self
+invariant_of-self c =
     let t = c.args.self.now in
-    let s = c.args.section.now in
-    let b = c.index-block.result.now in
+    let bs = t.blocks.items in
+    let b = c.index_mut-block.result.now in
     let r = c.requires.inside in
-    let e = read_block t.blocks.items c.args.at b
-    (slice_get_within t.blocks.items c.args.at r.block r.is) c.index-block.ensures in
-    let same : r.block ≡ b = one_block _ r.block b r.is e in
-    let inside : is_inside s b.section ≡ _ = ap (λ (x : Block). is_inside s x.section) (sym same) ∙ r.inside in
-    let fits = offset_fits b s (stored_each t.blocks.items t.stored c.args.at b e) inside in
-    let items = ap length c.numbers.ensures in
-    ap length c.part-numbers.ensures
-    ∙ part_length c.numbers.result.now (s.first - b.section.first) s.length (omega (arith, fits, items))
+    let e = read_block bs c.args.at b (slice_get_within bs c.args.at r.block r.is) c.index_mut-block.ensures.value in
+    let new : Block = record { section = b.section; count = b.count; values = c.copy_section_from.new.row } in
+    let h : HasSameNumbers b new = record { section = refl; count = refl; numbers = c.copy_section_from.ensures.same } in
+    let one = is_stored_same b new h (stored_from b (stored_each bs t.stored c.args.at b e)) in
+    record {
+      stored = stored_set bs c.args.at b new t.stored e refl one;
+      counted = t.counted ∙ sym (cells_set bs c.args.at b new e refl);
+      room = t.room;
+    }
 
 pub returns-clause-brought : goal.returns-clause-brought
 returns-clause-brought c d h =
     let t = c.args.self.now in
     let s = c.args.section.now in
-    let b = c.index-block.result.now in
+    let b = c.index_mut-block.result.now in
     let r = c.requires.inside in
     let e = read_block t.blocks.items c.args.at b
-    (slice_get_within t.blocks.items c.args.at r.block r.is) c.index-block.ensures in
+    (slice_get_within t.blocks.items c.args.at r.block r.is) c.index_mut-block.ensures.value in
     let same : r.block ≡ b = one_block _ r.block b r.is e in
     let inside : is_inside s b.section ≡ _ = ap (λ (x : Block). is_inside s x.section) (sym same) ∙ r.inside in
     let host = memory_of c.args.host.now in
-    let numbers = c.part-numbers.ensures
-    ∙ ap (λ xs. slice_range xs (s.first - b.section.first)
-    (s.first - b.section.first + s.length)) c.numbers.ensures in
-    c.set_section.ensures.set
-    ∙ ap (λ xs. within s (λ (x : Cell). slice_index xs (x.index - s.first)) host) numbers
+    c.copy_section_from.ensures.copied
     ∙ fun_ext (λ x. brought_out t.blocks.items t.used d t.stored c.args.at b s host e inside h x)
+
+pub returns-clause-inside : goal.returns-clause-inside
+returns-clause-inside c =
+    let bs = c.args.self.now.blocks.items in
+    let s = c.args.section.now in
+    let b = c.index_mut-block.result.now in
+    let r = c.requires.inside in
+    let there = slice_get_within bs c.args.at r.block r.is in
+    let e = read_block bs c.args.at b there c.index_mut-block.ensures.value in
+    let same : r.block ≡ b = one_block _ r.block b r.is e in
+    let new : Block = record { section = b.section; count = b.count; values = c.copy_section_from.new.row } in
+    record {
+      block = new;
+      is = get_set_same bs c.args.at new there;
+      inside = ap (λ (x : Block). is_inside s x.section) (sym same) ∙ r.inside;
+    }
+
+pub returns-clause-unchanged : goal.returns-clause-unchanged
+returns-clause-unchanged c =
+    let t = c.args.self.now in
+    let bs = t.blocks.items in
+    let b = c.index_mut-block.result.now in
+    let r = c.requires.inside in
+    let e = read_block bs c.args.at b (slice_get_within bs c.args.at r.block r.is) c.index_mut-block.ensures.value in
+    let new : Block = record { section = b.section; count = b.count; values = c.copy_section_from.new.row } in
+    let h : HasSameNumbers b new = record { section = refl; count = refl; numbers = c.copy_section_from.ensures.same } in
+    record {
+      blocks = fun_ext (λ x. same_block_at bs t.stored c.args.at b new e h x);
+      numbers = fun_ext (λ x. same_number_at bs t.stored c.args.at b new e h x);
+      in_use = refl;
+      capacity = refl;
+      fill = refl;
+    }

@@ -27,10 +27,10 @@ returns-in-Inside-clause-copied c d sh =
     let t = c.args.self.now in
     let s = c.args.section.now in
     let h = subst (λ bs. IsInsideAt bs s c.in-Inside.at) c.deref.ensures.value c.in-Inside.ensures in
-    subst (λ o. IsSomeAnd o (Are c.args.host.now c.bring_in_at.new.self))
+    subst (λ o. IsSomeAnd o (Are c.bring_in_at.new.host c.bring_in_at.new.self))
     (sym (update_to s (memories c.args.host.now d) (present h.block)
     (is_inside_at t s c.requires.section c.in-Inside.at h.block h.is h.inside d sh)))
-    (record { host = refl; shown = c.bring_in_at.ensures.brought d sh })
+    (record { host = sym c.bring_in_at.ensures.same.memory; shown = c.bring_in_at.ensures.brought d sh })
 
 pub returns-in-InPart-clause-fault : goal.returns-in-InPart-clause-fault
 returns-in-InPart-clause-fault c =

@@ -6,6 +6,7 @@ use Rattle.present.specs.Table.{Are, item_from, memories}
 use Rattle.present.proofs.Entries.{is_absent_at, is_inside_at, is_in_part}
 use Rattle.base.proofs.Moves.{update_absent, update_part}
 use Rattle.present.proofs.Rules.{update_from}
+use Rattle.present.proofs.SameHost.{shows_unchanged}
 use Rattle.present.proofs.Table.copy_out.Goals as goal
 
 pub returns-in-Absent-clause-copied : goal.returns-in-Absent-clause-copied
@@ -27,10 +28,13 @@ returns-in-Inside-clause-copied c d sh =
     let t = c.args.self.now in
     let s = c.args.section.now in
     let h = subst (λ bs. IsInsideAt bs s c.in-Inside.at) c.deref.ensures.value c.in-Inside.ensures in
-    subst (λ o. IsSomeAnd o (Are c.bring_out_at.new.host t))
+    subst (λ o. IsSomeAnd o (Are c.bring_out_at.new.host c.bring_out_at.new.self))
     (sym (update_from s (memories c.args.host.now d) (present h.block)
     (is_inside_at t s c.requires.section c.in-Inside.at h.block h.is h.inside d sh)))
-    (record { host = sym (c.bring_out_at.ensures.brought d sh); shown = sh })
+    (record {
+      host = sym (c.bring_out_at.ensures.brought d sh);
+      shown = shows_unchanged t c.bring_out_at.new.self c.bring_out_at.ensures.unchanged d sh;
+    })
 
 pub returns-in-InPart-clause-fault : goal.returns-in-InPart-clause-fault
 returns-in-InPart-clause-fault c =

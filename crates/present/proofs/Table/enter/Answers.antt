@@ -1,4 +1,7 @@
 use Rattle.present.proofs.Rules.{done, done_inside, done_room, entered_plain, entered_copied, entry_fault, no_enter}
+use Rattle.base.specs.Map.{enter}
+use Rattle.present.specs.Table.{fill_of, memories}
+use Rattle.present.proofs.SameHost.{same_host}
 use Rattle.present.proofs.Table.enter.Goals as goal
 
 pub returns-in-Err-clause-fault : goal.returns-in-Err-clause-fault
@@ -16,10 +19,12 @@ bring_in_at-requires-clause-inside c =
 pub returns-then-counted-clause-entered : goal.returns-then-counted-clause-entered
 returns-then-counted-clause-entered c d sh =
     let k = c.in-Ok.counted in
-    entered_copied c.args.self.now c.count.new.self c.args.item.now k.copies c.args.host.now d
+    same_host (enter (fill_of c.args.self.now) c.args.item.now (memories c.args.host.now d)) c.args.host.now
+    c.bring_in_at.new.host c.bring_in_at.new.self c.bring_in_at.ensures.same.memory
+    (entered_copied c.args.self.now c.count.new.self c.args.item.now k.copies c.args.host.now d
     (done c.args.self.now c.count.new.self c.args.item.now k.at k.copies c.requires.section k.creates
     c.in-Ok.ensures.counted d sh)
-    c.bring_in_at.new.self c.if-counted.true c.bring_in_at.ensures.brought
+    c.bring_in_at.new.self c.if-counted.true c.bring_in_at.ensures.brought)
 
 pub returns-else-counted-clause-entered : goal.returns-else-counted-clause-entered
 returns-else-counted-clause-entered c d sh =

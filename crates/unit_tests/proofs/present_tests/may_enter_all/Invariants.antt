@@ -1,7 +1,7 @@
 use Rattle.std.proofs.Common.{◌≡◌, ℕ, ◌<◌, length, Some}
 use Rattle.std.specs.Prelude.{slice_get}
 use Rattle.base.specs.declared.item.MapItem.{MapItem}
-use Rattle.base.specs.Arrays.{IsWithin}
+use Rattle.host_memory.specs.Arrays.{IsWithin}
 use Rattle.present.specs.Blocks.{IsSection}
 use Rattle.present.specs.Table.{CountFits}
 use Rattle.unit_tests.proofs.present_tests.may_enter_all.Given as goal

@@ -1,7 +1,7 @@
 use Rattle.std.proofs.Common.{◌≡◌, map, ap, ◌∙◌, arith}
 use Rattle.std.proofs.lemmas.List.{take_all}
-use Rattle.base.proofs.HostRows.{rows_of, zero_row, zero_memory, zero_lengths}
-use Rattle.base.proofs.memory.Memory.new.Goals as goal
+use Rattle.host_memory.proofs.HostRows.{rows_of, zero_row, zero_memory, zero_lengths}
+use Rattle.host_memory.proofs.memory.Memory.new.Goals as goal
 
 pub returns : goal.returns
 returns c =
@@ -9,6 +9,6 @@ returns c =
     c.loop-length.invariant
     ∙ ap (λ ns. map zero_row ns) (take_all c.loop-length.length-index c.args.lengths.now (omega arith)) in
     record {
-      zeros = zero_memory c.args.lengths.now (record { arrays = c.loop-length.arrays }) all;
+      zeros = zero_memory c.args.lengths.now (record { alloc = c.args.alloc; arrays = c.loop-length.arrays }) all;
       lengths = zero_lengths c.args.lengths.now c.loop-length.arrays.items all;
     }
