@@ -2,6 +2,7 @@
 //! C.
 #![tactic(auto)]
 
+mod calls;
 mod explaining;
 mod lines;
 mod remedy;

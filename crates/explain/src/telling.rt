@@ -3,6 +3,7 @@
 ghost use Rattle.std.specs.Prelude.{IfOk};
 ghost use Rattle.explain.specs.Explained.{IsRemedy};
 
+use crate::calls::calls_in;
 use crate::remedy::seek;
 use base::fault::CheckFault;
 use outline::Outlined;
@@ -31,6 +32,19 @@ fn note_unsought(
     Ok(())
 }
 
+// Says by which calls the faults were reached.
+fn note_calls(
+    alloc: Global,
+    bytes: &[u8],
+    diagnoses: &mut Vec<Diagnosis>,
+) -> Result<(), AllocError> {
+    let calls = calls_in(alloc, bytes)?;
+    'faults: for diagnosis in diagnoses.iter_mut() {
+        calls.note(alloc, diagnosis)?;
+    }
+    Ok(())
+}
+
 /// Why the checker refuses a program, whose text these bytes are and whose first fault this is. The error comes where
 /// an allocation fails.
 pub fn all_told(
@@ -47,6 +61,7 @@ pub fn all_told(
     } = faults_of(alloc, bytes, outlined, fault)?;
     let remedy = seek(alloc, bytes, outlined, fault)?;
     note_unsought(alloc, &remedy, &mut diagnoses)?;
+    note_calls(alloc, bytes, &mut diagnoses)?;
     Ok(Told {
         diagnoses,
         more,

@@ -127,7 +127,8 @@ pub fn read_help(code: ReadCode) -> &'static str {
             "write a type that the directive takes: `to`, `from`, `tofrom`, `alloc` on `target` and `target data`, `to`, `alloc` on `target enter data`, `from`, `release`, `delete` on `target exit data`",
         ReadCode::BadBound => "hold what is more in a loop's name, or name the whole array",
         ReadCode::ArrayTwice => "write one map item that has both sections",
-        ReadCode::DirectiveInTarget => "close the `target` before it",
+        ReadCode::DirectiveInTarget =>
+            "close the `target` before it; a `target` without `nowait` may have several constructs, `parallel for` or `simd`, each right before its loop, and between them loops and blocks: put a statement into a block, `{ .. }`",
         ReadCode::OuterAssigned =>
             "write the value to a cell of an array that is mapped `from` or `tofrom`",
         ReadCode::HostOnly => "print after the `target`, once the cells are back on the host",
