@@ -3,7 +3,7 @@ use Rattle.pipeline.specs.Checking.{IsRefused}
 use Rattle.driver.specs.Printed.{IsInput, IsWitnessed}
 use Rattle.driver.specs.Refused.{IsRefusalBy, IsRefusedOf}
 use Rattle.witness.specs.Witnesses.{IsFinding}
-use Rattle.driver.proofs.Refusals.{told}
+use Rattle.driver.proofs.Refusals.{of_refused, told}
 use Rattle.driver.proofs.Requests.{of_source}
 use Rattle.driver.proofs.witnessed.do_witness.Goals as goal
 
@@ -20,6 +20,11 @@ returns-in-Ok-clause-done g c =
       is = subst (IsFinding c.deref.result.now c.deref-2.result.now 4194304) c.in-Ok-Differs.field-0-is c.in-Ok-Differs.ensures.found;
       written = c.in-Ok.ensures;
     })
+
+pub returns-in-Ok-OutOfRange-clause-refused : goal.returns-in-Ok-OutOfRange-clause-refused
+returns-in-Ok-OutOfRange-clause-refused g c =
+    of_refused c.refuse.result (g.S.Sources.known c.args.sources.now c.args.name.now) c.in_ok-bytes.bytes.items
+    c.deref-in-Ok-OutOfRange.result.now c.in_ok-bytes.ensures.bytes c.deref-in-Ok-OutOfRange.ensures.value c.refuse.ensures.refused
 
 pub returns-clause-refused : goal.returns-clause-refused
 returns-clause-refused g c =
