@@ -1,5 +1,5 @@
 -- One clause more, and all clauses: what they mean.
-use Rattle.std.proofs.Common.{◌≡◌, ℕ, ◌+◌, ◌<◌, ◌≤◌, Bool, List, [], ◌∷◌, ◌++◌, map, take, length, get_or, refl, sym, ap, ◌∙◌, subst}
+use Rattle.std.proofs.Common.{◌≡◌, ℕ, ◌+◌, ◌<◌, ◌≤◌, Bool, List, [], ◌∷◌, ◌++◌, map, take, length, get_or, Some, refl, sym, ap, ◌∙◌, subst}
 use Rattle.std.specs.Prelude.{◌||◌}
 use Rattle.std.proofs.lemmas.List.{take_all, take_more}
 use Rattle.c_grammar.specs.LineGrammar as line
@@ -9,7 +9,7 @@ use Rattle.directives.specs.Trees.{clause_of}
 use Rattle.c_constructs.specs.declared.clauses.Clauses.{Clauses}
 use Rattle.c_constructs.specs.Sections.{IsMapAt, IsUpdateAt, IsDependAt, Pairs, map_given, depend_given, motion_given, all_given}
 use Rattle.c_constructs.specs.Clauses.{AreRead, HasType, HaveTypes, Reads}
-use Rattle.c_constructs.specs.Written.{waits_in, device_from}
+use Rattle.c_constructs.specs.Written.{waits_in, device_in, IsDevice}
 use Rattle.c_constructs.proofs.Reading.{all_both, waits_both, device_both, type_at}
 
 read_then : {K : Type 0} → (seen : K → line.MapType) (names : Names) (at : ℕ) (xs ys : List Clause) (a b : Clauses K) →
@@ -22,7 +22,8 @@ read_then seen names at xs ys a b h i = record {
   depends = subst (λ gs. Pairs (IsDependAt names at) gs b.tasking.depends.items) (sym (all_both depend_given xs ys))
       (i.depends.more (all_given depend_given xs) h.depends);
   nowait = i.nowait ∙ ap (λ (w : Bool). w || waits_in (map clause_of ys)) h.nowait ∙ sym (waits_both xs ys);
-  device = i.device ∙ ap (λ (d : ℕ). device_from d (map clause_of ys)) h.device ∙ sym (device_both 0 xs ys);
+  device = subst (λ (d : line.Device). IsDevice names d b.tasking.device) (sym (device_both (line.Fixed (Some 0)) xs ys))
+      (i.device (device_in (map clause_of xs)) h.device);
 }
 
 pub read_next : {K : Type 0} → (seen : K → line.MapType) (names : Names) (at : ℕ) (xs : List Clause) (k : ℕ)

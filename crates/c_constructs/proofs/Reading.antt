@@ -16,8 +16,9 @@ use Rattle.directives.specs.declared.tree.Amount.{Amount as GivenAmount}
 use Rattle.directives.specs.declared.tree.ScheduleType.{ScheduleType}
 use Rattle.directives.specs.declared.tree.MotionClause.{MotionClause}
 use Rattle.directives.specs.Kinds.{seen_modifier, seen_map, seen_depend, seen_motion}
-use Rattle.directives.specs.Trees.{clause_of}
-use Rattle.base.specs.declared.tree.DeviceId.{DeviceId}
+use Rattle.directives.specs.declared.tree.DeviceClause.{DeviceClause}
+use Rattle.directives.specs.Trees.{clause_of, device_of}
+use Rattle.base.specs.declared.tree.DeviceText.{DeviceText}
 use Rattle.base.specs.declared.tree.MapText.{MapText}
 use Rattle.base.specs.declared.tree.Tasking.{Tasking}
 use Rattle.base.specs.declared.tree.UpdateKind.{UpdateKind}
@@ -25,7 +26,7 @@ use Rattle.base.specs.declared.tree.DependKind.{DependKind}
 use Rattle.c_constructs.specs.declared.clauses.Clauses.{Clauses}
 use Rattle.c_constructs.specs.Sections.{Grows, IsMapAt, IsUpdateAt, IsDependAt, given, all_given, map_given}
 use Rattle.c_constructs.specs.Clauses.{HasType, HaveTypes, Reads}
-use Rattle.c_constructs.specs.Written.{Mapping, waits_in, device_from, is_always, is_present, seen_update, seen_depend as given_depend}
+use Rattle.c_constructs.specs.Written.{Mapping, waits_in, device_from, IsDevice, is_always, is_present, seen_update, seen_depend as given_depend}
 use Rattle.c_constructs.proofs.Growing.{grows_none}
 
 pub all_both : {X : Type 0} (f : Clause → List X) (xs ys : List Clause) →
@@ -45,16 +46,19 @@ waits_both (Device d ∷ xs) ys = waits_both xs ys
 waits_both (Amount a n ∷ xs) ys = waits_both xs ys
 waits_both (Schedule t o ∷ xs) ys = waits_both xs ys
 
-pub device_both : (d : ℕ) (xs ys : List Clause) → device_from d (map clause_of (xs ++ ys)) ≡ device_from
+pub device_both : (d : line.Device) (xs ys : List Clause) → device_from d (map clause_of (xs ++ ys)) ≡ device_from
     (device_from d (map clause_of xs)) (map clause_of ys)
 device_both d [] ys = refl
 device_both d (Map m ∷ xs) ys = device_both d xs ys
 device_both d (Depend m ∷ xs) ys = device_both d xs ys
 device_both d (Motion m ∷ xs) ys = device_both d xs ys
 device_both d (NoWait ∷ xs) ys = device_both d xs ys
-device_both d (Device e ∷ xs) ys = device_both e.number xs ys
+device_both d (Device e ∷ xs) ys = device_both (device_of e) xs ys
 device_both d (Amount a n ∷ xs) ys = device_both d xs ys
 device_both d (Schedule t o ∷ xs) ys = device_both d xs ys
+
+same_device : (names : Names) (old new : DeviceText) (d : line.Device) → new ≡ old → IsDevice names d old → IsDevice names d new
+same_device names old new d e h = subst (λ (t : DeviceText). IsDevice names d t) (sym e) h
 
 none_more : {X : Type 0} → {Y : Type 0} → (R : X → Y → Type 0) (old new : List Y) → new ≡ old → Grows R [] old new
 none_more R old new e = subst (λ ys. Grows R [] old ys) (sym e) (grows_none R old)
@@ -90,7 +94,7 @@ reads_maps seen names at m old new g u t = record {
   depends = none_more (IsDependAt names at) old.tasking.depends.items new.tasking.depends.items
       (ap (λ (x : Tasking). x.depends.items) t);
   nowait = ap (λ (x : Tasking). x.nowait) t ∙ sym (or-false old.tasking.nowait);
-  device = ap (λ (x : Tasking). x.device.number) t;
+  device = λ d h. same_device names old.tasking.device new.tasking.device d (ap (λ (x : Tasking). x.device) t) h;
 }
 
 pub reads_updates : {K : Type 0} → (seen : K → line.MapType) (names : Names) (at : ℕ) (m : MotionClause)
@@ -106,7 +110,7 @@ reads_updates seen names at m kind old new k g u t = record {
   depends = none_more (IsDependAt names at) old.tasking.depends.items new.tasking.depends.items
       (ap (λ (x : Tasking). x.depends.items) t);
   nowait = ap (λ (x : Tasking). x.nowait) t ∙ sym (or-false old.tasking.nowait);
-  device = ap (λ (x : Tasking). x.device.number) t;
+  device = λ d h. same_device names old.tasking.device new.tasking.device d (ap (λ (x : Tasking). x.device) t) h;
 }
 
 pub reads_depends : {K : Type 0} → (seen : K → line.MapType) (names : Names) (at : ℕ) (d : DependClause)
@@ -123,7 +127,7 @@ reads_depends seen names at d kind old new k g m u w v = record {
       (subst (λ (t : line.DependType). Grows (IsDependAt names at) (given t d.sections) old.tasking.depends.items
       new.tasking.depends.items) k g);
   nowait = w ∙ sym (or-false old.tasking.nowait);
-  device = ap (λ (x : DeviceId). x.number) v;
+  device = λ e h. same_device names old.tasking.device new.tasking.device e v h;
 }
 
 pub reads_nowait : {K : Type 0} → (seen : K → line.MapType) (names : Names) (at : ℕ) (old new : Clauses K) →
@@ -136,20 +140,20 @@ reads_nowait seen names at old new m u d w v = record {
   depends = none_more (IsDependAt names at) old.tasking.depends.items new.tasking.depends.items
       (ap (λ us. us.items) d);
   nowait = w ∙ sym (or-true old.tasking.nowait);
-  device = ap (λ (x : DeviceId). x.number) v;
+  device = λ e h. same_device names old.tasking.device new.tasking.device e v h;
 }
 
-pub reads_device : {K : Type 0} → (seen : K → line.MapType) (names : Names) (at : ℕ) (e : DeviceId)
-    (old new : Clauses K) → new.maps ≡ old.maps → new.updates ≡ old.updates →
-    new.tasking.depends ≡ old.tasking.depends → new.tasking.nowait ≡ old.tasking.nowait → new.tasking.device ≡ e →
+pub reads_device : {K : Type 0} → (seen : K → line.MapType) (names : Names) (at : ℕ) (e : DeviceClause) (t : DeviceText)
+    (old new : Clauses K) → IsDevice names (device_of e) t → new.maps ≡ old.maps → new.updates ≡ old.updates →
+    new.tasking.depends ≡ old.tasking.depends → new.tasking.nowait ≡ old.tasking.nowait → new.tasking.device ≡ t →
     Reads seen names at (Device e ∷ []) old new
-reads_device seen names at e old new m u d w v = record {
+reads_device seen names at e t old new h m u d w v = record {
   maps = none_more (IsMapAt seen names at) old.maps.items new.maps.items (ap (λ us. us.items) m);
   updates = none_more (IsUpdateAt names at) old.updates.items new.updates.items (ap (λ us. us.items) u);
   depends = none_more (IsDependAt names at) old.tasking.depends.items new.tasking.depends.items
       (ap (λ us. us.items) d);
   nowait = w ∙ sym (or-false old.tasking.nowait);
-  device = ap (λ (x : DeviceId). x.number) v;
+  device = λ d' h'. same_device names t new.tasking.device (device_of e) v h;
 }
 
 -- clauses that say nothing of what is mapped, moved or waited for
@@ -160,7 +164,7 @@ reads_amount seen names at a n r = record {
   updates = grows_none (IsUpdateAt names at) r.updates.items;
   depends = grows_none (IsDependAt names at) r.tasking.depends.items;
   nowait = sym (or-false r.tasking.nowait);
-  device = refl;
+  device = λ d h. h;
 }
 
 pub reads_schedule : {K : Type 0} → (seen : K → line.MapType) (names : Names) (at : ℕ) (t : ScheduleType)
@@ -170,7 +174,7 @@ reads_schedule seen names at t o r = record {
   updates = grows_none (IsUpdateAt names at) r.updates.items;
   depends = grows_none (IsDependAt names at) r.tasking.depends.items;
   nowait = sym (or-false r.tasking.nowait);
-  device = refl;
+  device = λ d h. h;
 }
 
 -- ---- the types of map clauses

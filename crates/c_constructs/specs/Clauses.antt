@@ -9,7 +9,7 @@ use Rattle.directives.specs.Kinds.{seen_map}
 use Rattle.directives.specs.Trees.{clause_of}
 use Rattle.c_constructs.specs.declared.clauses.Clauses.{Clauses}
 use Rattle.c_constructs.specs.Sections.{Grows, IsMapAt, IsUpdateAt, IsDependAt, Pairs, all_given, map_given, depend_given, motion_given}
-use Rattle.c_constructs.specs.Written.{waits_in, device_from, device_in}
+use Rattle.c_constructs.specs.Written.{waits_in, device_from, device_in, IsDevice}
 
 -- a map clause has one of these types
 abbrev pub HasType : List line.MapType → Clause → Type 0
@@ -33,7 +33,8 @@ pub record Reads {K : Type 0} (seen : K → line.MapType) (names : Names) (at : 
   pub depends : Grows (IsDependAt names at) (all_given depend_given cs) old.tasking.depends.items
       new.tasking.depends.items
   pub nowait : new.tasking.nowait ≡ (old.tasking.nowait || waits_in (map clause_of cs))
-  pub device : new.tasking.device.number ≡ device_from old.tasking.device.number (map clause_of cs)
+  pub device : (d : line.Device) → IsDevice names d old.tasking.device →
+      IsDevice names (device_from d (map clause_of cs)) new.tasking.device
 
 -- they mean this
 pub record AreRead {K : Type 0} (seen : K → line.MapType) (names : Names) (at : ℕ) (cs : List Clause) (r : Clauses K) :
@@ -42,4 +43,4 @@ pub record AreRead {K : Type 0} (seen : K → line.MapType) (names : Names) (at 
   pub updates : Pairs (IsUpdateAt names at) (all_given motion_given cs) r.updates.items
   pub depends : Pairs (IsDependAt names at) (all_given depend_given cs) r.tasking.depends.items
   pub nowait : r.tasking.nowait ≡ waits_in (map clause_of cs)
-  pub device : r.tasking.device.number ≡ device_in (map clause_of cs)
+  pub device : IsDevice names (device_in (map clause_of cs)) r.tasking.device

@@ -20,12 +20,12 @@ use Rattle.c_constructs.specs.declared.resolved.Construct.TheVariants as constru
 use Rattle.c_constructs.specs.declared.resolved.Resolved.{Resolved}
 use Rattle.c_constructs.specs.declared.resolved.Resolved.TheVariants as resolved
 use Rattle.c_constructs.specs.Sections.{IsMapAt, IsUpdateAt, IsDependAt, Pairs, all_given, map_given, depend_given, motion_given}
-use Rattle.c_constructs.specs.Written.{seen_region, seen_enter, seen_exit, waits_in, device_in}
+use Rattle.c_constructs.specs.Written.{seen_region, seen_enter, seen_exit, waits_in, device_in, IsDevice}
 
 pub record IsTaskingAt (names : Names) (at : ℕ) (cs : List Clause) (g : Tasking) : Type 0 where
   pub nowait : g.nowait ≡ waits_in (map clause_of cs)
   pub depends : Pairs (IsDependAt names at) (all_given depend_given cs) g.depends.items
-  pub device : g.device.number ≡ device_in (map clause_of cs)
+  pub device : IsDevice names (device_in (map clause_of cs)) g.device
 
 abbrev pub AreRegionMapsAt : Names → ℕ → List Clause → List (MapText RegionKind) → Type 0
 AreRegionMapsAt names at cs ms = Pairs (IsMapAt seen_region names at) (all_given map_given cs) ms
@@ -57,7 +57,7 @@ pub record IsDataAt (names : Names) (at : Place) (d : Given) (g : Data) : Type 0
   pub kind : seen_kind d.kind ≡ line.Data
   pub place : g.place ≡ at
   pub maps : AreRegionMapsAt names at.line d.clauses.items g.maps.items
-  pub device : g.device.number ≡ device_in (map clause_of d.clauses.items)
+  pub device : IsDevice names (device_in (map clause_of d.clauses.items)) g.device
 
 abbrev pub IsConstructAt : Names → Place → Given → Construct → Type 0
 IsConstructAt names at d (construct.Target g depth) = (line_depth (text_of d) ≡ depth) × IsTargetAt names at d g

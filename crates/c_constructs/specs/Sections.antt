@@ -1,5 +1,5 @@
 -- The sections of a directive with the clauses in which they stand, and what they mean.
-use Rattle.std.specs.Prelude.{◌≡◌, ℕ, Bool, List, [], ◌∷◌, ◌++◌, map, Some}
+use Rattle.std.specs.Prelude.{◌≡◌, ℕ, Bool, List, [], ◌∷◌, ◌++◌, map}
 use Rattle.base.specs.declared.tree.SectionText.{SectionText}
 use Rattle.base.specs.declared.tree.MapText.{MapText}
 use Rattle.base.specs.declared.tree.UpdateText.{UpdateText}

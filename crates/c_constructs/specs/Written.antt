@@ -19,6 +19,8 @@ use Rattle.base.specs.declared.tree.UpdateKind.{UpdateKind}
 use Rattle.base.specs.declared.tree.UpdateKind.TheVariants as updated
 use Rattle.base.specs.declared.tree.DependKind.{DependKind}
 use Rattle.base.specs.declared.tree.DependKind.TheVariants as ordered
+use Rattle.base.specs.declared.tree.DeviceText.{DeviceText}
+use Rattle.base.specs.declared.tree.DeviceText.TheVariants as on
 use Rattle.base.specs.declared.tree.Tasking.{Tasking}
 use Rattle.base.specs.declared.tree.Target.{Target}
 use Rattle.base.specs.declared.tree.Data.{Data}
@@ -146,14 +148,20 @@ waits_in (NoWait ∷ cs) = true
 waits_in (c ∷ cs) = waits_in cs
 
 -- the device of the last device clause, or that one
-abbrev pub device_from : ℕ → List line.Clause → ℕ
+abbrev pub device_from : line.Device → List line.Clause → line.Device
 device_from d [] = d
-device_from d (DeviceOf (Some n) ∷ cs) = device_from n cs
+device_from d (DeviceOf e ∷ cs) = device_from e cs
 device_from d (c ∷ cs) = device_from d cs
 
 -- without a clause it is device 0
-abbrev pub device_in : List line.Clause → ℕ
-device_in cs = device_from 0 cs
+abbrev pub device_in : List line.Clause → line.Device
+device_in cs = device_from (line.Fixed (Some 0)) cs
+
+-- a number, or the loop of that name
+abbrev pub IsDevice : Names → line.Device → DeviceText → Type 0
+IsDevice names (line.Fixed v) (on.Fixed d) = v ≡ Some d.number
+IsDevice names (line.Looped x) (on.LoopName level) = meaning_of names x ≡ Some (meaning.Loop level)
+IsDevice names _ _ = ⊥
 
 -- the first token behind the directive's words
 abbrev pub clauses_at : LineText → ℕ
@@ -207,7 +215,7 @@ AreDepends names is _ _ = ⊥
 pub record IsTasking (names : Names) (is : Items) (t : LineText) (g : Tasking) : Type 0 where
   pub nowait : g.nowait ≡ waits_in t.clauses
   pub depends : AreDepends names is (depends_from (clauses_at t) t.clauses) g.depends.items
-  pub device : g.device.number ≡ device_in t.clauses
+  pub device : IsDevice names (device_in t.clauses) g.device
 
 abbrev pub AreRegionMaps : Names → Items → LineText → List (MapText RegionKind) → Type 0
 AreRegionMaps names is t ms = AreMaps seen_region names is (maps_from (clauses_at t) t.clauses) ms
@@ -225,7 +233,7 @@ pub record IsData (names : Names) (is : Items) (t : LineText) (g : Data) : Type 
   -- that of the line's #
   pub place : g.place ≡ place_of is
   pub maps : AreRegionMaps names is t g.maps.items
-  pub device : g.device.number ≡ device_in t.clauses
+  pub device : IsDevice names (device_in t.clauses) g.device
 
 -- a directive that stands alone
 abbrev pub IsAlone : Names → Items → LineText → Directive → Type 0

@@ -3,20 +3,24 @@
 ghost use Rattle.std.specs.Prelude.{◌≡◌, ◌++◌, ◌∷◌, [], IfOk, OnOk};
 ghost use Rattle.std.specs.List.{list_any};
 ghost use Rattle.c_expressions.specs.Scopes.{names_of};
-ghost use Rattle.directives.specs.Names.{Uses, clause_names, each_names, sections_names};
+ghost use Rattle.directives.specs.Names.{Uses, clause_names, device_names, each_names, sections_names};
 ghost use Rattle.directives.specs.Reading.{Outcome};
+ghost use Rattle.directives.specs.Trees.{device_of};
 ghost use Rattle.c_grammar.specs.LineRules.{IsAmong};
 ghost use Rattle.c_constructs.specs.Sections.{Grows, IsMapAt, map_given};
 ghost use Rattle.c_constructs.specs.Clauses.{AreRead, HasType, HaveTypes, Reads};
 ghost use Rattle.c_constructs.specs.Uses.{fault_in};
-ghost use Rattle.c_constructs.specs.Written.{is_always, is_present, seen_update, seen_depend as given_depend};
+ghost use Rattle.c_constructs.specs.Written.{IsDevice, is_always, is_present, seen_update, seen_depend as given_depend};
 ghost use Rattle.directives.specs.Kinds.{seen_depend, seen_map, seen_modifier, seen_motion};
 
 use crate::items::{depend_items, map_items, update_items};
 use crate::map_kind::MapKind;
-use base::tree::{DependKind, DeviceId, MapText, Tasking, UpdateKind, UpdateText};
+use crate::names::loop_level;
+use base::tree::{DependKind, DeviceId, DeviceText, MapText, Tasking, UpdateKind, UpdateText};
 use c_expressions::Scope;
-use directives::{Clause, DependType, DirectiveFault, MapClause, Modifier, MotionType};
+use directives::{
+    Clause, DependType, DeviceClause, DirectiveFault, MapClause, Modifier, MotionType,
+};
 use smallvec::SmallVec;
 
 /// What the clauses of a directive mean.
@@ -87,6 +91,21 @@ fn map_clause<K: MapKind>(
     Ok(())
 }
 
+/// The device of a clause.
+#[tactic(auto, using(directives::proofs::Outcomes::on_from))]
+fn device_text(scope: &Scope<'_>, device: &DeviceClause<'_>) -> Result<DeviceText, DirectiveFault>
+    ensures told { (us : Uses) → Outcome result (fault_in scope.now (device_names device.now ++ us))
+        (fault_in scope.now us) }
+    ensures means { IfOk result (λ t. IsDevice (names_of scope.now) (device_of device.now) t) }
+{
+    match device {
+        DeviceClause::Fixed(number) => Ok(DeviceText::Fixed(*number)),
+        DeviceClause::Looped(name) => {
+            loop_level(scope, name).map(|level| DeviceText::LoopName(level))
+        }
+    }
+}
+
 /// One more clause.
 #[tactic(auto, using(directives::proofs::Outcomes::on_from))]
 fn clause<K: MapKind>(
@@ -127,7 +146,7 @@ fn clause<K: MapKind>(
             read.tasking.nowait = true;
         }
         Clause::Device(device) => {
-            read.tasking.device = *device;
+            read.tasking.device = device_text(scope, device)?;
         }
         Clause::Amount(_, _) => {}
         Clause::Schedule(_, _) => {}
@@ -152,7 +171,7 @@ pub fn all_clauses<K: MapKind>(
         tasking: Tasking {
             nowait: false,
             depends: SmallVec::new(scope.alloc),
-            device: DeviceId::default(),
+            device: DeviceText::Fixed(DeviceId::default()),
         },
     };
     'clauses: for one in clauses {

@@ -1,5 +1,5 @@
 -- The type and the name of a loop, by the first tokens of its head.
-use Rattle.std.proofs.Common.{◌≡◌, ◌∙◌, ℕ, Bool, true, false, cond, List, [], ◌∷◌, ◌++◌, take, Option, Some, None, refl, sym, ap, append_assoc}
+use Rattle.std.proofs.Common.{◌≡◌, ◌∙◌, ℕ, Bool, true, false, cond, List, [], ◌∷◌, ◌++◌, take, Option, None, refl, sym, ap, append_assoc}
 use Rattle.std.specs.Borrow.{Bor}
 use Rattle.std.specs.Option.{option_map}
 use Rattle.c_grammar.specs.Lexeme.{For}
@@ -7,7 +7,7 @@ use Rattle.c_grammar.specs.Terminal.{Terminal, Fixed, same}
 use Rattle.c_grammar.specs.Texts.{Item}
 use Rattle.c_grammar.specs.Blocks.{Items, bare, is_directive}
 use Rattle.c_grammar.specs.Triangles.{Parts}
-use Rattle.c_grammar.specs.Descents.{Loop, Open, Plain, State, block_of, head, loop_in, name_in, small_in, small_named, turned_on, upward_in}
+use Rattle.c_grammar.specs.Descents.{Loop, Plain, State, block_of, head, loop_in, name_in, small_in, small_named, turned_on, upward_in}
 use Rattle.c_descents.specs.Loops.{back_of, front_of}
 use Rattle.c_descents.specs.State.{seen_next}
 

@@ -1,7 +1,6 @@
 -- The innermost of the open blocks.
-use Rattle.std.proofs.Common.{◌≡◌, ◌∙◌, ℕ, ◌-◌, ◌≤◌, List, [], ◌∷◌, ◌++◌, length, take, drop, refl, sym, ap, arith}
+use Rattle.std.proofs.Common.{◌≡◌, ℕ, ◌-◌, ◌≤◌, List, [], ◌∷◌, ◌++◌, length, take, drop, sym, ap, arith}
 use Rattle.std.proofs.lemmas.List.{length-take-le}
-use Rattle.c_grammar.specs.Descents.{Open}
 use Rattle.c_terminals.proofs.Stacks.{stack_pushed}
 use Rattle.c_descents.specs.declared.blocks.Open.{Open as Given}
 use Rattle.c_descents.specs.Blocks.{blocks_of, seen_open}

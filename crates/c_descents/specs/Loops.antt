@@ -1,7 +1,7 @@
 -- A loop that counts down.
 use Rattle.std.specs.Prelude.{◌∷◌, ◌++◌, nat_lt, if◌then◌else◌, List, length, map, Option, None}
 use Rattle.c_tokens.specs.declared.kind.Sign.TheVariants as sign
-use Rattle.c_grammar.specs.Terminal.{Terminal, Mark}
+use Rattle.c_grammar.specs.Terminal.{Mark}
 use Rattle.c_grammar.specs.Blocks.{Items, at}
 use Rattle.c_grammar.specs.Descents.{Loop, Open, loop_of, step, upward_step}
 use Rattle.c_grammar.specs.Triangles.{cut, max_open}

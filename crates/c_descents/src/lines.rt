@@ -3,7 +3,7 @@
 ghost use Rattle.std.specs.Prelude.{◌≡◌, ◌++◌, IfOk, OnOk, Some, false, map};
 ghost use Rattle.std.specs.Option.{option_map};
 ghost use Rattle.c_grammar.specs.LineForms.{all_at, is_sign};
-ghost use Rattle.c_grammar.specs.Descents.{begins_term, depth_behind, ends_term, lexeme_of, put_lexeme, put_on_line, stand_on_line, stands_for};
+ghost use Rattle.c_grammar.specs.Descents.{begins_term, depth_behind, ends_term, is_free, lexeme_of, put_lexeme, put_on_line, put_outside, stand_on_line, stands_for};
 ghost use Rattle.directives.specs.Ahead.{seen_line};
 ghost use Rattle.directives.specs.Seen.{seen_lexeme, seen_placed};
 ghost use Rattle.c_descents.specs.Blocks.{open_blocks};
@@ -89,6 +89,34 @@ fn put_parts<'a>(
     Ok(())
 }
 
+// A token outside of square brackets, behind the word `device` or not, before others. Before the name of a loop that counts
+// down stands a second bracket, so that a fault is found there.
+fn put_outside<'a>(
+    done: &mut Vec<PlacedLexeme<'a>>,
+    blocks: &Blocks<'a>,
+    device: bool,
+    token: PlacedLexeme<'a>,
+    behind: &[PlacedLexeme<'a>],
+) -> Result<(), AllocError>
+    ensures { OnOk result (all_placed done.new.items ≡ all_placed done.old.items ++
+        put_outside (open_blocks blocks.now) device (seen_placed token.entry) (all_placed behind.now)) }
+{
+    done.push(token)?;
+    if !device || !is_sign(token.lexeme, Sign::OpenParen) {
+        return Ok(());
+    }
+    let [next, ..] = behind else {
+        return Ok(());
+    };
+    if stands_for(blocks, next.lexeme).is_some() {
+        done.push(PlacedLexeme {
+            lexeme: Lexeme::Sign(Sign::OpenParen),
+            column: next.column,
+        })?;
+    }
+    Ok(())
+}
+
 // What stands for a token. Where no sum may stand it is the token behind a bracket, so that a fault is found there.
 fn put_stand<'a>(
     done: &mut Vec<PlacedLexeme<'a>>,
@@ -122,13 +150,24 @@ fn put_lexeme<'a>(
     ensures { OnOk result (all_placed done.new.items ≡ all_placed done.old.items ++
         put_lexeme (open_blocks blocks.now) depth free (seen_placed token.entry) (all_placed behind.now)) }
 {
-    if depth > 0 {
-        if let Some(parts) = stands_for(blocks, token.lexeme) {
-            return put_stand(done, free && ends_term(behind), token, parts);
-        }
+    if depth == 0 {
+        return put_outside(done, blocks, free, token, behind);
+    }
+    if let Some(parts) = stands_for(blocks, token.lexeme) {
+        return put_stand(done, free && ends_term(behind), token, parts);
     }
     done.push(token)?;
     Ok(())
+}
+
+// Whether a sum may stand behind the token, with so many square brackets open there, or the bracket of a device.
+fn is_free(depth: usize, lexeme: Lexeme<'_>) -> bool
+    ensures { result ≡ is_free depth (seen_lexeme lexeme.entry) }
+{
+    if depth > 0 {
+        return begins_term(lexeme);
+    }
+    same_lexeme(Lexeme::Name(b"device".as_slice()), lexeme)
 }
 
 fn put_on_line<'a>(
@@ -145,7 +184,7 @@ fn put_on_line<'a>(
     'tokens: while let [token, behind @ ..] = rest {
         put_lexeme(&mut done, blocks, depth, free, *token, behind)?;
         depth = depth_behind(depth, token.lexeme)?;
-        free = begins_term(token.lexeme);
+        free = is_free(depth, token.lexeme);
         rest = behind;
     }
     Ok(done)

@@ -40,7 +40,7 @@ take_low zero bs h = tt
 take_low (suc n) [] h = tt
 take_low (suc n) (b ∷ bs) h = (h.0, take_low n bs h.1)
 
-drop_low : (n : ℕ) (bs : List ℕ) → AreLow bs → AreLow (drop n bs)
+pub drop_low : (n : ℕ) (bs : List ℕ) → AreLow bs → AreLow (drop n bs)
 drop_low zero bs h = h
 drop_low (suc n) [] h = tt
 drop_low (suc n) (b ∷ bs) h = drop_low n bs h.1

@@ -27,6 +27,7 @@ use Rattle.c_grammar.specs.Changes.{With, ByNumber, ByOne}
 use Rattle.c_grammar.specs.Blocks as blocks
 use Rattle.c_grammar.specs.Blocks.{is_directive, bare, at, type_at, type_on, typed, longs, Open, Around, Reading, nothing_read, with_open, begins_body, begins_update, is_atomic_line, line_in_block, is_else, is_name, Ends, ends, left, is_end, braces_at, parted, in_blocks}
 use Rattle.c_grammar.specs.Nesting.{nested}
+use Rattle.c_grammar.specs.Sequences.{in_parts}
 use Rattle.c_grammar.specs.Macros.{replaced}
 use Rattle.c_grammar.specs.DeclaredFunctions.{begins_part, ends_part, has_functions, undeclared}
 use Rattle.c_grammar.specs.Prints.{is_text, text_len, alone, print_at, print_on, printed}
@@ -34,7 +35,7 @@ use Rattle.c_grammar.specs.Constants.{with_tokens, line_tokens, put_item, Defini
 use Rattle.c_grammar.specs.Initial as globals
 use Rattle.c_grammar.specs.Initial.{Globals, Initial, initialized, no_globals}
 use Rattle.c_grammar.specs.Allocations.{allocated}
-use Rattle.c_grammar.specs.Boxes.{boxed}
+use Rattle.c_grammar.specs.Boxes.{announced, boxed}
 use Rattle.c_grammar.specs.Source.{text_of, word_or_name, kind_terminal, on_line, item_of, end_of, written_out, items_of}
 use Rattle.c_grammar.specs.AsciiNames.{IsAsciiTerminal, AreAscii, terminals_of}
 use Rattle.c_grammar.specs.Functions.{expanded}
@@ -54,6 +55,7 @@ use Rattle.c_grammar.specs.Declarations.{Other, settled}
 use Rattle.c_grammar.specs.Updates.{Outside, commuting}
 use Rattle.c_grammar.proofs.AsciiTokens.{AreItemsText, chosen_text, both_text, bare_text}
 use Rattle.c_grammar.proofs.AsciiNesting.{nested_text}
+use Rattle.c_grammar.proofs.AsciiSequences.{parts_text}
 use Rattle.c_grammar.proofs.AsciiLoops.{looped_text}
 use Rattle.c_grammar.proofs.AsciiTriangles.{rectangular_text}
 use Rattle.c_grammar.proofs.AsciiStructs.{rows_text}
@@ -64,6 +66,7 @@ use Rattle.c_grammar.proofs.AsciiGrids.{flat_text}
 use Rattle.c_grammar.proofs.AsciiLasting.{lasting_text}
 use Rattle.c_grammar.proofs.AsciiCounters.{counted_text, zeroed_text}
 use Rattle.c_grammar.proofs.AsciiDescents.{upward_text}
+use Rattle.c_grammar.proofs.AsciiDevices.{devices_text}
 use Rattle.c_grammar.proofs.AsciiPrivates.{owned_text}
 use Rattle.c_grammar.proofs.AsciiDeclarations.{settled_text}
 use Rattle.c_grammar.proofs.AsciiUpdates.{commuting_text}
@@ -704,7 +707,7 @@ undeclared_text (i ∷ is) inside h =
 
 written_text : (is : Items) → AreWholeText is → AreItemsText (written_out is)
 written_text is h =
-    let own : Items = replaced is in
+    let own : Items = in_parts (replaced is) in
     let calls : Items = printed 0 (nested own) in
     let types : Items = typed 0 calls in
     let rows : Items = in_rows types in
@@ -725,7 +728,8 @@ written_text is h =
     let flattened : Items = flat false [] [] [] 0 cubes in
     let boxes : Items = boxed flattened in
     let cells : Items = commuting Outside boxes in
-    announced_text (changes.in_full changes.begin 0 (initialized no_globals 0 (allocated cells)))
+    devices_text (announced (changes.in_full changes.begin 0 (initialized no_globals 0 (allocated cells))))
+    (announced_text (changes.in_full changes.begin 0 (initialized no_globals 0 (allocated cells)))
     (full_text (initialized no_globals 0 (allocated cells)) changes.begin 0 tt
     (initialized_text (allocated cells) no_globals 0 (tt, tt)
     (allocated_text cells (commuting_text boxes Outside (boxed_text flattened
@@ -736,7 +740,7 @@ written_text is h =
     (lasting_text private (owned_text upwards (upward_text loops (counted_text whole
     (blocks_text (undeclared false rows) nothing_read (undeclared_text rows false
     (rows_text types (typed_text calls 0
-    (printed_text (nested own) 0 (nested_text own (replaced_text is h))))))))))))))))))))))))))))
+    (printed_text (nested own) 0 (nested_text own (parts_text (replaced is) (replaced_text is h))))))))))))))))))))))))))))))
 
 all_but : (is : Items) (e : Item Terminal) → AreItemsText (is ++ e ∷ []) → AreItemsText is
 all_but [] e h = tt

@@ -10,10 +10,12 @@ use Rattle.c_grammar.specs.Lines.{is_omp}
 use Rattle.c_grammar.specs.Blocks as blocks
 use Rattle.c_grammar.specs.Blocks.{Items, is_directive, bare, at, type_at, type_on, longs, typed, Around, Reading, nothing_read, with_open, begins_body, begins_update, is_atomic_line, line_in_block, is_else, is_name, Ends, ends, left, is_end, noted, read_in, braces_at, closed, parted, in_block, in_blocks}
 use Rattle.c_grammar.specs.Nesting.{nested}
+use Rattle.c_grammar.specs.Sequences.{in_parts}
 use Rattle.c_grammar.specs.Macros.{replaced}
 use Rattle.c_grammar.specs.DeclaredFunctions.{undeclared}
 use Rattle.c_grammar.specs.Counters.{counted}
 use Rattle.c_grammar.specs.Descents.{upward}
+use Rattle.c_grammar.specs.Devices.{on_devices}
 use Rattle.c_grammar.specs.Privates.{owned}
 use Rattle.c_grammar.specs.Lasting.{lasting}
 use Rattle.c_grammar.specs.Unset.{zeroed}
@@ -40,12 +42,14 @@ use Rattle.c_grammar.specs.Source.{written_out}
 use Rattle.c_grammar.proofs.BareAllocations.{allocated_bare}
 use Rattle.c_grammar.proofs.BareBoxes.{announced_bare, boxed_bare}
 use Rattle.c_grammar.proofs.BareNesting.{nested_bare}
+use Rattle.c_grammar.proofs.BareSequences.{parts_bare}
 use Rattle.c_grammar.proofs.BareMacros.{replaced_bare}
 use Rattle.c_grammar.proofs.BareDeclaredFunctions.{undeclared_bare}
 use Rattle.c_grammar.proofs.BareFunctions.{expanded_bare}
 use Rattle.c_grammar.proofs.BareLasting.{lasting_bare}
 use Rattle.c_grammar.proofs.BareCounters.{counted_bare, zeroed_bare}
 use Rattle.c_grammar.proofs.BareDescents.{upward_bare}
+use Rattle.c_grammar.proofs.BareDevices.{devices_bare}
 use Rattle.c_grammar.proofs.BarePointers.{pointed_bare}
 use Rattle.c_grammar.proofs.BarePrivates.{owned_bare}
 use Rattle.c_grammar.proofs.BareDeclarations.{settled_bare}
@@ -581,19 +585,21 @@ initialized_bare (i ∷ is) g k l = step (initialized_bare is) (is_directive i.t
 
 -- what follows the constants
 later_bare : (is : Items)
-    → IsBare (announced (changes.in_full changes.begin 0 (initialized no_globals 0 (allocated (bare is)))))
-    (announced (changes.in_full changes.begin 0 (initialized no_globals 0 (allocated is))))
+    → IsBare (on_devices (announced (changes.in_full changes.begin 0 (initialized no_globals 0 (allocated (bare is))))))
+    (on_devices (announced (changes.in_full changes.begin 0 (initialized no_globals 0 (allocated is)))))
 later_bare is =
-    let full : Items → Items = λ js. announced (changes.in_full changes.begin 0 js) in
+    let full : Items → Items = λ js. on_devices (announced (changes.in_full changes.begin 0 js)) in
     ap (λ (js : Items). full (initialized no_globals 0 js)) (allocated_bare is)
     ∙ ap full (initialized_bare (allocated is) no_globals 0 tt)
-    ∙ ap announced (full_bare (initialized no_globals 0 (allocated is)) changes.begin 0 tt)
-    ∙ announced_bare (changes.in_full changes.begin 0 (initialized no_globals 0 (allocated is)))
+    ∙ ap (λ (js : Items). on_devices (announced js)) (full_bare (initialized no_globals 0 (allocated is)) changes.begin 0 tt)
+    ∙ ap on_devices (announced_bare (changes.in_full changes.begin 0 (initialized no_globals 0 (allocated is))))
+    ∙ devices_bare (announced (changes.in_full changes.begin 0 (initialized no_globals 0 (allocated is))))
 
 pub written_bare : (is : Items) → written_out (bare is) ≡ bare (written_out is)
 written_bare is =
     let m : Items = replaced is in
-    let n : Items = nested m in
+    let z : Items = in_parts m in
+    let n : Items = nested z in
     let p : Items = printed 0 n in
     let a : Items = typed 0 p in
     let s : Items = in_rows a in
@@ -613,22 +619,25 @@ written_bare is =
     let x : Items = chosen h in
     let r : Items = flat true [] [] [] 0 (undefined [] 0 0 x) in
     let g : Items = flat false [] [] [] 0 r in
-    let later : Items → Items = λ js. announced (changes.in_full changes.begin 0 (initialized no_globals 0 (allocated js))) in
+    let later : Items → Items =
+    λ js. on_devices (announced (changes.in_full changes.begin 0 (initialized no_globals 0 (allocated js)))) in
     let since_updates : Items → Items = λ js. later (commuting Outside js) in
     let since_boxes : Items → Items = λ js. since_updates (boxed js) in
     let since_rows : Items → Items = λ js. since_boxes (flat false [] [] [] 0 js) in
     let since_grids : Items → Items = λ js. since_rows (flat true [] [] [] 0 js) in
     let since_defined : Items → Items = λ js. since_grids (undefined [] 0 0 js) in
+    let since_loops : Items → Items = λ js. since_defined (chosen (rectangular js)) in
     let since_declared : Items → Items = λ js.
-    since_defined (chosen (rectangular (looped (decided (expanded (pointed (worked [] [] 0 js))))))) in
+    since_loops (looped (decided (expanded (pointed (worked [] [] 0 js))))) in
     let since_zeroed : Items → Items = λ js. since_declared (settled Other js) in
     let since_upward : Items → Items = λ js. since_zeroed (zeroed (lasting (owned js))) in
     let since_counted : Items → Items = λ js. since_upward (upward js) in
     let since_blocks : Items → Items = λ js. since_counted (counted js) in
     let since_structs : Items → Items = λ js. since_blocks (in_blocks nothing_read (undeclared false js)) in
     let since_typed : Items → Items = λ js. since_structs (in_rows js) in
-    ap (λ (js : Items). since_typed (typed 0 (printed 0 (nested js)))) (replaced_bare is)
-    ∙ ap (λ (js : Items). since_typed (typed 0 (printed 0 js))) (nested_bare m)
+    ap (λ (js : Items). since_typed (typed 0 (printed 0 (nested (in_parts js))))) (replaced_bare is)
+    ∙ ap (λ (js : Items). since_typed (typed 0 (printed 0 (nested js)))) (parts_bare m)
+    ∙ ap (λ (js : Items). since_typed (typed 0 (printed 0 js))) (nested_bare z)
     ∙ ap (λ (js : Items). since_typed (typed 0 js)) (printed_bare n 0)
     ∙ ap since_typed (typed_bare p 0)
     ∙ ap since_structs (rows_bare a)
@@ -640,11 +649,11 @@ written_bare is =
     ∙ ap (λ (js : Items). since_zeroed (zeroed js)) (lasting_bare o)
     ∙ ap since_zeroed (zeroed_bare w)
     ∙ ap since_declared (settled_bare (zeroed w) Other)
-    ∙ ap (λ (js : Items). since_defined (chosen (rectangular (looped (decided (expanded (pointed js))))))) (worked_bare d [] [] 0)
-    ∙ ap (λ (js : Items). since_defined (chosen (rectangular (looped (decided (expanded js)))))) (pointed_bare c)
-    ∙ ap (λ (js : Items). since_defined (chosen (rectangular (looped (decided js))))) (expanded_bare (λ js. worked_bare js [] [] 0) q)
-    ∙ ap (λ (js : Items). since_defined (chosen (rectangular (looped js)))) (decided_bare y)
-    ∙ ap (λ (js : Items). since_defined (chosen (rectangular js))) (looped_bare e)
+    ∙ ap (λ (js : Items). since_loops (looped (decided (expanded (pointed js))))) (worked_bare d [] [] 0)
+    ∙ ap (λ (js : Items). since_loops (looped (decided (expanded js)))) (pointed_bare c)
+    ∙ ap (λ (js : Items). since_loops (looped (decided js))) (expanded_bare (λ js. worked_bare js [] [] 0) q)
+    ∙ ap (λ (js : Items). since_loops (looped js)) (decided_bare y)
+    ∙ ap since_loops (looped_bare e)
     ∙ ap (λ (js : Items). since_defined (chosen js)) (rectangular_bare f)
     ∙ ap since_defined (chosen_bare h)
     ∙ ap since_grids (undefined_bare x [] 0 0)

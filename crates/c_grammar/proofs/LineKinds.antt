@@ -5,7 +5,7 @@ use Rattle.c_tokens.specs.declared.kind.Sign.TheVariants as sign
 use Rattle.base.specs.declared.fault.ReadCode.TheVariants.{BadBound}
 use Rattle.c_grammar.specs.Lexeme.{Signed, Numbered}
 use Rattle.c_grammar.specs.Texts.{kinds}
-use Rattle.c_grammar.specs.LineGrammar.{Modifier, Collapse, NumTeams, ThreadLimit, NumThreads, SimdLen, SafeLen, LineAct, Maps, Depends, Heads, Opens, Begins, LineSlots, of, mark, Construct, Simd, ParallelFor, ParallelForSimd, ParallelLoop, TeamsDistribute, TeamsDistributeSimd, TeamsDistributeParallelFor, TeamsDistributeParallelForSimd, TeamsLoop, DirectiveKind, Target, Data, Enter, Exit, Update, Wait, AtomicUpdate, Combined, ToDevice, FromDevice, Term, Literal, Variable, Product, term, bound_sign, SignedTerm, Bound, more_terms, bound, section, Section, more_items, Items, items_from, Clause, MapOf, DependOf, MotionOf, NoWait, DeviceOf, AmountOf, ScheduleOf, modifiers, motion, chunk, clause, clauses, head, LineText, line_slots}
+use Rattle.c_grammar.specs.LineGrammar.{Modifier, Collapse, NumTeams, ThreadLimit, NumThreads, SimdLen, SafeLen, LineAct, Maps, Depends, Heads, Opens, Begins, LineSlots, of, mark, Construct, Simd, ParallelFor, ParallelForSimd, ParallelLoop, TeamsDistribute, TeamsDistributeSimd, TeamsDistributeParallelFor, TeamsDistributeParallelForSimd, TeamsLoop, DirectiveKind, Target, Data, Enter, Exit, Update, Wait, AtomicUpdate, Combined, ToDevice, FromDevice, Term, Literal, Variable, Product, term, bound_sign, SignedTerm, Bound, more_terms, bound, section, Section, more_items, Items, items_from, Clause, MapOf, DependOf, MotionOf, NoWait, DeviceOf, Fixed, Looped, AmountOf, ScheduleOf, modifiers, motion, chunk, clause, clauses, head, LineText, line_slots}
 use Rattle.c_grammar.specs.LineRules.{line_grammar, IsLine}
 use Rattle.c_grammar.specs.LineMachine.{LineStack, line_start}
 use Rattle.c_grammar.specs.Lines.{is_first, kind_of, collapsed, collapse_from, collapse_in, depth_kind, depth_of, line_depth}
@@ -24,7 +24,7 @@ no_simd (DependOf t is ∷ cs) = refl
 no_simd (MotionOf ToDevice p is ∷ cs) = refl
 no_simd (MotionOf FromDevice p is ∷ cs) = refl
 no_simd (NoWait ∷ cs) = refl
-no_simd (DeviceOf n ∷ cs) = refl
+no_simd (DeviceOf v ∷ cs) = refl
 no_simd (AmountOf Collapse n ∷ cs) = refl
 no_simd (AmountOf NumTeams n ∷ cs) = refl
 no_simd (AmountOf ThreadLimit n ∷ cs) = refl
@@ -40,7 +40,7 @@ no_parallel (DependOf t is ∷ cs) = refl
 no_parallel (MotionOf ToDevice p is ∷ cs) = refl
 no_parallel (MotionOf FromDevice p is ∷ cs) = refl
 no_parallel (NoWait ∷ cs) = refl
-no_parallel (DeviceOf n ∷ cs) = refl
+no_parallel (DeviceOf v ∷ cs) = refl
 no_parallel (AmountOf Collapse n ∷ cs) = refl
 no_parallel (AmountOf NumTeams n ∷ cs) = refl
 no_parallel (AmountOf ThreadLimit n ∷ cs) = refl
@@ -57,7 +57,7 @@ target_is (DependOf t is ∷ cs) = refl
 target_is (MotionOf ToDevice p is ∷ cs) = refl
 target_is (MotionOf FromDevice p is ∷ cs) = refl
 target_is (NoWait ∷ cs) = refl
-target_is (DeviceOf n ∷ cs) = refl
+target_is (DeviceOf v ∷ cs) = refl
 target_is (AmountOf Collapse n ∷ cs) = refl
 target_is (AmountOf NumTeams n ∷ cs) = refl
 target_is (AmountOf ThreadLimit n ∷ cs) = refl
@@ -171,8 +171,9 @@ clause_depth (MotionOf t p is) cs d h =
     depth_append (clause (MotionOf t p is)) (clauses cs) d
     ∙ ap (λ (n : ℕ). slot_depth n (clauses cs)) (quiet_motion p is d) ∙ h d
 clause_depth NoWait cs d h = h d
-clause_depth (DeviceOf None) cs d h = h d
-clause_depth (DeviceOf (Some n)) cs d h = h d
+clause_depth (DeviceOf (Fixed None)) cs d h = h d
+clause_depth (DeviceOf (Fixed (Some n))) cs d h = h d
+clause_depth (DeviceOf (Looped x)) cs d h = h d
 clause_depth (AmountOf Collapse None) cs d h = h d
 clause_depth (AmountOf Collapse (Some n)) cs d h = h n
 clause_depth (AmountOf NumTeams None) cs d h = h d

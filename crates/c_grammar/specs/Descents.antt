@@ -1,7 +1,7 @@
 -- Loops that count down are written as loops that count up: for (int i = S; i >= E; i--) as for (int i = E; i <= S; i++), and of
 -- i > E the first is E + 1. The turns come in the same order, and what stands for the name in the block is E + S - i. Names that
 -- are visible at once differ, so a name in the block is the loop's. What stands for the name of a loop around is put first.
-use Rattle.std.specs.Prelude.{ℕ, zero, suc, ◌+◌, ◌-◌, ◌^◌, ◌==◌, nat_le, nat_lt, Bool, true, false, not, ◌&&◌, ◌||◌, if◌then◌else◌, List, [], ◌∷◌, ◌++◌, length, map, take, drop, Option, Some, None}
+use Rattle.std.specs.Prelude.{ℕ, zero, suc, ◌+◌, ◌-◌, ◌^◌, ◌==◌, nat_le, nat_lt, Bool, true, false, not, ◌&&◌, ◌||◌, if◌then◌else◌, List, [], ◌∷◌, ◌++◌, length, map, take, drop, Option, Some, None, codes}
 use Rattle.std.specs.Str.{bytes_eq}
 use Rattle.c_tokens.specs.declared.kind.Sign.{Sign}
 use Rattle.c_tokens.specs.declared.kind.Sign.TheVariants as sign
@@ -111,7 +111,7 @@ abbrev pub depth_behind : ℕ → Lexeme → ℕ
 depth_behind d t =
     if is_sign sign.OpenBracket t then d + 1 else (if is_sign sign.CloseBracket t then d - 1 else d)
 
--- behind the token a sum may stand; a bound has no brackets
+-- behind the token a sum may stand, in square brackets; a bound has no brackets
 abbrev pub begins_term : Lexeme → Bool
 begins_term t = is_sign sign.OpenBracket t || is_sign sign.Colon t || is_sign sign.Plus t
 
@@ -132,15 +132,31 @@ abbrev pub stands_for : List Open → Lexeme → Option (List Part)
 stands_for os (Worded x) = stands_in os x
 stands_for os t = None
 
+-- a token outside of square brackets, behind the word device or not: before the name of a loop that counts down, which is no
+-- device, a second bracket is put, so that the fault is found there
+abbrev pub put_bracket : Placed → Placed → Option (List Part) → List Placed
+put_bracket p q None = p ∷ []
+put_bracket p q (Some ts) = p ∷ record { lexeme = lexeme.Signed sign.OpenParen; column = q.column } ∷ []
+
+abbrev pub put_outside : List Open → Bool → Placed → List Placed → List Placed
+put_outside os device p [] = p ∷ []
+put_outside os device p (q ∷ ps) =
+    if device && is_sign sign.OpenParen p.lexeme then put_bracket p q (stands_for os q.lexeme) else p ∷ []
+
 -- a token before others, with so many square brackets open
 abbrev pub put_lexeme : List Open → ℕ → Bool → Placed → List Placed → List Placed
 put_lexeme os d free p ps =
-    if d == 0 then p ∷ [] else stand_on_line (free && ends_term ps) p (stands_for os p.lexeme)
+    if d == 0 then put_outside os free p ps else stand_on_line (free && ends_term ps) p (stands_for os p.lexeme)
+
+-- behind the token, with so many square brackets open there, a sum may stand, or the bracket of a device
+abbrev pub is_free : ℕ → Lexeme → Bool
+is_free d t = if d == 0 then lexeme.same (Worded (codes "device")) t else begins_term t
 
 abbrev pub put_on_line : List Open → ℕ → Bool → List Placed → List Placed
 put_on_line os d free [] = []
 put_on_line os d free (p ∷ ps) =
-    put_lexeme os d free p ps ++ put_on_line os (depth_behind d p.lexeme) (begins_term p.lexeme) ps
+    put_lexeme os d free p ps ++
+    put_on_line os (depth_behind d p.lexeme) (is_free (depth_behind d p.lexeme) p.lexeme) ps
 
 abbrev pub line_for : List Open → Item Terminal → Terminal → Item Terminal
 line_for os i (Line ts) =

@@ -50,6 +50,7 @@ pub mod CallWalk
 pub mod Guarding
 pub mod Boxing
 pub mod Joining
+pub mod Parting
 pub mod Fitting
 pub mod DeclaringFunctions
 pub mod Ranging

@@ -32,6 +32,7 @@ pub mod Grids
 pub mod Updates
 pub mod Reductions
 pub mod Regions
+pub mod Sequences
 pub mod RowSections
 pub mod Boxes
 pub mod Moves

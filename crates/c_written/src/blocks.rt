@@ -107,7 +107,7 @@ fn is_break(terminal: Terminal<'_, '_>) -> bool
 }
 
 /// Whether the line says that the update behind it is atomic.
-fn is_atomic_line(terminal: Terminal<'_, '_>) -> bool
+pub fn is_atomic_line(terminal: Terminal<'_, '_>) -> bool
     ensures { result ≡ is_atomic_line (seen_terminal terminal.entry) }
 {
     match terminal {

@@ -48,6 +48,7 @@ mod range;
 mod reductions;
 mod regions;
 mod row_sections;
+mod sequences;
 mod shapes;
 mod source;
 mod spots;

@@ -347,8 +347,8 @@ fn joined_line<'a>(
     Ok(LineTokens::of(tokens))
 }
 
-// Whether the second token is the line of a construct that belongs to the target on the first.
-fn joins(held: Token<'_, '_>, next: Token<'_, '_>) -> bool
+/// Whether the second token is the line of a construct that belongs to the target on the first.
+pub fn joins(held: Token<'_, '_>, next: Token<'_, '_>) -> bool
     ensures { result ≡ joins (seen held.entry).terminal (seen next.entry).terminal }
 {
     match (held.terminal, next.terminal) {
@@ -436,8 +436,8 @@ fn has_construct(held: Token<'_, '_>, tokens: &[Token<'_, '_>]) -> bool
     }
 }
 
-// Whether the block of a target begins, which has a construct and its loop alone.
-fn moves(held: Token<'_, '_>, next: Token<'_, '_>, behind: &[Token<'_, '_>]) -> bool
+/// Whether the block of a target begins, which has a construct and its loop alone.
+pub fn moves(held: Token<'_, '_>, next: Token<'_, '_>, behind: &[Token<'_, '_>]) -> bool
     ensures { result ≡ moves (seen held.entry).terminal (seen next.entry) (seen_all behind.now) }
 {
     next.terminal.is_sign(Sign::OpenBrace) && has_construct(held, behind)

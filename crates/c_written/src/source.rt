@@ -22,6 +22,7 @@ ghost use Rattle.c_grammar.specs.Nesting.{nested};
 ghost use Rattle.c_grammar.specs.Pointers.{pointed};
 ghost use Rattle.c_grammar.specs.Prints.{printed};
 ghost use Rattle.c_grammar.specs.Privates.{owned};
+ghost use Rattle.c_grammar.specs.Sequences.{in_parts};
 ghost use Rattle.c_grammar.specs.Source.{item_of, text_of, written_out};
 ghost use Rattle.c_grammar.specs.Structs.{in_rows};
 ghost use Rattle.c_grammar.specs.Triangles.{rectangular};
@@ -49,11 +50,13 @@ use crate::nesting::nested;
 use crate::pointed::pointed;
 use crate::prints::printed;
 use crate::privates::owned;
+use crate::sequences::in_parts;
 use crate::types::typed;
 use crate::unset::zeroed;
 use crate::updates::commuting;
 use c_choices::chosen;
 use c_descents::upward;
+use c_devices::on_devices;
 use c_loops::looped;
 use c_macros::replaced;
 use c_structs::in_rows;
@@ -114,15 +117,17 @@ fn raw<'a>(alloc: Global, bytes: &'a [u8]) -> Result<Vec<Written<'a>>, AllocErro
     Ok(written)
 }
 
-/// The tokens with their combined constructs, calls of `printf`, types, structs as rows, blocks, declarations, names of loops
+/// The tokens with targets taken apart, with their combined constructs, calls of `printf`, types, structs as rows, blocks, declarations, names of loops
 /// and constants, with loops that count up in the place of those that count down, and without the lines that declare
 /// functions and the clauses `private`.
 fn with_constants<'a>(alloc: Global, raw: &[Written<'a>]) -> Result<Vec<Written<'a>>, AllocError>
     ensures { IfOk result (λ v. written_all v.items ≡
-        worked [] [] 0 (settled Other (zeroed (lasting (owned (upward (counted (in_blocks nothing_read (undeclared false (in_rows (typed 0 (printed 0 (nested (replaced (written_all raw.now))))))))))))))) }
+        worked [] [] 0 (settled Other (zeroed (lasting (owned (upward (counted (in_blocks nothing_read (undeclared false (in_rows (typed 0 (printed 0 (nested (in_parts (replaced (written_all raw.now)))))))))))))))) }
 {
     let tokens = borrowed(alloc, raw)?;
     let tokens = replaced(alloc, &tokens)?;
+    let tokens = in_parts(alloc, &tokens)?;
+    let tokens = borrowed(alloc, &tokens)?;
     let tokens = nested(alloc, &tokens)?;
     let tokens = borrowed(alloc, &tokens)?;
     let tokens = printed(alloc, &tokens)?;
@@ -190,5 +195,7 @@ pub fn written<'a>(alloc: Global, bytes: &'a [u8]) -> Result<Vec<Written<'a>>, A
     let raw = raw(alloc, bytes)?;
     let worked = with_constants(alloc, &raw)?;
     let called = with_calls(alloc, &worked)?;
-    with_changes(alloc, &called)
+    let changed = with_changes(alloc, &called)?;
+    let tokens = borrowed(alloc, &changed)?;
+    on_devices(alloc, &tokens)
 }

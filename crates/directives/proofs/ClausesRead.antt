@@ -5,7 +5,8 @@ use Rattle.c_tokens.specs.declared.kind.Sign.TheVariants as sign
 use Rattle.c_grammar.specs.Lexeme.{Signed, Worded, Ended, same}
 use Rattle.c_grammar.specs.LineGrammar as grammar
 use Rattle.c_grammar.specs.LineRules.{IsClause, AreClauses}
-use Rattle.base.specs.declared.tree.DeviceId.{DeviceId}
+use Rattle.directives.specs.declared.tree.DeviceClause.{DeviceClause}
+use Rattle.directives.specs.declared.tree.DeviceClause.TheVariants.{Fixed, Looped}
 use Rattle.directives.specs.declared.line.Line.{Line}
 use Rattle.directives.specs.declared.tree.MapClause.{MapClause}
 use Rattle.directives.specs.declared.tree.DependClause.{DependClause}
@@ -15,7 +16,7 @@ use Rattle.directives.specs.declared.tree.Clause.TheVariants.{Map, Depend, Motio
 use Rattle.directives.specs.Kinds.{seen_amount, seen_schedule, seen_map, seen_depend, seen_motion}
 use Rattle.directives.specs.Cursor.{Items, first_item, behind, items}
 use Rattle.directives.specs.Reading.{IsSpelled}
-use Rattle.directives.specs.Trees.{Spelling, word_mark, sign_mark, number_mark, modifiers_marks, present_marks, type_marks, sections_marks, chunk_marks, clause_of, clause_marks, clauses_marks}
+use Rattle.directives.specs.Trees.{Spelling, word_mark, sign_mark, number_mark, device_mark, modifiers_marks, present_marks, type_marks, sections_marks, chunk_marks, clause_of, clause_marks, clauses_marks}
 use Rattle.directives.proofs.Clausing.{end_is}
 use Rattle.directives.proofs.Spellings.{spelled_one, spelled_first, spelled_then, spelled_as, spelled_less}
 
@@ -73,16 +74,16 @@ pub read_nowait : (l l1 : Line) → (first_item l).terminal ≡ Worded (codes "n
 unfolding clause_marks
 read_nowait l l1 e b = spelled_one l (items l1) (Worded (codes "nowait")) None e tt b
 
-pub read_device : (l l1 l2 l3 l4 : Line) (d : DeviceId) → (first_item l).terminal ≡ Worded (codes "device") →
+pub read_device : (l l1 l2 l3 l4 : Line) (d : DeviceClause) → (first_item l).terminal ≡ Worded (codes "device") →
     behind l ≡ items l1 → (first_item l1).terminal ≡ Signed sign.OpenParen → behind l1 ≡ items l2 →
-    IsSpelled (number_mark d.number ∷ []) (items l2) (items l3) → (first_item l3).terminal ≡ Signed sign.CloseParen →
+    IsSpelled (device_mark d ∷ []) (items l2) (items l3) → (first_item l3).terminal ≡ Signed sign.CloseParen →
     behind l3 ≡ items l4 → IsSpelled (clause_marks (Device d)) (items l) (items l4)
 unfolding clause_marks
 read_device l l1 l2 l3 l4 d e b f g n h c =
     spelled_then (word_mark (codes "device") ∷ sign_mark sign.OpenParen ∷ [])
-    (number_mark d.number ∷ sign_mark sign.CloseParen ∷ []) (items l) (items l2) (items l4)
+    (device_mark d ∷ sign_mark sign.CloseParen ∷ []) (items l) (items l2) (items l4)
     (read_word l l1 l2 (codes "device") e b f g)
-    (spelled_then (number_mark d.number ∷ []) (sign_mark sign.CloseParen ∷ []) (items l2) (items l3) (items l4) n
+    (spelled_then (device_mark d ∷ []) (sign_mark sign.CloseParen ∷ []) (items l2) (items l3) (items l4) n
     (spelled_one l3 (items l4) (Signed sign.CloseParen) None h tt c))
 
 -- ---- a clause has a token
@@ -97,7 +98,7 @@ clause_less (Motion m) a b r = spelled_less (word_mark (grammar.motion_word (see
     (sign_mark sign.OpenParen ∷ (present_marks m.present ++ sections_marks m.sections)) a b r.fits
 clause_less NoWait a b r = spelled_less (word_mark (codes "nowait")) [] a b r.fits
 clause_less (Device d) a b r = spelled_less (word_mark (codes "device"))
-    (sign_mark sign.OpenParen ∷ number_mark d.number ∷ sign_mark sign.CloseParen ∷ []) a b r.fits
+    (sign_mark sign.OpenParen ∷ device_mark d ∷ sign_mark sign.CloseParen ∷ []) a b r.fits
 clause_less (Amount x n) a b r = spelled_less (word_mark (grammar.amount_word (seen_amount x)))
     (sign_mark sign.OpenParen ∷ number_mark n ∷ sign_mark sign.CloseParen ∷ []) a b r.fits
 clause_less (Schedule t o) a b r = spelled_less (word_mark (codes "schedule"))

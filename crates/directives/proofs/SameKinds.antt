@@ -15,6 +15,7 @@ use Rattle.directives.specs.declared.tree.SignedTerm.{SignedTerm}
 use Rattle.directives.specs.declared.tree.Bound.{Bound}
 use Rattle.directives.specs.declared.tree.Section.{Section}
 use Rattle.directives.specs.declared.tree.Sections.{Sections}
+use Rattle.directives.specs.declared.tree.DeviceClause.TheVariants.{Fixed, Looped}
 use Rattle.directives.specs.declared.tree.Clause.{Clause}
 use Rattle.directives.specs.declared.tree.Clause.TheVariants.{Map, Depend, Motion, NoWait, Device, Amount, Schedule}
 use Rattle.directives.specs.declared.tree.Directive.{Directive}
@@ -124,7 +125,8 @@ clause_same (Depend d) = ap (λ (zs : List Lexeme). (Worded (codes "depend")) �
 clause_same (Motion m) = ap (λ (zs : List Lexeme). (Worded (grammar.motion_word (seen_motion m.motion_type))) ∷
     Signed sign.OpenParen ∷ zs) (motion_same m.present m.sections)
 clause_same NoWait = refl
-clause_same (Device d) = refl
+clause_same (Device (Fixed d)) = refl
+clause_same (Device (Looped x)) = refl
 clause_same (Amount a n) = refl
 clause_same (Schedule t None) = refl
 clause_same (Schedule t (Some n)) = refl

@@ -21,7 +21,6 @@ use Rattle.directives.specs.Reading.{rest, took, fault_at, misfit_at, IsSpelled}
 use Rattle.directives.specs.Trees.{word_mark, sign_mark, number_mark, chunk_marks, clause_marks}
 use Rattle.directives.proofs.Bounding.{bad_breaks}
 use Rattle.directives.proofs.ClausesRead.{read_word}
-use Rattle.directives.proofs.Devices.{NoNumber}
 use Rattle.directives.proofs.Moves.{goes, stops, took_broken, word_is, sign_is}
 use Rattle.directives.proofs.Spellings.{spelled_one, spelled_first, spelled_then}
 
@@ -76,6 +75,15 @@ bad_amount_number l a s e =
     at_amount_number l (seen_amount a) s None e ∙ took_broken l (act.Amounts a) BadNumber (Some BadOperand) s
     (ap (λ (t : Lexeme). broken_by (known_of l.known) t (Amounts (seen_amount a))) e
     ∙ bad_breaks (known_of l.known) (Amounts (seen_amount a)))
+
+-- a token that is no number
+abbrev NoNumber : Lexeme → Type 0
+NoNumber (Numbered n) = ⊥
+NoNumber (Worded x) = Unit {0}
+NoNumber (Reserved x) = Unit {0}
+NoNumber (Signed x) = Unit {0}
+NoNumber Strange = Unit {0}
+NoNumber Ended = Unit {0}
 
 amount_none : (a : Amount) (s : LineStack) (t : Lexeme) → NoNumber t → line_advance (AmountNumber a ∷ s) t ≡ None
 unfolding line_advance

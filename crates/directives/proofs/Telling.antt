@@ -15,6 +15,7 @@ use Rattle.directives.specs.declared.tree.SignedTerm.{SignedTerm}
 use Rattle.directives.specs.declared.tree.Bound.{Bound}
 use Rattle.directives.specs.declared.tree.Section.{Section}
 use Rattle.directives.specs.declared.tree.Sections.{Sections}
+use Rattle.directives.specs.declared.tree.DeviceClause.TheVariants.{Fixed, Looped}
 use Rattle.directives.specs.declared.tree.Clause.{Clause}
 use Rattle.directives.specs.declared.tree.Clause.TheVariants.{Map, Depend, Motion, NoWait, Device, Amount, Schedule}
 use Rattle.directives.specs.declared.tree.Directive.{Directive}
@@ -218,7 +219,8 @@ clause_tells n (Map m) = modifiers_tell m.modifiers.items n
 clause_tells n (Depend d) = sections_tell grammar.Depends n d.sections tt
 clause_tells n (Motion m) = motion_tells m.present n m.sections
 clause_tells n NoWait = refl
-clause_tells n (Device d) = refl
+clause_tells n (Device (Fixed d)) = refl
+clause_tells n (Device (Looped x)) = (refl, refl)
 clause_tells n (Amount a k) = refl
 clause_tells n (Schedule t None) = refl
 clause_tells n (Schedule t (Some k)) = refl

@@ -9,6 +9,8 @@ use Rattle.directives.specs.declared.tree.SignedTerm.{SignedTerm}
 use Rattle.directives.specs.declared.tree.Bound.{Bound}
 use Rattle.directives.specs.declared.tree.Section.{Section}
 use Rattle.directives.specs.declared.tree.Sections.{Sections}
+use Rattle.directives.specs.declared.tree.DeviceClause.{DeviceClause}
+use Rattle.directives.specs.declared.tree.DeviceClause.TheVariants.{Fixed, Looped}
 use Rattle.directives.specs.declared.tree.Clause.{Clause}
 use Rattle.directives.specs.declared.tree.Clause.TheVariants.{Map, Depend, Motion, NoWait, Device, Amount, Schedule}
 use Rattle.directives.specs.declared.tree.Directive.{Directive}
@@ -16,7 +18,7 @@ use Rattle.directives.specs.Kinds.{seen_kind}
 use Rattle.directives.specs.Spells.{kinds_of, columns_of}
 use Rattle.directives.specs.Trees.{text_of}
 
--- names with their columns: an array's, or that of a loop in a bound
+-- names with their columns: an array's, or that of a loop in a bound or for a device
 abbrev pub Uses : Type 0
 Uses = List (ℕ × Use)
 
@@ -46,12 +48,16 @@ section_names s = (s.array.column, OfArray s.array.text.now) ∷ bounds_names s.
 abbrev pub sections_names : Sections → Uses
 sections_names s = section_names s.first ++ each_names section_names s.more.items
 
+abbrev pub device_names : DeviceClause → Uses
+device_names (Fixed d) = []
+device_names (Looped x) = (x.column, OfLoop x.text.now) ∷ []
+
 abbrev pub clause_names : Clause → Uses
 clause_names (Map m) = sections_names m.sections
 clause_names (Depend d) = sections_names d.sections
 clause_names (Motion m) = sections_names m.sections
 clause_names NoWait = []
-clause_names (Device d) = []
+clause_names (Device d) = device_names d
 clause_names (Amount a n) = []
 clause_names (Schedule t o) = []
 

@@ -14,6 +14,8 @@ use Rattle.directives.specs.declared.tree.SignedTerm.{SignedTerm}
 use Rattle.directives.specs.declared.tree.Bound.{Bound}
 use Rattle.directives.specs.declared.tree.Section.{Section}
 use Rattle.directives.specs.declared.tree.Sections.{Sections}
+use Rattle.directives.specs.declared.tree.DeviceClause.{DeviceClause}
+use Rattle.directives.specs.declared.tree.DeviceClause.TheVariants.{Fixed, Looped}
 use Rattle.directives.specs.declared.tree.Clause.{Clause}
 use Rattle.directives.specs.declared.tree.Clause.TheVariants.{Map, Depend, Motion, NoWait, Device, Amount, Schedule}
 use Rattle.directives.specs.declared.tree.Directive.{Directive}
@@ -50,13 +52,17 @@ abbrev pub chunk_of : Option ℕ → Option (Option ℕ)
 chunk_of None = None
 chunk_of (Some n) = Some (Some n)
 
+abbrev pub device_of : DeviceClause → grammar.Device
+device_of (Fixed d) = grammar.Fixed (Some d.number)
+device_of (Looped x) = grammar.Looped x.text.now
+
 abbrev pub clause_of : Clause → grammar.Clause
 clause_of (Map m) = grammar.MapOf (map seen_modifier m.modifiers.items) (seen_map m.map_type)
     (sections_of m.sections)
 clause_of (Depend d) = grammar.DependOf (seen_depend d.depend_type) (sections_of d.sections)
 clause_of (Motion m) = grammar.MotionOf (seen_motion m.motion_type) m.present (sections_of m.sections)
 clause_of NoWait = grammar.NoWait
-clause_of (Device d) = grammar.DeviceOf (Some d.number)
+clause_of (Device d) = grammar.DeviceOf (device_of d)
 clause_of (Amount a n) = grammar.AmountOf (seen_amount a) (Some n)
 clause_of (Schedule t o) = grammar.ScheduleOf (seen_schedule t) (chunk_of o)
 
@@ -79,6 +85,10 @@ number_mark n = (Numbered (Some n), None)
 
 abbrev pub name_mark : Name → Lexeme × Option ℕ
 name_mark x = (Worded x.text.now, Some x.column)
+
+abbrev pub device_mark : DeviceClause → Lexeme × Option ℕ
+device_mark (Fixed d) = number_mark d.number
+device_mark (Looped x) = name_mark x
 
 -- each with the sign before it
 abbrev pub each_behind : {X : Type 0} → Sign → (X → Spelling) → List X → Spelling
@@ -157,7 +167,7 @@ clause_marks (Motion m) = (word_mark (grammar.motion_word (seen_motion m.motion_
     ++ (present_marks m.present ++ sections_marks m.sections)
 clause_marks NoWait = word_mark (codes "nowait") ∷ []
 clause_marks (Device d) = (word_mark (codes "device") ∷ sign_mark sign.OpenParen ∷ []) ++
-    (number_mark d.number ∷ sign_mark sign.CloseParen ∷ [])
+    (device_mark d ∷ sign_mark sign.CloseParen ∷ [])
 clause_marks (Amount a n) = (word_mark (grammar.amount_word (seen_amount a)) ∷ sign_mark sign.OpenParen ∷ []) ++
     (number_mark n ∷ sign_mark sign.CloseParen ∷ [])
 clause_marks (Schedule t o) = (word_mark (codes "schedule") ∷ sign_mark sign.OpenParen ∷ []) ++

@@ -3,9 +3,10 @@
 use crate::fault::DirectiveFault;
 use crate::known::{Act, Single};
 use crate::line::Line;
-use crate::tree::{Clause, DependClause, DirectiveKind, MapClause, MotionClause, MotionType};
+use crate::tree::{
+    Clause, DependClause, DeviceClause, DirectiveKind, MapClause, MotionClause, MotionType,
+};
 use base::fault::ReadCode;
-use base::tree::DeviceId;
 use c_tokens::Sign;
 
 impl<'a, 'l> Line<'a, 'l> {
@@ -129,7 +130,7 @@ impl<'a, 'l> Line<'a, 'l> {
     }
 
     /// A device clause, whose word stands next.
-    fn device_clause(&mut self, kind: DirectiveKind) -> Result<DeviceId, DirectiveFault>
+    fn device_clause(&mut self, kind: DirectiveKind) -> Result<DeviceClause<'a>, DirectiveFault>
         requires { is_device (seen_kind kind) (first_item self.old).terminal ≡ true }
         ensures read { (s : LineStack) → Outcome result (rest self.old (Clauses (seen_kind kind) ∷ s))
             (rest self.new (Clauses (seen_kind kind) ∷ s)) }
@@ -138,7 +139,7 @@ impl<'a, 'l> Line<'a, 'l> {
     {
         self.enter(Act::Once(Single::OnDevice))?;
         self.expect(Sign::OpenParen)?;
-        let device = self.device_number()?;
+        let device = self.device()?;
         self.expect(Sign::CloseParen)?;
         Ok(device)
     }

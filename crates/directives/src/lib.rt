@@ -28,8 +28,8 @@ pub use lexeme::{Lexeme, PlacedLexeme, same_lexeme, sign_number};
 pub use lexemes::Lexemes;
 pub use line_tokens::LineTokens;
 pub use tree::{
-    Amount, Bound, Clause, Construct, DependClause, DependType, Directive, DirectiveKind,
-    MapClause, MapType, Modifier, MotionClause, MotionType, Name, ScheduleType, Section, Sections,
-    SignedTerm, Term, TermSign,
+    Amount, Bound, Clause, Construct, DependClause, DependType, DeviceClause, Directive,
+    DirectiveKind, MapClause, MapType, Modifier, MotionClause, MotionType, Name, ScheduleType,
+    Section, Sections, SignedTerm, Term, TermSign,
 };
 pub use word::{Word, word_of};

@@ -124,13 +124,20 @@ pub struct MotionClause<'a> {
     pub sections: Sections<'a>,
 }
 
+/// The device of a clause: its number, or the value of the loop of that name.
+#[derive(Clone, Copy)]
+pub enum DeviceClause<'a> {
+    Fixed(DeviceId),
+    Looped(Name<'a>),
+}
+
 #[derive(Drop)]
 pub enum Clause<'a> {
     Map(MapClause<'a>),
     Depend(DependClause<'a>),
     Motion(MotionClause<'a>),
     NoWait,
-    Device(DeviceId),
+    Device(DeviceClause<'a>),
     Amount(Amount, u64),
     /// With the turns of a chunk.
     Schedule(ScheduleType, Option<u64>),

@@ -4,7 +4,7 @@ use crate::fault::DirectiveFault;
 use crate::known::{Act, Single};
 use crate::lexeme::{Lexeme, same_lexeme};
 use crate::line::Line;
-use crate::tree::{DependType, DirectiveKind, MapType, Modifier};
+use crate::tree::{self, DependType, DeviceClause, DirectiveKind, MapType, Modifier};
 use base::fault::ReadCode;
 use base::tree::DeviceId;
 use c_tokens::Sign;
@@ -19,7 +19,7 @@ impl<'a, 'l> Line<'a, 'l> {
     ghost use Rattle.directives.specs.Kinds.{IsNoDependWord, IsNoMapWord, IsNoModifier, allows, seen_depend, seen_kind, seen_map, seen_modifier};
     ghost use Rattle.directives.specs.Cursor.{first_item, items};
     ghost use Rattle.directives.specs.Reading.{IsSpelled, Outcome, rest};
-    ghost use Rattle.directives.specs.Trees.{modifier_marks, modifiers_marks, number_mark, present_marks, type_marks};
+    ghost use Rattle.directives.specs.Trees.{device_mark, modifier_marks, modifiers_marks, present_marks, type_marks};
 
     /// The map type whose word stands next.
     #[tactic(auto, using(crate::proofs::Moves::word_is))]
@@ -148,17 +148,22 @@ impl<'a, 'l> Line<'a, 'l> {
         true
     }
 
-    /// The number of a device.
-    pub fn device_number(&mut self) -> Result<DeviceId, DirectiveFault>
+    /// A device: its number, or the name of a loop.
+    pub fn device(&mut self) -> Result<DeviceClause<'a>, DirectiveFault>
         ensures read { (s : LineStack) → Outcome result (rest self.old (DeviceNumber ∷ s)) (rest self.new s) }
-        ensures tree { IfOk result (λ d. IsSpelled (number_mark d.number ∷ []) (items self.old) (items self.new)) }
+        ensures tree { IfOk result (λ d. IsSpelled (device_mark d ∷ []) (items self.old) (items self.new)) }
     {
         match self.peek() {
             Lexeme::Number(number) => {
                 self.enter(Act::Numbers)?;
-                Ok(DeviceId {
+                Ok(DeviceClause::Fixed(DeviceId {
                     number: number as u8,
-                })
+                }))
+            }
+            Lexeme::Name(text) => {
+                let column = self.token.column;
+                self.enter(Act::Times)?;
+                Ok(DeviceClause::Looped(tree::Name { text, column }))
             }
             Lexeme::BadNumber => Err(DirectiveFault::Line(self.fault(ReadCode::BadNumber))),
             _ => Err(DirectiveFault::Line(self.misfit(ReadCode::BadDevice))),

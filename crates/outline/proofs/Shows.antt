@@ -10,7 +10,7 @@ use Rattle.base.specs.declared.tree.Region.{Region}
 use Rattle.base.specs.declared.tree.ArrayId.{ArrayId}
 use Rattle.base.specs.declared.tree.DependText.{DependText}
 use Rattle.base.specs.declared.tree.Target.{Target as TargetText}
-use Rattle.base.specs.Items.{Work, host_work, target_work, map_of, region_kind, depends_of, implicit_maps}
+use Rattle.base.specs.Items.{Work, host_work, target_work, map_of, region_kind, depends_of, device_of, implicit_maps}
 use Rattle.outline.specs.Captures.{arrays_of}
 use Rattle.outline.specs.Regions.{Entry}
 use Rattle.outline.specs.Walk.{implicit_of}
@@ -40,18 +40,18 @@ host_shown es k e device ms ds ls loops here device_is ms_is ds_is ls_is =
     f.region) (here i))
 
 pub target_shown : (es : List Entry) (k : ℕ) (e : Entry) (lengths loops : List ℕ) (t : TargetText)
-    (depends : List DependText) (arrays : List ArrayId) (n : ℕ) (ms : List MapItem) (ds : List Depend) (ls : List ℕ) →
-    slice_get es k ≡ Some e → n ≡ length lengths → arrays ≡ arrays_of n e.region →
+    (depends : List DependText) (arrays : List ArrayId) (n device : ℕ) (ms : List MapItem) (ds : List Depend)
+    (ls : List ℕ) → slice_get es k ≡ Some e → device ≡ device_of loops t.tasking.device → n ≡ length lengths → arrays ≡ arrays_of n e.region →
     depends ≡ t.tasking.depends.items →
     ms ≡ map (map_of region_kind lengths loops) t.maps.items
     ++ implicit_of lengths e.region.place t.maps.items arrays →
     ds ≡ depends_of lengths loops depends → ls ≡ loops →
     option_map
-    (λ (e : Entry). work_at Target t.place t.tasking.nowait t.tasking.device.number ms ds ls e.region) (slice_get es k)
+    (λ (e : Entry). work_at Target t.place t.tasking.nowait device ms ds ls e.region) (slice_get es k)
     ≡ Some (target_work lengths t e.region loops)
-target_shown es k e lengths loops t depends arrays n ms ds ls here n_is arrays_is depends_is ms_is ds_is ls_is =
+target_shown es k e lengths loops t depends arrays n device ms ds ls here device_is n_is arrays_is depends_is ms_is ds_is ls_is =
     (λ i. option_map
-    (λ (e : Entry). work_at Target t.place t.tasking.nowait t.tasking.device.number (maps i) (waits i) (ls_is i) e.region)
+    (λ (e : Entry). work_at Target t.place t.tasking.nowait (device_is i) (maps i) (waits i) (ls_is i) e.region)
     (here i))
   where
     waits : ds ≡ depends_of lengths loops t.tasking.depends.items

@@ -7,7 +7,7 @@ use Rattle.base.specs.declared.item.MapItem.{MapItem}
 use Rattle.base.specs.declared.tree.DependText.{DependText}
 use Rattle.base.specs.declared.tree.Place.{Place}
 use Rattle.base.specs.declared.tree.Tasking.{Tasking}
-use Rattle.base.specs.Items.{Work, depends_of}
+use Rattle.base.specs.Items.{Work, depends_of, device_of}
 use Rattle.outline.specs.declared.items.Head.{Head}
 
 -- an item that has no region
@@ -31,7 +31,7 @@ tasked_work kind place lengths maps t loops =
       kind = kind;
       place = place;
       deferred = t.nowait;
-      device = t.device.number;
+      device = device_of loops t.device;
       maps = maps;
       depends = depends_of lengths loops t.depends.items;
       region = None;

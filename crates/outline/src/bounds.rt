@@ -1,10 +1,10 @@
-// The sections of map and depend items, with the loops' names at their values.
+// The sections of map and depend items, and devices, with the loops' names at their values.
 
 ghost use Rattle.std.specs.Prelude.{◌≡◌, ◌-◌, ◌^◌, min};
-ghost use Rattle.base.specs.Items.{bound_value, less_value, section_of, term_value, terms_value};
+ghost use Rattle.base.specs.Items.{bound_value, device_of, less_value, section_of, term_value, terms_value};
 
 use base::item::Section;
-use base::tree::{Bound, SectionText, Term};
+use base::tree::{Bound, DeviceId, DeviceText, SectionText, Term};
 
 fn value_of(term: Term, loops: &[u64]) -> u64
     ensures { result ≡ min (term_value loops.now term) (2 ^ 64 - 1) }
@@ -44,6 +44,21 @@ fn bound(bound: &Bound, loops: &[u64]) -> u64
         sum(bound.terms.as_slice(), loops),
         sum(bound.less.as_slice(), loops),
     )
+}
+
+/// The device that a directive works on.
+pub fn device(text: DeviceText, loops: &[u64]) -> DeviceId
+    ensures { result.number ≡ device_of loops.now text }
+{
+    match text {
+        DeviceText::Fixed(device) => device,
+        DeviceText::LoopName(level) => {
+            let value = loops.get(level as usize).copied().unwrap_or(0);
+            DeviceId {
+                number: value.min(3) as u8,
+            }
+        }
+    }
 }
 
 /// A section's cells. One that is written without bounds is the whole array.

@@ -6,6 +6,7 @@ ghost use Rattle.outline.specs.Bare.{bare_work, tasked_work, wait_work};
 ghost use Rattle.outline.specs.Shown.{shown};
 ghost use Rattle.outline.specs.Walk.{RegionIsAt, entries_in, implicit_of, is_named};
 
+use crate::bounds::device;
 use crate::known::Known;
 use crate::maps::{depend_items, enter_maps, exit_maps, region_maps, update_maps};
 use base::item::{Item, ItemKind, LoopValues, MapItem, MapKind, Section};
@@ -123,7 +124,7 @@ pub fn target_item(
         kind: ItemKind::Target,
         place: target.place,
         deferred: target.tasking.nowait,
-        device: target.tasking.device,
+        device: device(target.tasking.device, loops),
         maps: target_maps(known, target, region.place, arrays, loops)?,
         depends: depend_items(known.alloc, &target.tasking.depends, known.lengths, loops)?,
         region: Some(number),
@@ -175,7 +176,7 @@ pub fn data_item(
         kind,
         place: construct.place,
         deferred: false,
-        device: construct.device,
+        device: device(construct.device, loops),
     };
     let maps = region_maps(known.alloc, &construct.maps, known.lengths, loops)?;
     bare_item(known, head, maps, &[], loops)
@@ -196,7 +197,7 @@ fn tasked_item(
         kind,
         place,
         deferred: tasking.nowait,
-        device: tasking.device,
+        device: device(tasking.device, loops),
     };
     bare_item(known, head, maps, &tasking.depends, loops)
 }

@@ -8,6 +8,7 @@ mod UnlinedTargets
 mod UnlinedStatements
 mod UnlinedPresence
 mod UnlinedNesting
+mod UnlinedSequences
 mod UnlinedMacros
 mod UnlinedDeclaredFunctions
 mod UnlinedAllocations
@@ -21,6 +22,7 @@ mod UnlinedChoices
 mod UnlinedLoops
 mod UnlinedTriangles
 mod UnlinedDescents
+mod UnlinedDevices
 mod UnlinedGrids
 mod UnlinedDeclarations
 mod UnlinedCounters

@@ -47,7 +47,7 @@ only_unlined (i ∷ is) =
     same_if (is_directive i.terminal) _ _ _ _ (only_unlined is)
     (ap (λ (b : Bool). same (Fixed For) i.terminal && b) (last_unlined is 0))
 
-moves_unlined : (t : Terminal) (o : Item Terminal) (is : Items) → moves t (unlined o) (all_unlined is) ≡ moves t o is
+pub moves_unlined : (t : Terminal) (o : Item Terminal) (is : Items) → moves t (unlined o) (all_unlined is) ≡ moves t o is
 moves_unlined t o [] = refl
 moves_unlined t o (i ∷ is) =
     ap (λ (b : Bool). is_mark sign.OpenBrace o && (joins t i.terminal && b)) (only_unlined is)

@@ -16,6 +16,7 @@ use Rattle.c_grammar.specs.Conditions.{decided}
 use Rattle.c_grammar.specs.Grids.{flat}
 use Rattle.c_grammar.specs.Counters.{counted}
 use Rattle.c_grammar.specs.Descents.{upward}
+use Rattle.c_grammar.specs.Devices.{on_devices}
 use Rattle.c_grammar.specs.Privates.{owned}
 use Rattle.c_grammar.specs.Lasting.{lasting}
 use Rattle.c_grammar.specs.Unset.{zeroed}
@@ -23,6 +24,7 @@ use Rattle.c_grammar.specs.Declarations.{Other, settled}
 use Rattle.c_grammar.specs.Updates.{Outside, commuting}
 use Rattle.c_grammar.specs.Initial.{initialized, no_globals}
 use Rattle.c_grammar.specs.Nesting.{nested}
+use Rattle.c_grammar.specs.Sequences.{in_parts}
 use Rattle.c_grammar.specs.Macros.{replaced}
 use Rattle.c_grammar.specs.DeclaredFunctions.{undeclared}
 use Rattle.c_grammar.specs.Prints.{printed}
@@ -30,6 +32,7 @@ use Rattle.c_grammar.specs.Source.{written_out}
 use Rattle.erasure.proofs.Spelled.{kinds_in}
 use Rattle.same_text.proofs.Unlined.{all_unlined, AreUnlined, typed_unlined, blocks_unlined}
 use Rattle.same_text.proofs.UnlinedNesting.{nested_unlined}
+use Rattle.same_text.proofs.UnlinedSequences.{parts_all_unlined}
 use Rattle.same_text.proofs.UnlinedMacros.{replaced_unlined}
 use Rattle.same_text.proofs.UnlinedDeclaredFunctions.{undeclared_unlined}
 use Rattle.same_text.proofs.UnlinedPrints.{printed_unlined}
@@ -45,6 +48,7 @@ use Rattle.same_text.proofs.UnlinedGrids.{flat_unlined}
 use Rattle.same_text.proofs.UnlinedLasting.{lasting_unlined}
 use Rattle.same_text.proofs.UnlinedCounters.{counted_unlined, zeroed_unlined}
 use Rattle.same_text.proofs.UnlinedDescents.{upward_unlined}
+use Rattle.same_text.proofs.UnlinedDevices.{devices_unlined}
 use Rattle.same_text.proofs.UnlinedPrivates.{owned_unlined}
 use Rattle.same_text.proofs.UnlinedDeclarations.{settled_unlined}
 use Rattle.same_text.proofs.UnlinedBoxes.{announced_unlined, boxed_unlined}
@@ -56,18 +60,21 @@ use Rattle.same_text.proofs.UnlinedChanges.{full_unlined}
 
 -- what follows the constants
 later_unlined : (is : Items) →
-    AreUnlined (announced (in_full begin 0 (initialized no_globals 0 (allocated (all_unlined is)))))
-    (announced (in_full begin 0 (initialized no_globals 0 (allocated is))))
+    AreUnlined (on_devices (announced (in_full begin 0 (initialized no_globals 0 (allocated (all_unlined is))))))
+    (on_devices (announced (in_full begin 0 (initialized no_globals 0 (allocated is)))))
 later_unlined is =
-    ap (λ (js : Items). announced (in_full begin 0 (initialized no_globals 0 js))) (allocated_unlined is)
-    ∙ ap (λ (js : Items). announced (in_full begin 0 js)) (initialized_unlined (allocated is) no_globals 0)
-    ∙ ap announced (full_unlined (initialized no_globals 0 (allocated is)) begin 0)
-    ∙ announced_unlined (in_full begin 0 (initialized no_globals 0 (allocated is)))
+    let whole : Items → Items = λ js. on_devices (announced js) in
+    ap (λ (js : Items). whole (in_full begin 0 (initialized no_globals 0 js))) (allocated_unlined is)
+    ∙ ap (λ (js : Items). whole (in_full begin 0 js)) (initialized_unlined (allocated is) no_globals 0)
+    ∙ ap whole (full_unlined (initialized no_globals 0 (allocated is)) begin 0)
+    ∙ ap on_devices (announced_unlined (in_full begin 0 (initialized no_globals 0 (allocated is))))
+    ∙ devices_unlined (announced (in_full begin 0 (initialized no_globals 0 (allocated is))))
 
 written_unlined : (is : Items) → AreUnlined (written_out (all_unlined is)) (written_out is)
 written_unlined is =
     let m : Items = replaced is in
-    let n : Items = nested m in
+    let z : Items = in_parts m in
+    let n : Items = nested z in
     let p : Items = printed 0 n in
     let a : Items = typed 0 p in
     let s : Items = in_rows a in
@@ -87,22 +94,24 @@ written_unlined is =
     let f : Items = chosen h in
     let r : Items = flat true [] [] [] 0 (undefined [] 0 0 f) in
     let g : Items = flat false [] [] [] 0 r in
-    let later : Items → Items = λ js. announced (in_full begin 0 (initialized no_globals 0 (allocated js))) in
+    let later : Items → Items = λ js. on_devices (announced (in_full begin 0 (initialized no_globals 0 (allocated js)))) in
     let since_boxes : Items → Items = λ js. later (commuting Outside js) in
     let since_updates : Items → Items = λ js. since_boxes (boxed js) in
     let since_rows : Items → Items = λ js. since_updates (flat false [] [] [] 0 js) in
     let since_grids : Items → Items = λ js. since_rows (flat true [] [] [] 0 js) in
     let since_defined : Items → Items = λ js. since_grids (undefined [] 0 0 js) in
+    let since_loops : Items → Items = λ js. since_defined (chosen (rectangular js)) in
     let since_declared : Items → Items = λ js.
-    since_defined (chosen (rectangular (looped (decided (expanded (pointed (worked [] [] 0 js))))))) in
+    since_loops (looped (decided (expanded (pointed (worked [] [] 0 js))))) in
     let since_zeroed : Items → Items = λ js. since_declared (settled Other js) in
     let since_upward : Items → Items = λ js. since_zeroed (zeroed (lasting (owned js))) in
     let since_counted : Items → Items = λ js. since_upward (upward js) in
     let since_blocks : Items → Items = λ js. since_counted (counted js) in
     let since_structs : Items → Items = λ js. since_blocks (in_blocks nothing_read (undeclared false js)) in
     let since_typed : Items → Items = λ js. since_structs (in_rows js) in
-    ap (λ (js : Items). since_typed (typed 0 (printed 0 (nested js)))) (replaced_unlined is)
-    ∙ ap (λ (js : Items). since_typed (typed 0 (printed 0 js))) (nested_unlined m)
+    ap (λ (js : Items). since_typed (typed 0 (printed 0 (nested (in_parts js))))) (replaced_unlined is)
+    ∙ ap (λ (js : Items). since_typed (typed 0 (printed 0 (nested js)))) (parts_all_unlined m)
+    ∙ ap (λ (js : Items). since_typed (typed 0 (printed 0 js))) (nested_unlined z)
     ∙ ap (λ (js : Items). since_typed (typed 0 js)) (printed_unlined n 0)
     ∙ ap since_typed (typed_unlined p 0)
     ∙ ap since_structs (rows_unlined a)
@@ -114,11 +123,11 @@ written_unlined is =
     ∙ ap (λ (js : Items). since_zeroed (zeroed js)) (lasting_unlined o)
     ∙ ap since_zeroed (zeroed_unlined w)
     ∙ ap since_declared (settled_unlined (zeroed w) Other)
-    ∙ ap (λ (js : Items). since_defined (chosen (rectangular (looped (decided (expanded (pointed js))))))) (worked_unlined d [] [] 0)
-    ∙ ap (λ (js : Items). since_defined (chosen (rectangular (looped (decided (expanded js)))))) (pointed_unlined c)
-    ∙ ap (λ (js : Items). since_defined (chosen (rectangular (looped (decided js))))) (expanded_unlined q)
-    ∙ ap (λ (js : Items). since_defined (chosen (rectangular (looped js)))) (decided_unlined e)
-    ∙ ap (λ (js : Items). since_defined (chosen (rectangular js))) (looped_unlined y)
+    ∙ ap (λ (js : Items). since_loops (looped (decided (expanded (pointed js))))) (worked_unlined d [] [] 0)
+    ∙ ap (λ (js : Items). since_loops (looped (decided (expanded js)))) (pointed_unlined c)
+    ∙ ap (λ (js : Items). since_loops (looped (decided js))) (expanded_unlined q)
+    ∙ ap (λ (js : Items). since_loops (looped js)) (decided_unlined e)
+    ∙ ap since_loops (looped_unlined y)
     ∙ ap (λ (js : Items). since_defined (chosen js)) (rectangular_unlined x)
     ∙ ap since_defined (chosen_unlined h)
     ∙ ap since_grids (undefined_unlined f [] 0 0)

@@ -151,7 +151,7 @@ step_same x is =
 
 -- ---- the loop
 
-abbrev loop_unlined : Loop → Loop
+abbrev pub loop_unlined : Loop → Loop
 loop_unlined l = record {
   parts = parts_unlined l.parts;
   name = l.name;
@@ -203,7 +203,7 @@ of_same : (os : List Open) (o : Option Parts) → loop_of os (option_map parts_u
 of_same os None = refl
 of_same os (Some p) = ap (loop_named os (parts_unlined p)) (name_same p.front) ∙ named_same os p (name_in p.front)
 
-in_same : (os : List Open) (is : Items) → loop_in os (all_unlined is) ≡ option_map loop_unlined (loop_in os is)
+pub in_same : (os : List Open) (is : Items) → loop_in os (all_unlined is) ≡ option_map loop_unlined (loop_in os is)
 in_same os is = go (nat_lt (length os) max_open)
   where
     js : Items
@@ -272,7 +272,7 @@ guard_unlined : (l : Loop) → AreUnlined (guard_for (loop_unlined l)) (guard_fo
 guard_unlined l =
     either (is_guarded l) (is_guarded l) (guard l) [] (guard (loop_unlined l)) [] refl (if_unlined l) refl
 
-len_same : (l : Loop) → len (loop_unlined l) ≡ len l
+pub len_same : (l : Loop) → len (loop_unlined l) ≡ len l
 len_same l = λ k.
     length_unlined l.parts.front k + length_unlined l.parts.start k + length_unlined l.parts.middle k + 1 +
     length_unlined l.parts.limit k + length_unlined l.step.tokens k

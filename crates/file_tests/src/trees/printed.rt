@@ -6,8 +6,8 @@
 
 use crate::text::Text;
 use base::tree::{
-    ArrayId, Bound, Bounds, DependText, DeviceId, Directive, Expr, MapText, Part, Place, Program,
-    Region, SectionText, Source, Stmt, Tasking, Term, UpdateText,
+    ArrayId, Bound, Bounds, DependText, DeviceId, DeviceText, Directive, Expr, MapText, Part,
+    Place, Program, Region, SectionText, Source, Stmt, Tasking, Term, UpdateText,
 };
 use std::fmt::Debug;
 
@@ -245,11 +245,19 @@ fn add_updates(out: &mut Text, depth: usize, updates: &[UpdateText]) {
 }
 
 /// The line of a device that is not the first.
-fn add_device(out: &mut Text, depth: usize, device: DeviceId) {
-    if device.number > 0 {
-        add_indent(out, depth);
-        out.add_with("device ", device.number);
-        out.add("\n");
+fn add_device(out: &mut Text, depth: usize, device: DeviceText) {
+    match device {
+        DeviceText::Fixed(DeviceId { number: 0 }) => (),
+        DeviceText::Fixed(device) => {
+            add_indent(out, depth);
+            out.add_with("device ", device.number);
+            out.add("\n");
+        }
+        DeviceText::LoopName(level) => {
+            add_indent(out, depth);
+            out.add_with("device l", level);
+            out.add("\n");
+        }
     }
 }
 

@@ -24,9 +24,10 @@ pub returns-in-NoWait-clause-means : goal.returns-in-NoWait-clause-means
 returns-in-NoWait-clause-means g c = rw c.in-NoWait.is (reads_nowait g.K.MapKind.seen (names_of c.args.scope.now)
     c.args.line c.args.read.now _ refl refl refl refl refl)
 
-pub returns-in-Device-clause-means : goal.returns-in-Device-clause-means
-returns-in-Device-clause-means g c = rw c.in-Device.is (reads_device g.K.MapKind.seen (names_of c.args.scope.now)
-    c.args.line c.in-Device.device c.args.read.now _ refl refl refl refl refl)
+pub returns-in_ok-read-in-Device-clause-means : goal.returns-in_ok-read-in-Device-clause-means
+returns-in_ok-read-in-Device-clause-means g c = rw c.in-Device.is (reads_device g.K.MapKind.seen
+    (names_of c.args.scope.now) c.args.line c.in-Device.device _ c.args.read.now _
+    c.in_ok-read-in-Device.ensures.means refl refl refl refl refl)
 
 pub returns-in-Amount-clause-means : goal.returns-in-Amount-clause-means
 returns-in-Amount-clause-means g c = rw c.in-Amount.is (reads_amount g.K.MapKind.seen (names_of c.args.scope.now)

@@ -13,8 +13,8 @@ returns c =
     ≡ entry c.args.known.now.counts.scalars c.args.known.now.counts.arrays true c.args.region.now =
     image_at entry_of c.args.known.now.regions.now c.args.number c.index-known-number.result _ here
     c.index-known-number.is in
-    target_shown (entries_in c.args.known.now) c.args.number _ _ _ c.args.target.now _ _ _ _ _ _
-    here c.args.known.now.arrays_counted
+    target_shown (entries_in c.args.known.now) c.args.number _ _ _ c.args.target.now _ _ _ _ _ _ _
+    here c.device.ensures c.args.known.now.arrays_counted
     (c.deref.ensures.value ∙ ap (λ (x : RegionEntry). x.arrays.items) (sym c.index-known-number.is)
     ∙ ap (λ (e : Entry). e.arrays) same)
     c.deref-2.ensures c.in_ok-target_maps.ensures c.in_ok-depend_items.ensures c.in_ok-loop_values.ensures

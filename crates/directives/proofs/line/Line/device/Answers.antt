@@ -1,6 +1,7 @@
-use Rattle.directives.proofs.Devices.{at_number, bad_number, stop_number, is_device}
+use Rattle.directives.proofs.BoundsRead.{read_name}
+use Rattle.directives.proofs.Devices.{at_name, at_number, bad_number, stop_number, is_device}
 use Rattle.std.proofs.Common.{arith}
-use Rattle.directives.proofs.line.Line.device_number.Goals as goal
+use Rattle.directives.proofs.line.Line.device.Goals as goal
 
 pub returns-in_err-enter-in-Number-clause-read : goal.returns-in_err-enter-in-Number-clause-read
 returns-in_err-enter-in-Number-clause-read c = grind (arith, at_number)
@@ -13,6 +14,15 @@ invariant_of-result c = grind (arith, is_device)
 
 pub returns-in_ok-enter-in-Number-clause-read : goal.returns-in_ok-enter-in-Number-clause-read
 returns-in_ok-enter-in-Number-clause-read c = grind (arith, at_number)
+
+pub returns-in_err-enter-in-Name-clause-read : goal.returns-in_err-enter-in-Name-clause-read
+returns-in_err-enter-in-Name-clause-read c = grind (arith, at_name)
+
+pub returns-in_ok-enter-in-Name-clause-read : goal.returns-in_ok-enter-in-Name-clause-read
+returns-in_ok-enter-in-Name-clause-read c = grind (arith, at_name)
+
+pub returns-in_ok-enter-in-Name-clause-tree : goal.returns-in_ok-enter-in-Name-clause-tree
+returns-in_ok-enter-in-Name-clause-tree c = grind (arith, read_name)
 
 pub returns-in-BadNumber-clause-read : goal.returns-in-BadNumber-clause-read
 returns-in-BadNumber-clause-read c = grind (arith, bad_number)

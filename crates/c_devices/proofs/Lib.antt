@@ -1,0 +1,3 @@
+pub mod Innermost
+pub mod Heading
+pub mod Wholes
