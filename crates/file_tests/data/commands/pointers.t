@@ -4,6 +4,9 @@ $ ompc explain pointer_without_map.c
 pointer_without_map.c:5:13: error: the target uses `a`, a pointer in C, which it names in no `map` clause, and x[0:8] is not on device 0 [E509]
     5 | #pragma omp target teams distribute parallel for
       |             ^~~~~~
+pointer_without_map.c:11:5: note: called from here
+   11 |     twice(x, N);
+      |     ^~~~~
 pointer_without_map.c:6:38: note: `a` is used here: a target maps no pointer by itself
     6 |     for (uint64_t i = 0; i < n; i++) a[i] *= 2;
       |                                      ^~~~
@@ -38,6 +41,9 @@ $ ompc explain pointer_read_too_early.c
 pointer_read_too_early.c:6:43: error: the host reads cells[0], whose last value is on device 0: nothing has copied it to the host since (in the turn i = 0) [E506]
     6 |     for (uint64_t i = 0; i < n; i++) s += a[i];
       |                                           ^~~~
+pointer_read_too_early.c:14:18: note: called from here
+   14 |     uint64_t s = sum(cells, N);
+      |                  ^~~
 pointer_read_too_early.c:13:38: note: cells[0] is written here, on device 0, by the target (item 2) (in the turn i = 0)
    13 |     for (uint64_t i = 0; i < N; i++) cells[i] = i;
       |                                      ^~~~~~~~
@@ -62,6 +68,9 @@ $ ompc explain global_pointer_not_mapped.c
 global_pointer_not_mapped.c:22:15: error: the target uses `b`, a pointer in C, which it names in no `map` clause, and b[0:64] is not on device 0 [E509]
    22 |   #pragma omp target map(to: a[0:C]) map(tofrom: c[0:C]) device(0)
       |               ^~~~~~
+global_pointer_not_mapped.c:48:3: note: called from here
+   48 |   Mult();
+      |   ^~~~
 global_pointer_not_mapped.c:27:17: note: `b` is used here: a target maps no pointer by itself
    27 |         c[i] += b[j + i * C] * a[j];
       |                 ^~~~~~~~~~~~
