@@ -10,7 +10,7 @@ use Rattle.c_grammar.specs.Texts.{Item}
 use Rattle.c_grammar.specs.Blocks.{Items, at, bare, is_directive}
 use Rattle.c_grammar.specs.Constants.{Names, has_parameters, is_among, is_mark, is_remark}
 use Rattle.c_grammar.specs.Expressions.{as_items, as_terminal, placed_of}
-use Rattle.c_grammar.specs.Macros.{Call, Defined, Head, Macro, Macros, Other, Plain, Reading, State, With, appended, argument_at, argument_for, as_argument, begin, body_in, body_of, body_read, call_at, closed, defined_at, defined_in, expanded_by, fit, has_macro, has_some, in_call, in_order, is_argument, is_comment, is_new, is_sure, kept, line_on, macro, macro_at, macro_of, named, next_argument, onward, opened, opens, parameter_in, parameter_on, parameters, parameters_from, put, put_all, put_body, put_for, put_line, put_name, put_other, put_sure, read, replaced, step, step_in, token_on, with_body, with_calls, with_depth, with_directive, with_head, with_macro, with_other, with_reading}
+use Rattle.c_grammar.specs.Macros.{Call, Defined, Head, Macro, Macros, Other, Plain, Reading, State, With, appended, argument_at, argument_for, as_argument, begin, body_in, body_of, body_read, call_at, closed, defined_at, defined_in, expanded_by, fit, has_call, has_macro, has_some, in_call, in_order, is_argument, is_comment, is_new, is_sure, kept, line_on, macro, macro_at, macro_of, named, next_argument, onward, opened, opens, parameter_in, parameter_on, parameters, parameters_from, put, put_all, put_body, put_for, put_line, put_name, put_other, put_sure, read, replaced, step, step_in, token_on, with_body, with_calls, with_depth, with_directive, with_head, with_macro, with_other, with_reading}
 use Rattle.c_grammar.specs.AsciiNames.{AreAscii, IsAsciiTerminal, terminals_of}
 use Rattle.c_grammar.proofs.AsciiTokens.{AreItemsText, both_text, chosen_text}
 use Rattle.c_grammar.proofs.BareMacros.{in_order_same}
@@ -384,5 +384,5 @@ kept_text is (Some s) h k =
 
 pub replaced_text : (is : Items) → AreWholeText is → AreItemsText (replaced is)
 replaced_text is h =
-    chosen_text (has_macro (bare is)) (kept is (read begin is)) is
-    (kept_text is (read begin is) (whole_text is h) (read_text is begin h (tt, (tt, tt)))) (whole_text is h)
+    chosen_text (has_macro (bare is) || has_call false (bare is)) (kept is (read begin is)) is
+    (kept_text is (read begin is) (whole_text is h) (read_text is begin h (((tt, tt), ((tt, tt), tt)), (tt, tt)))) (whole_text is h)

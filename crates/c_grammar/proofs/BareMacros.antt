@@ -1,13 +1,13 @@
 -- Macros are expanded without a look at directive lines.
 use Rattle.std.proofs.Common.{◌≡◌, ◌∙◌, ℕ, ◌+◌, ◌-◌, Bool, true, false, cond, List, [], ◌∷◌, ◌++◌, Option, Some, None, refl, sym, ap}
-use Rattle.std.specs.Prelude.{◌==◌, ◌&&◌, not, nat_le, is_some}
+use Rattle.std.specs.Prelude.{◌==◌, ◌&&◌, ◌||◌, not, nat_le, is_some}
 use Rattle.std.specs.Option.{option_map}
 use Rattle.c_tokens.specs.declared.kind.Sign.TheVariants as sign
 use Rattle.c_grammar.specs.Terminal.{Terminal, Fixed, Mark, Name, Num, Line, Unknown, Unworked, End}
 use Rattle.c_grammar.specs.Texts.{Item}
 use Rattle.c_grammar.specs.Blocks.{Items, at, bare, is_directive}
 use Rattle.c_grammar.specs.Constants.{Names, is_mark}
-use Rattle.c_grammar.specs.Macros.{Call, Defined, Head, Macro, Macros, Other, Plain, Reading, State, With, appended, argument_at, as_argument, begin, body_of, body_read, call_at, closed, defined_at, expanded_by, fit, has_macro, has_some, in_call, in_order, is_new, is_sure, kept, line_on, macro, macro_at, macro_of, next_argument, onward, opened, opens, parameters, put, put_all, put_body, put_for, put_line, put_name, put_other, put_sure, read, replaced, step, step_in, token_on, with_body, with_calls, with_depth, with_directive, with_head, with_macro, with_other, with_reading}
+use Rattle.c_grammar.specs.Macros.{Call, Defined, Head, Macro, Macros, Other, Plain, Reading, State, With, appended, argument_at, as_argument, begin, body_of, body_read, call_at, closed, defined_at, expanded_by, fit, has_call, has_macro, has_some, in_call, in_order, is_new, is_sure, kept, line_on, macro, macro_at, macro_of, next_argument, onward, opened, opens, parameters, put, put_all, put_body, put_for, put_line, put_name, put_other, put_sure, read, replaced, step, step_in, token_on, with_body, with_calls, with_depth, with_directive, with_head, with_macro, with_other, with_reading}
 use Rattle.c_grammar.proofs.BareTokens.{IsPlain, bare_both, plain_kept, same_bare}
 
 abbrev bare_reading : Reading → Reading
@@ -233,8 +233,8 @@ kept_bare is (Some s) = by (has_some s.reading.calls)
 
 pub replaced_bare : (is : Items) → replaced (bare is) ≡ bare (replaced is)
 replaced_bare is =
-    ap (λ (js : Items). cond (has_macro js) (kept (bare is) (read begin (bare is))) (bare is)) (same_bare is)
-    ∙ by (has_macro (bare is))
+    ap (λ (js : Items). cond (has_macro js || has_call false js) (kept (bare is) (read begin (bare is))) (bare is)) (same_bare is)
+    ∙ by (has_macro (bare is) || has_call false (bare is))
   where
     by : (b : Bool) → cond b (kept (bare is) (read begin (bare is))) (bare is) ≡ bare (cond b (kept is (read begin is)) is)
     by true = ap (kept (bare is)) (read_bare is begin) ∙ kept_bare is (read begin is)

@@ -77,6 +77,11 @@ on_several_lines : tokens (codes "#define MAX(a, b) (a | b)" ∷ codes "x = MAX"
 unfolding number_of hex_number_of number_piece sign_one sign_two sign_three changing_sign sign_at format_at piece_at comment_end_from is_include after tokens_from word_of is_omp piece_on_line lexemes_from
 on_several_lines = refl
 
+-- functions of OpenMP that are known, where they are called
+devices : tokens (codes "for (int d = 0; d < omp_get_num_devices(); d++)" ∷ codes "k = omp_get_default_device ( ) + omp_get_num_devices;" ∷ []) ≡ raw (codes "for (int d = 0; d < 4; d++) k = 0 + omp_get_num_devices;")
+unfolding number_of hex_number_of number_piece sign_one sign_two sign_three changing_sign sign_at format_at piece_at comment_end_from is_include after tokens_from word_of is_omp piece_on_line lexemes_from
+devices = refl
+
 -- its name without a bracket is none of a call
 name_alone : tokens (codes "#define MAX(a, b) (a | b)" ∷ codes "uint64_t MAX; x = MAX + MAX(1, 2);" ∷ []) ≡ raw (codes "uint64_t MAX; x = MAX + (1 | 2);")
 unfolding number_of hex_number_of number_piece sign_one sign_two sign_three changing_sign sign_at format_at piece_at comment_end_from is_include after tokens_from word_of is_omp piece_on_line lexemes_from

@@ -1,5 +1,5 @@
--- Macros with parameters. They are expanded before all else, as C does it, so that the grammar sees what they stand for; the
--- lines that define them are left out. Where anything of them in a text is not surely so in C, the text stays as it is, with
+-- Macros with parameters, and functions of OpenMP that are known. They are expanded before all else, as C does it with macros,
+-- so that the grammar sees what they stand for; the lines that define macros are left out. Where anything of them in a text is not surely so in C, the text stays as it is, with
 -- the lines that the grammar refuses.
 use Rattle.std.specs.Prelude.{ℕ, zero, suc, ◌+◌, ◌-◌, ◌==◌, Bool, true, false, not, ◌&&◌, ◌||◌, nat_le, if◌then◌else◌, List, [], ◌∷◌, ◌++◌, drop, length, map, Option, Some, None, codes, is_some}
 use Rattle.std.specs.Str.{bytes_eq}
@@ -19,6 +19,15 @@ pub record Macro : Type 0 where
 
 abbrev pub Macros : Type 0
 Macros = List Macro
+
+abbrev pub macro : List ℕ → Names → List Terminal → Macro
+macro x ps ts = record { name = x; parameters = ps; body = ts }
+
+-- functions of OpenMP whose values are known: there are four devices, and the first is the default
+abbrev pub known : Macros
+known =
+    macro (codes "omp_get_num_devices") [] (Num (Some 4) ∷ []) ∷
+    macro (codes "omp_get_default_device") [] (Num (Some 0) ∷ []) ∷ []
 
 abbrev pub macro_of : Macros → List ℕ → Option Macro
 macro_of [] x = None
@@ -254,7 +263,7 @@ pub record State : Type 0 where
   pub reading : Reading
 
 abbrev pub begin : State
-begin = record { macros = []; others = []; reading = record { done = []; calls = []; room = most_written } }
+begin = record { macros = known; others = []; reading = record { done = []; calls = []; room = most_written } }
 
 abbrev pub has_name : List ℕ → List Terminal → Bool
 has_name x [] = false
@@ -288,9 +297,6 @@ with_macro s m room =
       others = s.others;
       reading = record { done = s.reading.done; calls = s.reading.calls; room = room };
     }) else None
-
-abbrev pub macro : List ℕ → Names → List Terminal → Macro
-macro x ps ts = record { name = x; parameters = ps; body = ts }
 
 abbrev pub with_body : State → List ℕ → Names → ℕ → Option (List Terminal) → Option State
 with_body s x ps room None = None
@@ -337,6 +343,15 @@ abbrev pub has_macro : Items → Bool
 has_macro [] = false
 has_macro (i ∷ is) = is_with (defined_at i i.terminal) || has_macro is
 
+-- the name of a function whose value is known
+abbrev pub is_known : Terminal → Bool
+is_known t = is_some (macro_at known t)
+
+-- one of them is called; the token before is such a name or not
+abbrev pub has_call : Bool → Items → Bool
+has_call named [] = false
+has_call named (i ∷ is) = (named && is_mark sign.OpenParen i) || has_call (is_known i.terminal) is
+
 -- these tokens, each computed once
 abbrev pub in_order : Items → Items
 in_order [] = []
@@ -346,6 +361,6 @@ abbrev pub kept : Items → Option State → Items
 kept is None = is
 kept is (Some s) = if has_some s.reading.calls then is else in_order s.reading.done
 
--- all tokens, with what macros stand for
+-- all tokens, with what macros stand for, and those functions
 abbrev pub replaced : Items → Items
-replaced is = if has_macro (bare is) then kept is (read begin is) else is
+replaced is = if has_macro (bare is) || has_call false (bare is) then kept is (read begin is) else is

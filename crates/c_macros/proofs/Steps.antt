@@ -1,14 +1,15 @@
 -- Macros, one token or one name after another.
 use Rattle.std.proofs.Common.{◌≡◌, ◌∙◌, ℕ, ◌-◌, ◌<◌, ◌≤◌, Bool, true, false, cond, Option, Some, None, List, [], ◌∷◌, ◌++◌, length, drop, get_or, map, take, refl, sym, ap, append_assoc, arith}
+use Rattle.std.specs.Prelude.{◌||◌, codes}
 use Rattle.std.specs.Borrow.{Bor}
 use Rattle.std.proofs.lemmas.List.{append-nil, map-append, take_all}
 use Rattle.c_tokens.specs.declared.kind.Sign.TheVariants as sign
-use Rattle.c_grammar.specs.Terminal.{Terminal, Mark, Line, same}
+use Rattle.c_grammar.specs.Terminal.{Terminal, Mark, Num, Line, same}
 use Rattle.c_grammar.specs.Blocks.{Items, bare}
 use Rattle.c_grammar.specs.Constants.{Names, is_among}
 use Rattle.c_grammar.specs.Expressions.{as_items, as_terminal}
 use Rattle.c_grammar.specs.LineRules.{is_among as is_listed}
-use Rattle.c_grammar.specs.Macros.{Defined, Other, State, begin, defined_at, defined_in, has_macro, has_some, in_order, is_comment, line_on, parameters_from, read, replaced, token_on}
+use Rattle.c_grammar.specs.Macros.{Defined, Macros, Other, State, begin, defined_at, defined_in, has_call, has_macro, has_some, in_order, is_comment, known, line_on, macro, parameters_from, read, replaced, token_on}
 use Rattle.directives.specs.declared.lexeme.PlacedLexeme.{PlacedLexeme}
 use Rattle.directives.specs.declared.lexeme.Lexeme.TheVariants as lexeme
 use Rattle.directives.specs.Seen.{seen_lexeme, seen_placed}
@@ -17,7 +18,8 @@ use Rattle.directives.specs.Spells.{kinds_of}
 use Rattle.directives.specs.declared.line_tokens.LineTokens.{LineTokens}
 use Rattle.c_grammar.specs.Lexeme.{Placed}
 use Rattle.c_terminals.proofs.Placing.{placed_again}
-use Rattle.c_macros.specs.Macros.{names_of}
+use Rattle.c_macros.specs.declared.macros.Macro.{Macro as GivenMacro}
+use Rattle.c_macros.specs.Macros.{all_macros, names_of}
 use Rattle.c_macros.specs.Text.{whole}
 use Rattle.c_grammar.proofs.BareMacros.{in_order_same}
 use Rattle.c_terminals.specs.declared.token.Terminal.{Terminal as Given}
@@ -66,12 +68,20 @@ terminals_end ts us (t ∷ rest) h e = absurd (omega arith)
 
 -- ---- the text
 
+-- the two functions that are known
+pub all_known : (xs ys zs : List GivenMacro) → xs ≡ [] →
+    all_macros ys ≡ all_macros xs ++ macro (codes "omp_get_num_devices") [] (Num (Some 4) ∷ []) ∷ [] →
+    all_macros zs ≡ all_macros ys ++ macro (codes "omp_get_default_device") [] (Num (Some 0) ∷ []) ∷ [] → all_macros zs ≡ known
+all_known xs ys zs e f g =
+    g ∙ ap (λ (ms : Macros). ms ++ macro (codes "omp_get_default_device") [] (Num (Some 0) ∷ []) ∷ [])
+    (f ∙ ap (λ (ms : List GivenMacro). all_macros ms ++ macro (codes "omp_get_num_devices") [] (Num (Some 4) ∷ []) ∷ []) e)
+
 given_by : Items → Option Items → Items
 given_by js None = js
 given_by js (Some is) = is
 
-pub replaced_read : (is js : Items) (s : State) → has_macro (bare is) ≡ true → read begin is ≡ Some s → whole s ≡ Some js →
-    js ≡ replaced is
+pub replaced_read : (is js : Items) (s : State) → (has_macro (bare is) || has_call false (bare is)) ≡ true → read begin is ≡ Some s →
+    whole s ≡ Some js → js ≡ replaced is
 unfolding given_by
 replaced_read is js s a b c = rw (a, b) (by (has_some s.reading.calls) c)
   where

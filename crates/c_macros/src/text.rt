@@ -1,12 +1,12 @@
 //! The tokens of a text with what its macros stand for.
 
-ghost use Rattle.std.specs.Prelude.{◌≡◌, map, IfOk};
+ghost use Rattle.std.specs.Prelude.{◌≡◌, ◌∷◌, ◌++◌, ◌||◌, [], map, IfOk, OnOk, false};
 ghost use Rattle.std.specs.Option.{option_map};
 ghost use Rattle.c_grammar.specs.Blocks.{bare};
 ghost use Rattle.c_grammar.specs.Constants.{is_among};
-ghost use Rattle.c_grammar.specs.Macros.{as_argument, begin, body_of, defined_at, has_macro, is_argument, is_with, opens, read, replaced};
+ghost use Rattle.c_grammar.specs.Macros.{as_argument, begin, body_of, defined_at, has_call, has_macro, is_argument, is_known, is_with, macro, opens, read, replaced};
 ghost use Rattle.c_macros.specs.Definitions.{seen_defined};
-ghost use Rattle.c_macros.specs.Macros.{seen_call, seen_reading};
+ghost use Rattle.c_macros.specs.Macros.{all_macros, seen_call, seen_macro, seen_reading};
 ghost use Rattle.c_macros.specs.Text.{seen_state, whole};
 ghost use Rattle.c_terminals.specs.Ahead.{ahead};
 ghost use Rattle.c_terminals.specs.Names.{seen_names};
@@ -261,6 +261,57 @@ fn has_macro(tokens: &[Token<'_, '_>]) -> bool
     false
 }
 
+const NUM_DEVICES: &[u8] = b"omp_get_num_devices";
+
+const DEFAULT_DEVICE: &[u8] = b"omp_get_default_device";
+
+// A function without parameters, which stands for that token.
+fn put_known<'a, 'l>(
+    alloc: Global,
+    macros: &mut Vec<Macro<'a, 'l>>,
+    name: &'static [u8],
+    value: Terminal<'a, 'l>,
+) -> Result<(), AllocError>
+    ensures { OnOk result (all_macros macros.new.items ≡
+        all_macros macros.old.items ++ macro name.now [] (seen_terminal value.entry ∷ []) ∷ []) }
+{
+    let mut body = Vec::new(alloc);
+    body.push(value)?;
+    macros.push(Macro {
+        name,
+        parameters: Vec::new(alloc),
+        body,
+    })?;
+    Ok(())
+}
+
+fn is_known(terminal: Terminal<'_, '_>) -> bool
+    ensures { result ≡ is_known (seen_terminal terminal.entry) }
+{
+    terminal.is_named(NUM_DEVICES) || terminal.is_named(DEFAULT_DEVICE)
+}
+
+// Whether one of them is called.
+fn has_call(tokens: &[Token<'_, '_>]) -> bool
+    ensures { result ≡ has_call false (bare (seen_all tokens.now)) }
+{
+    let mut named = false;
+    let mut ahead = Ahead::new(tokens);
+    'tokens: while let Some(token) = ahead.next() {
+        if named && token.terminal.is_sign(Sign::OpenParen) {
+            return true;
+        }
+        named = is_known(token.terminal);
+    }
+    false
+}
+
+fn has_any(tokens: &[Token<'_, '_>]) -> bool
+    ensures { result ≡ (has_macro (bare (seen_all tokens.now)) || has_call false (bare (seen_all tokens.now))) }
+{
+    has_macro(tokens) || has_call(tokens)
+}
+
 // What is read of all tokens, if they are surely those of C.
 fn read<'a, 'l>(
     alloc: Global,
@@ -268,8 +319,11 @@ fn read<'a, 'l>(
 ) -> Result<Option<State<'a, 'l>>, AllocError>
     ensures { IfOk result (λ o. option_map seen_state o ≡ read begin (seen_all tokens.now)) }
 {
+    let mut macros = Vec::new(alloc);
+    put_known(alloc, &mut macros, NUM_DEVICES, Terminal::Number(4))?;
+    put_known(alloc, &mut macros, DEFAULT_DEVICE, Terminal::Number(0))?;
     let mut state = State {
-        macros: Vec::new(alloc),
+        macros,
         others: Names::new(alloc),
         reading: Reading {
             alloc,
@@ -309,14 +363,14 @@ fn whole<'a, 'l>(state: State<'a, 'l>) -> Option<Vec<Token<'a, 'l>>>
     Some(done)
 }
 
-/// All tokens, with what macros stand for; as they are, where that is not surely so in C.
+/// All tokens, with what macros and known functions of OpenMP stand for; as they are, where that is not surely so in C.
 pub fn replaced<'a, 'l>(
     alloc: Global,
     tokens: &[Token<'a, 'l>],
 ) -> Result<Vec<Token<'a, 'l>>, AllocError>
     ensures { IfOk result (λ v. seen_all v.items ≡ replaced (seen_all tokens.now)) }
 {
-    if has_macro(tokens) {
+    if has_any(tokens) {
         if let Some(state) = read(alloc, tokens)? {
             if let Some(done) = whole(state) {
                 return Ok(done);

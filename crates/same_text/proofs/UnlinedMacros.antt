@@ -9,7 +9,7 @@ use Rattle.c_grammar.specs.Terminal.{Terminal, Fixed, Mark, Name, Num, Line, Unk
 use Rattle.c_grammar.specs.Texts.{Item}
 use Rattle.c_grammar.specs.Blocks.{Items, at, bare, is_directive}
 use Rattle.c_grammar.specs.Constants.{Names, is_mark}
-use Rattle.c_grammar.specs.Macros.{Call, Defined, Head, Macro, Macros, Other, Plain, Reading, State, With, appended, argument_at, argument_for, are_given, as_argument, begin, body_of, body_read, call_at, closed, defined_at, expanded_by, fit, has_macro, has_some, in_call, in_order, is_new, is_sure, is_with, kept, line_on, macro, macro_at, macro_of, next_argument, onward, opened, opens, parameters, put, put_all, put_body, put_for, put_line, put_name, put_other, put_sure, read, replaced, step, step_in, token_on, with_body, with_calls, with_depth, with_directive, with_head, with_macro, with_other, with_reading}
+use Rattle.c_grammar.specs.Macros.{Call, Defined, Head, Macro, Macros, Other, Plain, Reading, State, With, appended, argument_at, argument_for, are_given, as_argument, begin, body_of, body_read, call_at, closed, defined_at, expanded_by, fit, has_call, has_macro, has_some, in_call, in_order, is_known, is_new, is_sure, is_with, kept, line_on, macro, macro_at, macro_of, next_argument, onward, opened, opens, parameters, put, put_all, put_body, put_for, put_line, put_name, put_other, put_sure, read, replaced, step, step_in, token_on, with_body, with_calls, with_depth, with_directive, with_head, with_macro, with_other, with_reading}
 use Rattle.c_grammar.proofs.BareMacros.{in_order_same}
 use Rattle.same_text.specs.Laws.{unlined}
 use Rattle.same_text.proofs.Unlined.{AreUnlined, all_unlined, bare_unlined}
@@ -327,11 +327,18 @@ has_unlined (i ∷ is) =
     ap (λ (d : Defined). is_with d || has_macro (all_unlined is)) (defined_unlined i i.terminal)
     ∙ ap (λ (b : Bool). is_with (defined_at i i.terminal) || b) (has_unlined is)
 
+called_unlined : (is : Items) (named : Bool) → has_call named (all_unlined is) ≡ has_call named is
+called_unlined [] named = refl
+called_unlined (i ∷ is) named =
+    ap (λ (b : Bool). (named && is_mark sign.OpenParen i) || b) (called_unlined is (is_known i.terminal))
+
 pub replaced_unlined : (is : Items) → AreUnlined (replaced (all_unlined is)) (replaced is)
 replaced_unlined is =
     ap (λ (b : Bool). cond b (kept (all_unlined is) (read begin (all_unlined is))) (all_unlined is))
-    (ap has_macro (bare_unlined is) ∙ has_unlined (bare is))
-    ∙ by (has_macro (bare is))
+    (ap (λ (js : Items). has_macro js || has_call false js) (bare_unlined is)
+    ∙ ap (λ (b : Bool). b || has_call false (all_unlined (bare is))) (has_unlined (bare is))
+    ∙ ap (λ (b : Bool). has_macro (bare is) || b) (called_unlined (bare is) false))
+    ∙ by (has_macro (bare is) || has_call false (bare is))
   where
     by : (b : Bool) →
         AreUnlined (cond b (kept (all_unlined is) (read begin (all_unlined is))) (all_unlined is)) (cond b (kept is (read begin is)) is)
