@@ -49,6 +49,9 @@ const ROW: &str =
 const ROW_ALONE: &str =
     "an array of several dimensions has all subscripts, `A[i][j]`, each but the first one surely within its dimension: numbers, names of loops, sums and products of these";
 
+const LOCAL_ARRAY: &str =
+    "write numbers as its subscripts, or names of loops around that have numbers for bounds and at most 64 turns; or declare it before `main`";
+
 const FUNCTION: &str =
     "a function stands before `main`, `void f(uint64_t *a, uint64_t n) { .. }` or `uint64_t f(uint64_t n) { .. return e; }`, and is called as a statement, `f(A, 8);`, or as all of a right side, `x = f(8);`";
 
@@ -254,7 +257,15 @@ fn misused(naming: Naming, around: &Around<'_>) -> Option<Telling> {
             said: "has more subscripts in its declaration, or one here that may leave its dimension",
             help: ROW_ALONE,
         }),
-        Naming::Array => Some(Telling {
+        Naming::LocalArray if is_on_line => Some(Telling {
+            said: "is an array of a block, which no directive names",
+            help: "declare it in the block of the `target`, or before `main`",
+        }),
+        Naming::LocalArray if around.next == b'[' => Some(Telling {
+            said: "is an array of a block: it ends with that, and its subscripts are numbers below its length",
+            help: LOCAL_ARRAY,
+        }),
+        Naming::Array | Naming::LocalArray => Some(Telling {
             said: "is an array, and has no subscript here",
             help: "write the cell, `A[e]`: an array by itself has no value",
         }),

@@ -175,6 +175,8 @@ pub fn declaration_of(bytes: &[u8], name: &str) -> Option<Place> {
 pub enum Naming {
     Nothing,
     Array,
+    /// An array that a block declares.
+    LocalArray,
     Scalar,
     /// The name of loops whose heads declare none.
     LoopName,
@@ -188,6 +190,27 @@ pub fn is_type(word: &str) -> bool {
 // Whether a declaration has ended at this token.
 fn ends_declaration(text: &str) -> bool {
     text == ";" || text == "{" || text == "}" || text == ")"
+}
+
+// How many braces are open behind this token.
+fn depth_behind(text: &str, depth: u32) -> u32 {
+    match text {
+        "{" => depth.saturating_add(1),
+        "}" => depth.saturating_sub(1),
+        _ => depth,
+    }
+}
+
+// What a name is whose declaration goes on by this token, in so many blocks.
+fn declared_as(text: &str, depth: u32) -> Naming {
+    if text != "[" {
+        return Naming::Scalar;
+    }
+    if depth > 0 {
+        Naming::LocalArray
+    } else {
+        Naming::Array
+    }
 }
 
 // Whether the name has no type in the head of a loop.
@@ -215,15 +238,13 @@ pub fn naming_of(bytes: &[u8], name: &str) -> Naming {
     let mut in_declaration = false;
     let mut names_next = false;
     let mut is_declared = false;
+    let mut depth = 0;
     'tokens: for token in Tokens::new(bytes) {
         let text = text_of(bytes, &token);
         if is_declared {
-            return if text == "[" {
-                Naming::Array
-            } else {
-                Naming::Scalar
-            };
+            return declared_as(text, depth);
         }
+        depth = depth_behind(text, depth);
         is_declared = names_next && text == name;
         names_next = is_type(text) || (in_declaration && text == ",");
         in_declaration = is_type(text) || (in_declaration && !ends_declaration(text));
