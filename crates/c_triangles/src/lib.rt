@@ -10,4 +10,5 @@ mod ranges;
 mod steps;
 mod triangles;
 
+pub use loops::{Loop, MAX_HEAD, plain_loop};
 pub use triangles::rectangular;

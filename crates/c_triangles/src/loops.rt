@@ -1,6 +1,6 @@
 //! A loop with bounds that are understood.
 
-ghost use Rattle.std.specs.Prelude.{◌≡◌, ◌<◌, ◌+◌, Some, IfOk};
+ghost use Rattle.std.specs.Prelude.{◌≡◌, ◌<◌, ◌+◌, [], Some, IfOk};
 ghost use Rattle.std.specs.Option.{option_map};
 ghost use Rattle.c_grammar.specs.Triangles.{end_of, loop_named, meets};
 ghost use Rattle.c_triangles.specs.Blocks.{open_blocks};
@@ -16,7 +16,10 @@ use crate::ranges::{Bound, Range};
 use crate::steps::Step;
 use c_terminals::Token;
 use c_tokens::Sign;
-use std::alloc::AllocError;
+use std::alloc::{AllocError, Global};
+
+/// At most so many tokens stand behind the word `for`, up to the brace.
+pub const MAX_HEAD: usize = 64;
 
 /// No more blocks may be open before a loop that is written out.
 const MAX_OPEN: usize = 16;
@@ -75,6 +78,20 @@ impl<'a, 'l, 's> Loop<'a, 'l, 's> {
     ghost use Rattle.c_triangles.specs.Blocks.{seen_open};
     ghost use Rattle.c_triangles.specs.Bounds.{seen_range};
     ghost use Rattle.c_triangles.specs.Loops.{seen_loop};
+
+    /// The first of the numbers that its name may have.
+    pub fn first(self) -> u64
+        ensures { result ≡ (seen_loop self.entry).start.range.first }
+    {
+        self.start.range.first()
+    }
+
+    /// By how much its name grows.
+    pub fn amount(self) -> u64
+        ensures { result ≡ (seen_loop self.entry).step.amount }
+    {
+        self.step.amount
+    }
 
     /// Whether a name stands in one of the bounds.
     pub fn is_guarded(self) -> bool
@@ -174,4 +191,14 @@ pub fn loop_of<'a, 'l, 's>(
     let parts = cut(tokens)?;
     let name = name_in(parts.front)?;
     loop_named(blocks, parts, name)
+}
+
+/// The same, where both bounds are numbers.
+pub fn plain_loop<'a, 'l, 's>(
+    alloc: Global,
+    tokens: &'s [Token<'a, 'l>],
+) -> Option<Loop<'a, 'l, 's>>
+    ensures { option_map seen_loop result ≡ loop_within [] (seen_all tokens.now) }
+{
+    loop_of(&Blocks::new(alloc), tokens)
 }

@@ -6,15 +6,12 @@ ghost use Rattle.c_terminals.specs.Seen.{seen_all};
 
 use crate::blocks::{Blocks, Open};
 use crate::guards::put_loop;
-use crate::loops::{Loop, loop_of};
+use crate::loops::{Loop, MAX_HEAD, loop_of};
 use c_choices::next_tokens;
 use c_terminals::{Ahead, Terminal, Token};
 use c_tokens::Sign;
 use directives::Word;
 use std::alloc::{AllocError, Global};
-
-/// At most so many tokens stand behind the word `for`, up to the brace.
-const MAX_HEAD: usize = 64;
 
 /// The tokens so far.
 #[derive(Drop)]

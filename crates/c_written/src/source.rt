@@ -16,6 +16,7 @@ ghost use Rattle.c_grammar.specs.Descents.{upward};
 ghost use Rattle.c_grammar.specs.Functions.{expanded};
 ghost use Rattle.c_grammar.specs.Grids.{flat};
 ghost use Rattle.c_grammar.specs.Initial.{initialized, no_globals};
+ghost use Rattle.c_grammar.specs.Locals.{in_scalars};
 ghost use Rattle.c_grammar.specs.Loops.{looped};
 ghost use Rattle.c_grammar.specs.Macros.{replaced};
 ghost use Rattle.c_grammar.specs.Nesting.{nested};
@@ -57,6 +58,7 @@ use crate::updates::commuting;
 use c_choices::chosen;
 use c_descents::upward;
 use c_devices::on_devices;
+use c_locals::in_scalars;
 use c_loops::looped;
 use c_macros::replaced;
 use c_structs::in_rows;
@@ -146,20 +148,22 @@ fn with_constants<'a>(alloc: Global, raw: &[Written<'a>]) -> Result<Vec<Written<
     worked(alloc, &tokens)
 }
 
-/// The tokens without clauses `if`, loops that end by a condition, loops whose bounds name others, conditional operators,
-/// definitions, arrays of several dimensions, allocations and initializers, with the boxed scalars, the updates that
-/// commute, and with their changes in full.
+/// The tokens without clauses `if`, loops that end by a condition, loops whose bounds name others, local arrays, conditional
+/// operators, definitions, arrays of several dimensions, allocations and initializers, with the boxed scalars, the updates
+/// that commute, and with their changes in full.
 fn with_changes<'a>(alloc: Global, called: &[Written<'a>]) -> Result<Vec<Written<'a>>, AllocError>
     ensures { IfOk result (λ v. written_all v.items ≡
         announced (in_full begin 0 (initialized no_globals 0
         (allocated (commuting Outside (boxed (flat false [] [] [] 0 (flat true [] [] [] 0 (undefined [] 0 0
-        (chosen (rectangular (looped (decided (written_all called.now)))))))))))))) }
+        (chosen (in_scalars (rectangular (looped (decided (written_all called.now))))))))))))))) }
 {
     let tokens = borrowed(alloc, called)?;
     let tokens = decided(alloc, &tokens)?;
     let tokens = borrowed(alloc, &tokens)?;
     let tokens = looped(alloc, &tokens)?;
     let tokens = rectangular(alloc, &tokens)?;
+    let tokens = in_scalars(alloc, &tokens)?;
+    let tokens = borrowed(alloc, &tokens)?;
     let tokens = chosen(alloc, &tokens)?;
     let tokens = undefined(alloc, &tokens)?;
     let tokens = flat(alloc, true, &tokens)?;

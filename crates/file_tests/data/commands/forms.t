@@ -159,9 +159,21 @@ forms/two_names.c:2:11: help: a declaration in a block is of scalars, with value
 [1]
 $ ompc explain forms/local_array.c
 forms/local_array.c:2:11: error: `[` cannot stand here [E102]
-    2 | uint64_t A[4];
+    2 | uint64_t A[4][4];
       |           ^
 forms/local_array.c:2:11: help: arrays are global: declare it before `main`
+[1]
+$ ompc explain forms/local_subscript.c
+forms/local_subscript.c:4:8: error: `t` is an array of a block: it ends with that, and its subscripts are numbers below its length [E103]
+    4 | A[0] = t[A[1]];
+      |        ^~~~~~~
+forms/local_subscript.c:4:8: help: write numbers as its subscripts, or names of loops around that have numbers for bounds and at most 64 turns; or declare it before `main`
+[1]
+$ ompc explain forms/local_array_on_a_line.c
+forms/local_array_on_a_line.c:4:32: error: `t` is an array of a block, which no directive names [E103]
+    4 | #pragma omp target map(tofrom: t)
+      |                                ^
+forms/local_array_on_a_line.c:4:32: help: declare it in the block of the `target`, or before `main`
 [1]
 $ ompc explain forms/four_dimensions.c
 forms/four_dimensions.c:1:20: error: `[` cannot stand here [E102]

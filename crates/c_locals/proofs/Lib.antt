@@ -1,0 +1,7 @@
+mod Innermost
+mod Wholes
+mod Passing
+mod Turning
+mod Parting
+mod Unrolling
+mod Counting
