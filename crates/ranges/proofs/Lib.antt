@@ -1,3 +1,4 @@
+pub mod AffineParts
 pub mod AllSeen
 pub mod ApartTurns
 pub mod CaseSlides
@@ -18,6 +19,7 @@ pub mod LeftOut
 pub mod Marks
 pub mod Meetings
 pub mod MovingParts
+pub mod NearTurns
 pub mod NestApart
 pub mod NestLists
 pub mod NestSpans
@@ -45,6 +47,7 @@ pub mod SettledStatements
 pub mod SettledTouches
 pub mod SlideOrder
 pub mod SlideRuns
+pub mod SlideSlopes
 pub mod SlideTurns
 pub mod SlidingTurns
 pub mod Spans

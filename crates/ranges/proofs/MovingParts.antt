@@ -12,7 +12,7 @@ use Rattle.ranges.specs.declared.run_list.Part.TheVariants.{Exposed, Read, Write
 use Rattle.ranges.specs.declared.slide.Slide.{Slide}
 use Rattle.ranges.specs.Reach.{cell_of}
 use Rattle.ranges.specs.FewRuns.{is_in_part}
-use Rattle.ranges.specs.Slides.{slide_touch, slide_turns}
+use Rattle.ranges.proofs.NearTurns.{near_touch, near_turns}
 
 -- touches of other cells
 
@@ -117,22 +117,22 @@ in_alike Sure c d (t ∷ ts) (u ∷ us) h =
 abbrev pub begins_at : Cell → Slide → Bool
 begins_at c s = (s.array.0 == c.array.0) && (s.start == c.index)
 
-begin_in_turn : (c : Cell) (slides : List Slide) → list_any (has_cell c) (map (slide_touch 0) slides) ≡ list_any (begins_at c) slides
+begin_in_turn : (c : Cell) (slides : List Slide) → list_any (has_cell c) (map (near_touch 0) slides) ≡ list_any (begins_at c) slides
 begin_in_turn c [] = refl
 begin_in_turn c (s ∷ slides) =
-    let one : has_cell c (slide_touch 0 s) ≡ begins_at c s = grind (arith, nat_tests) in
+    let one : has_cell c (near_touch 0 s) ≡ begins_at c s = grind (arith, nat_tests) in
     ap₂ (λ x y. x || y) one (begin_in_turn c slides)
 
 -- a turn later each access has the next cell
 next_cell : (a i k : ℕ) (s : Slide) →
-    has_cell (cell_of a (suc i)) (slide_touch (k + 1) s) ≡ has_cell (cell_of a i) (slide_touch k s)
+    has_cell (cell_of a (suc i)) (near_touch (k + 1) s) ≡ has_cell (cell_of a i) (near_touch k s)
 next_cell a i k s = grind (arith, nat_tests)
 
 same_number : (n : ℕ) → (n == n) ≡ true
 same_number n = grind (arith, nat_tests)
 
 alike_turn : (a i k : ℕ) (slides : List Slide) →
-    AreAlike (cell_of a (suc i)) (cell_of a i) (map (slide_touch (k + 1)) slides) (map (slide_touch k) slides)
+    AreAlike (cell_of a (suc i)) (cell_of a i) (map (near_touch (k + 1)) slides) (map (near_touch k) slides)
 alike_turn a i k [] = tt
 alike_turn a i k (s ∷ slides) = (
   record {
@@ -145,39 +145,39 @@ alike_turn a i k (s ∷ slides) = (
 )
 
 alike_turns : (a i n k : ℕ) (slides : List Slide) →
-    AreAlike (cell_of a (suc i)) (cell_of a i) (slide_turns 1 n (k + 1) slides) (slide_turns 1 n k slides)
+    AreAlike (cell_of a (suc i)) (cell_of a i) (near_turns n (k + 1) slides) (near_turns n k slides)
 alike_turns a i zero k slides = tt
 alike_turns a i (suc n) k slides =
-    alike_both (cell_of a (suc i)) (cell_of a i) (map (slide_touch (k + 1)) slides) (map (slide_touch k) slides)
-    (slide_turns 1 n (k + 1 + 1) slides) (slide_turns 1 n (k + 1) slides) (alike_turn a i k slides)
+    alike_both (cell_of a (suc i)) (cell_of a i) (map (near_touch (k + 1)) slides) (map (near_touch k) slides)
+    (near_turns n (k + 1 + 1) slides) (near_turns n (k + 1) slides) (alike_turn a i k slides)
     (alike_turns a i n (k + 1) slides)
 
 -- no later turn has the first cell
-not_first : (a k : ℕ) (slides : List Slide) → list_any (has_cell (cell_of a 0)) (map (slide_touch (k + 1)) slides) ≡ false
+not_first : (a k : ℕ) (slides : List Slide) → list_any (has_cell (cell_of a 0)) (map (near_touch (k + 1)) slides) ≡ false
 not_first a k [] = refl
 not_first a k (s ∷ slides) =
-    let one : has_cell (cell_of a 0) (slide_touch (k + 1) s) ≡ false = grind (arith, nat_tests) in
+    let one : has_cell (cell_of a 0) (near_touch (k + 1) s) ≡ false = grind (arith, nat_tests) in
     ap₂ (λ x y. x || y) one (not_first a k slides)
 
-none_first : (part : Part) (a n k : ℕ) (slides : List Slide) → is_in_part part (slide_turns 1 n (k + 1) slides) (cell_of a 0) ≡ false
+none_first : (part : Part) (a n k : ℕ) (slides : List Slide) → is_in_part part (near_turns n (k + 1) slides) (cell_of a 0) ≡ false
 none_first Exposed a zero k slides = refl
 none_first Read a zero k slides = refl
 none_first Write a zero k slides = refl
 none_first Sure a zero k slides = refl
 none_first part a (suc n) k slides =
-    not_there part (map (slide_touch (k + 1)) slides) (slide_turns 1 n (k + 1 + 1) slides) (cell_of a 0) (not_first a k slides)
+    not_there part (map (near_touch (k + 1)) slides) (near_turns n (k + 1 + 1) slides) (cell_of a 0) (not_first a k slides)
     ∙ none_first part a n (k + 1) slides
 
 -- the last turn
 last_turn : (n k : ℕ) (slides : List Slide) →
-    slide_turns 1 (suc n) k slides ≡ slide_turns 1 n k slides ++ map (slide_touch (k + n)) slides
-last_turn zero k slides = append-nil (map (slide_touch k) slides) ∙ ap (λ m. map (slide_touch m) slides) (omega arith)
+    near_turns (suc n) k slides ≡ near_turns n k slides ++ map (near_touch (k + n)) slides
+last_turn zero k slides = append-nil (map (near_touch k) slides) ∙ ap (λ m. map (near_touch m) slides) (omega arith)
 last_turn (suc n) k slides =
-    ap (λ (ts : List Touch). map (slide_touch k) slides ++ ts)
+    ap (λ (ts : List Touch). map (near_touch k) slides ++ ts)
     (last_turn n (k + 1) slides
-    ∙ ap (λ m. slide_turns 1 n (k + 1) slides ++ map (slide_touch m) slides) (omega arith))
-    ∙ sym (append_assoc (map (slide_touch k) slides) (slide_turns 1 n (k + 1) slides)
-    (map (slide_touch (k + suc n)) slides))
+    ∙ ap (λ m. near_turns n (k + 1) slides ++ map (near_touch m) slides) (omega arith))
+    ∙ sym (append_assoc (map (near_touch k) slides) (near_turns n (k + 1) slides)
+    (map (near_touch (k + suc n)) slides))
 
 -- a cell of a set is one that an access begins at, or the one before it is in the set too
 abbrev pub IsReached : (Cell → Bool) → List Slide → ℕ → ℕ → Type 0
@@ -185,8 +185,8 @@ IsReached p slides a zero = list_any (begins_at (cell_of a zero)) slides ≡ tru
 IsReached p slides a (suc i) = (list_any (begins_at (cell_of a (suc i))) slides ≡ true) ⊎ (p (cell_of a i) ≡ true)
 
 pub reached : (part : Part) (n : ℕ) (slides : List Slide) (a i : ℕ) →
-    is_in_part part (slide_turns 1 n 0 slides) (cell_of a i) ≡ true →
-    IsReached (is_in_part part (slide_turns 1 n 0 slides)) slides a i
+    is_in_part part (near_turns n 0 slides) (cell_of a i) ≡ true →
+    IsReached (is_in_part part (near_turns n 0 slides)) slides a i
 reached Exposed zero slides a i h = absurd (false≢true h)
 reached Read zero slides a i h = absurd (false≢true h)
 reached Write zero slides a i h = absurd (false≢true h)
@@ -196,19 +196,19 @@ reached part (suc n) slides a zero h = go (list_any (begins_at (cell_of a zero))
     go : (b : Bool) → list_any (begins_at (cell_of a zero)) slides ≡ b → list_any (begins_at (cell_of a zero)) slides ≡ true
     go true e = e
     go false e = absurd (false≢true
-        (sym (not_there part (map (slide_touch 0) slides) (slide_turns 1 n 1 slides) (cell_of a 0)
+        (sym (not_there part (map (near_touch 0) slides) (near_turns n 1 slides) (cell_of a 0)
         (begin_in_turn (cell_of a 0) slides ∙ e) ∙ none_first part a n 0 slides) ∙ h))
 reached part (suc n) slides a (suc i) h = go (list_any (begins_at (cell_of a (suc i))) slides) refl
   where
     go : (b : Bool) → list_any (begins_at (cell_of a (suc i))) slides ≡ b →
         (list_any (begins_at (cell_of a (suc i))) slides ≡ true)
-        ⊎ (is_in_part part (slide_turns 1 (suc n) 0 slides) (cell_of a i) ≡ true)
+        ⊎ (is_in_part part (near_turns (suc n) 0 slides) (cell_of a i) ≡ true)
     go true e = inl e
     go false e =
-        let there : is_in_part part (slide_turns 1 n 0 slides) (cell_of a i) ≡ true =
-        sym (in_alike part (cell_of a (suc i)) (cell_of a i) (slide_turns 1 n 1 slides) (slide_turns 1 n 0 slides)
+        let there : is_in_part part (near_turns n 0 slides) (cell_of a i) ≡ true =
+        sym (in_alike part (cell_of a (suc i)) (cell_of a i) (near_turns n 1 slides) (near_turns n 0 slides)
         (alike_turns a i n 0 slides))
-        ∙ sym (not_there part (map (slide_touch 0) slides) (slide_turns 1 n 1 slides) (cell_of a (suc i))
+        ∙ sym (not_there part (map (near_touch 0) slides) (near_turns n 1 slides) (cell_of a (suc i))
         (begin_in_turn (cell_of a (suc i)) slides ∙ e)) ∙ h in
         inr (ap (λ ts. is_in_part part ts (cell_of a i)) (last_turn n 0 slides)
-        ∙ still_there part (slide_turns 1 n 0 slides) (map (slide_touch (0 + n)) slides) (cell_of a i) there)
+        ∙ still_there part (near_turns n 0 slides) (map (near_touch (0 + n)) slides) (cell_of a i) there)

@@ -22,7 +22,7 @@ use Rattle.base.specs.Interval.{exactly, from_to, full, if_single, interval, int
 use Rattle.base.specs.Footprint.{Touch, expr_touches, row_touches, source_touches, stmt_touches}
 use Rattle.ranges.specs.declared.slide.Slide.{Slide}
 use Rattle.ranges.specs.FewRuns.{cells_in, cells_in_expr, cells_in_row, cells_in_source, is_name, is_near, is_plain, is_plain_expr, is_plain_row, is_plain_source, is_small}
-use Rattle.ranges.specs.Slides.{slide_touch}
+use Rattle.ranges.proofs.NearTurns.{near_touch}
 
 -- subscripts
 
@@ -215,7 +215,7 @@ module _ (loops : List ℕ) (first last : ℕ) (some : first < last) (few : last
   pub record Moves (touches : List ℕ → Bool → List Touch) (count : ℕ) : Type 0 where
     pub slides : List Slide
     pub many : length slides ≡ count
-    pub turns : (v : ℕ) → first ≤ v → v < last → touches (loops ++ v ∷ []) true ≡ map (slide_touch (v - first)) slides
+    pub turns : (v : ℕ) → first ≤ v → v < last → touches (loops ++ v ∷ []) true ≡ map (near_touch (v - first)) slides
 
   -- the cells of the first turn are not far
   abbrev pub IsNear : (List ℕ → Bool → List Touch) → Type 0
@@ -230,7 +230,7 @@ module _ (loops : List ℕ) (first last : ℕ) (some : first < last) (few : last
     many = length-append h.slides k.slides ∙ ap₂ (λ x y. x + y) h.many k.many;
     turns = λ v le lt.
         ap₂ (λ (xs ys : List Touch). xs ++ ys) (h.turns v le lt) (k.turns v le lt)
-        ∙ sym (map-append (slide_touch (v - first)) h.slides k.slides);
+        ∙ sym (map-append (near_touch (v - first)) h.slides k.slides);
   }
 
   stays_left : (f g : List ℕ → Bool → List Touch) → IsNear (λ ls c. f ls c ++ g ls c) → IsNear f
@@ -254,7 +254,7 @@ module _ (loops : List ℕ) (first last : ℕ) (some : first < last) (few : last
   one a place write e near h =
       let moving = near_moves e near (or_parts (reaches_far (interval e (loops ++ first ∷ []))) false h).0 in
       record {
-        slides = record { array = a; place = place; start = moving.start; writes = write; certain = true } ∷ [];
+        slides = record { array = a; place = place; start = moving.start; slope = 1; writes = write; certain = true } ∷ [];
         many = refl;
         turns = λ v le lt i.
             record { array = a; cells = moving.turns v le lt i; is_write = write; certain = true; combines = None; place = place } ∷ [];

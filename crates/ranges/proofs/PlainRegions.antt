@@ -26,7 +26,7 @@ use Rattle.ranges.specs.declared.run_list.Run.{Run}
 use Rattle.ranges.specs.declared.slide.Slide.{Slide}
 use Rattle.ranges.specs.FewRuns.{HasFewRuns, cells_in_list, cells_in_row, is_in_part, is_plain_loop, is_plain_row}
 use Rattle.ranges.specs.RunLists.{AreRuns, set_of}
-use Rattle.ranges.specs.Slides.{slide_touch, slide_turns}
+use Rattle.ranges.proofs.NearTurns.{near_touch, near_turns}
 use Rattle.ranges.proofs.MovingParts.{reached}
 use Rattle.ranges.proofs.PlainLoops.{is_far, and_left, and_right, row_moves}
 use Rattle.ranges.proofs.RunStarts.{few_runs}
@@ -61,8 +61,8 @@ no_touch_far (t ∷ ts) f =
 
 -- the turns of a loop whose accesses move on by one
 these_turns : (b : Bounds) (f : ℕ → List Touch) (slides : List Slide) (n v : ℕ) →
-    ((u : ℕ) → b.first ≤ u → u < b.end → f u ≡ map (slide_touch (u - b.first)) slides) → b.step ≡ 1 → b.first ≤ v →
-    v + n ≡ b.end → turns_touch (turns_left v b) v b.step f ≡ slide_turns 1 n (v - b.first) slides
+    ((u : ℕ) → b.first ≤ u → u < b.end → f u ≡ map (near_touch (u - b.first)) slides) → b.step ≡ 1 → b.first ≤ v →
+    v + n ≡ b.end → turns_touch (turns_left v b) v b.step f ≡ near_turns n (v - b.first) slides
 these_turns b f slides zero v each step le end = ap (λ m. turns_touch m v b.step f) (no_turn_left v b (omega (arith, end)))
 these_turns b f slides (suc n) v each step le end =
     let lt : v < b.end = omega (arith, end) in
@@ -70,12 +70,12 @@ these_turns b f slides (suc n) v each step le end =
     ∙ ap₂ (λ (ts us : List Touch). ts ++ us) (each v le lt)
     (ap (λ m. turns_touch (turns_left m b) m b.step f) (ap (λ m. v + m) step)
     ∙ these_turns b f slides n (v + 1) each step (omega (arith, le)) (omega (arith, end))
-    ∙ ap (λ k. slide_turns 1 n k slides) (omega (arith, le)))
+    ∙ ap (λ k. near_turns n k slides) (omega (arith, le)))
 
 few_in_loop : (loops : List ℕ) (b : Bounds) (f : ℕ → List Touch) (count : ℕ) (part : Part) (runs : List Run) →
     b.step ≡ 1 → (list_any is_far (turns_touch (turns_left b.first b) b.first b.step f) ≡ false) →
     (b.first < b.end → list_any is_far (f b.first) ≡ false → (slides : List Slide) × (length slides ≡ count)
-    × ((v : ℕ) → b.first ≤ v → v < b.end → f v ≡ map (slide_touch (v - b.first)) slides)) →
+    × ((v : ℕ) → b.first ≤ v → v < b.end → f v ≡ map (near_touch (v - b.first)) slides)) →
     AreRuns (is_in_part part (turns_touch (turns_left b.first b) b.first b.step f)) runs → length runs ≤ count
 few_in_loop loops b f count part runs step inside moves h = ⊎_elim
     (λ (lt : b.first < b.end).
@@ -86,10 +86,10 @@ few_in_loop loops b f count part runs step inside moves h = ⊎_elim
     (or_parts (list_any is_far (f b.first)) _
     (sym (list_any-append is_far (f b.first) _) ∙ sym (ap (list_any is_far) begun) ∙ inside)).0 in
     let m = moves lt stays in
-    let all : touches ≡ slide_turns 1 (b.end - b.first) 0 m.0 =
+    let all : touches ≡ near_turns (b.end - b.first) 0 m.0 =
     these_turns b f m.0 (b.end - b.first) b.first m.2 step (omega arith) (omega (arith, lt))
-    ∙ ap (λ k. slide_turns 1 (b.end - b.first) k m.0) (omega arith) in
-    let few = few_runs (is_in_part part (slide_turns 1 (b.end - b.first) 0 m.0)) m.0 runs
+    ∙ ap (λ k. near_turns (b.end - b.first) k m.0) (omega arith) in
+    let few = few_runs (is_in_part part (near_turns (b.end - b.first) 0 m.0)) m.0 runs
     (reached part (b.end - b.first) m.0) (subst (λ ts. AreRuns (is_in_part part ts) runs) all h) in
     let many = m.1 in
     omega (arith, few, many))

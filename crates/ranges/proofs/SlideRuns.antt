@@ -1,5 +1,5 @@
 -- All cells of an access that moves on by as much in each turn are added at once.
-use Rattle.std.proofs.Common.{◌≡◌, ℕ, zero, suc, ◌+◌, ◌<◌, Bool, true, false, List, refl, sym, ap, ap₂, ◌∙◌, arith}
+use Rattle.std.proofs.Common.{◌≡◌, ℕ, zero, suc, ◌+◌, ◌*◌, ◌<◌, Bool, true, false, List, refl, sym, ap, ap₂, ◌∙◌, arith}
 use Rattle.std.specs.Prelude.{◌&&◌, ◌||◌, ◌==◌, not, cond}
 use Rattle.std.proofs.lemmas.Bool.Decides.{nat_tests}
 use Rattle.base.specs.declared.item.Cell.{Cell}
@@ -46,7 +46,7 @@ and_either false p q r h = refl
 
 -- the cells that it has in n turns
 abbrev pub cells_in : Slide → ℕ → ℕ → ℕ → Cell → Bool
-cells_in s step n k c = (s.array.0 == c.array.0) && is_every step n (s.start + k) c.index
+cells_in s step n k c = (s.array.0 == c.array.0) && is_every (s.slope * step) n (s.start + s.slope * k) c.index
 
 -- cells that are added after others
 both_runs : (s : Slide) (p q r : Cell → Bool) (x : Seen) → ((c : Cell) → (p c || q c) ≡ r c) →
@@ -95,12 +95,12 @@ no_run s p x none = go s.writes
 
 module _ (lengths : List ℕ) (step count : ℕ) where
   one_is : (s : Slide) (k : ℕ) (x : Seen) → k < count → Fits lengths count s →
-      after_touch lengths (slide_touch k s) x ≡ with_run s (is_among s.array (exactly (s.start + k))) x
+      after_touch lengths (slide_touch k s) x ≡ with_run s (is_among s.array (exactly (s.start + s.slope * k))) x
   one_is s k x lt fits =
       staying lengths (slide_touch k s) x (stays lengths step count s k lt fits) ∙ go s.writes
     where
       y : ℕ
-      y = s.start + k
+      y = s.start + s.slope * k
 
       among : Cell → Bool
       among = is_among s.array (exactly y)
@@ -124,7 +124,11 @@ module _ (lengths : List ℕ) (step count : ℕ) where
   run_is (suc n) k s x below fits =
       run_is n (k + step) s (after_touch lengths (slide_touch k s) x) below.1 fits
       ∙ ap (with_run s (cells_in s step n (k + step))) (one_is s k x below.0 fits)
-      ∙ both_runs s (is_among s.array (exactly (s.start + k))) (cells_in s step n (k + step)) (cells_in s step (suc n) k) x
-      (λ c. and_either (s.array.0 == c.array.0) (is_within (exactly (s.start + k)) c.index) (is_every step n (s.start + (k + step)) c.index)
-      (is_every step (suc n) (s.start + k) c.index)
-      (ap₂ (λ p m. p || is_every step n m c.index) (same_cell (s.start + k) c.index) (omega arith)))
+      ∙ both_runs s (is_among s.array (exactly (s.start + s.slope * k))) (cells_in s step n (k + step)) (cells_in s step (suc n) k) x
+      (λ c. and_either (s.array.0 == c.array.0) (is_within (exactly (s.start + s.slope * k)) c.index)
+      (is_every (s.slope * step) n (s.start + s.slope * (k + step)) c.index)
+      (is_every (s.slope * step) (suc n) (s.start + s.slope * k) c.index)
+      (ap₂ (λ p m. p || is_every (s.slope * step) n m c.index) (same_cell (s.start + s.slope * k) c.index) next))
+    where
+      next : s.start + s.slope * (k + step) ≡ s.start + s.slope * k + s.slope * step
+      next = grind arith

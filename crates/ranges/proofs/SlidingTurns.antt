@@ -1,4 +1,4 @@
--- The turns of a loop all of whose cells move on by as much as its name.
+-- The turns of a loop all of whose cells move on by multiples of what its name does.
 use Rattle.std.proofs.Common.{◌≡◌, ℕ, zero, suc, ◌+◌, ◌-◌, ◌*◌, ◌/◌, ◌%◌, ◌<◌, ◌≤◌, Bool, List, [], ◌∷◌, ◌++◌, map, refl, sym, ap, ap₂, ◌∙◌, subst, arith}
 use Rattle.std.proofs.lemmas.Nat.{div-add-mod', div-mul-add, mod_below}
 use Rattle.base.specs.declared.tree.Bounds.{Bounds}

@@ -8,8 +8,9 @@ use Rattle.base.specs.declared.tree.Expr.{Expr}
 use Rattle.base.specs.declared.tree.DivideOp.TheVariants.{Remainder}
 use Rattle.base.specs.declared.fault.Interval.{Interval}
 use Rattle.base.specs.Interval.{exactly, from_to, interval, interval_divide}
+use Rattle.ranges.specs.declared.affine.Affine.{Affine}
 use Rattle.ranges.specs.Cases.{IsTurn}
-use Rattle.ranges.specs.Slides.{Slides}
+use Rattle.ranges.specs.Affines.{Slides}
 
 -- another name has the same value in all turns
 pub other_name : (loops : List ℕ) (level v w : ℕ) → (level ≡ length loops → ⊥) →
@@ -26,22 +27,25 @@ rest_is : (x n : ℕ) → interval_divide Remainder (exactly x) n ≡ exactly (x
 rest_is x n = ap (λ t. if t then exactly (x % n) else from_to 0 (n - 1)) (same_number (x / n))
 
 -- a multiple of a multiple changes no rest
-one_rest : (start k s n : ℕ) → k % s ≡ 0 → s % n ≡ 0 → (start + k) % n ≡ start % n
-one_rest start k s n h g =
+one_rest : (start by k s n : ℕ) → k % s ≡ 0 → s % n ≡ 0 → (start + by * k) % n ≡ start % n
+one_rest start by k s n h g =
     let parts : k ≡ k / s * s = omega (arith, mod-add-div' k s, h) in
     let step : s ≡ s / n * n = omega (arith, mod-add-div' s n, g) in
-    let all : k / s * (s / n * n) ≡ k / s * (s / n) * n = grind arith in
-    ap (λ m. (start + m) % n) (parts ∙ ap (λ m. k / s * m) step ∙ all)
-    ∙ add-mul-mod_self_right start (k / s * (s / n)) n
+    let all : by * (k / s * (s / n * n)) ≡ by * (k / s * (s / n)) * n = grind arith in
+    ap (λ m. (start + by * m) % n) (parts ∙ ap (λ m. k / s * m) step)
+    ∙ ap (λ m. (start + m) % n) all
+    ∙ add-mul-mod_self_right start (by * (k / s * (s / n))) n
 
-pub steady_rest : (e : Expr) (loops : List ℕ) (b : Bounds) (start n : ℕ) → b.first < b.end → Slides loops b e start → b.step % n ≡ 0 →
+pub steady_rest : (e : Expr) (loops : List ℕ) (b : Bounds) (a : Affine) (n : ℕ) → b.first < b.end → Slides loops b e a → b.step % n ≡ 0 →
     (v : ℕ) → IsTurn b v →
     interval_divide Remainder (interval e (loops ++ v ∷ [])) n ≡ interval_divide Remainder (interval e (loops ++ b.first ∷ [])) n
-steady_rest e loops b start n some slides even v turn =
-    let still : start ≡ start + (b.first - b.first) = omega arith in
-    ap (λ (a : Interval). interval_divide Remainder a n) (slides v turn.from turn.below)
-    ∙ rest_is (start + (v - b.first)) n
-    ∙ ap exactly (one_rest start (v - b.first) b.step n turn.whole even)
-    ∙ sym (rest_is start n)
+steady_rest e loops b a n some slides even v turn =
+    let still : a.first ≡ a.first + a.slope * (b.first - b.first) =
+    let none : b.first - b.first ≡ 0 = omega arith in
+    let e = ap (λ m. a.slope * m) none in omega (arith, e) in
+    ap (λ (x : Interval). interval_divide Remainder x n) (slides v turn.from turn.below)
+    ∙ rest_is (a.first + a.slope * (v - b.first)) n
+    ∙ ap exactly (one_rest a.first a.slope (v - b.first) b.step n turn.whole even)
+    ∙ sym (rest_is a.first n)
     ∙ ap (λ m. interval_divide Remainder (exactly m) n) still
-    ∙ sym (ap (λ (a : Interval). interval_divide Remainder a n) (slides b.first (omega arith) some))
+    ∙ sym (ap (λ (x : Interval). interval_divide Remainder x n) (slides b.first (omega arith) some))

@@ -14,13 +14,13 @@ if_le : {A : Type 0} (a b : ℕ) (x y : A) → a ≤ b → (if nat_le a b then x
 if_le a b x y h = ap (λ t. if t then x else y) (le-leb a b h)
 
 -- the interval of what does not wrap
-sum_is : (x y : Interval) → x.hi + y.hi ≤ most → interval_binary Add x y ≡ from_to (x.lo + y.lo) (x.hi + y.hi)
+pub sum_is : (x y : Interval) → x.hi + y.hi ≤ most → interval_binary Add x y ≡ from_to (x.lo + y.lo) (x.hi + y.hi)
 sum_is x y h = if_le (x.hi + y.hi) most _ _ h
 
-difference_is : (x y : Interval) → y.hi ≤ x.lo → interval_binary Subtract x y ≡ from_to (x.lo - y.hi) (x.hi - y.lo)
+pub difference_is : (x y : Interval) → y.hi ≤ x.lo → interval_binary Subtract x y ≡ from_to (x.lo - y.hi) (x.hi - y.lo)
 difference_is x y h = if_le y.hi x.lo _ _ h
 
-product_is : (x y : Interval) → x.hi * y.hi ≤ most → interval_product x y ≡ from_to (x.lo * y.lo) (x.hi * y.hi)
+pub product_is : (x y : Interval) → x.hi * y.hi ≤ most → interval_product x y ≡ from_to (x.lo * y.lo) (x.hi * y.hi)
 product_is x y h = if_le (x.hi * y.hi) most _ _ h
 
 pub sum_within : (m s : ℕ) (u v w : Stride) (a b x y : Interval) → w.by ≡ u.by + v.by → w.lo ≡ u.lo + v.lo → w.hi ≡ u.hi + v.hi →

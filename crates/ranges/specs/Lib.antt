@@ -1,3 +1,4 @@
+pub mod Affines
 pub mod Cases
 pub mod Cells
 pub mod Deciding

@@ -1,11 +1,10 @@
--- Accesses whose cell moves on in each turn of a loop by as much as the loop's name.
-use Rattle.std.specs.Prelude.{ℕ, zero, suc, ◌≡◌, ◌+◌, ◌-◌, ◌*◌, ◌^◌, ◌<◌, ◌≤◌, ◌==◌, min, None, Bool, false, List, [], ◌∷◌, ◌++◌, map, length, slice_index, ◌&&◌, ◌||◌, not, cond, ◌⊎◌}
+-- Accesses whose cell moves on in each turn of a loop by a multiple of what the loop's name does.
+use Rattle.std.specs.Prelude.{ℕ, zero, suc, ◌≡◌, ◌+◌, ◌-◌, ◌*◌, ◌^◌, ◌<◌, ◌≤◌, ◌==◌, min, None, Bool, false, List, [], ◌∷◌, ◌++◌, map, length, slice_index, ◌&&◌, ◌||◌, not, cond, ◌⊎◌, if◌then◌else◌}
 use Rattle.base.specs.declared.tree.Bounds.{Bounds}
 use Rattle.base.specs.Footprint.{Touch}
-use Rattle.base.specs.Interval.{exactly, interval}
+use Rattle.base.specs.Interval.{exactly}
 use Rattle.base.specs.declared.fault.Interval.{Interval}
 use Rattle.base.specs.declared.tree.ArrayId.{ArrayId}
-use Rattle.base.specs.declared.tree.Expr.{Expr}
 use Rattle.ranges.specs.declared.access.Access.{Access}
 use Rattle.ranges.specs.declared.slide.Slide.{Slide}
 use Rattle.base.specs.declared.item.Cell.{Cell}
@@ -14,18 +13,18 @@ use Rattle.ranges.specs.Rows.{is_within}
 use Rattle.ranges.specs.Seen.{Seen}
 use Rattle.ranges.specs.Straight.{touch_at}
 
--- what it touches once it has moved on by so many cells
+-- what it touches once the loop's name has moved on by x
 abbrev pub slide_touch : ℕ → Slide → Touch
 slide_touch x s = record {
   array = s.array;
-  cells = exactly (s.start + x);
+  cells = exactly (s.start + s.slope * x);
   is_write = s.writes;
   certain = s.certain;
   combines = None;
   place = s.place;
 }
 
--- n turns, in each of which it moves on by this step, from where it has moved on by x
+-- n turns, in each of which the loop's name moves on by this step, from where it has moved on by x
 abbrev pub slide_turns : ℕ → ℕ → ℕ → List Slide → List Touch
 slide_turns step zero x slides = []
 slide_turns step (suc n) x slides = map (slide_touch x) slides ++ slide_turns step n (x + step) slides
@@ -35,13 +34,29 @@ abbrev pub AreBelow : ℕ → ℕ → ℕ → ℕ → Type 0
 AreBelow step end zero x = Unit {0}
 AreBelow step end (suc n) x = (x < end) × AreBelow step end n (x + step)
 
--- it stays in its array while it has moved on by less than this
-abbrev pub Fits : List ℕ → ℕ → Slide → Type 0
-Fits lengths count s = s.start + count ≤ slice_index lengths s.array.0
+-- it moves on, and stays in its array while the loop's name has moved on by less than this
+pub record Fits (lengths : List ℕ) (count : ℕ) (s : Slide) : Type 0 where
+  pub moves : 1 ≤ s.slope
+  pub small : s.slope ≤ 2 ^ 31
+  pub inside : s.start + s.slope * (count - 1) < slice_index lengths s.array.0
 
 abbrev pub AllFit : List ℕ → ℕ → List Slide → Type 0
 AllFit lengths count [] = Unit {0}
 AllFit lengths count (s ∷ slides) = Fits lengths count s × AllFit lengths count slides
+
+-- by how much the first of those of an array moves on
+abbrev pub slope_in : List Slide → ℕ → ℕ
+slope_in [] a = 0
+slope_in (s ∷ slides) a = if s.array.0 == a then s.slope else slope_in slides a
+
+-- by how much each moves on is told by its array
+abbrev pub AllMoveBy : (ℕ → ℕ) → List Slide → Type 0
+AllMoveBy f [] = Unit {0}
+AllMoveBy f (s ∷ slides) = (s.slope ≡ f s.array.0) × AllMoveBy f slides
+
+-- those of one array move on by as much
+abbrev pub AreAlike : List Slide → Type 0
+AreAlike slides = AllMoveBy (slope_in slides) slides
 
 -- in the turns of these bounds the access touches what the slide does
 abbrev pub IsSlideOf : List ℕ → Bounds → Bool → Access → Slide → Type 0
@@ -117,15 +132,6 @@ pub record IsWhole (b : Bounds) (cells : Interval) : Type 0 where
 -- whether a cell is one of the array in such a place
 abbrev pub is_in_turn : ArrayId → Bounds → Cell → Bool
 is_in_turn a b c = (a.0 == c.array.0) && is_turn b c.index
-
--- the expression has this value in each turn of a loop
-abbrev pub IsFixed : List ℕ → Expr → ℕ → Type 0
-IsFixed loops e n = (v : ℕ) → interval e (loops ++ v ∷ []) ≡ exactly n
-
--- in the turns of these bounds it has this value and those next to it
-abbrev pub Slides : List ℕ → Bounds → Expr → ℕ → Type 0
-Slides loops b e start =
-    (v : ℕ) → b.first ≤ v → v < b.end → interval e (loops ++ v ∷ []) ≡ exactly (start + (v - b.first))
 
 -- some turns of a loop, and those that come after them
 pub record AreSplit (b now later : Bounds) (turns : ℕ) : Type 0 where

@@ -8,6 +8,7 @@ ghost use Rattle.ranges.specs.Slides.{AllFit};
 use crate::cases::{Turns, add_all};
 use crate::period::period;
 use crate::slide::Slide;
+use crate::slides::alike;
 use crate::state::Walk;
 use base::tree::{Bounds, Stmt};
 use std::alloc::{AllocError, Global};
@@ -113,8 +114,8 @@ fn block_slides(
 }
 
 impl Walk {
-    /// Turns of a loop with no loops in it, where the conditions in it are again so after a few turns and each access moves
-    /// on by as much as the loop's name. It answers which turns are left.
+    /// Turns of a loop with no loops in it, where the conditions in it are again so after a few turns, each access moves on
+    /// by a multiple of what the loop's name does, and those of one array by as much. It answers which turns are left.
     pub fn note_blocks(
         &mut self,
         alloc: Global,
@@ -137,6 +138,9 @@ impl Walk {
         else {
             return Ok(bounds);
         };
+        if !alike(&slides) {
+            return Ok(bounds);
+        }
         self.note_slides(lengths, &mut slides, all)?;
         Ok(later)
     }

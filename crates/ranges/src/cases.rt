@@ -26,7 +26,7 @@ pub struct Turns<'r> {
     ghost values: { here.now ≡ loops.now ++ bounds.first ∷ [] },
 }
 
-// Adds an access, and answers whether its cell moves on by as much as the loop's name and stays in its array.
+// Adds an access, and answers whether its cell moves on by a multiple of what the loop's name does and stays in its array.
 #[tactic(auto, using(crate::proofs::CaseSlides::one_added))]
 fn add_access(
     turns: &Turns<'_>,
@@ -178,8 +178,9 @@ fn add_unless(
     add_all(turns, all, certain, slides)
 }
 
-/// Adds the accesses of statements in the turns of a loop, and answers whether each moves on by as much as the loop's name
-/// and stays in its array, there is no loop in the statements, and the conditions in them are alike in all turns.
+/// Adds the accesses of statements in the turns of a loop, and answers whether each moves on by a multiple of what the
+/// loop's name does and stays in its array, there is no loop in the statements, and the conditions in them are alike in
+/// all turns.
 #[cycle(cases)]
 pub fn add_all(
     turns: &Turns<'_>,

@@ -30,6 +30,7 @@ use std::alloc::Global;
 use thiserror::Error;
 
 mod access;
+mod affine;
 mod blocks;
 mod bound;
 mod cases;
@@ -108,11 +109,12 @@ pub fn sections(program: &Program, item: &Item) -> Result<(), RangeFault>
 /// The cells that a region may touch, found instance by instance: each turn of each loop, and of an `if` whose condition
 /// is known the one branch that it takes. The loops around the region have these values, the outermost first. Of a loop
 /// that no subscript and no condition names the first turn is walked alone, since the others touch the same. No turn is
-/// walked of a loop that has no loop in it, and in whose subscripts its name alone stands, or with fixed values that are
-/// added or subtracted: numbers, names of loops around it, and sums, differences and products of these. Where it has
-/// conditions in it, these are alike in all of its turns, or in every so many turns, at most 64, as `i % 3 == 0` in every
-/// third; at its end fewer turns are walked than that. The turns of a loop that are left are not walked once the cells that
-/// they can touch were all seen: `A[i % 16]` after 16 turns.
+/// walked of a loop that has no loop in it, and in each of whose subscripts its name stands, times a fixed value, with
+/// others added or subtracted, so that the accesses of one array all move on by as many cells: `A[3 * i + 2]` beside
+/// `A[3 * i]`, or `B[j * 256 + i]` beside `A[j]`. Fixed values are numbers, names of loops around it, and sums, differences
+/// and products of these. Where it has conditions in it, these are alike in all of its turns, or in every so many turns, at
+/// most 64, as `i % 3 == 0` in every third; at its end fewer turns are walked than that. The turns of a loop that are left
+/// are not walked once the cells that they can touch were all seen: `A[i % 16]` after 16 turns.
 ///
 /// The error is E303 at the region's first token where its loops have more than 1,048,576 turns, and then nothing is
 /// walked; else E301 at the least place, by line and then by column, of the array name of a subscript that can leave

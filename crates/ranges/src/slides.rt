@@ -1,13 +1,13 @@
-// Loops in each turn of which all cells move on by as much, done access by access.
+// Loops in each turn of which the cells of each array move on by as much, done access by access.
 
-ghost use Rattle.std.specs.Prelude.{◌≡◌, ◌+◌, ◌-◌, ◌≤◌, ◌<◌, ◌^◌, [], IfNone, IfSome, OnOk, length, slice_index};
+ghost use Rattle.std.specs.Prelude.{◌≡◌, ◌+◌, ◌-◌, ◌*◌, ◌≤◌, ◌<◌, ◌^◌, [], IfNone, IfSome, IsTrue, OnOk, length, slice_index};
 ghost use Rattle.ranges.specs.Seen.{after, seen_in};
 ghost use Rattle.base.specs.Meaning.{turns_of};
-ghost use Rattle.ranges.specs.Slides.{AllFit, IsLater, IsLatest, IsTaken, is_in_turn, slide_turns, starts, with_run};
+ghost use Rattle.ranges.specs.Slides.{AllFit, AreAlike, IsLater, IsLatest, IsTaken, is_in_turn, slide_turns, slope_in, starts, with_run};
 
 use crate::slide::Slide;
 use crate::state::Walk;
-use base::tree::Bounds;
+use base::tree::{ArrayId, Bounds};
 use std::alloc::AllocError;
 
 fn start(slides: &[Slide], i: usize) -> u64
@@ -53,6 +53,48 @@ fn take_latest(slides: &mut Vec<Slide>) -> Option<Slide>
     Some(slides.remove(place))
 }
 
+// By how much the first of those of an array moves on.
+fn slope_of(slides: &[Slide], array: ArrayId) -> u64
+    ensures { result ≡ slope_in slides.now array.0 }
+{
+    for s in slides {
+        if s.array.0 == array.0 {
+            return s.slope;
+        }
+    }
+    0
+}
+
+/// Whether those of one array move on by as much.
+pub fn alike(slides: &[Slide]) -> bool
+    ensures { IsTrue result → AreAlike slides.now }
+{
+    for s in slides {
+        if s.slope != slope_of(slides, s.array) {
+            return false;
+        }
+    }
+    true
+}
+
+// All cells of an access in the turns of a loop.
+fn cells_of(slide: Slide, turns: Bounds) -> Bounds
+    requires ahead { turns.first < turns.end }
+    requires step { turns.step ≤ 2 ^ 32 }
+    requires moves { 1 ≤ slide.slope }
+    requires small { slide.slope ≤ 2 ^ 31 }
+    requires inside { slide.start + slide.slope * (turns.end - turns.first - 1) < 2 ^ 32 }
+    ensures first { result.first ≡ slide.start }
+    ensures end { result.end ≡ slide.start + slide.slope * (turns.end - turns.first - 1) + 1 }
+    ensures step { result.step ≡ slide.slope * turns.step }
+{
+    Bounds {
+        first: slide.start,
+        end: slide.start + slide.slope * (turns.end - turns.first - 1) + 1,
+        step: slide.slope * turns.step,
+    }
+}
+
 impl Walk {
     // All cells of an access, which lie in the array.
     fn note_run(&mut self, slide: Slide, cells: Bounds) -> Result<(), AllocError>
@@ -66,26 +108,22 @@ impl Walk {
         }
     }
 
-    /// The accesses in the turns of a loop. Of two accesses to a cell the one whose cells are ahead comes first, so each
-    /// access is done with all its turns, from the one that is furthest ahead on.
+    /// The accesses in the turns of a loop. Of two accesses to a cell, which move on by as much, the one whose cells are
+    /// ahead comes first, so each access is done with all its turns, from the one that is furthest ahead on.
     pub fn note_slides(
         &mut self,
         lengths: &[u32],
         slides: &mut Vec<Slide>,
         turns: Bounds,
     ) -> Result<(), AllocError>
-        requires some { turns.first ≤ turns.end }
-        requires small { turns.step ≤ 2 ^ 63 }
+        requires some { turns.first < turns.end }
+        requires small { turns.step ≤ 2 ^ 32 }
+        requires alike { AreAlike slides.old.items }
         requires fit { AllFit lengths.now (turns.end - turns.first) slides.old.items }
         ensures { OnOk result (seen_in self.new ≡ after lengths.now (slide_turns turns.step (turns_of turns) 0 slides.old.items) (seen_in self.old)) }
     {
         while let Some(slide) = take_latest(slides) {
-            let cells = Bounds {
-                first: slide.start,
-                end: slide.start + (turns.end - turns.first),
-                step: turns.step,
-            };
-            self.note_run(slide, cells)?;
+            self.note_run(slide, cells_of(slide, turns))?;
         }
         Ok(())
     }

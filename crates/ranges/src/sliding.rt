@@ -1,4 +1,4 @@
-// Loops over a straight body, in each turn of which all cells move on by as much as the loop's name, or not.
+// Loops over a straight body, in each turn of which all cells move on by multiples of what the loop's name does, or not.
 
 ghost use Rattle.std.specs.Prelude.{◌≡◌, ◌-◌, ◌<◌, ◌≤◌, cond, IfOk, IfSome, OnOk};
 ghost use Rattle.base.specs.Meaning.{turns_of};
@@ -7,8 +7,9 @@ ghost use Rattle.ranges.specs.Slides.{AllFit, AreSlidesOf, AreSplit, Fits, IsSli
 ghost use Rattle.ranges.specs.Straight.{turns_at};
 
 use crate::access::Access;
-use crate::offsets::first_value;
+use crate::offsets::values_of;
 use crate::slide::Slide;
+use crate::slides::alike;
 use crate::state::Walk;
 use base::tree::Bounds;
 use std::alloc::{AllocError, Global};
@@ -16,7 +17,10 @@ use std::alloc::{AllocError, Global};
 // The greatest step of a loop whose accesses are done so: no array has as many cells.
 const MOST_STEP: u64 = 1 << 32;
 
-// An access whose cell moves on in each turn by as much as the loop's name, and stays in its array.
+// The greatest number of cells by which an access moves on that is done so.
+const MOST_SLOPE: u64 = 1 << 31;
+
+// An access whose cell moves on in each turn by a multiple of what the loop's name does, and stays in its array.
 pub(crate) fn slide_of(
     lengths: &[u32],
     access: &Access<'_>,
@@ -28,16 +32,21 @@ pub(crate) fn slide_of(
     ensures is { IfSome result (IsSlideOf loops.now bounds certain access.now) }
     ensures fits { IfSome result (Fits lengths.now (bounds.end - bounds.first)) }
 {
-    let start = first_value(access.subscript, loops, bounds)?;
-    let end = start.checked_add(bounds.end - bounds.first)?;
+    let cells = values_of(access.subscript, loops, bounds)?;
+    if cells.slope == 0 || cells.slope > MOST_SLOPE {
+        return None;
+    }
+    let away = cells.slope.checked_mul(bounds.end - bounds.first - 1)?;
+    let last = cells.first.checked_add(away)?;
     let length = lengths.get(access.array.0 as usize).copied().unwrap_or(0);
-    if end > u64::from(length) {
+    if last >= u64::from(length) {
         return None;
     }
     Some(Slide {
         array: access.array,
         place: access.place,
-        start,
+        start: cells.first,
+        slope: cells.slope,
         writes: access.writes,
         certain,
     })
@@ -106,7 +115,8 @@ fn split(bounds: Bounds, turns: u64) -> (Bounds, Bounds)
 }
 
 impl Walk {
-    // The accesses in all turns of a loop, where all cells move on by as much as its name. It answers whether they do.
+    // The accesses in all turns of a loop, where all cells move on by multiples of what its name does, and those of one
+    // array by as much. It answers whether they do.
     fn note_at_once(
         &mut self,
         alloc: Global,
@@ -126,12 +136,16 @@ impl Walk {
         let Some(mut slides) = slides_of(alloc, lengths, accesses, loops, all, certain)? else {
             return Ok(false);
         };
+        if !alike(&slides) {
+            return Ok(false);
+        }
         self.note_slides(lengths, &mut slides, all)?;
         Ok(true)
     }
 
     /// The accesses in each turn of a loop. Those of which nothing new can be seen are left out of the turns that follow, and
-    /// where all cells move on by as much as the loop's name, each access is done with all its turns at once.
+    /// where all cells move on by multiples of what the loop's name does, and those of one array by as much, each access is
+    /// done with all its turns at once.
     pub fn note_loop(
         &mut self,
         alloc: Global,

@@ -4,7 +4,7 @@ ghost use Rattle.std.specs.Prelude.{◌≡◌, ◌<◌, ◌++◌, ◌∷◌, [],
 ghost use Rattle.base.specs.Interval.{interval, interval_divide};
 ghost use Rattle.ranges.specs.Cases.{IsSteady, IsTurn};
 
-use crate::offsets::first_value;
+use crate::offsets::values_of;
 use base::tree::{Bounds, DivideOp, Divisor, Expr};
 
 // Whether a loop's name is none of the loop with these loops around it.
@@ -14,13 +14,13 @@ fn is_other_name(level: u32, loops: &[u64]) -> bool
     level as usize != loops.len()
 }
 
-// Whether the rest of a division is one in all turns: where the operand moves on by as much as the loop's name, and the
-// divisor divides the step.
+// Whether the rest of a division is one in all turns: where the operand moves on by a multiple of what the loop's name
+// does, and the divisor divides the step.
 fn has_one_rest(e: &Expr, n: Divisor, loops: &[u64], bounds: Bounds) -> bool
     requires { bounds.first < bounds.end }
     ensures { IsTrue result → (v : ℕ) → IsTurn bounds v → interval_divide DivideOp.Remainder (interval e.now (loops.now ++ v ∷ [])) n.value ≡ interval_divide DivideOp.Remainder (interval e.now (loops.now ++ bounds.first ∷ [])) n.value }
 {
-    match first_value(e, loops, bounds) {
+    match values_of(e, loops, bounds) {
         Some(_) => bounds.step % n.value == 0,
         None => false,
     }

@@ -172,6 +172,88 @@ fn steps_need_not_be_of_one(rt: HostRuntime) -> Result<(), Fail> {
     Ok(())
 }
 
+// Bodies whose cells move on by several with the loop's name: as many for each array, more for one access than for another,
+// up to the last cell, and by a product that wraps.
+const STRIDES: [&str; 15] = [
+    "A[3 * i + 2] = B[i + 1] + A[3 * i];",
+    "A[3 * i] = A[3 * i + 3]; A[i * 3 + 6] = 1;",
+    "A[(i + 1) * 3] = A[3 * i] + B[i]; B[63 - 3 * k] = A[2];",
+    "A[2 * i + i] = B[2 * i]; B[(i + k) * 2 + 1] = A[3 * i + 1];",
+    "A[2 * i] = A[3 * i]; B[i] = A[2 * i + 1];",
+    "A[i * (2 + k)] = A[(2 + k) * i + k];",
+    "A[3 * (i + 1) - i] = A[2 * i + 1] + B[3 * i - 2 * i];",
+    "A[i * 6148914691236517206 * 3] = B[i]; B[2 * i] = A[2 * i];",
+    "A[6148914691236517206 * (3 * i) + 3] = A[2 * i + 1] + B[3 * i];",
+    "A[3 * i] = B[3 * i]; A[3 * i + 3] = B[3 * i + 1]; B[3 * i + 4] = A[3 * i];",
+    "A[2 * i + 4] = A[2 * i]; A[2 * i + 1] = A[2 * i + 4];",
+    "A[7] = A[7] + B[3 * i]; B[3 * i + 1] = A[2 * i];",
+    "if (B[2 * i] < 3) { A[3 * i] = 1; } else { B[2 * i + 1] = A[3 * i + 3]; }",
+    "if (k) { A[3 * i + 3] = 2; } B[2 * i + 1] = A[3 * i];",
+    "if (A[i]) { A[2 * i] = 2; } A[2 * i + 2] = A[i + 1];",
+];
+
+const STRIDED: [&str; 1] = ["for (uint64_t i = 0; i < 20; i += 1) {"];
+
+const STRIDED_IN_PARTS: [&str; 4] = [
+    "for (uint64_t i = 0; i < 5; i += 1) {",
+    "for (uint64_t i = 5; i < 10; i += 1) {",
+    "for (uint64_t i = 10; i < 15; i += 1) {",
+    "for (uint64_t i = 15; i < 20; i += 1) {",
+];
+
+const ODD: [&str; 1] = ["for (uint64_t i = 1; i < 20; i += 2) {"];
+
+const ODD_IN_PARTS: [&str; 3] = [
+    "for (uint64_t i = 1; i < 7; i += 2) {",
+    "for (uint64_t i = 7; i < 13; i += 2) {",
+    "for (uint64_t i = 13; i < 20; i += 2) {",
+];
+
+#[test]
+fn cells_move_on_by_several(rt: HostRuntime) -> Result<(), Fail> {
+    for body in STRIDES {
+        assert!(rt; are_alike(rt.alloc(), body, &STRIDED, &STRIDED_IN_PARTS)?);
+        assert!(rt; are_alike(rt.alloc(), body, &ODD, &ODD_IN_PARTS)?);
+    }
+    Ok(())
+}
+
+const HALVES: [&str; 1] = ["for (uint64_t i = 0; i < 32; i += 1) {"];
+
+const HALVES_IN_PARTS: [&str; 4] = [
+    "for (uint64_t i = 0; i < 8; i += 1) {",
+    "for (uint64_t i = 8; i < 16; i += 1) {",
+    "for (uint64_t i = 16; i < 24; i += 1) {",
+    "for (uint64_t i = 24; i < 32; i += 1) {",
+];
+
+#[test]
+fn conditions_are_alike_where_cells_move_on_by_two(rt: HostRuntime) -> Result<(), Fail> {
+    let body = "if (i % 2) { A[2 * i] = 1; } else { B[i] = A[2 * i + 1]; }";
+    assert!(rt; are_alike(rt.alloc(), body, &HALVES, &HALVES_IN_PARTS)?);
+    Ok(())
+}
+
+fn has_footprints(alloc: Global, outlined: &Outlined<'_>) -> Result<bool, Fail> {
+    let repeated = repeats(alloc, outlined)?;
+    Ok(footprints_of(alloc, outlined, &repeated).is_ok())
+}
+
+// Whether no subscript of the strided loop, in which this is the body, can leave its array.
+fn stays(alloc: Global, body: &str) -> Result<bool, Fail> {
+    let text = source(alloc, body, &STRIDED)?;
+    let program = read_program(alloc, &text)?;
+    let outlined = outline(alloc, &program)?;
+    has_footprints(alloc, &outlined)
+}
+
+#[test]
+fn last_cell_is_the_last_of_its_array(rt: HostRuntime) -> Result<(), Fail> {
+    assert!(rt; stays(rt.alloc(), "A[3 * i + 6] = 1;")?);
+    assert!(rt; !stays(rt.alloc(), "A[3 * i + 7] = 1;")?);
+    Ok(())
+}
+
 const EACH_FROM_THE_LAST: &str = "\
 uint64_t A[65536];
 int main(void) {
