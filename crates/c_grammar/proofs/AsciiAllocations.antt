@@ -44,20 +44,20 @@ allocation_text t (s ∷ x ∷ e ∷ is) h =
 
 -- ---- all tokens
 
-abbrev IsText : Reading → Type 0
+abbrev pub IsText : Reading → Type 0
 IsText r = AreItemsText r.before × AreItemsText r.arrays × AreItemsText r.done
 
-either : (b : Bool) (q r : Reading) → IsText q → IsText r → IsText (cond b q r)
+pub either : (b : Bool) (q r : Reading) → IsText q → IsText r → IsText (cond b q r)
 either true q r h k = h
 either false q r h k = k
 
-more_text : (is : Items) (i : Item Terminal) → AreItemsText is → IsAsciiTerminal i.terminal → AreItemsText (is ++ i ∷ [])
+pub more_text : (is : Items) (i : Item Terminal) → AreItemsText is → IsAsciiTerminal i.terminal → AreItemsText (is ++ i ∷ [])
 more_text is i h k = both_text is (i ∷ []) h (k, tt)
 
-kept_text : (i : Item Terminal) (r : Reading) → IsAsciiTerminal i.terminal → IsText r → IsText (kept i r)
+pub kept_text : (i : Item Terminal) (r : Reading) → IsAsciiTerminal i.terminal → IsText r → IsText (kept i r)
 kept_text i r h k = (k.0, k.1, more_text r.done i k.2 h)
 
-opened_text : (i : Item Terminal) (r : Reading) → IsText r → IsText (opened i r)
+pub opened_text : (i : Item Terminal) (r : Reading) → IsText r → IsText (opened i r)
 opened_text i r k = (k.0, k.1, more_text r.done (at i (Mark sign.OpenBrace)) k.2 tt)
 
 allotted_text : (i : Item Terminal) (a : Allocation) (r : Reading) → IsAscii a.name → IsText r → IsText (allotted i a r)

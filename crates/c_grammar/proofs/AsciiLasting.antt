@@ -19,7 +19,7 @@ lasting_in_text [] s h = tt
 lasting_in_text (i ∷ is) s h =
     chosen_text (is_directive i.terminal) _ _ (h.0, lasting_in_text is s h.1)
     (both_text (const_for s i (bare is)) _
-    (chosen_text (is_looked s i (bare is) && is_lasting (bare is)) (const_at i) [] (word_text, tt) tt)
+    (chosen_text (is_looked s i (bare is) && is_lasting i (bare is)) (const_at i) [] (word_text, tt) tt)
     (h.0, lasting_in_text is (behind s i (bare is)) h.1))
 
 pub lasting_text : (is : Items) → AreItemsText is → AreItemsText (lasting is)

@@ -48,6 +48,7 @@ use Rattle.c_grammar.specs.Conditions.{decided}
 use Rattle.c_grammar.specs.Grids.{flat}
 use Rattle.c_grammar.specs.Counters.{counted}
 use Rattle.c_grammar.specs.Descents.{upward}
+use Rattle.c_grammar.specs.MainArrays.{lifted}
 use Rattle.c_grammar.specs.Locals.{in_scalars}
 use Rattle.c_grammar.specs.Privates.{owned}
 use Rattle.c_grammar.specs.Lasting.{lasting}
@@ -68,6 +69,7 @@ use Rattle.c_grammar.proofs.AsciiLasting.{lasting_text}
 use Rattle.c_grammar.proofs.AsciiCounters.{counted_text, zeroed_text}
 use Rattle.c_grammar.proofs.AsciiDescents.{upward_text}
 use Rattle.c_grammar.proofs.AsciiDevices.{devices_text}
+use Rattle.c_grammar.proofs.AsciiMainArrays.{lifted_text}
 use Rattle.c_grammar.proofs.AsciiLocals.{scalars_are_text}
 use Rattle.c_grammar.proofs.AsciiPrivates.{owned_text}
 use Rattle.c_grammar.proofs.AsciiDeclarations.{settled_text}
@@ -724,7 +726,8 @@ written_text is h =
     let decisions : Items = decided (expanded arrays) in
     let ended : Items = looped decisions in
     let straight : Items = rectangular ended in
-    let single : Items = in_scalars straight in
+    let global : Items = lifted straight in
+    let single : Items = in_scalars global in
     let branched : Items = chosen single in
     let plain : Items = undefined [] 0 0 branched in
     let cubes : Items = flat true [] [] [] 0 plain in
@@ -737,13 +740,14 @@ written_text is h =
     (initialized_text (allocated cells) no_globals 0 (tt, tt)
     (allocated_text cells (commuting_text boxes Outside (boxed_text flattened
     (flat_text cubes false [] [] [] 0 (flat_text plain true [] [] [] 0 (undefined_text branched [] 0 0
-    (choices_text single (scalars_are_text straight (rectangular_text ended (looped_text decisions (decided_text (expanded arrays)
+    (choices_text single (scalars_are_text global (lifted_text straight (rectangular_text ended (looped_text decisions
+    (decided_text (expanded arrays)
     (expanded_text (λ is h. worked_text is [] [] 0 h) arrays
     (pointed_text numbered (worked_text known [] [] 0 (settled_text (zeroed constant) Other (zeroed_text constant
     (lasting_text private (owned_text upwards (upward_text loops (counted_text whole
     (blocks_text (undeclared false rows) nothing_read (undeclared_text rows false
     (rows_text types (typed_text calls 0
-    (printed_text (nested own) 0 (nested_text own (parts_text (replaced is) (replaced_text is h)))))))))))))))))))))))))))))))
+    (printed_text (nested own) 0 (nested_text own (parts_text (replaced is) (replaced_text is h))))))))))))))))))))))))))))))))
 
 all_but : (is : Items) (e : Item Terminal) → AreItemsText (is ++ e ∷ []) → AreItemsText is
 all_but [] e h = tt

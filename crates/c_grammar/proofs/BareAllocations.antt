@@ -12,35 +12,35 @@ use Rattle.c_grammar.specs.Presence.{guarded}
 use Rattle.c_grammar.proofs.BarePresence.{guarded_bare}
 use Rattle.c_grammar.proofs.BareTokens.{IsPlain, same_bare, bare_both}
 
-one_more : (is : Items) (i : Item Terminal) → IsPlain i → bare is ++ i ∷ [] ≡ bare (is ++ i ∷ [])
+pub one_more : (is : Items) (i : Item Terminal) → IsPlain i → bare is ++ i ∷ [] ≡ bare (is ++ i ∷ [])
 one_more is i h = sym (bare_both is (i ∷ []) ∙ rw h refl)
 
-one_less : (is : Items) (i : Item Terminal) → is_directive i.terminal ≡ true → bare (is ++ i ∷ []) ≡ bare is
+pub one_less : (is : Items) (i : Item Terminal) → is_directive i.terminal ≡ true → bare (is ++ i ∷ []) ≡ bare is
 one_less is i h = bare_both is (i ∷ []) ∙ rw h (append-nil (bare is))
 
 -- what has been read, without directive lines
-abbrev bare_reading : Reading → Reading
+abbrev pub bare_reading : Reading → Reading
 bare_reading r = record r { before = bare r.before; arrays = bare r.arrays; done = bare r.done }
 
-abbrev IsBare : Reading → Reading → Type 0
+abbrev pub IsBare : Reading → Reading → Type 0
 IsBare q r = q ≡ bare_reading r
 
-either : (b : Bool) (x y x' y' : Reading) → IsBare x' x → IsBare y' y → IsBare (cond b x' y') (cond b x y)
+pub either : (b : Bool) (x y x' y' : Reading) → IsBare x' x → IsBare y' y → IsBare (cond b x' y') (cond b x y)
 either true x y x' y' h k = h
 either false x y x' y' h k = k
 
-kept_bare : (i : Item Terminal) (r : Reading) → IsPlain i → IsBare (kept i (bare_reading r)) (kept i r)
+pub kept_bare : (i : Item Terminal) (r : Reading) → IsPlain i → IsBare (kept i (bare_reading r)) (kept i r)
 kept_bare i r h = ap (λ (d : Items). record (bare_reading (kept i r)) { done = d }) (one_more r.done i h)
 
-opened_bare : (i : Item Terminal) (r : Reading) → IsBare (opened i (bare_reading r)) (opened i r)
+pub opened_bare : (i : Item Terminal) (r : Reading) → IsBare (opened i (bare_reading r)) (opened i r)
 opened_bare i r =
     ap (λ (d : Items). record (bare_reading (opened i r)) { done = d }) (one_more r.done (at i (Mark sign.OpenBrace)) refl)
 
-closed_bare : (i : Item Terminal) (r : Reading) → IsBare (closed i (bare_reading r)) (closed i r)
+pub closed_bare : (i : Item Terminal) (r : Reading) → IsBare (closed i (bare_reading r)) (closed i r)
 closed_bare i r =
     ap (λ (d : Items). record (bare_reading (closed i r)) { done = d }) (one_more r.done (at i (Mark sign.CloseBrace)) refl)
 
-entered_bare : (i : Item Terminal) (r : Reading) → IsPlain i → IsBare (entered i (bare_reading r)) (entered i r)
+pub entered_bare : (i : Item Terminal) (r : Reading) → IsPlain i → IsBare (entered i (bare_reading r)) (entered i r)
 entered_bare i r h =
     ap (λ (d : Items). record (entered i (bare_reading r)) { done = d }) (one_more [] i h)
     ∙ ap (λ (d : Items). record (bare_reading (entered i r)) { before = d }) (sym (bare_both r.before r.done))
@@ -84,7 +84,7 @@ read_bare (i ∷ is) r = step (read_bare is) (is_directive i.terminal) refl
         ∙ ap (λ (js : Items). all_read (taken i js (bare_reading r)) (bare is)) (same_bare is)
         ∙ ap (λ (q : Reading). all_read q (bare is)) (taken_bare i (bare is) r e) ∙ ih (taken i (bare is) r)
 
-joined_bare : (r : Reading) → joined (bare_reading r) ≡ bare (joined r)
+pub joined_bare : (r : Reading) → joined (bare_reading r) ≡ bare (joined r)
 joined_bare r =
     ap (λ (js : Items). bare r.before ++ js) (sym (bare_both r.arrays r.done))
     ∙ sym (bare_both r.before (r.arrays ++ r.done))

@@ -16,6 +16,7 @@ use Rattle.c_grammar.specs.DeclaredFunctions.{undeclared}
 use Rattle.c_grammar.specs.Counters.{counted}
 use Rattle.c_grammar.specs.Descents.{upward}
 use Rattle.c_grammar.specs.Devices.{on_devices}
+use Rattle.c_grammar.specs.MainArrays.{lifted}
 use Rattle.c_grammar.specs.Locals.{in_scalars}
 use Rattle.c_grammar.specs.Privates.{owned}
 use Rattle.c_grammar.specs.Lasting.{lasting}
@@ -51,6 +52,7 @@ use Rattle.c_grammar.proofs.BareLasting.{lasting_bare}
 use Rattle.c_grammar.proofs.BareCounters.{counted_bare, zeroed_bare}
 use Rattle.c_grammar.proofs.BareDescents.{upward_bare}
 use Rattle.c_grammar.proofs.BareDevices.{devices_bare}
+use Rattle.c_grammar.proofs.BareMainArrays.{lifted_bare}
 use Rattle.c_grammar.proofs.BareLocals.{scalars_bare}
 use Rattle.c_grammar.proofs.BarePointers.{pointed_bare}
 use Rattle.c_grammar.proofs.BarePrivates.{owned_bare}
@@ -618,7 +620,8 @@ written_bare is =
     let e : Items = decided y in
     let f : Items = looped e in
     let h : Items = rectangular f in
-    let k : Items = in_scalars h in
+    let j : Items = lifted h in
+    let k : Items = in_scalars j in
     let x : Items = chosen k in
     let r : Items = flat true [] [] [] 0 (undefined [] 0 0 x) in
     let g : Items = flat false [] [] [] 0 r in
@@ -629,7 +632,7 @@ written_bare is =
     let since_rows : Items → Items = λ js. since_boxes (flat false [] [] [] 0 js) in
     let since_grids : Items → Items = λ js. since_rows (flat true [] [] [] 0 js) in
     let since_defined : Items → Items = λ js. since_grids (undefined [] 0 0 js) in
-    let since_loops : Items → Items = λ js. since_defined (chosen (in_scalars (rectangular js))) in
+    let since_loops : Items → Items = λ js. since_defined (chosen (in_scalars (lifted (rectangular js)))) in
     let since_declared : Items → Items = λ js.
     since_loops (looped (decided (expanded (pointed (worked [] [] 0 js))))) in
     let since_zeroed : Items → Items = λ js. since_declared (settled Other js) in
@@ -657,8 +660,9 @@ written_bare is =
     ∙ ap (λ (js : Items). since_loops (looped (decided js))) (expanded_bare (λ js. worked_bare js [] [] 0) q)
     ∙ ap (λ (js : Items). since_loops (looped js)) (decided_bare y)
     ∙ ap since_loops (looped_bare e)
-    ∙ ap (λ (js : Items). since_defined (chosen (in_scalars js))) (rectangular_bare f)
-    ∙ ap (λ (js : Items). since_defined (chosen js)) (scalars_bare h)
+    ∙ ap (λ (js : Items). since_defined (chosen (in_scalars (lifted js)))) (rectangular_bare f)
+    ∙ ap (λ (js : Items). since_defined (chosen (in_scalars js))) (lifted_bare h)
+    ∙ ap (λ (js : Items). since_defined (chosen js)) (scalars_bare j)
     ∙ ap since_defined (chosen_bare k)
     ∙ ap since_grids (undefined_bare x [] 0 0)
     ∙ ap since_rows (flat_bare (undefined [] 0 0 x) true [] [] [] 0)

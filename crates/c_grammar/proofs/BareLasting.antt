@@ -17,7 +17,7 @@ lasting_in_bare (i ∷ is) s = step (lasting_in_bare is) (is_directive i.termina
     step ih false e =
         rw e (rw e (ap (λ (js : Items). const_for s i js ++ i ∷ lasting_in (behind s i js) (bare is)) (same_bare is)
         ∙ some (const_for s i (bare is)) _ _
-        (either_plain (is_looked s i (bare is) && is_lasting (bare is)) (const_at i) [] (refl, tt) tt)
+        (either_plain (is_looked s i (bare is) && is_lasting i (bare is)) (const_at i) [] (refl, tt) tt)
         (one i _ _ e (ih (behind s i (bare is))))))
 
 pub lasting_bare : (is : Items) → IsBare (lasting (bare is)) (lasting is)

@@ -93,7 +93,7 @@ unset_in_a_head : fault (codes "for (uint64_t i; i < 4; i++) A[i] = i;" ∷ []) 
 unfolding index_len number_of hex_number_of number_piece sign_one sign_two sign_three changing_sign sign_at format_at piece_at comment_end_from is_include after tokens_from word_of is_omp expression line_from clauses_from worked in_blocks typed printed undefined all_read initialized in_full run enter breaks wrong sort_of advance place_code first_broken first_wrong kind_of holds is_atomic is_target depth_of collapse_from uses_of uses_from line_fault line_breaks line_wrong line_enter line_advance line_place line_first_broken line_first_wrong piece_on_line lexemes_from
 unset_in_a_head = refl
 
-unset_array : fault (codes "uint64_t B[4][4];" ∷ []) ≡ at Unexpected 2 11
+unset_array : fault (codes "{ uint64_t B[4][4]; }" ∷ []) ≡ at Unexpected 2 13
 unfolding index_len number_of hex_number_of number_piece sign_one sign_two sign_three changing_sign sign_at format_at piece_at comment_end_from is_include after tokens_from word_of is_omp expression line_from clauses_from worked in_blocks typed printed undefined all_read initialized in_full run enter breaks wrong sort_of advance place_code first_broken first_wrong kind_of holds is_atomic is_target depth_of collapse_from uses_of uses_from line_fault line_breaks line_wrong line_enter line_advance line_place line_first_broken line_first_wrong piece_on_line lexemes_from
 unset_array = refl
 

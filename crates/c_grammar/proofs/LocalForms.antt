@@ -37,9 +37,9 @@ abbrev lines : List (List ℕ) → List ℕ
 lines [] = []
 lines (l ∷ ls) = l ++ (10 ∷ lines ls)
 
--- the lines of main, behind the declarations of an array and two scalars
+-- the lines of a block of main, behind the declarations of an array and two scalars
 abbrev source : List (List ℕ) → List ℕ
-source ls = lines (codes "uint64_t A[16], x, y; int main() {" ∷ (ls ++ codes "}" ∷ []))
+source ls = lines (codes "uint64_t A[16], x, y; int main() { {" ∷ (ls ++ codes "} }" ∷ []))
 
 abbrev fault : List (List ℕ) → Option TextFault
 fault ls = fault_in (source ls)

@@ -1,14 +1,16 @@
 -- Scalars that are constants though they are not declared so: one that is declared with a value where a constant may be
--- declared, which nothing changes behind that, and which stands in the head of a loop there. The word const is put before its
--- type. A source in which a scalar stands in the head of a loop has a fault without that.
-use Rattle.std.specs.Prelude.{ℕ, zero, suc, ◌-◌, ◌==◌, Bool, true, false, not, ◌&&◌, ◌||◌, if◌then◌else◌, List, [], ◌∷◌, ◌++◌, codes}
+-- declared, which nothing changes behind that, and which stands where a number is wanted: in the head of a loop, in the right
+-- operand of a quotient, a remainder or a shift, in the length of an array, or in the size of allocated memory; of type int,
+-- wherever it stands. The word const is put before its type. A source in which a scalar stands there, or has the type int, has a
+-- fault without that.
+use Rattle.std.specs.Prelude.{ℕ, zero, suc, ◌+◌, ◌-◌, ◌==◌, nat_le, Bool, true, false, not, ◌&&◌, ◌||◌, if◌then◌else◌, List, [], ◌∷◌, ◌++◌, codes}
 use Rattle.c_tokens.specs.declared.kind.Sign.{Sign}
 use Rattle.c_tokens.specs.declared.kind.Sign.TheVariants as sign
-use Rattle.c_grammar.specs.Lexeme.{For, Main}
+use Rattle.c_grammar.specs.Lexeme.{For, Int, Main}
 use Rattle.c_grammar.specs.Terminal.{Terminal, Fixed, Mark, Name, Num, same}
 use Rattle.c_grammar.specs.Texts.{Item}
 use Rattle.c_grammar.specs.Blocks.{Items, at, bare, is_directive}
-use Rattle.c_grammar.specs.Constants.{depth_behind}
+use Rattle.c_grammar.specs.Constants.{behind_changing, behind_divider, depth_behind}
 use Rattle.c_grammar.specs.Changes.{is_boundary, is_mark}
 use Rattle.c_grammar.specs.Choices.{is_setting}
 use Rattle.c_grammar.specs.Counters.{is_type}
@@ -35,14 +37,61 @@ abbrev pub alters : List ℕ → Item Terminal → Items → Bool
 alters x i is =
     (is_word x i && begins_change is) || (steps i && begins_word x is) || (is_type i.terminal && declares x is)
 
--- behind a token: in the head of a loop, which ends where its block begins
-abbrev pub in_head : Bool → Item Terminal → Bool
-in_head h i = same (Fixed For) i.terminal || (h && not (is_mark sign.OpenBrace i))
+-- ---- where a number is wanted
 
--- nothing alters the scalar, and it stands in the head of a loop, or stood there before
-abbrev pub lasts : List ℕ → Bool → Bool → Items → Bool
-lasts x h found [] = found
-lasts x h found (i ∷ is) = not (alters x i is) && lasts x (in_head h i) (found || (h && is_word x i)) is
+-- where a token stands: nowhere of these; in the head of a loop, up to its block; where an array is declared or memory
+-- allocated, up to the end of that; in the right operand of a quotient, a remainder or a shift, in so many brackets
+pub data Place : Type 0 where
+  Elsewhere Heading Sizing : Place
+  Dividing : (brackets : ℕ) → Place
+
+abbrev pub wants : Place → Bool
+wants Elsewhere = false
+wants p = true
+
+abbrev pub opens : Items → Bool
+opens [] = false
+opens (i ∷ is) = is_mark sign.OpenParen i
+
+-- behind a type: the name of an array
+abbrev pub begins_array : Items → Bool
+begins_array (x ∷ b ∷ is) = is_name x.terminal && is_mark sign.OpenBracket b
+begins_array is = false
+
+abbrev pub allocates : Item Terminal → Bool
+allocates i = is_word (codes "malloc") i || is_word (codes "calloc") i
+
+-- a number stands behind it
+abbrev pub divides_by : Terminal → Bool
+divides_by t = behind_divider (t ∷ []) || behind_changing (t ∷ [])
+
+abbrev pub begun : Item Terminal → Items → Place
+begun i is =
+    if divides_by i.terminal then Dividing 0
+    else (if (is_type i.terminal && begins_array is) || (allocates i && opens is) then Sizing else Elsewhere)
+
+abbrev pub closed : ℕ → Place
+closed d = if nat_le d 1 then Elsewhere else Dividing (d - 1)
+
+abbrev pub divided : ℕ → Item Terminal → Items → Place
+divided d i is =
+    if is_mark sign.OpenParen i then Dividing (d + 1)
+    else (if is_mark sign.CloseParen i then closed d else (if d == 0 then begun i is else Dividing d))
+
+abbrev pub moved : Place → Item Terminal → Items → Place
+moved Elsewhere i is = begun i is
+moved Heading i is = if is_mark sign.OpenBrace i then Elsewhere else Heading
+moved Sizing i is = if is_mark sign.Equal i || is_mark sign.Semicolon i then Elsewhere else Sizing
+moved (Dividing d) i is = divided d i is
+
+-- behind a token
+abbrev pub next : Place → Item Terminal → Items → Place
+next p i is = if same (Fixed For) i.terminal then Heading else moved p i is
+
+-- nothing alters the scalar, and it stands where a number is wanted, or stood so before
+abbrev pub lasts : List ℕ → Place → Bool → Items → Bool
+lasts x p found [] = found
+lasts x p found (i ∷ is) = not (alters x i is) && lasts x (next p i is) (found || (wants p && is_word x i)) is
 
 -- ---- its value
 
@@ -52,6 +101,8 @@ is_operator sign.Minus = true
 is_operator sign.Star = true
 is_operator sign.Slash = true
 is_operator sign.Percent = true
+is_operator sign.ShiftLeft = true
+is_operator sign.ShiftRight = true
 is_operator sign.OpenParen = true
 is_operator sign.CloseParen = true
 is_operator s = false
@@ -62,10 +113,6 @@ is_part (Name x) = true
 is_part (Mark s) = is_operator s
 is_part t = false
 
-abbrev pub opens : Items → Bool
-opens [] = false
-opens (i ∷ is) = is_mark sign.OpenParen i
-
 -- numbers, names and operators up to a semicolon, and no call
 abbrev pub has_value : Items → Bool
 has_value [] = false
@@ -74,14 +121,14 @@ has_value (i ∷ is) =
 
 -- ---- its declaration
 
-abbrev pub lasts_as : Terminal → Items → Bool
-lasts_as (Name x) is = lasts x false false is
-lasts_as t is = false
+abbrev pub lasts_as : Bool → Terminal → Items → Bool
+lasts_as found (Name x) is = lasts x Elsewhere found is
+lasts_as found t is = false
 
--- behind its type
-abbrev pub is_lasting : Items → Bool
-is_lasting (x ∷ e ∷ is) = has_value is && lasts_as x.terminal is
-is_lasting is = false
+-- of this type: an int need not stand where a number is wanted
+abbrev pub is_lasting : Item Terminal → Items → Bool
+is_lasting i (x ∷ e ∷ is) = has_value is && lasts_as (same (Fixed Int) i.terminal) x.terminal is
+is_lasting i is = false
 
 -- so many declarations are looked at
 abbrev pub most_looked : ℕ
@@ -116,7 +163,7 @@ abbrev pub const_at : Item Terminal → Items
 const_at i = at i (Name (codes "const")) ∷ []
 
 abbrev pub const_for : State → Item Terminal → Items → Items
-const_for s i is = if is_looked s i is && is_lasting is then const_at i else []
+const_for s i is = if is_looked s i is && is_lasting i is then const_at i else []
 
 abbrev pub lasting_in : State → Items → Items
 lasting_in s [] = []

@@ -11,8 +11,9 @@ use Rattle.c_grammar.specs.Terminal.{Terminal, Fixed, Mark, Name, Num, Line, sam
 use Rattle.c_grammar.specs.Texts.{Item}
 use Rattle.c_grammar.specs.Blocks.{Items, at, bare, is_directive}
 use Rattle.c_grammar.specs.Choices.{brackets_behind}
-use Rattle.c_grammar.specs.Constants.{is_mark, with_tokens}
+use Rattle.c_grammar.specs.Constants.{Names, depth_behind as braces_behind, is_mark, with_global, with_tokens}
 use Rattle.c_grammar.specs.Expressions.{Product, Quotient, Rest, Work, fitting, placed_of, result}
+use Rattle.c_grammar.specs.LineRules.{is_among}
 use Rattle.c_grammar.specs.Loops.{is_word}
 use Rattle.c_grammar.specs.Triangles.{Loop, len, loop_in}
 
@@ -472,6 +473,35 @@ scan p s k (i ∷ is) =
 abbrev pub unrolled : Items → Items
 unrolled is = scan Unroll begin 0 (scan Unroll begin 0 (scan Unroll begin 0 is))
 
--- all tokens, with scalars in the place of local arrays
+-- ---- names of globals
+
+-- a block declares an array
+abbrev pub declares_array : ℕ → Item Terminal → Items → Bool
+declares_array d i (x ∷ b ∷ is) = not (d == 0) && (same (Fixed Uint64) i.terminal && is_mark sign.OpenBracket b)
+declares_array d i is = false
+
+abbrev pub is_name_among : Names → Terminal → Bool
+is_name_among names (Name x) = is_among names x
+is_name_among names t = false
+
+abbrev pub is_taken : Names → Items → Bool
+is_taken names [] = false
+is_taken names (x ∷ is) = is_name_among names x.terminal
+
+abbrev pub with_outer : ℕ → Item Terminal → Items → Names → Names
+with_outer d i is names = if d == 0 then with_global i.terminal is names else names
+
+-- one of the first so many arrays of blocks has the name of a global, which a function that is called there may use
+abbrev pub hides_in : ℕ → Names → ℕ → Items → Bool
+hides_in left names d [] = false
+hides_in left names d (i ∷ is) =
+    if declares_array d i is
+    then (if left == 0 then false else (is_taken names is || hides_in (left - 1) names (braces_behind i.terminal d) is))
+    else hides_in left (with_outer d i is names) (braces_behind i.terminal d) is
+
+abbrev pub hides : Items → Bool
+hides is = hides_in max_cells [] 0 is
+
+-- all tokens, with scalars in the place of local arrays; where one of these hides a global, they stay, and are a fault
 abbrev pub in_scalars : Items → Items
-in_scalars is = scan Replace begin 0 (unrolled is)
+in_scalars is = if hides (bare is) then is else scan Replace begin 0 (unrolled is)

@@ -4,6 +4,7 @@
 mod blocks;
 mod cells;
 mod declarations;
+mod hidden;
 mod indices;
 mod lines;
 mod lists;

@@ -8,6 +8,7 @@ ghost use Rattle.c_locals.specs.Locals.{seen_pass};
 
 use crate::blocks::{Blocks, Open};
 use crate::declarations::declared_by;
+use crate::hidden::hides;
 use crate::indices::named_put;
 use crate::lines::line_at;
 use crate::lists::listed_put;
@@ -15,7 +16,7 @@ use crate::loops::{MAX_AHEAD, unrolled_at};
 use crate::puts::{Put, State};
 use crate::scalars::scalars_put;
 use c_choices::next_tokens;
-use c_terminals::{Ahead, Token, Written, borrowed};
+use c_terminals::{Ahead, Token, Written, borrowed, owned};
 use directives::Word;
 use std::alloc::{AllocError, Global};
 
@@ -201,13 +202,16 @@ fn unrolled<'a>(alloc: Global, tokens: &[Token<'a, '_>]) -> Result<Vec<Written<'
     scan(alloc, Pass::Unroll, &tokens)
 }
 
-/// The tokens with scalars in the place of local arrays.
+/// The tokens with scalars in the place of local arrays, which stay where one of them hides a global.
 pub fn in_scalars<'a>(
     alloc: Global,
     tokens: &[Token<'a, '_>],
 ) -> Result<Vec<Written<'a>>, AllocError>
     ensures { IfOk result (λ v. written_all v.items ≡ in_scalars (seen_all tokens.now)) }
 {
+    if hides(alloc, tokens)? {
+        return owned(alloc, tokens);
+    }
     let tokens = unrolled(alloc, tokens)?;
     let tokens = borrowed(alloc, &tokens)?;
     scan(alloc, Pass::Replace, &tokens)

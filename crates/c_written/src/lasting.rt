@@ -1,15 +1,16 @@
-//! Scalars that nothing changes and that stand in the heads of loops, which are constants.
+//! Scalars that nothing changes and that stand where a number is wanted, which are constants.
 
 ghost use Rattle.std.specs.Prelude.{◌≡◌, ◌∷◌, ◌++◌, false, IfOk, OnOk};
-ghost use Rattle.c_grammar.specs.Lasting.{alters, begins_change, begins_word, const_for, declares, has_value, in_head, is_lasting, is_looked, is_operator, is_part, lasting, lasts, lasts_as, opens};
+ghost use Rattle.c_grammar.specs.Lasting.{Elsewhere, allocates, alters, begins_array, begins_change, begins_word, begun, const_for, declares, divided, divides_by, has_value, is_lasting, is_looked, is_operator, is_part, lasting, lasts, lasts_as, opens};
 ghost use Rattle.c_grammar.specs.Loops.{steps};
 ghost use Rattle.c_terminals.specs.Ahead.{ahead};
 ghost use Rattle.c_terminals.specs.Seen.{seen, seen_all, seen_terminal};
-ghost use Rattle.c_written.specs.Lasting.{seen_state};
+ghost use Rattle.c_written.specs.Lasting.{seen_place, seen_state};
 
 use crate::boxes::depth_behind;
 use crate::counters::is_type;
 use crate::declarations::is_given;
+use crate::shapes::{is_changing, is_divider};
 use c_choices::{is_boundary, is_setting};
 use c_terminals::{Ahead, Terminal, Token};
 use c_tokens::Sign;
@@ -68,27 +69,147 @@ fn alters(name: &[u8], token: Token<'_, '_>, rest: Ahead<'_, '_, '_>) -> bool
         || (is_type(token.terminal) && declares(name, rest))
 }
 
-// Whether what follows a token is in the head of a loop, which ends where its block begins.
-fn in_head(inside: bool, token: Token<'_, '_>) -> bool
-    ensures { result ≡ in_head inside (seen token.entry) }
+fn opens(rest: Ahead<'_, '_, '_>) -> bool
+    ensures { result ≡ opens (ahead rest.entry) }
 {
-    token.terminal.is_word(Word::For) || (inside && !token.terminal.is_sign(Sign::OpenBrace))
+    let mut ahead = rest;
+    match ahead.next() {
+        Some(token) => token.terminal.is_sign(Sign::OpenParen),
+        None => false,
+    }
 }
 
-// Whether nothing alters the scalar, and it stands in the head of a loop.
-fn lasts(name: &[u8], start: Ahead<'_, '_, '_>) -> bool
-    ensures { result ≡ lasts name.now false false (ahead start.entry) }
+// Behind a type: the name of an array.
+fn begins_array(rest: Ahead<'_, '_, '_>) -> bool
+    ensures { result ≡ begins_array (ahead rest.entry) }
+{
+    let mut ahead = rest;
+    let Some(name) = ahead.next() else {
+        return false;
+    };
+    let Some(bracket) = ahead.next() else {
+        return false;
+    };
+    name.terminal.is_name() && bracket.terminal.is_sign(Sign::OpenBracket)
+}
+
+fn allocates(token: Token<'_, '_>) -> bool
+    ensures { result ≡ allocates (seen token.entry) }
+{
+    token.terminal.is_named(b"malloc") || token.terminal.is_named(b"calloc")
+}
+
+fn divides_by(terminal: Terminal<'_, '_>) -> bool
+    ensures { result ≡ divides_by (seen_terminal terminal.entry) }
+{
+    is_divider(terminal) || is_changing(terminal)
+}
+
+/// Where a token stands, as far as a number is wanted there.
+#[derive(Clone, Copy)]
+pub enum Place {
+    Elsewhere,
+    /// In the head of a loop, which ends where its block begins.
+    Heading,
+    /// Where an array is declared or memory is allocated.
+    Sizing,
+    /// In the right operand of a quotient, a remainder or a shift, in so many brackets.
+    Dividing(usize),
+}
+
+fn begun(token: Token<'_, '_>, rest: Ahead<'_, '_, '_>) -> Place
+    ensures { seen_place result ≡ begun (seen token.entry) (ahead rest.entry) }
+{
+    if divides_by(token.terminal) {
+        return Place::Dividing(0);
+    }
+    if (is_type(token.terminal) && begins_array(rest)) || (allocates(token) && opens(rest)) {
+        return Place::Sizing;
+    }
+    Place::Elsewhere
+}
+
+fn divided(
+    brackets: usize,
+    token: Token<'_, '_>,
+    rest: Ahead<'_, '_, '_>,
+) -> Result<Place, AllocError>
+    ensures { IfOk result (λ p. seen_place p ≡ divided brackets (seen token.entry) (ahead rest.entry)) }
+{
+    if token.terminal.is_sign(Sign::OpenParen) {
+        return Ok(Place::Dividing(brackets.checked_add(1).ok_or(AllocError)?));
+    }
+    if token.terminal.is_sign(Sign::CloseParen) {
+        return Ok(if brackets <= 1 {
+            Place::Elsewhere
+        } else {
+            Place::Dividing(brackets - 1)
+        });
+    }
+    Ok(if brackets == 0 {
+        begun(token, rest)
+    } else {
+        Place::Dividing(brackets)
+    })
+}
+
+impl Place {
+    ghost use Rattle.std.specs.Prelude.{◌≡◌, IfOk};
+    ghost use Rattle.c_grammar.specs.Lasting.{moved, next, wants};
+    ghost use Rattle.c_terminals.specs.Ahead.{ahead};
+    ghost use Rattle.c_terminals.specs.Seen.{seen};
+    ghost use Rattle.c_written.specs.Lasting.{seen_place};
+
+    fn wants(self) -> bool
+        ensures { result ≡ wants (seen_place self) }
+    {
+        match self {
+            Place::Elsewhere => false,
+            _ => true,
+        }
+    }
+
+    fn moved(self, token: Token<'_, '_>, rest: Ahead<'_, '_, '_>) -> Result<Place, AllocError>
+        ensures { IfOk result (λ p. seen_place p ≡ moved (seen_place self) (seen token.entry) (ahead rest.entry)) }
+    {
+        let terminal = token.terminal;
+        Ok(match self {
+            Place::Elsewhere => begun(token, rest),
+            Place::Heading if terminal.is_sign(Sign::OpenBrace) => Place::Elsewhere,
+            Place::Heading => Place::Heading,
+            Place::Sizing if terminal.is_sign(Sign::Equal) || terminal.is_sign(Sign::Semicolon) => {
+                Place::Elsewhere
+            }
+            Place::Sizing => Place::Sizing,
+            Place::Dividing(brackets) => divided(brackets, token, rest)?,
+        })
+    }
+
+    // Behind a token.
+    fn next(self, token: Token<'_, '_>, rest: Ahead<'_, '_, '_>) -> Result<Place, AllocError>
+        ensures { IfOk result (λ p. seen_place p ≡ next (seen_place self) (seen token.entry) (ahead rest.entry)) }
+    {
+        if token.terminal.is_word(Word::For) {
+            return Ok(Place::Heading);
+        }
+        self.moved(token, rest)
+    }
+}
+
+// Whether nothing alters the scalar, and it stands where a number is wanted, or need not.
+fn lasts(name: &[u8], need_not: bool, start: Ahead<'_, '_, '_>) -> Result<bool, AllocError>
+    ensures { IfOk result (λ b. b ≡ lasts name.now Elsewhere need_not (ahead start.entry)) }
 {
     let mut ahead = start;
-    let (mut inside, mut found) = (false, false);
+    let (mut place, mut found) = (Place::Elsewhere, need_not);
     'tokens: while let Some(token) = ahead.next() {
         if alters(name, token, ahead) {
-            return false;
+            return Ok(false);
         }
-        found = found || (inside && token.terminal.is_named(name));
-        inside = in_head(inside, token);
+        found = found || (place.wants() && token.terminal.is_named(name));
+        place = place.next(token, ahead)?;
     }
-    found
+    Ok(found)
 }
 
 fn is_operator(sign: Sign) -> bool
@@ -100,6 +221,8 @@ fn is_operator(sign: Sign) -> bool
         | Sign::Star
         | Sign::Slash
         | Sign::Percent
+        | Sign::ShiftLeft
+        | Sign::ShiftRight
         | Sign::OpenParen
         | Sign::CloseParen => true,
         _ => false,
@@ -113,16 +236,6 @@ fn is_part(terminal: Terminal<'_, '_>) -> bool
         Terminal::Number(_) | Terminal::BadNumber | Terminal::Name(_) => true,
         Terminal::Sign(sign) => is_operator(sign),
         _ => false,
-    }
-}
-
-fn opens(rest: Ahead<'_, '_, '_>) -> bool
-    ensures { result ≡ opens (ahead rest.entry) }
-{
-    let mut ahead = rest;
-    match ahead.next() {
-        Some(token) => token.terminal.is_sign(Sign::OpenParen),
-        None => false,
     }
 }
 
@@ -142,27 +255,34 @@ fn has_value(start: Ahead<'_, '_, '_>) -> bool
     false
 }
 
-fn lasts_as(terminal: Terminal<'_, '_>, rest: Ahead<'_, '_, '_>) -> bool
-    ensures { result ≡ lasts_as (seen_terminal terminal.entry) (ahead rest.entry) }
+fn lasts_as(
+    need_not: bool,
+    terminal: Terminal<'_, '_>,
+    rest: Ahead<'_, '_, '_>,
+) -> Result<bool, AllocError>
+    ensures { IfOk result (λ b. b ≡ lasts_as need_not (seen_terminal terminal.entry) (ahead rest.entry)) }
 {
     match terminal {
-        Terminal::Name(name) => lasts(name, rest),
-        _ => false,
+        Terminal::Name(name) => lasts(name, need_not, rest),
+        _ => Ok(false),
     }
 }
 
-// Whether a scalar whose type stands before is a constant.
-fn is_lasting(start: Ahead<'_, '_, '_>) -> bool
-    ensures { result ≡ is_lasting (ahead start.entry) }
+// Whether a scalar of this type is a constant.
+fn is_lasting(token: Token<'_, '_>, start: Ahead<'_, '_, '_>) -> Result<bool, AllocError>
+    ensures { IfOk result (λ b. b ≡ is_lasting (seen token.entry) (ahead start.entry)) }
 {
     let mut ahead = start;
     let Some(name) = ahead.next() else {
-        return false;
+        return Ok(false);
     };
     let Some(_) = ahead.next() else {
-        return false;
+        return Ok(false);
     };
-    has_value(ahead) && lasts_as(name.terminal, ahead)
+    if !has_value(ahead) {
+        return Ok(false);
+    }
+    lasts_as(token.terminal.is_word(Word::Int), name.terminal, ahead)
 }
 
 /// Where a token stands.
@@ -220,7 +340,7 @@ fn put_const<'a, 'l>(
     ensures { OnOk result (seen_all done.new.items ≡
         seen_all done.old.items ++ const_for (seen_state state) (seen token.entry) (ahead rest.entry)) }
 {
-    if state.is_looked(token, rest) && is_lasting(rest) {
+    if state.is_looked(token, rest) && is_lasting(token, rest)? {
         done.push(token.at(Terminal::Name(b"const")))?;
     }
     Ok(())

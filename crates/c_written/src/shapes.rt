@@ -220,7 +220,7 @@ pub fn at_enumerated_value(past: &Stack<Terminal<'_, '_>>, behind: usize) -> boo
 }
 
 /// Whether it is an operator with a number on its right.
-fn is_divider(terminal: Terminal<'_, '_>) -> bool
+pub fn is_divider(terminal: Terminal<'_, '_>) -> bool
     ensures { (ts : List SpecTerminal) → result ≡ behind_divider (seen_terminal terminal.entry ∷ ts) }
 {
     match terminal {
@@ -230,7 +230,7 @@ fn is_divider(terminal: Terminal<'_, '_>) -> bool
 }
 
 /// Whether it is such an operator with `=` behind it.
-fn is_changing(terminal: Terminal<'_, '_>) -> bool
+pub fn is_changing(terminal: Terminal<'_, '_>) -> bool
     ensures { (ts : List SpecTerminal) → result ≡ behind_changing (seen_terminal terminal.entry ∷ ts) }
 {
     match terminal {

@@ -19,6 +19,7 @@ ghost use Rattle.c_grammar.specs.Initial.{initialized, no_globals};
 ghost use Rattle.c_grammar.specs.Locals.{in_scalars};
 ghost use Rattle.c_grammar.specs.Loops.{looped};
 ghost use Rattle.c_grammar.specs.Macros.{replaced};
+ghost use Rattle.c_grammar.specs.MainArrays.{lifted};
 ghost use Rattle.c_grammar.specs.Nesting.{nested};
 ghost use Rattle.c_grammar.specs.Pointers.{pointed};
 ghost use Rattle.c_grammar.specs.Prints.{printed};
@@ -55,6 +56,7 @@ use crate::sequences::in_parts;
 use crate::types::typed;
 use crate::unset::zeroed;
 use crate::updates::commuting;
+use c_arrays::lifted;
 use c_choices::chosen;
 use c_descents::upward;
 use c_devices::on_devices;
@@ -148,20 +150,21 @@ fn with_constants<'a>(alloc: Global, raw: &[Written<'a>]) -> Result<Vec<Written<
     worked(alloc, &tokens)
 }
 
-/// The tokens without clauses `if`, loops that end by a condition, loops whose bounds name others, local arrays, conditional
-/// operators, definitions, arrays of several dimensions, allocations and initializers, with the boxed scalars, the updates
-/// that commute, and with their changes in full.
+/// The tokens without clauses `if`, loops that end by a condition, loops whose bounds name others, arrays that `main`
+/// declares, local arrays, conditional operators, definitions, arrays of several dimensions, allocations and initializers,
+/// with the boxed scalars, the updates that commute, and with their changes in full.
 fn with_changes<'a>(alloc: Global, called: &[Written<'a>]) -> Result<Vec<Written<'a>>, AllocError>
     ensures { IfOk result (λ v. written_all v.items ≡
         announced (in_full begin 0 (initialized no_globals 0
         (allocated (commuting Outside (boxed (flat false [] [] [] 0 (flat true [] [] [] 0 (undefined [] 0 0
-        (chosen (in_scalars (rectangular (looped (decided (written_all called.now))))))))))))))) }
+        (chosen (in_scalars (lifted (rectangular (looped (decided (written_all called.now)))))))))))))))) }
 {
     let tokens = borrowed(alloc, called)?;
     let tokens = decided(alloc, &tokens)?;
     let tokens = borrowed(alloc, &tokens)?;
     let tokens = looped(alloc, &tokens)?;
     let tokens = rectangular(alloc, &tokens)?;
+    let tokens = lifted(alloc, &tokens)?;
     let tokens = in_scalars(alloc, &tokens)?;
     let tokens = borrowed(alloc, &tokens)?;
     let tokens = chosen(alloc, &tokens)?;

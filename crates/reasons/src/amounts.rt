@@ -9,9 +9,11 @@ const RESULT: Telling = Telling {
     help: "write the constant expression so that each of its operators gives such a number",
 };
 
-const DIVISOR_HELP: &str = "write a constant; to divide by a scalar, count in a loop";
+const DIVISOR_HELP: &str =
+    "write a constant, or a scalar with a value that nothing changes, `int n = 8;`; to divide by another scalar, count in a loop";
 
-const SHIFT_HELP: &str = "write a constant; to shift by a scalar, count in a loop";
+const SHIFT_HELP: &str =
+    "write a constant, or a scalar with a value that nothing changes, `int n = 8;`; to shift by another scalar, count in a loop";
 
 // Where a constant expression has to stand, nothing stands behind its first token.
 fn is_alone(around: &Around<'_>) -> bool {

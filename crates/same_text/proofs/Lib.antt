@@ -23,6 +23,7 @@ mod UnlinedLoops
 mod UnlinedTriangles
 mod UnlinedDescents
 mod UnlinedDevices
+mod UnlinedMainArrays
 mod UnlinedLocals
 mod UnlinedGrids
 mod UnlinedDeclarations

@@ -17,7 +17,7 @@ use Rattle.same_text.proofs.Unlined.{all_unlined, bare_unlined}
 
 -- ---- sizes
 
-abbrev rest_unlined : Option Items → Option Items
+abbrev pub rest_unlined : Option Items → Option Items
 rest_unlined None = None
 rest_unlined (Some is) = Some (all_unlined is)
 
@@ -181,7 +181,7 @@ allocation_same t (s ∷ x ∷ e ∷ is) =
 
 -- ---- free
 
-named_same : (x : List ℕ) (is : Items) → is_named x (all_unlined is) ≡ is_named x is
+pub named_same : (x : List ℕ) (is : Items) → is_named x (all_unlined is) ≡ is_named x is
 named_same x [] = refl
 named_same x (i ∷ is) = ap (λ (b : Bool). same (Name x) i.terminal || b) (named_same x is)
 
@@ -211,36 +211,36 @@ is_freed_same names f is = ap (is_one names) (freed_same f is)
 
 -- ---- all tokens
 
-both_unlined : (is js : Items) → all_unlined is ++ all_unlined js ≡ all_unlined (is ++ js)
+pub both_unlined : (is js : Items) → all_unlined is ++ all_unlined js ≡ all_unlined (is ++ js)
 both_unlined [] js = refl
 both_unlined (i ∷ is) js = ap (λ (v : Items). unlined i ∷ v) (both_unlined is js)
 
-abbrev reading_unlined : Reading → Reading
+abbrev pub reading_unlined : Reading → Reading
 reading_unlined r = record r { before = all_unlined r.before; arrays = all_unlined r.arrays; done = all_unlined r.done }
 
 -- the first is the second without its lines
-abbrev IsUnlined : Reading → Reading → Type 0
+abbrev pub IsUnlined : Reading → Reading → Type 0
 IsUnlined q r = q ≡ reading_unlined r
 
-pick : (b c : Bool) (x y x' y' : Reading) → c ≡ b → IsUnlined x' x → IsUnlined y' y → IsUnlined (cond c x' y') (cond b x y)
+pub pick : (b c : Bool) (x y x' y' : Reading) → c ≡ b → IsUnlined x' x → IsUnlined y' y → IsUnlined (cond c x' y') (cond b x y)
 pick b c x y x' y' e h k = ap (λ (t : Bool). cond t x' y') e ∙ go b
   where
     go : (t : Bool) → IsUnlined (cond t x' y') (cond t x y)
     go true = h
     go false = k
 
-kept_same : (i : Item Terminal) (r : Reading) → IsUnlined (kept (unlined i) (reading_unlined r)) (kept i r)
+pub kept_same : (i : Item Terminal) (r : Reading) → IsUnlined (kept (unlined i) (reading_unlined r)) (kept i r)
 kept_same i r = ap (λ (d : Items). record (reading_unlined (kept i r)) { done = d }) (both_unlined r.done (i ∷ []))
 
-opened_same : (i : Item Terminal) (r : Reading) → IsUnlined (opened (unlined i) (reading_unlined r)) (opened i r)
+pub opened_same : (i : Item Terminal) (r : Reading) → IsUnlined (opened (unlined i) (reading_unlined r)) (opened i r)
 opened_same i r =
     ap (λ (d : Items). record (reading_unlined (opened i r)) { done = d }) (both_unlined r.done (at i (Mark sign.OpenBrace) ∷ []))
 
-closed_same : (i : Item Terminal) (r : Reading) → IsUnlined (closed (unlined i) (reading_unlined r)) (closed i r)
+pub closed_same : (i : Item Terminal) (r : Reading) → IsUnlined (closed (unlined i) (reading_unlined r)) (closed i r)
 closed_same i r =
     ap (λ (d : Items). record (reading_unlined (closed i r)) { done = d }) (both_unlined r.done (at i (Mark sign.CloseBrace) ∷ []))
 
-entered_same : (i : Item Terminal) (r : Reading) → IsUnlined (entered (unlined i) (reading_unlined r)) (entered i r)
+pub entered_same : (i : Item Terminal) (r : Reading) → IsUnlined (entered (unlined i) (reading_unlined r)) (entered i r)
 entered_same i r =
     ap (λ (d : Items). record (reading_unlined (entered i r)) { before = d }) (both_unlined r.before r.done)
 
@@ -291,7 +291,7 @@ read_same [] r = refl
 read_same (i ∷ is) r =
     ap (λ (q : Reading). all_read q (all_unlined is)) (next_same i is r) ∙ read_same is (next i is r)
 
-joined_unlined : (r : Reading) → joined (reading_unlined r) ≡ all_unlined (joined r)
+pub joined_unlined : (r : Reading) → joined (reading_unlined r) ≡ all_unlined (joined r)
 joined_unlined r =
     ap (λ (js : Items). all_unlined r.before ++ js) (both_unlined r.arrays r.done)
     ∙ both_unlined r.before (r.arrays ++ r.done)

@@ -1,8 +1,8 @@
 -- Which scalars are constants is found without a look at the lines of the tokens.
-use Rattle.std.proofs.Common.{◌≡◌, ◌∙◌, ℕ, ◌-◌, Bool, true, false, cond, List, [], ◌∷◌, ◌++◌, refl, ap}
+use Rattle.std.proofs.Common.{◌≡◌, ◌∙◌, ℕ, ◌+◌, ◌-◌, Bool, true, false, cond, List, [], ◌∷◌, ◌++◌, refl, ap}
 use Rattle.std.specs.Prelude.{◌&&◌, ◌||◌, ◌==◌, not}
 use Rattle.c_tokens.specs.declared.kind.Sign.TheVariants as sign
-use Rattle.c_grammar.specs.Lexeme.{Main}
+use Rattle.c_grammar.specs.Lexeme.{For, Int, Main}
 use Rattle.c_grammar.specs.Terminal.{Terminal, Fixed, Mark, Name, Num, Line, Unknown, Unworked, End, same}
 use Rattle.c_grammar.specs.Texts.{Item}
 use Rattle.c_grammar.specs.Blocks.{Items, at, bare, is_directive}
@@ -11,7 +11,7 @@ use Rattle.c_grammar.specs.Changes.{is_boundary, is_mark}
 use Rattle.c_grammar.specs.Counters.{is_type}
 use Rattle.c_grammar.specs.Declarations.{is_given, is_name}
 use Rattle.c_grammar.specs.Loops.{is_word, steps}
-use Rattle.c_grammar.specs.Lasting.{State, alters, begin, begins_change, begins_word, behind, const_at, const_for, declares, has_value, in_head, is_lasting, is_looked, is_part, lasting, lasting_in, lasts, lasts_as, may_declare, opens}
+use Rattle.c_grammar.specs.Lasting.{Place, Elsewhere, Heading, Sizing, Dividing, State, allocates, alters, begin, begins_array, begins_change, begins_word, begun, behind, closed, const_at, const_for, declares, divides_by, has_value, is_lasting, is_looked, is_part, lasting, lasting_in, lasts, lasts_as, may_declare, moved, next, opens, wants}
 use Rattle.same_text.specs.Laws.{unlined}
 use Rattle.same_text.proofs.Unlined.{AreUnlined, all_unlined, bare_unlined, either, one, some}
 
@@ -33,16 +33,41 @@ alters_same : (x : List ℕ) (i : Item Terminal) (is : Items) → alters x (unli
 alters_same x i is =
     λ k. (is_word x i && change_same is k) || (steps i && word_same x is k) || (is_type i.terminal && declares_same x is k)
 
-lasts_same : (is : Items) (x : List ℕ) (h found : Bool) → lasts x h found (all_unlined is) ≡ lasts x h found is
-lasts_same [] x h found = refl
-lasts_same (i ∷ is) x h found =
-    λ k. not (alters_same x i is k) && lasts_same is x (in_head h i) (found || (h && is_word x i)) k
-
--- ---- its value
+-- ---- where a number is wanted
 
 opens_same : (is : Items) → opens (all_unlined is) ≡ opens is
 opens_same [] = refl
 opens_same (i ∷ is) = refl
+
+array_same : (is : Items) → begins_array (all_unlined is) ≡ begins_array is
+array_same [] = refl
+array_same (x ∷ []) = refl
+array_same (x ∷ b ∷ is) = refl
+
+begun_same : (i : Item Terminal) (is : Items) → begun (unlined i) (all_unlined is) ≡ begun i is
+begun_same i is = λ k.
+    cond (divides_by i.terminal) (Dividing 0)
+    (cond ((is_type i.terminal && array_same is k) || (allocates i && opens_same is k)) Sizing Elsewhere)
+
+moved_same : (p : Place) (i : Item Terminal) (is : Items) → moved p (unlined i) (all_unlined is) ≡ moved p i is
+moved_same Elsewhere i is = begun_same i is
+moved_same Heading i is = refl
+moved_same Sizing i is = refl
+moved_same (Dividing d) i is = λ k.
+    cond (is_mark sign.OpenParen i) (Dividing (d + 1))
+    (cond (is_mark sign.CloseParen i) (closed d) (cond (d == 0) (begun_same i is k) (Dividing d)))
+
+next_same : (p : Place) (i : Item Terminal) (is : Items) → next p (unlined i) (all_unlined is) ≡ next p i is
+next_same p i is = λ k. cond (same (Fixed For) i.terminal) Heading (moved_same p i is k)
+
+lasts_same : (is : Items) (x : List ℕ) (p : Place) (found : Bool) → lasts x p found (all_unlined is) ≡ lasts x p found is
+lasts_same [] x p found = refl
+lasts_same (i ∷ is) x p found =
+    ap (λ (q : Place). not (alters x (unlined i) (all_unlined is)) && lasts x q (found || (wants p && is_word x i)) (all_unlined is))
+    (next_same p i is)
+    ∙ (λ k. not (alters_same x i is k) && lasts_same is x (next p i is) (found || (wants p && is_word x i)) k)
+
+-- ---- its value
 
 value_same : (is : Items) → has_value (all_unlined is) ≡ has_value is
 value_same [] = refl
@@ -51,20 +76,20 @@ value_same (i ∷ is) =
 
 -- ---- its declaration
 
-as_same : (t : Terminal) (is : Items) → lasts_as t (all_unlined is) ≡ lasts_as t is
-as_same (Fixed w) is = refl
-as_same (Mark s) is = refl
-as_same (Name x) is = lasts_same is x false false
-as_same (Num n) is = refl
-as_same (Line ts) is = refl
-as_same Unknown is = refl
-as_same Unworked is = refl
-as_same End is = refl
+as_same : (found : Bool) (t : Terminal) (is : Items) → lasts_as found t (all_unlined is) ≡ lasts_as found t is
+as_same found (Fixed w) is = refl
+as_same found (Mark s) is = refl
+as_same found (Name x) is = lasts_same is x Elsewhere found
+as_same found (Num n) is = refl
+as_same found (Line ts) is = refl
+as_same found Unknown is = refl
+as_same found Unworked is = refl
+as_same found End is = refl
 
-lasting_same : (is : Items) → is_lasting (all_unlined is) ≡ is_lasting is
-lasting_same [] = refl
-lasting_same (x ∷ []) = refl
-lasting_same (x ∷ e ∷ is) = λ k. value_same is k && as_same x.terminal is k
+lasting_same : (i : Item Terminal) (is : Items) → is_lasting (unlined i) (all_unlined is) ≡ is_lasting i is
+lasting_same i [] = refl
+lasting_same i (x ∷ []) = refl
+lasting_same i (x ∷ e ∷ is) = λ k. value_same is k && as_same (same (Fixed Int) i.terminal) x.terminal is k
 
 given_same : (is : Items) → is_given (all_unlined is) ≡ is_given is
 given_same [] = refl
@@ -85,8 +110,8 @@ behind_same s i is = λ k. record {
 const_unlined : (s : State) (i : Item Terminal) (is : Items) →
     AreUnlined (const_for s (unlined i) (all_unlined is)) (const_for s i is)
 const_unlined s i is =
-    either (is_looked s i is && is_lasting is) (is_looked s (unlined i) (all_unlined is) && is_lasting (all_unlined is)) (const_at i) [] _ _
-    (λ k. looked_same s i is k && lasting_same is k) refl refl
+    either (is_looked s i is && is_lasting i is) (is_looked s (unlined i) (all_unlined is) && is_lasting (unlined i) (all_unlined is))
+    (const_at i) [] _ _ (λ k. looked_same s i is k && lasting_same i is k) refl refl
 
 lasting_in_unlined : (is : Items) (s : State) → AreUnlined (lasting_in s (all_unlined is)) (lasting_in s is)
 lasting_in_unlined [] s = refl

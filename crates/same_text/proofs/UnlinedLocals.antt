@@ -8,10 +8,10 @@ use Rattle.c_grammar.specs.Terminal.{Terminal, Fixed, Mark, Name, Num, Line, Unk
 use Rattle.c_grammar.specs.Texts.{Item}
 use Rattle.c_grammar.specs.Blocks.{Items, at, bare, is_directive}
 use Rattle.c_grammar.specs.Choices.{brackets_behind}
-use Rattle.c_grammar.specs.Constants.{is_mark}
+use Rattle.c_grammar.specs.Constants.{Names, depth_behind as braces_behind, is_mark, with_global}
 use Rattle.c_grammar.specs.Loops.{is_word}
 use Rattle.c_grammar.specs.Triangles.{Loop, len, loop_in}
-use Rattle.c_grammar.specs.Locals.{Cells, Declared, Has, Index, Join, Last, Onward, Open, Pass, Put, Replace, State, Unroll, Wants, array_of, begin, body_len, body_put, cell_name, declared, declared_as, declared_in, declared_put, depth_behind, first_join, has_array, in_scalars, in_settings, index_from, index_in, indexed_put, is_ended, is_indexed, is_inside, is_unrolled, line_at, line_twice, list_len, listed_put, loop_put, max_ahead, max_cells, max_index, max_put, max_turns, named_put, next_at, next_setting, numbers_of, on_next, opens_list, or_plain, put, put_at, put_len, scalars, scalars_put, scan, scan_on, setting, settings, turns, turns_put, unrolled, unrolled_at, used_put, with_array, with_number}
+use Rattle.c_grammar.specs.Locals.{Cells, Declared, Has, Index, Join, Last, Onward, Open, Pass, Put, Replace, State, Unroll, Wants, array_of, begin, body_len, body_put, cell_name, declared, declared_as, declared_in, declared_put, depth_behind, first_join, has_array, declares_array, hides, hides_in, in_scalars, in_settings, index_from, index_in, indexed_put, is_ended, is_indexed, is_inside, is_taken, is_unrolled, line_at, line_twice, list_len, listed_put, loop_put, max_ahead, max_cells, max_index, max_put, max_turns, named_put, next_at, next_setting, numbers_of, on_next, opens_list, or_plain, put, put_at, put_len, scalars, scalars_put, scan, scan_on, setting, settings, turns, turns_put, unrolled, unrolled_at, used_put, with_array, with_number, with_outer}
 use Rattle.same_text.specs.Laws.{unlined}
 use Rattle.same_text.proofs.Unlined.{AreUnlined, all_unlined, bare_unlined, either, one, some}
 use Rattle.same_text.proofs.UnlinedCalls.{drop_unlined, length_unlined, take_unlined}
@@ -357,6 +357,44 @@ unrolled_unlined is =
     ap (λ (js : Items). on (on js)) (scan_unlined is Unroll begin 0) ∙ ap on (scan_unlined (on is) Unroll begin 0)
     ∙ scan_unlined (on (on is)) Unroll begin 0
 
+-- ---- names of globals
+
+array_same : (d : ℕ) (i : Item Terminal) (is : Items) → declares_array d (unlined i) (all_unlined is) ≡ declares_array d i is
+array_same d i [] = refl
+array_same d i (x ∷ []) = refl
+array_same d i (x ∷ b ∷ is) = refl
+
+taken_same : (names : Names) (is : Items) → is_taken names (all_unlined is) ≡ is_taken names is
+taken_same names [] = refl
+taken_same names (x ∷ is) = refl
+
+global_same : (t : Terminal) (is : Items) (names : Names) → with_global t (all_unlined is) names ≡ with_global t is names
+global_same t [] names = refl
+global_same t (x ∷ is) names = refl
+
+hides_same : (is : Items) (left : ℕ) (names : Names) (d : ℕ) → hides_in left names d (all_unlined is) ≡ hides_in left names d is
+hides_same [] left names d = refl
+hides_same (i ∷ is) left names d =
+    λ k. cond (array_same d i is k)
+    (cond (left == 0) false (taken_same names is k || hides_same is (left - 1) names (braces_behind i.terminal d) k))
+    (rest (hides_same is left (with_outer d i is names) (braces_behind i.terminal d)) k)
+  where
+    outer : with_outer d (unlined i) (all_unlined is) names ≡ with_outer d i is names
+    outer = λ k. cond (d == 0) (global_same i.terminal is names k) names
+
+    rest : hides_in left (with_outer d i is names) (braces_behind i.terminal d) (all_unlined is)
+        ≡ hides_in left (with_outer d i is names) (braces_behind i.terminal d) is →
+        hides_in left (with_outer d (unlined i) (all_unlined is) names) (braces_behind i.terminal d) (all_unlined is)
+        ≡ hides_in left (with_outer d i is names) (braces_behind i.terminal d) is
+    rest ih = ap (λ (ns : Names). hides_in left ns (braces_behind i.terminal d) (all_unlined is)) outer ∙ ih
+
 pub scalars_unlined_all : (is : Items) → AreUnlined (in_scalars (all_unlined is)) (in_scalars is)
-scalars_unlined_all is =
-    ap (scan Replace begin 0) (unrolled_unlined is) ∙ scan_unlined (unrolled is) Replace begin 0
+scalars_unlined_all is = step (hides (bare (all_unlined is))) (hides (bare is))
+    (ap hides (bare_unlined is) ∙ hides_same (bare is) max_cells [] 0)
+  where
+    step : (a b : Bool) → a ≡ b → AreUnlined (cond a (all_unlined is) (scan Replace begin 0 (unrolled (all_unlined is))))
+        (cond b is (scan Replace begin 0 (unrolled is)))
+    step true true h = refl
+    step false false h = ap (scan Replace begin 0) (unrolled_unlined is) ∙ scan_unlined (unrolled is) Replace begin 0
+    step true false h = absurd cc
+    step false true h = absurd cc

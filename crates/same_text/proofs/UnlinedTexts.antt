@@ -17,6 +17,7 @@ use Rattle.c_grammar.specs.Grids.{flat}
 use Rattle.c_grammar.specs.Counters.{counted}
 use Rattle.c_grammar.specs.Descents.{upward}
 use Rattle.c_grammar.specs.Devices.{on_devices}
+use Rattle.c_grammar.specs.MainArrays.{lifted}
 use Rattle.c_grammar.specs.Locals.{in_scalars}
 use Rattle.c_grammar.specs.Privates.{owned}
 use Rattle.c_grammar.specs.Lasting.{lasting}
@@ -50,6 +51,7 @@ use Rattle.same_text.proofs.UnlinedLasting.{lasting_unlined}
 use Rattle.same_text.proofs.UnlinedCounters.{counted_unlined, zeroed_unlined}
 use Rattle.same_text.proofs.UnlinedDescents.{upward_unlined}
 use Rattle.same_text.proofs.UnlinedDevices.{devices_unlined}
+use Rattle.same_text.proofs.UnlinedMainArrays.{lifted_unlined}
 use Rattle.same_text.proofs.UnlinedLocals.{scalars_unlined_all}
 use Rattle.same_text.proofs.UnlinedPrivates.{owned_unlined}
 use Rattle.same_text.proofs.UnlinedDeclarations.{settled_unlined}
@@ -93,7 +95,8 @@ written_unlined is =
     let y : Items = decided e in
     let x : Items = looped y in
     let h : Items = rectangular x in
-    let k : Items = in_scalars h in
+    let j : Items = lifted h in
+    let k : Items = in_scalars j in
     let f : Items = chosen k in
     let r : Items = flat true [] [] [] 0 (undefined [] 0 0 f) in
     let g : Items = flat false [] [] [] 0 r in
@@ -103,7 +106,7 @@ written_unlined is =
     let since_rows : Items → Items = λ js. since_updates (flat false [] [] [] 0 js) in
     let since_grids : Items → Items = λ js. since_rows (flat true [] [] [] 0 js) in
     let since_defined : Items → Items = λ js. since_grids (undefined [] 0 0 js) in
-    let since_loops : Items → Items = λ js. since_defined (chosen (in_scalars (rectangular js))) in
+    let since_loops : Items → Items = λ js. since_defined (chosen (in_scalars (lifted (rectangular js)))) in
     let since_declared : Items → Items = λ js.
     since_loops (looped (decided (expanded (pointed (worked [] [] 0 js))))) in
     let since_zeroed : Items → Items = λ js. since_declared (settled Other js) in
@@ -131,8 +134,9 @@ written_unlined is =
     ∙ ap (λ (js : Items). since_loops (looped (decided js))) (expanded_unlined q)
     ∙ ap (λ (js : Items). since_loops (looped js)) (decided_unlined e)
     ∙ ap since_loops (looped_unlined y)
-    ∙ ap (λ (js : Items). since_defined (chosen (in_scalars js))) (rectangular_unlined x)
-    ∙ ap (λ (js : Items). since_defined (chosen js)) (scalars_unlined_all h)
+    ∙ ap (λ (js : Items). since_defined (chosen (in_scalars (lifted js)))) (rectangular_unlined x)
+    ∙ ap (λ (js : Items). since_defined (chosen (in_scalars js))) (lifted_unlined h)
+    ∙ ap (λ (js : Items). since_defined (chosen js)) (scalars_unlined_all j)
     ∙ ap since_defined (chosen_unlined k)
     ∙ ap since_grids (undefined_unlined f [] 0 0)
     ∙ ap since_rows (flat_unlined (undefined [] 0 0 f) true [] [] [] 0)

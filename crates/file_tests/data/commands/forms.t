@@ -87,13 +87,13 @@ $ ompc explain forms/shift_to.c
 forms/shift_to.c:3:7: error: `x` is no shift count: behind `<<=` and `>>=` all of the right side is a constant expression, from 0 to 63 [E108]
     3 | x <<= x;
       |       ^
-forms/shift_to.c:3:7: help: write a constant; to shift by a scalar, count in a loop
+forms/shift_to.c:3:7: help: write a constant, or a scalar with a value that nothing changes, `int n = 8;`; to shift by another scalar, count in a loop
 [1]
 $ ompc explain forms/divide_to.c
 forms/divide_to.c:3:6: error: `2` begins no divisor: behind `/=` and `%=` all of the right side is a constant expression, from 1 on [E108]
     3 | x /= 2 + x;
       |      ^
-forms/divide_to.c:3:6: help: write a constant; to divide by a scalar, count in a loop
+forms/divide_to.c:3:6: help: write a constant, or a scalar with a value that nothing changes, `int n = 8;`; to divide by another scalar, count in a loop
 [1]
 $ ompc explain forms/negative.c
 forms/negative.c:3:5: error: `-` cannot stand here [E102]
@@ -123,19 +123,19 @@ $ ompc explain forms/divisor.c
 forms/divisor.c:3:9: error: `x` is no divisor: that is a constant, or an expression of constants in brackets, from 1 on [E108]
     3 | x = 7 / x;
       |         ^
-forms/divisor.c:3:9: help: write a constant; to divide by a scalar, count in a loop
+forms/divisor.c:3:9: help: write a constant, or a scalar with a value that nothing changes, `int n = 8;`; to divide by another scalar, count in a loop
 [1]
 $ ompc explain forms/divisor_in_brackets.c
 forms/divisor_in_brackets.c:3:9: error: `(` begins no divisor: that is a constant, or an expression of constants in brackets, from 1 on [E108]
     3 | x = 7 % (x + 1);
       |         ^
-forms/divisor_in_brackets.c:3:9: help: write a constant; to divide by a scalar, count in a loop
+forms/divisor_in_brackets.c:3:9: help: write a constant, or a scalar with a value that nothing changes, `int n = 8;`; to divide by another scalar, count in a loop
 [1]
 $ ompc explain forms/shift_count.c
 forms/shift_count.c:3:10: error: `x` is no shift count: that is a constant, or an expression of constants in brackets, from 0 to 63 [E108]
     3 | x = 1 << x;
       |          ^
-forms/shift_count.c:3:10: help: write a constant; to shift by a scalar, count in a loop
+forms/shift_count.c:3:10: help: write a constant, or a scalar with a value that nothing changes, `int n = 8;`; to shift by another scalar, count in a loop
 [1]
 
 # declarations

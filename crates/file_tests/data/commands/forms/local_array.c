@@ -1,3 +1,3 @@
-int main(void) {
+int main(void) { {
 uint64_t A[4][4];
-}
+} }
