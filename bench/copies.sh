@@ -53,6 +53,35 @@ copies() {
     printf 'for (uint64_t k = 0; k < %d; k += 1) {\n#pragma omp target update to(A)\n}\n}\n' "$1"
 }
 
+# the same, before each of which the host stores a cell of each 512
+stored() {
+    printf 'uint64_t A[65536];\nint main(void) {\n#pragma omp target data map(to: A)\n'
+    printf 'for (uint64_t k = 0; k < %d; k += 1) {\nfor (uint64_t i = 0; i < 65536; i += 512) { A[i] = k; }\n' "$1"
+    printf '#pragma omp target update to(A)\n}\n}\n'
+}
+
+# as many bytes by memcpy, with these stores before each copy
+by_memcpy() {
+    cat > "$folder/by_memcpy.c" << 'END'
+#include <stdint.h>
+#include <stdlib.h>
+#include <string.h>
+static volatile uint64_t A[65536], B[65536];
+int main(int argc, char **argv) {
+    uint64_t n = strtoull(argv[1], NULL, 10);
+    for (uint64_t k = 0; k < n; k += 1) {
+        for (uint64_t i = 0; i < 65536; i += 512) A[i] = k;
+        memcpy((void *)B, (const void *)A, sizeof A);
+    }
+}
+END
+    if ! command -v cc > /dev/null; then return; fi
+    cc -O2 -o "$folder/by_memcpy" "$folder/by_memcpy.c"
+    local wall
+    read -r wall _ <<< "$(take "$folder/by_memcpy" "$1")"
+    printf '%-14s memcpy %s s\n' '' "$wall"
+}
+
 # seconds and KiB that a command takes
 take() {
     /usr/bin/time -f '%e %M' -o "$folder/time" "$@" < /dev/null > /dev/null 2>&1 || true
@@ -82,3 +111,5 @@ measure turns 67
 measure few 1000
 measure reads 200
 measure copies 4000
+measure stored 4000
+by_memcpy 4000
