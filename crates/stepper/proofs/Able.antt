@@ -28,7 +28,7 @@ use Rattle.outline.specs.Regions.{Entry}
 use Rattle.outline.specs.Shown.{all_shown, as_shown}
 use Rattle.present.specs.Table.{AreSections}
 use Rattle.stepper.specs.Opening.{region_in}
-use Rattle.stepper.proofs.Sections.{is_item, sections}
+use Rattle.stepper.proofs.Sections.{is_item, same_place, sections}
 
 -- an event of the machine with whole items is allowed by the graph
 pub allowed : (p : Plan) (now : Standing) (s : State) (e : Event) → IsAt p now s → now.ended ≡ false →
@@ -131,6 +131,9 @@ module _ (p : Plan) (entries : List Entry) (its : List Item) (shown : all_shown 
   module _ (it : Item) (is : it ≡ get_or its i it) where
     at_it : slice_get its i ≡ Some it
     at_it = slice_get-get_or its i it in_items ∙ ap (λ (x : Item). Some x) (sym is)
+
+    pub stands : (w : Work) → slice_get p.items i ≡ Some w → w.place ≡ it.place
+    stands w is_w = same_place p entries its shown i it w at_it is_w
 
     pub found : HasNoRangeFault p → IsItem p i it (region_in entries it)
     found fine = let k = known p i f may in is_item p entries its shown fine i it k.work at_it k.is

@@ -30,5 +30,6 @@ mod Within
 mod NewRuns
 mod GoesOn
 mod Plays
+mod Asked
 mod Fines
 mod MayDo

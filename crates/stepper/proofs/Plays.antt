@@ -9,11 +9,13 @@ use Rattle.base.specs.Items.{plan}
 use Rattle.fine_headline.proofs.Headline.{headline}
 use Rattle.fine_machine.specs.Machine.{HasEnded, State, enabled, step}
 use Rattle.mapwalk.specs.Walk.{HasNoRangeFault}
-use Rattle.stepper.specs.Answering.{HasRun, IsFineFault, next_by}
+use Rattle.stepper.specs.declared.stops.Stop.{Stop}
+use Rattle.stepper.specs.Answering.{HasRun, IsFailed, IsFineFault, next_by}
 use Rattle.stepper.specs.Leading.{at_first}
 use Rattle.stepper.specs.Order.{same_order}
 use Rattle.stepper.specs.Run.{IsGoing, Run, fill_in, order_in, state_of}
 use Rattle.stepper.specs.Running.{HasCome, HasDone, IsEventFault, IsNew}
+use Rattle.stepper.specs.Stops.{IsComing, IsStop}
 use Rattle.stepper.proofs.Follows.{is_run, may_happen, run_more}
 use Rattle.stepper.proofs.HasRuns.{has_ended, has_gone_on, not_begun}
 
@@ -82,6 +84,22 @@ module _ (p : Program) (input choices turns : List ℕ) (capacity : ℕ) (r : Ru
         (run_more (plan r.program) (fill_in r) (order_in r) r.input choices r.history s e plays.ran.ran (sym next)
         ∙ ap (λ o. record { history = r.history ++ e ∷ []; state = o }) fails))
 
+    -- where the event fails
+    abbrev failure : HasCome r → HasNoRangeFault (plan r.program) → IsEventFault r e fault.Absent →
+        IsFailed r.program r.input choices r.order r.capacity
+    failure come fine why = record {
+      fine = fine;
+      fill = fill_in r;
+      history = r.history;
+      now = s;
+      ran = plays.ran;
+      event = e;
+      next = sym next;
+      room = why.0;
+      fails = why.1;
+      refused = never_fails come why.1;
+    }
+
     -- a fault of the run itself
     faulty : HasCome r → HasNoRangeFault (plan r.program) → (f : RunFault) → IsEventFault r e f →
         IsFineFault r.program r.input choices r.order r.capacity f
@@ -96,18 +114,7 @@ module _ (p : Program) (input choices turns : List ℕ) (capacity : ℕ) (r : Ru
       next = sym next ∙ ap (λ (x : Event). Some x) why.is;
       over = why.over;
     }
-    faulty come fine fault.Absent why = record {
-      fine = fine;
-      fill = fill_in r;
-      history = r.history;
-      now = s;
-      ran = plays.ran;
-      event = e;
-      next = sym next;
-      room = why.0;
-      fails = why.1;
-      refused = never_fails come why.1;
-    }
+    faulty come fine fault.Absent why = failure come fine why
     faulty come fine fault.Stranger why = why
     faulty come fine fault.ThreadNotStarted why = why
     faulty come fine fault.OtherState why = why
@@ -121,3 +128,16 @@ module _ (p : Program) (input choices turns : List ℕ) (capacity : ℕ) (r : Ru
         (subst (λ ns. IsFineFault r.program r.input choices ns capacity f) plays.order
         (subst (λ n. IsFineFault r.program r.input choices r.order n f) plays.room
         (faulty come (subst (λ q. HasNoRangeFault (plan q)) (sym plays.program) fine) f why))))
+
+    -- the action that was to come is that at which the run fails
+    pub stops_at : HasCome r → HasNoRangeFault (plan p) → IsEventFault r e fault.Absent → (stop : Stop) →
+        IsComing (plan r.program) s e stop → IsStop p input choices turns capacity stop
+    stops_at come fine why stop coming =
+        subst (λ q. IsStop q input choices turns capacity stop) plays.program
+        (subst (λ xs. IsStop r.program xs choices turns capacity stop) plays.given
+        (subst (λ ns. IsStop r.program r.input choices ns capacity stop) plays.order
+        (subst (λ n. IsStop r.program r.input choices r.order n stop) plays.room
+        (record {
+          failed = failure come (subst (λ q. HasNoRangeFault (plan q)) (sym plays.program) fine) why;
+          coming = coming;
+        }))))

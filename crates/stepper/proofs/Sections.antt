@@ -58,6 +58,7 @@ in_arrays p i w fine is k m e = (section_at p i w fine is k m e).1
 
 record IsShown (entries : List Entry) (it : Item) (w : Work) : Type 0 where
   work : IsWork it (region_in entries it) w
+  place : w.place ≡ it.place
   deferred : w.deferred ≡ it.deferred
   device : w.device ≡ it.device.number
 
@@ -70,6 +71,7 @@ shown_of entries it w e = go it.region refl e
         subst (IsShown entries it) same
         (record {
           work = record { kind = refl; maps = refl; region = sym is; loops = refl };
+          place = refl;
           deferred = refl;
           device = refl;
         })
@@ -91,15 +93,24 @@ shown_of entries it w e = go it.region refl e
     go (Some k) is h = inner k (slice_get entries k) refl is h
 
 -- an item of the outline, and its work
+work_of : (p : Plan) (entries : List Entry) (its : List Item) → all_shown entries its ≡ as_shown p.items →
+    (i : ℕ) (it : Item) (w : Work) → slice_get its i ≡ Some it → slice_get p.items i ≡ Some w → IsShown entries it w
+work_of p entries its e i it w at_it at_w =
+    shown_of entries it w
+    (same_Some (shown entries it) (Some w)
+    (sym (slice_get-map (shown entries) its i ∙ ap (option_map (shown entries)) at_it)
+    ∙ ap (λ xs. slice_get xs i) e ∙ slice_get-map (λ (x : Work). Some x) p.items i
+    ∙ ap (option_map (λ (x : Work). Some x)) at_w))
+
+pub same_place : (p : Plan) (entries : List Entry) (its : List Item) → all_shown entries its ≡ as_shown p.items →
+    (i : ℕ) (it : Item) (w : Work) → slice_get its i ≡ Some it → slice_get p.items i ≡ Some w → w.place ≡ it.place
+same_place p entries its e i it w at_it at_w = (work_of p entries its e i it w at_it at_w).place
+
 pub is_item : (p : Plan) (entries : List Entry) (its : List Item) → all_shown entries its ≡ as_shown p.items →
     HasNoRangeFault p → (i : ℕ) (it : Item) (w : Work) → slice_get its i ≡ Some it → slice_get p.items i ≡ Some w →
     IsItem p i it (region_in entries it)
 is_item p entries its e fine i it w at_it at_w =
-    let h = shown_of entries it w
-    (same_Some (shown entries it) (Some w)
-    (sym (slice_get-map (shown entries) its i ∙ ap (option_map (shown entries)) at_it)
-    ∙ ap (λ xs. slice_get xs i) e ∙ slice_get-map (λ (x : Work). Some x) p.items i
-    ∙ ap (option_map (λ (x : Work). Some x)) at_w)) in
+    let h = work_of p entries its e i it w at_it at_w in
     record {
       work = w;
       is = at_w;

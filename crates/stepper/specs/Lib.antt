@@ -3,6 +3,7 @@ pub mod Opening
 pub mod Standing
 pub mod Taking
 pub mod Answering
+pub mod Stops
 pub mod Run
 pub mod Running
 pub mod Leading

@@ -5,6 +5,7 @@ pub use crate::fine_run::FineRun;
 pub use crate::marked::shown_of;
 pub use crate::run::{run_fine, run_fine_shown};
 pub use crate::sides::Turn;
+pub use crate::stops::{Stop, stop_of};
 
 mod beginning;
 mod choosing;
@@ -17,4 +18,5 @@ mod run;
 mod sides;
 mod standing;
 mod stepping;
+mod stops;
 mod taking;

@@ -19,7 +19,7 @@ use Rattle.stepper.specs.Answering.{AreShown}
 use Rattle.stepper.proofs.Shown.{shown_order, shown_refused}
 use Rattle.witness.specs.declared.trial.Trials.{Trials}
 use Rattle.witness.specs.declared.trial.Witness.{Witness}
-use Rattle.witness.specs.Witnesses.{IsAcceptedSource, IsEnd, IsOther, IsTrial, IsWitness}
+use Rattle.witness.specs.Witnesses.{IsAcceptedSource, IsEnd, IsOther, IsToldOf, IsTrial, IsWitness}
 
 pub accepted_source : (bytes : List ℕ) (p q : Program) → q ≡ p → Spells bytes p → IsAccepted (plan q) → IsAcceptedSource bytes
 accepted_source bytes p q e s a =
@@ -36,15 +36,18 @@ refused_range bytes p q f item fault e s few is h =
       fault = subst (λ (u : Program). IsCheckFault (plan u) (check.Range item fault)) e here;
     }
 
--- a run that differs from that of the erased text, which is that without directives
-pub differing : (t : Trials) (bytes : List ℕ) (w : Witness) (erased : List ℕ) (plain : Answer) → t.source.now ≡ bytes → erased ≡ erased_text bytes
-    → IsFineSourceAnswer erased t.input.now [] [] t.capacity plain → t.plain.now ≡ plain.out.items → IsTrial t w
-    → IsWitness bytes t.input.now t.capacity w plain
-differing t bytes w erased plain b e a o h =
+-- a run that differs from that of the erased text, which is that without directives, with the action at which it fails
+pub differing : (t : Trials) (bytes : List ℕ) (p : Program) (w : Witness) (erased : List ℕ) (plain : Answer) → t.source.now ≡ bytes
+    → erased ≡ erased_text bytes → IsFineSourceAnswer erased t.input.now [] [] t.capacity plain → t.plain.now ≡ plain.out.items
+    → Spells bytes p → IsTrial t w → IsToldOf p t w → IsWitness bytes t.input.now t.capacity w plain
+differing t bytes p w erased plain b e a o s h told =
     record {
       end = subst (λ (text : List ℕ). IsEnd text t.input.now w.choices.items w.turns.items t.capacity w.end) b h.end;
       without = subst (λ (text : List ℕ). IsFineSourceAnswer text t.input.now [] [] t.capacity plain) e a;
       differs = subst (λ (out : List ℕ). IsOther out w.end) o h.differs;
+      program = p;
+      spelled = s;
+      told = told;
     }
 
 -- of a program that is refused without a fault of range no array is shown

@@ -7,7 +7,7 @@ use Rattle.std.specs.Io.KnownBytes.{Appends}
 use Rattle.std.proofs.KnownBytes.{Appends-nil, Appends-trans}
 use Rattle.base.specs.declared.item.Answer.{Answer}
 use Rattle.witness.specs.declared.trial.Witness.{Witness}
-use Rattle.witness.specs.Texts.{comma_list, difference_bytes, difference_from, difference_line, end_bytes, front_line, list_option, order_line, prefixed, run_bytes, runs_from, runs_list, runs_option, turns_line, witness_bytes}
+use Rattle.witness.specs.Texts.{comma_list, difference_bytes, difference_from, difference_line, end_bytes, front_line, list_option, order_line, prefixed, run_bytes, runs_from, runs_list, runs_option, stop_line, turns_line, witness_bytes}
 
 -- what is appended is the front of a text of which the rest is still to be written
 pub record IsFront (old new : Option (List ℕ)) (all rest : List ℕ) : Type 0 where
@@ -136,23 +136,23 @@ difference_written r a b c d e f n own other head is s1 s2 s3 s4 s5 =
     ∙ ap (λ (xs : List ℕ). codes "first difference line " ++ xs) (append_assoc (decimal n) (codes ": ") from2)))
     (then_on r a b f head from2 s1 r2)
 
-pub all_written : {X E : Type 0} (r : Result X E) (z a b c d e f g u h i j k : Option (List ℕ))
+pub all_written : {X E : Type 0} (r : Result X E) (z a b c d e f v g u h i j k : Option (List ℕ))
     (name : List ℕ) (w : Witness) (plain : Answer) (c1 t1 c2 t2 word o1 o2 call c3 t3 : List ℕ) → c1 ≡ w.choices.items → t1 ≡ w.turns.items
     → c2 ≡ w.choices.items → t2 ≡ w.turns.items → word ≡ codes "erased output " → o1 ≡ plain.out.items → o2 ≡ plain.out.items
     → call ≡ codes "ompc step --fine " ++ name → c3 ≡ w.choices.items → t3 ≡ w.turns.items
     → Appends z a (order_line c1 t1) → Appends a b (codes "choices") → Appends b c (runs_list c2) → Appends c d (codes "\n") → Appends d e (turns_line t2)
-    → Appends e f (end_bytes w.end) → Appends f g (prefixed word true o1) → Appends g u (difference_line w.end o2) → Appends u h call
+    → Appends e f (end_bytes w.end) → Appends f v (stop_line w.stop) → Appends v g (prefixed word true o1) → Appends g u (difference_line w.end o2) → Appends u h call
     → Appends h i (runs_option (codes " --choice-runs") c3) → Appends i j (list_option (codes " --turns") t3) → OnOk r (Appends j k (codes "\n"))
     → OnOk r (Appends z k (witness_bytes name w plain))
-all_written r z a b c d e f g u h i j k name w plain c1 t1 c2 t2 word o1 o2 call c3 t3 e1 e2 e3 e4 e5 e6 e7 is e9 e10 p0 s1 p2 s3 p4 s5 p6 p7 s8 p9 p10 s11 =
+all_written r z a b c d e f v g u h i j k name w plain c1 t1 c2 t2 word o1 o2 call c3 t3 e1 e2 e3 e4 e5 e6 e7 is e9 e10 p0 s1 p2 s3 p4 s5 sv p6 p7 s8 p9 p10 s11 =
     let list : List ℕ = w.choices.items in
     let order : List ℕ = w.turns.items in
     let s0 : Appends z a (order_line list order) =
     subst (λ (xs : List ℕ). Appends z a (order_line list xs)) e2 (subst (λ (xs : List ℕ). Appends z a (order_line xs t1)) e1 p0) in
     let s2 : Appends b c (runs_list list) = subst (λ (xs : List ℕ). Appends b c (runs_list xs)) e3 p2 in
     let s4 : Appends d e (turns_line order) = subst (λ (xs : List ℕ). Appends d e (turns_line xs)) e4 p4 in
-    let s6 : Appends f g (prefixed (codes "erased output ") true plain.out.items) =
-    subst (λ (xs : List ℕ). Appends f g (prefixed (codes "erased output ") true xs)) e6 (subst (λ (xs : List ℕ). Appends f g (prefixed xs true o1)) e5 p6) in
+    let s6 : Appends v g (prefixed (codes "erased output ") true plain.out.items) =
+    subst (λ (xs : List ℕ). Appends v g (prefixed (codes "erased output ") true xs)) e6 (subst (λ (xs : List ℕ). Appends v g (prefixed xs true o1)) e5 p6) in
     let s7 : Appends g u (difference_line w.end plain.out.items) = subst (λ (xs : List ℕ). Appends g u (difference_line w.end xs)) e7 p7 in
     let s9 : Appends h i (runs_option (codes " --choice-runs") list) = subst (λ (xs : List ℕ). Appends h i (runs_option (codes " --choice-runs") xs)) e9 p9 in
     let s10 : Appends i j (list_option (codes " --turns") order) = subst (λ (xs : List ℕ). Appends i j (list_option (codes " --turns") xs)) e10 p10 in
@@ -162,7 +162,8 @@ all_written r z a b c d e f g u h i j k name w plain c1 t1 c2 t2 word o1 o2 call
     let from7 : List ℕ = codes "ompc step --fine " ++ (name ++ from8) in
     let from6 : List ℕ = difference_line w.end plain.out.items ++ from7 in
     let from5 : List ℕ = prefixed (codes "erased output ") true plain.out.items ++ from6 in
-    let from4 : List ℕ = end_bytes w.end ++ from5 in
+    let fromv : List ℕ = stop_line w.stop ++ from5 in
+    let from4 : List ℕ = end_bytes w.end ++ fromv in
     let from3 : List ℕ = turns_line order ++ from4 in
     let from2 : List ℕ = codes "\n" ++ from3 in
     let from1 : List ℕ = runs_list list ++ from2 in
@@ -173,8 +174,9 @@ all_written r z a b c d e f g u h i j k name w plain c1 t1 c2 t2 word o1 o2 call
     subst (λ (xs : List ℕ). OnOk r (Appends u k xs)) (append_assoc (codes "ompc step --fine ") name from8)
     (then_on r u h k (codes "ompc step --fine " ++ name) from8 t8 r9) in
     let r7 : OnOk r (Appends g k from6) = then_on r g u k (difference_line w.end plain.out.items) from7 s7 r8 in
-    let r6 : OnOk r (Appends f k from5) = then_on r f g k (prefixed (codes "erased output ") true plain.out.items) from6 s6 r7 in
-    let r5 : OnOk r (Appends e k from4) = then_on r e f k (end_bytes w.end) from5 s5 r6 in
+    let r6 : OnOk r (Appends v k from5) = then_on r v g k (prefixed (codes "erased output ") true plain.out.items) from6 s6 r7 in
+    let rv : OnOk r (Appends f k fromv) = then_on r f v k (stop_line w.stop) from5 sv r6 in
+    let r5 : OnOk r (Appends e k from4) = then_on r e f k (end_bytes w.end) fromv s5 rv in
     let r4 : OnOk r (Appends d k from3) = then_on r d e k (turns_line order) from4 s4 r5 in
     let r3 : OnOk r (Appends c k from2) = then_on r c d k (codes "\n") from3 s3 r4 in
     let r2 : OnOk r (Appends b k from1) = then_on r b c k (runs_list list) from2 s2 r3 in

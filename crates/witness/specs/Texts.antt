@@ -1,7 +1,13 @@
 -- A witness as text.
-use Rattle.std.specs.Prelude.{ℕ, ◌+◌, ◌==◌, Bool, true, not, if◌then◌else◌, List, [], ◌∷◌, ◌++◌, take, codes, decimal}
+use Rattle.std.specs.Prelude.{ℕ, ◌+◌, ◌==◌, Bool, true, not, if◌then◌else◌, List, [], ◌∷◌, ◌++◌, Option, Some, None, take, codes, decimal, string_bytes}
 use Rattle.std.specs.List.{prefix_len}
 use Rattle.base.specs.declared.item.Answer.{Answer}
+use Rattle.base.specs.declared.item.Cell.{Cell}
+use Rattle.base.specs.declared.item.Section.{Section}
+use Rattle.actions.specs.declared.action.Action.{Action}
+use Rattle.actions.specs.declared.action.Action.TheVariants.{Load, Store, Combine, Enter, Leave, Remove, CopyIn, CopyOut}
+use Rattle.stepper.specs.declared.stops.Stop.{Stop}
+use Rattle.witness.specs.declared.stopped.Stopped.{Stopped}
 use Rattle.witness.specs.declared.trial.Ended.{Ended}
 use Rattle.witness.specs.declared.trial.Ended.TheVariants.{Absent, Done}
 use Rattle.witness.specs.declared.trial.Witness.{Witness}
@@ -68,6 +74,38 @@ abbrev pub end_bytes : Ended → List ℕ
 end_bytes (Done a) = prefixed (codes "output ") true a.out.items
 end_bytes Absent = codes "stopped F4\n"
 
+-- `A[3]`, and `A[2:4]`
+abbrev pub cell_text : List ℕ → Cell → List ℕ
+cell_text array c = array ++ (codes "[" ++ (decimal c.index ++ codes "]"))
+
+abbrev pub section_text : List ℕ → Section → List ℕ
+section_text array s = array ++ (codes "[" ++ (decimal s.first ++ (codes ":" ++ (decimal s.length ++ codes "]"))))
+
+-- what an action on an array of this name does
+abbrev pub action_text : List ℕ → Action → List ℕ
+action_text array (Load c) = codes "load of " ++ cell_text array c
+action_text array (Store c n) = codes "store to " ++ cell_text array c
+action_text array (Combine op c n) = codes "update of " ++ cell_text array c
+action_text array (Enter item) = codes "entry of " ++ section_text array item.section
+action_text array (Leave item) = codes "exit of " ++ section_text array item.section
+action_text array (Remove section) = codes "removal of " ++ section_text array section
+action_text array (CopyIn c) = codes "copy to " ++ cell_text array c
+action_text array (CopyOut c) = codes "copy from " ++ cell_text array c
+
+abbrev pub side_text : Bool → ℕ → List ℕ
+side_text on_host device = if on_host then codes " on the host\n" else codes " on device " ++ (decimal device ++ codes "\n")
+
+-- `stopped at line 3: store to A[2] on device 0`
+abbrev pub told_line : List ℕ → Stop → List ℕ
+told_line array stop =
+    codes "stopped at line " ++ (decimal stop.place.line ++ (codes ": " ++ (action_text array stop.action
+    ++ side_text stop.on_host stop.device.number)))
+
+-- nothing where no action is told
+abbrev pub stop_line : Option Stopped → List ℕ
+stop_line None = []
+stop_line (Some at) = told_line (string_bytes at.array) at.stop
+
 -- a word and numbers behind it; nothing where there are none
 abbrev pub list_option : List ℕ → List ℕ → List ℕ
 list_option word [] = []
@@ -77,14 +115,15 @@ abbrev pub turns_line : List ℕ → List ℕ
 turns_line [] = []
 turns_line (n ∷ ns) = codes "turns" ++ (comma_list (codes " ") (n ∷ ns) ++ codes "\n")
 
--- the choices and the order of turns, both outputs, their first difference, and the command that makes the run again
+-- the choices and the order of turns, both outputs or where the run stops, their first difference, and the command that makes
+-- the run again
 abbrev pub witness_bytes : List ℕ → Witness → Answer → List ℕ
 witness_bytes name w plain =
     order_line w.choices.items w.turns.items ++ (codes "choices" ++ (runs_list w.choices.items ++ (codes "\n"
-    ++ (turns_line w.turns.items ++ (end_bytes w.end ++ (prefixed (codes "erased output ") true plain.out.items
-    ++ (difference_line w.end plain.out.items ++ (codes "ompc step --fine " ++ (name
-    ++ (runs_option (codes " --choice-runs") w.choices.items ++ (list_option (codes " --turns") w.turns.items
-    ++ codes "\n")))))))))))
+    ++ (turns_line w.turns.items ++ (end_bytes w.end ++ (stop_line w.stop
+    ++ (prefixed (codes "erased output ") true plain.out.items ++ (difference_line w.end plain.out.items
+    ++ (codes "ompc step --fine " ++ (name ++ (runs_option (codes " --choice-runs") w.choices.items
+    ++ (list_option (codes " --turns") w.turns.items ++ codes "\n"))))))))))))
 
 -- that no run of an accepted program differs, and that none of the 512 tries does
 abbrev pub accepted_line : List ℕ

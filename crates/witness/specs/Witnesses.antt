@@ -1,15 +1,21 @@
 -- Runs that print something else than the source without directives.
-use Rattle.std.specs.Prelude.{⊤, ℕ, ◌≢◌, List, []}
+use Rattle.std.specs.Prelude.{⊤, ℕ, ◌≡◌, ◌≢◌, List, [], Option, None, IfSome, string_bytes}
+use Rattle.base.specs.declared.tree.ArrayId.{ArrayId}
 use Rattle.base.specs.declared.tree.Program.{Program}
 use Rattle.base.specs.declared.item.Answer.{Answer}
 use Rattle.base.specs.declared.fault.RunFault.TheVariants as run
 use Rattle.base.specs.declared.fault.SourceFault.TheVariants.{Run}
 use Rattle.base.specs.Accepted.{IsAccepted}
 use Rattle.base.specs.Items.{plan}
+use Rattle.actions.specs.declared.action.Action.{Action}
+use Rattle.actions.specs.declared.action.Action.TheVariants.{Load, Store, Combine, Enter, Leave, Remove, CopyIn, CopyOut}
 use Rattle.c_read.specs.Spells.{Spells}
 use Rattle.erasure.specs.Erased.{erased_text}
 use Rattle.pipeline.specs.Checking.{IsRefusedProgram}
 use Rattle.pipeline.specs.Fine.{IsFineSourceAnswer, IsFineSourceFault}
+use Rattle.report.specs.Listing.{name_of}
+use Rattle.stepper.specs.Stops.{IsStop}
+use Rattle.witness.specs.declared.stopped.Stopped.{Stopped}
 use Rattle.witness.specs.declared.trial.Ended.{Ended}
 use Rattle.witness.specs.declared.trial.Ended.TheVariants.{Absent, Done}
 use Rattle.witness.specs.declared.trial.Run.{Run as RunOutcome}
@@ -37,12 +43,38 @@ pub record IsTrial (t : Trials) (w : Witness) : Type 0 where
   pub end : IsEnd t.source.now t.input.now w.choices.items w.turns.items t.capacity w.end
   pub differs : IsOther t.plain.now w.end
 
+abbrev pub array_of : Action → ArrayId
+array_of (Load c) = c.array
+array_of (Store c n) = c.array
+array_of (Combine op c n) = c.array
+array_of (Enter item) = item.section.array
+array_of (Leave item) = item.section.array
+array_of (Remove section) = section.array
+array_of (CopyIn c) = c.array
+array_of (CopyOut c) = c.array
+
+-- the run of a program by these choices and this order of turns fails at this action, on the array of this name
+pub record IsStopped (p : Program) (input choices turns : List ℕ) (capacity : ℕ) (at : Stopped) : Type 0 where
+  pub stop : IsStop p input choices turns capacity at.stop
+  pub array : string_bytes at.array ≡ name_of p (array_of at.stop.action).0
+
+-- none is told of a run that is done; of one that stopped, it is the action at which it failed, where it can be told
+abbrev pub IsTold : Program → List ℕ → List ℕ → List ℕ → ℕ → Ended → Option Stopped → Type 0
+IsTold p input choices turns capacity (Done a) told = told ≡ None
+IsTold p input choices turns capacity Absent told = IfSome told (IsStopped p input choices turns capacity)
+
+abbrev pub IsToldOf : Program → Trials → Witness → Type 0
+IsToldOf p t w = IsTold p t.input.now w.choices.items w.turns.items t.capacity w.end w.stop
+
 -- a run of the source by choices and an order of turns that prints something else than its text without directive lines, or
--- that stops, and what that text prints
+-- that stops, with the action at which it does, and what that text prints
 pub record IsWitness (bytes input : List ℕ) (capacity : ℕ) (w : Witness) (plain : Answer) : Type 0 where
   pub end : IsEnd bytes input w.choices.items w.turns.items capacity w.end
   pub without : IsFineSourceAnswer (erased_text bytes) input [] [] capacity plain
   pub differs : IsOther plain.out.items w.end
+  pub program : Program
+  pub spelled : Spells bytes program
+  pub told : IsTold program input w.choices.items w.turns.items capacity w.end w.stop
 
 -- the bytes spell a program that is accepted
 pub record IsAcceptedSource (bytes : List ℕ) : Type 0 where

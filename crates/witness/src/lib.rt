@@ -5,10 +5,12 @@ mod lists;
 mod orders;
 mod search;
 mod shorten;
+mod stopped;
 mod text;
 mod trial;
 
 pub use search::{Finding, MOST_EVENTS, MOST_TRIES, witness};
 pub use shorten::MOST_CUTS;
+pub use stopped::Stopped;
 pub use text::{accepted_text, none_text, witness_text};
 pub use trial::{Ended, Witness};

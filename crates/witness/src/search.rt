@@ -6,13 +6,15 @@ ghost use Rattle.base.specs.Items.{plan};
 ghost use Rattle.base.specs.Limits.{most_items};
 ghost use Rattle.c_read.specs.Spells.{Spells};
 ghost use Rattle.mapcheck.specs.Passes.{IsCheckFault};
+ghost use Rattle.mapwalk.specs.Walk.{HasNoRangeFault};
 ghost use Rattle.pipeline.specs.Checking.{IsRefused};
 ghost use Rattle.stepper.specs.Answering.{AreShown};
-ghost use Rattle.witness.specs.Witnesses.{IsFinding, IsTrial};
+ghost use Rattle.witness.specs.Witnesses.{IsFinding, IsToldOf, IsTrial};
 
 use crate::lists::{drawn_list, last_first};
 use crate::orders::{drawn_order, orders, turns_that_meet};
 use crate::shorten::{MOST_CUTS, shorten};
+use crate::stopped::failed_action;
 use crate::trial::{Budget, Trials, Witness, try_lists};
 use base::fault::{CheckFault, ReadFault, SourceFault};
 use base::item::Answer;
@@ -126,11 +128,29 @@ fn search(
     search_drawn(trials, length, meeting.is_some(), budget)
 }
 
+// The witness with the action at which its run fails.
+fn with_stop(
+    trials: Trials<'_>,
+    outlined: &Outlined<'_>,
+    mut found: Witness,
+) -> Result<Witness, AllocError>
+    requires fine { HasNoRangeFault (plan outlined.now) }
+    requires trial { IsTrial trials found }
+    ensures trial { IfOk result (IsTrial trials.entry) }
+    ensures told { IfOk result (IsToldOf outlined.now trials.entry) }
+{
+    found.stop = failed_action(trials, outlined, &found)?;
+    Ok(found)
+}
+
 fn search_and_shorten(
     trials: Trials<'_>,
+    outlined: &Outlined<'_>,
     meeting: Option<u64>,
 ) -> Result<Option<Witness>, AllocError>
-    ensures { IfOk result (λ found. IfSome found (IsTrial trials.entry)) }
+    requires { HasNoRangeFault (plan outlined.now) }
+    ensures trial { IfOk result (λ found. IfSome found (IsTrial trials.entry)) }
+    ensures told { IfOk result (λ found. IfSome found (IsToldOf outlined.now trials.entry)) }
 {
     let mut budget = Budget {
         tries: MOST_TRIES,
@@ -143,7 +163,8 @@ fn search_and_shorten(
         tries: MOST_CUTS,
         events: MOST_EVENTS,
     };
-    Ok(Some(shorten(trials, &mut budget, found)?))
+    let found = shorten(trials, &mut budget, found)?;
+    Ok(Some(with_stop(trials, outlined, found)?))
 }
 
 // What is found of a program that is refused without a fault of range, so that no array is shown. Where two turns of a
@@ -176,7 +197,7 @@ fn find(
         capacity,
         plain: &plain.out,
     };
-    match search_and_shorten(trials, meeting) {
+    match search_and_shorten(trials, outlined, meeting) {
         Ok(Some(found)) => Ok(Finding::Differs(found, plain)),
         Ok(None) => Ok(Finding::None),
         Err(_) => Err(SourceFault::Read(ReadFault::OutOfMemory)),

@@ -3,13 +3,17 @@
 ghost use Rattle.std.specs.Prelude.{◌≡◌, ◌≤◌, ◌++◌, ◌∷◌, [], List, MatchOption, OnOk, codes, if◌then◌else◌, length, true, ℕ};
 ghost use Rattle.std.specs.List.{prefix_len};
 ghost use Rattle.std.specs.Io.KnownBytes.{Appends};
-ghost use Rattle.witness.specs.Texts.{accepted_line, comma_list, difference_bytes, difference_from, difference_line, end_bytes, is_no_feed, front_line, list_option, none_line, order_line, prefixed, run_bytes, runs_list, runs_option, turns_line, witness_bytes};
+ghost use Rattle.witness.specs.Texts.{accepted_line, action_text, cell_text, comma_list, difference_bytes, difference_from, difference_line, end_bytes, is_no_feed, front_line, list_option, none_line, order_line, prefixed, run_bytes, runs_list, runs_option, section_text, side_text, stop_line, told_line, turns_line, witness_bytes};
 
 use crate::search::MOST_TRIES;
+use crate::stopped::Stopped;
 use crate::trial::{Ended, Witness};
-use base::item::Answer;
+use actions::Action;
+use base::item::{Answer, Cell, Section};
+use base::tree::DeviceId;
 use std::io;
 use std::io::Write;
+use stepper::Stop;
 
 // The numbers with commas between them, and a blank before the first.
 fn list_text<W: Write>(list: &[u32], out: &mut W) -> io::Result<()>
@@ -191,6 +195,69 @@ fn end_text<W: Write>(end: &Ended, out: &mut W) -> io::Result<()>
     }
 }
 
+// A word, and a cell of an array with this name.
+fn cell_text<W: Write>(word: &str, array: &str, cell: &Cell, out: &mut W) -> io::Result<()>
+    ensures { OnOk result (Appends (W.contents out.old) (W.contents out.new) (word.now ++ cell_text array.now cell.now)) }
+{
+    let index = cell.index;
+    write!(out, "{word}{array}[{index}]")
+}
+
+// A word, and a section of an array with this name.
+fn section_text<W: Write>(word: &str, array: &str, section: &Section, out: &mut W) -> io::Result<()>
+    ensures { OnOk result (Appends (W.contents out.old) (W.contents out.new) (word.now ++ section_text array.now section.now)) }
+{
+    let (first, length) = (section.first, section.length);
+    write!(out, "{word}{array}[{first}:{length}]")
+}
+
+// What an action does, and with what part of an array with this name.
+fn action_text<W: Write>(array: &str, action: &Action, out: &mut W) -> io::Result<()>
+    ensures { OnOk result (Appends (W.contents out.old) (W.contents out.new) (action_text array.now action.now)) }
+{
+    match action {
+        Action::Load(cell) => cell_text("load of ", array, cell, out),
+        Action::Store(cell, _) => cell_text("store to ", array, cell, out),
+        Action::Combine(_, cell, _) => cell_text("update of ", array, cell, out),
+        Action::Enter(item) => section_text("entry of ", array, &item.section, out),
+        Action::Leave(item) => section_text("exit of ", array, &item.section, out),
+        Action::Remove(section) => section_text("removal of ", array, section, out),
+        Action::CopyIn(cell) => cell_text("copy to ", array, cell, out),
+        Action::CopyOut(cell) => cell_text("copy from ", array, cell, out),
+    }
+}
+
+// Where an action is done, at the end of a line.
+fn side_text<W: Write>(on_host: bool, device: DeviceId, out: &mut W) -> io::Result<()>
+    ensures { OnOk result (Appends (W.contents out.old) (W.contents out.new) (side_text on_host device.number)) }
+{
+    if on_host {
+        return writeln!(out, " on the host");
+    }
+    let number = device.number;
+    writeln!(out, " on device {number}")
+}
+
+// The line with an action on an array of this name.
+fn told_line<W: Write>(array: &str, stop: &Stop, out: &mut W) -> io::Result<()>
+    ensures { OnOk result (Appends (W.contents out.old) (W.contents out.new) (told_line array.now stop.now)) }
+{
+    let line = stop.place.line;
+    write!(out, "stopped at line {line}: ")?;
+    action_text(array, &stop.action, out)?;
+    side_text(stop.on_host, stop.device, out)
+}
+
+// The line with the action at which a run fails; nothing where it is not told.
+fn stop_line<W: Write>(stop: &Option<Stopped>, out: &mut W) -> io::Result<()>
+    ensures { OnOk result (Appends (W.contents out.old) (W.contents out.new) (stop_line stop.now)) }
+{
+    match stop {
+        None => Ok(()),
+        Some(at) => told_line(&at.array, &at.stop, out),
+    }
+}
+
 // An option that gives a list; nothing where that is empty.
 fn list_option<W: Write>(word: &str, list: &[u32], out: &mut W) -> io::Result<()>
     ensures { OnOk result (Appends (W.contents out.old) (W.contents out.new) (list_option word.now list.now)) }
@@ -214,9 +281,9 @@ fn turns_line<W: Write>(turns: &[u32], out: &mut W) -> io::Result<()>
     writeln!(out)
 }
 
-/// Writes a witness: whether it is the run in program order, the choices and the order of turns, what their run prints,
-/// what the source prints without its directives, the first line that differs, and a command that makes the run of the source of that name again. An error of the writer is answered, and
-/// ends the text.
+/// Writes a witness: whether it is the run in program order, the choices and the order of turns, what their run prints or
+/// the action at which it fails, what the source prints without its directives, the first line that differs, and a
+/// command that makes the run of the source of that name again. An error of the writer is answered, and ends the text.
 pub fn witness_text<W: Write>(
     name: &str,
     witness: &Witness,
@@ -231,6 +298,7 @@ pub fn witness_text<W: Write>(
     writeln!(out)?;
     turns_line(&witness.turns, out)?;
     end_text(&witness.end, out)?;
+    stop_line(&witness.stop, out)?;
     lines_text(b"erased output ".as_slice(), &plain.out, out)?;
     difference_line(&witness.end, &plain.out, out)?;
     write!(out, "ompc step --fine {name}")?;

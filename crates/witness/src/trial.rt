@@ -3,6 +3,7 @@
 ghost use Rattle.std.specs.Prelude.{IfOk};
 ghost use Rattle.witness.specs.Witnesses.{IsRun, IsTrial};
 
+use crate::stopped::Stopped;
 use base::fault::{RunFault, SourceFault};
 use base::item::Answer;
 use pipeline::Loaded;
@@ -23,6 +24,8 @@ pub struct Witness {
     /// The order of turns of each kernel whose turns may run in any order.
     pub turns: Vec<u32>,
     pub end: Ended,
+    /// The action at which the run fails, where it can be told.
+    pub stop: Option<Stopped>,
 }
 
 /// A source, read and checked, with its input, the room of each device, and what the source prints without its directives.
@@ -101,6 +104,7 @@ pub fn try_lists(
                 choices,
                 turns,
                 end,
+                stop: None,
             }))
         }
         Run::Ended(Ended::Absent) => {
@@ -110,6 +114,7 @@ pub fn try_lists(
                 choices,
                 turns,
                 end,
+                stop: None,
             }))
         }
         Run::Full => {

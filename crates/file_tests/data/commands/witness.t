@@ -103,6 +103,47 @@ erased output 1
 first difference line 1: 0, erased 1
 ompc step --fine one_cell_of_two_turns.c --turns 7
 
+# runs that stop, and at which action: a store past what is mapped, a load, an entry that lies in a block in part, one that
+# is to be present and is not, and a copy to the host
+$ ompc witness not_mapped.c
+in program order
+choices
+stopped F4
+stopped at line 3: store to A[2] on device 0
+ompc step --fine not_mapped.c
+$ ompc witness half_of_the_structs.c
+in program order
+choices
+stopped F4
+stopped at line 5: load of P[8] on device 0
+erased output 3
+ompc step --fine half_of_the_structs.c
+$ ompc witness in_part_on_one_device.c
+in program order
+choices
+stopped F4
+stopped at line 4: entry of A[1:3] on device 0
+ompc step --fine in_part_on_one_device.c
+$ ompc witness present_alone.c
+in program order
+choices
+stopped F4
+stopped at line 3: entry of A[0:4] on device 0
+ompc step --fine present_alone.c
+$ ompc witness no_wait_before_the_end.c
+choices 0*9,1*2
+stopped F4
+stopped at line 3: copy from A[0] on device 0
+erased output 2
+ompc step --fine no_wait_before_the_end.c --choice-runs 0*9,1*2
+
+# an update that fails where it is opened has no action
+$ ompc witness present_update_alone.c
+in program order
+choices
+stopped F4
+ompc step --fine present_update_alone.c
+
 # none is found, and none is looked for
 $ ompc witness update_alone.c
 ! no schedule found in 512 tries
