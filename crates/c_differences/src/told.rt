@@ -11,6 +11,8 @@ use crate::stream::Stream;
 use crate::walk::Walk;
 use base::tree::{Place, Program};
 use c_meaning::is_same_in_c;
+use c_temporaries::in_place;
+use c_terminals::{Written, borrowed, owned};
 use c_written::written;
 use std::alloc::{AllocError, Global};
 
@@ -53,6 +55,15 @@ fn settled(
     Ok(list)
 }
 
+// The tokens that the program of a source is read from: it is written out, and the values of temporaries are in their
+// places.
+fn source_tokens<'a>(alloc: Global, bytes: &'a [u8]) -> Result<Vec<Written<'a>>, AllocError> {
+    let written = written(alloc, bytes)?;
+    let tokens = borrowed(alloc, &written)?;
+    let tokens = in_place(alloc, &tokens)?;
+    owned(alloc, &tokens)
+}
+
 /// The expressions of a program that may have another value in C, or none. The bytes are its source. In one whose numbers
 /// are all decimals without a suffix they are those of the test of programs; in another one the type of each number is
 /// that of its suffix, of its hexadecimal digits, or of the constant that it stands for. The error comes where an
@@ -65,7 +76,7 @@ pub fn differences_of(
 ) -> Result<Differences, AllocError>
     ensures { IfOk result (AreTold program.now) }
 {
-    let tokens = written(alloc, bytes)?;
+    let tokens = source_tokens(alloc, bytes)?;
     let numbers = Numbers::new(alloc, bytes)?;
     let mut walk = Walk {
         numbers: &numbers,

@@ -8,8 +8,9 @@ use Rattle.base.specs.declared.fault.ReadCode.TheVariants.{TooMany}
 use Rattle.c_grammar.specs.Program.{start}
 use Rattle.c_grammar.specs.Rules.{begin}
 use Rattle.c_grammar.specs.Grammar.{Text}
-use Rattle.c_grammar.specs.Source.{items_of, max_source, answer, fault_in, IsFirstFault, Spells as SpellsText}
-use Rattle.c_grammar.proofs.Sources.{fault_first, text_spelled, text_not_spelled}
+use Rattle.c_grammar.specs.Source.{max_source}
+use Rattle.c_source.specs.Source.{items_of, answer, fault_in, IsFirstFault, Spells as SpellsText}
+use Rattle.c_source.proofs.Sources.{fault_first, text_spelled, text_not_spelled}
 use Rattle.c_expressions.specs.Reading.{run}
 use Rattle.c_read.specs.Spells.{Spells, IsTextRead}
 

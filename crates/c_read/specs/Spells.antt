@@ -7,7 +7,7 @@ use Rattle.base.specs.declared.fault.ReadFault.TheVariants as read
 use Rattle.c_tokens.specs.declared.kind.Sign.TheVariants as sign
 use Rattle.c_grammar.specs.Grammar.{Text, boxes_slots, globals, slots, IsText}
 use Rattle.c_grammar.specs.Lexeme.{Int, Main, Void}
-use Rattle.c_grammar.specs.Source.{items_of, Spells as SpellsText}
+use Rattle.c_source.specs.Source.{items_of, Spells as SpellsText}
 use Rattle.c_grammar.specs.Terminal.{Terminal, Fixed, Mark}
 use Rattle.c_expressions.specs.Means.{Items}
 use Rattle.c_expressions.specs.Reading.{terminals, kinds}

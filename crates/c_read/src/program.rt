@@ -8,7 +8,8 @@ ghost use Rattle.c_grammar.specs.Lexeme.{Int};
 ghost use Rattle.c_grammar.specs.Program.{Stack, Body, Want, main_rest, start, w};
 ghost use Rattle.c_grammar.specs.Rules.{begin};
 ghost use Rattle.c_grammar.specs.Grammar.{Text};
-ghost use Rattle.c_grammar.specs.Source.{item_of, items_of, written_out, IsFirstFault, Spells as SpellsText};
+ghost use Rattle.c_grammar.specs.Source.{item_of};
+ghost use Rattle.c_source.specs.Source.{items_of, written_out, IsFirstFault, Spells as SpellsText};
 ghost use Rattle.c_tokens.specs.Text.{tokens_of};
 ghost use Rattle.c_terminals.specs.Held.{written_all};
 ghost use Rattle.c_grammar.specs.Terminal.{End};
@@ -31,7 +32,8 @@ use base::fault::{ReadCode, ReadFault, TextFault};
 use base::tree::{Part, Program};
 use c_expressions::{Cursor, Frame, ReadError, Scope};
 use c_statements::open_body;
-use c_terminals::Written;
+use c_temporaries::in_place;
+use c_terminals::{Written, borrowed, owned};
 use c_tokens::Sign;
 use c_tokens::limits::MAX_SOURCE;
 use c_written::written;
@@ -122,6 +124,16 @@ fn new_scope<'a>(alloc: Global) -> Result<Scope<'a>, AllocError>
     })
 }
 
+/// The tokens of a source that is written out, with the values of temporaries in their places.
+fn source_written<'a>(alloc: Global, bytes: &'a [u8]) -> Result<Vec<Written<'a>>, AllocError>
+    ensures { IfOk result (λ v. written_all v.items ≡ written_out (map (item_of bytes.now) (tokens_of bytes.now))) }
+{
+    let written = written(alloc, bytes)?;
+    let tokens = borrowed(alloc, &written)?;
+    let tokens = in_place(alloc, &tokens)?;
+    owned(alloc, &tokens)
+}
+
 /// The tokens of a source, which are written out.
 fn source_tokens<'a, 'l>(bytes: &[u8], written: &'l [Written<'a>]) -> Cursor<'a, 'l>
     requires { written_all written.now ≡ written_out (map (item_of bytes.now) (tokens_of bytes.now)) }
@@ -131,12 +143,12 @@ fn source_tokens<'a, 'l>(bytes: &[u8], written: &'l [Written<'a>]) -> Cursor<'a,
 }
 
 /// The program of a source that is not too long.
-#[tactic(auto, using(c_grammar::proofs::AsciiNames::names_are_ascii))]
+#[tactic(auto, using(c_source::proofs::Written::names_are_ascii))]
 fn read_short(alloc: Global, bytes: &[u8]) -> Result<Program, ReadError>
     ensures read { Outcome result (run begin start (items_of bytes.now)) None }
     ensures tree { IfOk result (λ p. IsTextRead (items_of bytes.now) p) }
 {
-    let written = written(alloc, bytes)?;
+    let written = source_written(alloc, bytes)?;
     let mut tokens = source_tokens(bytes, &written);
     let mut scope = new_scope(alloc)?;
     let program = program(&mut scope, &mut tokens)?;

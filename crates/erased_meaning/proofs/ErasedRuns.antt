@@ -11,8 +11,8 @@ use Rattle.base.specs.declared.tree.Stmt.{Stmt as Statement}
 use Rattle.base.specs.Memory.{view_of, zeros}
 use Rattle.base.specs.Meaning.{Run, Plain, run_list, after_region, erased, lengths_of}
 use Rattle.c_grammar.specs.Grammar.{Text, Stmts}
-use Rattle.c_grammar.specs.Source.{items_of}
-use Rattle.c_grammar.proofs.SourceOne.{one_text}
+use Rattle.c_source.specs.Source.{items_of}
+use Rattle.c_source.proofs.Sources.{one_text}
 use Rattle.c_expressions.specs.declared.scope.Meaning.TheVariants as meaning
 use Rattle.c_expressions.specs.Means.{Items, Names}
 use Rattle.c_statements.specs.Statements.{Env, AreStatements}

@@ -5,7 +5,7 @@ use Rattle.base.specs.declared.tree.Program.{Program}
 use Rattle.base.specs.declared.fault.ReadFault.{ReadFault}
 use Rattle.base.specs.declared.fault.ReadFault.TheVariants as read
 use Rattle.c_grammar.specs.Grammar.{Text}
-use Rattle.c_grammar.specs.Source.{Spells as SpellsText}
+use Rattle.c_source.specs.Source.{Spells as SpellsText}
 use Rattle.c_read.specs.Spells.{OnText, Spells}
 use Rattle.erasure.specs.Plain.{plain_tree}
 use Rattle.erasure.specs.Erased.{erased_text}

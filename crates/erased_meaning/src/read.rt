@@ -2,7 +2,7 @@
 
 ghost use Rattle.std.specs.Prelude.{◌≡◌, IfOk, IfErr};
 ghost use Rattle.base.specs.declared.tree.Program.{Program};
-ghost use Rattle.c_grammar.specs.Source.{IsFirstFault};
+ghost use Rattle.c_source.specs.Source.{IsFirstFault};
 ghost use Rattle.c_read.specs.Spells.{OnText, Spells};
 ghost use Rattle.erased_meaning.specs.Laws.{IsErased};
 ghost use Rattle.erasure.specs.Erased.{erased_text};

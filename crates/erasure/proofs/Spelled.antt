@@ -7,8 +7,9 @@ use Rattle.c_grammar.specs.Terminal.{Terminal, End}
 use Rattle.c_grammar.specs.Texts.{Item, terminals}
 use Rattle.c_grammar.specs.Grammar.{Text}
 use Rattle.c_grammar.specs.Rules.{source_grammar}
-use Rattle.c_grammar.specs.Source.{items_of, written_out, end_of, Spells}
-use Rattle.c_grammar.proofs.BareForms.{written_bare}
+use Rattle.c_grammar.specs.Source.{end_of}
+use Rattle.c_source.specs.Source.{items_of, written_out, Spells}
+use Rattle.c_source.proofs.Written.{written_bare}
 use Rattle.erasure.specs.Erased.{covers, uncovered, erased_text, items_in}
 use Rattle.erasure.specs.Plain.{plain_tree}
 use Rattle.erasure.proofs.Covered.{erased_items}

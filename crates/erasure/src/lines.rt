@@ -3,7 +3,8 @@
 ghost use Rattle.std.specs.Prelude.{◌≡◌, IfOk};
 ghost use Rattle.c_grammar.specs.Blocks.{bare};
 ghost use Rattle.c_grammar.specs.Grammar.{Text};
-ghost use Rattle.c_grammar.specs.Source.{Spells, text_of};
+ghost use Rattle.c_grammar.specs.Source.{text_of};
+ghost use Rattle.c_source.specs.Source.{Spells};
 ghost use Rattle.erasure.specs.Plain.{plain_tree};
 ghost use Rattle.erasure.specs.Erased.{erased_text, is_taken, items_in};
 

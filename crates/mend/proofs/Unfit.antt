@@ -9,7 +9,7 @@ use Rattle.base.specs.declared.fault.ReadFault.TheVariants as read
 use Rattle.base.specs.declared.fault.SourceFault.TheVariants.{Read, Outline}
 use Rattle.base.specs.Items.{plan}
 use Rattle.base.specs.Limits.{most_items}
-use Rattle.c_grammar.specs.Source.{IsFirstFault}
+use Rattle.c_source.specs.Source.{IsFirstFault}
 use Rattle.c_read.specs.Spells.{Spells, OnText}
 use Rattle.mend.specs.Mends.{IsUnfit}
 

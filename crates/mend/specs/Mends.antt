@@ -7,7 +7,7 @@ use Rattle.base.specs.declared.fault.SourceFault.TheVariants.{Read, Outline, Che
 use Rattle.base.specs.Accepted.{IsAccepted}
 use Rattle.base.specs.Items.{plan}
 use Rattle.base.specs.Limits.{most_items}
-use Rattle.c_grammar.specs.Source.{IsFirstFault}
+use Rattle.c_source.specs.Source.{IsFirstFault}
 use Rattle.c_read.specs.Spells.{Spells, OnText}
 use Rattle.mend.specs.Bare.{without_directives}
 use Rattle.mend.specs.declared.judge.Verdict.{Verdict}

@@ -20,7 +20,7 @@ const LOOP: &str =
 const MAIN: &str = "a program is its globals, and then `int main(void) { .. }`";
 
 const TYPE: &str =
-    "the one type is `uint64_t`, also written `size_t`, `unsigned long` or `unsigned long long`, without other words before it; the name of a loop, and a constant, may be an `int`";
+    "the one type is `uint64_t`, also written `size_t`, `unsigned long` or `unsigned long long`, without other words before it; the name of a loop, a constant, and `int k = i / 8;`, whose value is made of these and which nothing changes, may be an `int`";
 
 const CONSTANT: &str =
     "a constant is `const uint64_t N = NUM;`, before `main` or in no block within it, or `#define N NUM`: it has a name of its own, and NUM is a constant expression, with `#define` in brackets";

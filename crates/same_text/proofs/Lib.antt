@@ -28,6 +28,7 @@ mod UnlinedLocals
 mod UnlinedGrids
 mod UnlinedDeclarations
 mod UnlinedCounters
+pub mod UnlinedTemporaries
 mod UnlinedLasting
 mod UnlinedMoves
 mod UnlinedPrivates

@@ -5,7 +5,8 @@ use Rattle.base.specs.declared.tree.Program.{Program}
 use Rattle.base.specs.Meaning.{erased, lengths_of}
 use Rattle.c_grammar.specs.Grammar.{Text, slots}
 use Rattle.c_grammar.specs.Rules.{source_grammar}
-use Rattle.c_grammar.specs.Source.{items_of, written_out, end_of, max_source, Spells as SpellsText}
+use Rattle.c_grammar.specs.Source.{end_of, max_source}
+use Rattle.c_source.specs.Source.{items_of, written_out, Spells as SpellsText}
 use Rattle.c_grammar.specs.Terminal.{Terminal, End}
 use Rattle.c_grammar.specs.Texts.{kinds}
 use Rattle.c_grammar.proofs.SourceOne.{same_text}

@@ -30,7 +30,9 @@ use Rattle.c_grammar.specs.Sequences.{in_parts}
 use Rattle.c_grammar.specs.Macros.{replaced}
 use Rattle.c_grammar.specs.DeclaredFunctions.{undeclared}
 use Rattle.c_grammar.specs.Prints.{printed}
-use Rattle.c_grammar.specs.Source.{written_out}
+use Rattle.c_grammar.specs.Source as forms
+use Rattle.c_source.specs.Source.{written_out}
+use Rattle.c_temporaries.specs.Temporaries.{in_place}
 use Rattle.erasure.proofs.Spelled.{kinds_in}
 use Rattle.same_text.proofs.Unlined.{all_unlined, AreUnlined, typed_unlined, blocks_unlined}
 use Rattle.same_text.proofs.UnlinedNesting.{nested_unlined}
@@ -61,6 +63,7 @@ use Rattle.same_text.proofs.UnlinedDropped.{undefined_unlined}
 use Rattle.same_text.proofs.UnlinedAllocations.{allocated_unlined}
 use Rattle.same_text.proofs.UnlinedGlobals.{initialized_unlined}
 use Rattle.same_text.proofs.UnlinedChanges.{full_unlined}
+use Rattle.same_text.proofs.UnlinedTemporaries.{place_unlined}
 
 -- what follows the constants
 later_unlined : (is : Items) →
@@ -74,8 +77,9 @@ later_unlined is =
     ∙ ap on_devices (announced_unlined (in_full begin 0 (initialized no_globals 0 (allocated is))))
     ∙ devices_unlined (announced (in_full begin 0 (initialized no_globals 0 (allocated is))))
 
-written_unlined : (is : Items) → AreUnlined (written_out (all_unlined is)) (written_out is)
-written_unlined is =
+-- before temporaries are put in their places
+forms_unlined : (is : Items) → AreUnlined (forms.written_out (all_unlined is)) (forms.written_out is)
+forms_unlined is =
     let m : Items = replaced is in
     let z : Items = in_parts m in
     let n : Items = nested z in
@@ -143,6 +147,9 @@ written_unlined is =
     ∙ ap since_updates (flat_unlined r false [] [] [] 0)
     ∙ ap since_boxes (boxed_unlined g)
     ∙ ap later (commuting_unlined (boxed g) Outside) ∙ later_unlined (commuting Outside (boxed g))
+
+written_unlined : (is : Items) → AreUnlined (written_out (all_unlined is)) (written_out is)
+written_unlined is = ap in_place (forms_unlined is) ∙ place_unlined (forms.written_out is)
 
 kinds_unlined : (is : Items) → kinds_in is ≡ kinds_in (all_unlined is)
 kinds_unlined [] = refl

@@ -4,7 +4,8 @@ use Rattle.base.specs.declared.tree.Program.{Program}
 use Rattle.base.specs.Meaning.{erased, lengths_of}
 use Rattle.c_grammar.specs.Blocks.{bare}
 use Rattle.c_grammar.specs.Grammar.{Text}
-use Rattle.c_grammar.specs.Source.{max_source, Spells as SpellsText}
+use Rattle.c_grammar.specs.Source.{max_source}
+use Rattle.c_source.specs.Source.{Spells as SpellsText}
 use Rattle.c_grammar.specs.Terminal.{Terminal}
 use Rattle.c_grammar.specs.Texts.{Item}
 use Rattle.c_read.specs.Spells.{Spells}

@@ -149,7 +149,7 @@ $ ompc explain forms/int_list.c
 forms/int_list.c:3:1: error: `int` cannot stand here [E102]
     3 | int i, n;
       | ^~~
-forms/int_list.c:3:1: help: the one type is `uint64_t`, also written `size_t`, `unsigned long` or `unsigned long long`, without other words before it; the name of a loop, and a constant, may be an `int`
+forms/int_list.c:3:1: help: the one type is `uint64_t`, also written `size_t`, `unsigned long` or `unsigned long long`, without other words before it; the name of a loop, a constant, and `int k = i / 8;`, whose value is made of these and which nothing changes, may be an `int`
 [1]
 $ ompc explain forms/two_names.c
 forms/two_names.c:2:11: error: `,` cannot stand here [E102]
@@ -239,7 +239,7 @@ $ ompc explain forms/size.c
 forms/size.c:2:1: error: `unsigned` is not declared here [E103]
     2 | unsigned x = 4;
       | ^~~~~~~~
-forms/size.c:2:1: help: the one type is `uint64_t`, also written `size_t`, `unsigned long` or `unsigned long long`, without other words before it; the name of a loop, and a constant, may be an `int`
+forms/size.c:2:1: help: the one type is `uint64_t`, also written `size_t`, `unsigned long` or `unsigned long long`, without other words before it; the name of a loop, a constant, and `int k = i / 8;`, whose value is made of these and which nothing changes, may be an `int`
 [1]
 
 # numbers and texts

@@ -1,8 +1,8 @@
 //! Sources as people write them, each with a source without new forms that means the same: their trees are compared, but
 //! for the places. A pair stands below a line `== ` with its name; a line `--` stands between the two.
 
-use super::reading;
 use super::rows::expanded;
+use super::{are_cuts_refused, reading};
 use crate::tally::Tally;
 use crate::text::Text;
 use std::alloc::{AllocError, Global};
@@ -47,12 +47,22 @@ fn tree_of(alloc: Global, text: &str) -> Result<Vec<u8>, AllocError> {
     without_places(alloc, &reading(alloc, &expanded(alloc, text)?)?)
 }
 
-/// Compares both trees of each pair. A pair that differs is named by what it shows.
+/// Whether a source is refused wherever it is cut off before its end.
+fn is_read_as_a_whole(alloc: Global, text: &str) -> Result<bool, AllocError> {
+    let source = expanded(alloc, text)?;
+    Ok(are_cuts_refused(alloc, source.trim_ascii_end()))
+}
+
+/// Compares both trees of each pair, and cuts the first source off after each byte. A pair that differs is named by what it
+/// shows.
 pub(crate) fn compare_pairs(alloc: Global, tally: &mut Tally, file: &str) -> io::Result<()> {
     for row in file.trim_end_matches('\n').split("\n== ").skip(1) {
         let (name, texts) = row.split_once('\n').unwrap_or((row, ""));
         let (written, plain) = texts.split_once("\n--\n").unwrap_or((texts, ""));
         tally.compare(name, "", &tree_of(alloc, written)?, &tree_of(alloc, plain)?);
+        if !is_read_as_a_whole(alloc, written)? {
+            tally.compare(name, "", b"a part of it is read", b"");
+        }
     }
     Ok(())
 }

@@ -1,7 +1,8 @@
 use Rattle.std.proofs.Common.{◌≤◌, length, arith, subst}
 use Rattle.c_grammar.specs.Program.{start}
 use Rattle.c_grammar.specs.Rules.{begin}
-use Rattle.c_grammar.specs.Source.{items_of, max_source}
+use Rattle.c_grammar.specs.Source.{max_source}
+use Rattle.c_source.specs.Source.{items_of}
 use Rattle.c_expressions.specs.declared.fault.ReadError.{ReadError}
 use Rattle.c_expressions.specs.Reading.{run, Failed}
 use Rattle.c_read.proofs.Answered.{spells, no_text, is_first, is_none}

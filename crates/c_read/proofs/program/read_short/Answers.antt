@@ -1,6 +1,6 @@
 use Rattle.std.proofs.Common.{subst, sym}
 use Rattle.c_grammar.specs.AsciiNames.{AreAscii}
-use Rattle.c_grammar.proofs.AsciiNames.{names_are_ascii}
+use Rattle.c_source.proofs.Written.{names_are_ascii}
 use Rattle.c_expressions.specs.Means.{Items}
 use Rattle.c_expressions.specs.Reading.{terminals}
 use Rattle.c_read.proofs.program.read_short.Goals as goal

@@ -1,6 +1,6 @@
 use Rattle.std.proofs.Common.{◌∙◌, List, ℕ, subst}
 use Rattle.std.specs.Prelude.{IfOk, IfErr}
-use Rattle.c_grammar.specs.Source.{IsFirstFault}
+use Rattle.c_source.specs.Source.{IsFirstFault}
 use Rattle.c_read.specs.Spells.{OnText, Spells}
 use Rattle.erased_meaning.proofs.Reading.{on_erased, on_memory}
 use Rattle.erased_meaning.proofs.read.read_erased.Goals as goal

@@ -1,6 +1,6 @@
 use Rattle.std.proofs.Common.{rules, arith, ◌≡◌, ℕ, ◌+◌, ◌≤◌, List, length, ap, sym, subst, ◌∙◌}
 use Rattle.c_tokens.specs.Ahead.{ahead}
-use Rattle.c_grammar.specs.Source.{Spells}
+use Rattle.c_source.specs.Source.{Spells}
 use Rattle.erasure.specs.Plain.{plain_tree}
 use Rattle.erasure.proofs.Spelled.{spells_plain}
 use Rattle.erasure.specs.Erased.{erased_text, items_in}

@@ -1,0 +1,3 @@
+pub mod Temporaries
+pub mod Parts
+pub mod States
