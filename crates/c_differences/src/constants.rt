@@ -232,6 +232,23 @@ impl<'a> Numbers<'a> {
         }
     }
 
+    /// Whether other names stand at both places.
+    pub fn is_another_at(&self, place: Place, name: Place) -> bool {
+        match (self.token_at(place), self.token_at(name)) {
+            (Some(one), Some(other)) => text_of(self.bytes, one) != text_of(self.bytes, other),
+            _ => false,
+        }
+    }
+
+    /// Whether a name stands at a place that is declared by the type `int`, as a temporary is, whose value stands there in
+    /// the source that is written out.
+    pub fn is_temporary_at(&self, place: Place) -> bool {
+        match self.token_at(place) {
+            None => false,
+            Some(token) => self.is_int(text_of(self.bytes, token)),
+        }
+    }
+
     /// Whether the number that stands at a place is written there as a decimal without a suffix, or is the 1 of `++`
     /// or `--`.
     pub fn is_decimal_at(&self, place: Place, n: u64) -> bool {

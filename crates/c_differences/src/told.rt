@@ -16,12 +16,15 @@ use c_terminals::{Written, borrowed, owned};
 use c_written::written;
 use std::alloc::{AllocError, Global};
 
+/// How often a temporary is looked for among all tokens.
+const MOST_QUESTIONS: u32 = 1024;
+
 /// The expressions of a program that may have another value in C, in their order.
 #[derive(Drop)]
 pub struct Differences {
     pub list: Vec<Difference>,
     /// Each number is written as a decimal without a suffix, `printf` prints none of a type with 32 bits, and no loop's
-    /// name is of the type `int`.
+    /// name, and no temporary with one in it, is of the type `int`.
     pub plain: bool,
 }
 
@@ -83,6 +86,7 @@ pub fn differences_of(
         stream: Stream::new(&tokens),
         found: Vec::new(alloc),
         loops: Vec::new(alloc),
+        questions: MOST_QUESTIONS,
         plain: true,
     };
     walk.parts(&program.body)?;

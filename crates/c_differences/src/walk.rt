@@ -13,14 +13,25 @@ use base::tree::{
 };
 use std::alloc::AllocError;
 
+/// A loop around: what is known of its name, where that stands in the head, and its first number and its end.
+#[derive(Clone, Copy)]
+pub struct Known {
+    shape: Shape,
+    name: Place,
+    first: u64,
+    end: u64,
+}
+
 /// What has been told so far.
 #[derive(Drop)]
 pub struct Walk<'a, 'w> {
     pub numbers: &'w Numbers<'a>,
     pub stream: Stream<'a, 'w>,
     pub found: Vec<Difference>,
-    /// What is known of the names of the loops around, the outermost first.
-    pub loops: Vec<Shape>,
+    /// The loops around, the outermost first.
+    pub loops: Vec<Known>,
+    /// How often it may still be asked whether a temporary stands at a place, which is looked for in all tokens.
+    pub questions: u32,
     /// Each number so far is written as a decimal without a suffix, `printf` prints none of a type with 32 bits, and no
     /// loop's name is of the type `int`.
     pub plain: bool,
@@ -193,8 +204,8 @@ impl Walk<'_, '_> {
                 Ok(Some(unsigned()))
             }
             Expr::LoopName(level) => {
-                self.stream.name();
-                Ok(Some(self.loop_name(*level as usize)))
+                let place = self.stream.name();
+                Ok(Some(self.loop_name(*level as usize, place)))
             }
             Expr::Cell(_, _, subscript) => self.of_cell(subscript),
             Expr::Unary(op, a) => self.of_unary(*op, a),
@@ -247,11 +258,20 @@ impl Walk<'_, '_> {
         self.tell(place, misfit, literal(e))
     }
 
-    fn loop_name(&self, level: usize) -> Shape {
-        match self.loops.get(level) {
-            None => unsigned(),
-            Some(shape) => *shape,
+    // The name of a loop. Where it stands for a temporary, it is an `int` in C, whatever the loop's is.
+    fn loop_name(&mut self, level: usize, place: Place) -> Shape {
+        let Some(known) = self.loops.get(level).copied() else {
+            return unsigned();
+        };
+        if self.questions == 0 || !self.numbers.is_another_at(place, known.name) {
+            return known.shape;
         }
+        self.questions -= 1;
+        if !self.numbers.is_temporary_at(place) {
+            return known.shape;
+        }
+        self.plain = false;
+        counter(known.first, known.end)
     }
 
     // The name of a loop of the type `int`, whose end is told where the type may not hold the number behind the last turn.
@@ -283,7 +303,12 @@ impl Walk<'_, '_> {
         } else {
             unsigned()
         };
-        self.loops.push(shape)?;
+        self.loops.push(Known {
+            shape,
+            name,
+            first: bounds.first,
+            end: bounds.end,
+        })?;
         Ok(())
     }
 
