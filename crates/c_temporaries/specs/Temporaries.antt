@@ -1,7 +1,8 @@
 -- Temporaries of the type int: a declaration int x = E; in a block, whose value has numbers and names of loops around it, is
 -- left out where nothing in the rest of its block changes x or declares it anew. There each x stands for ( E ), at its own
--- place. Of int x = E, y = F; the rest is int y = F; then. This is looked for in tokens that are written out: a loop that is read is for ( uint64_t NAME = .. by then, each
--- change is an =, and no int is read but the one before main. In C the value is an int: it is the same below 2^31.
+-- place. Of int x = E, y = F; the rest is int y = F; then. This is looked for in tokens that are written out: a loop that is
+-- read is for ( uint64_t NAME = .. by then, each change is an =, and no int is read but the one before main. In C the value
+-- is an int: it is the same below 2^31, and what is computed of it where no part of that is below 0.
 use Rattle.std.specs.Prelude.{ℕ, zero, suc, ◌+◌, ◌-◌, ◌==◌, Bool, true, false, not, ◌&&◌, ◌||◌, nat_le, nat_lt, if◌then◌else◌, List, [], ◌∷◌, ◌++◌, length, map, Option, Some, None, option_and_then}
 use Rattle.std.specs.Str.{bytes_eq}
 use Rattle.c_tokens.specs.declared.kind.Sign.TheVariants as sign
