@@ -618,3 +618,17 @@ forms/greatest_of_another.c:3:50: help: a reduction, by one of `+ * & | ^`, `min
 $ ompc run forms/greatest.c
 17
 10
+# a temporary is an int in C, whatever the name of the loop is
+$ ompc explain forms/temporary.c
+forms/temporary.c: accepted
+forms/temporary.c:3:60: warning: in C this has type `int`, and may be negative [W601]
+    3 |     for (uint64_t i = 0; i < 8; i++) { int x = i; A[x] = x - 5 < 3; }
+      |                                                            ^
+forms/temporary.c:3:60: help: make an operand a `uint64_t`: `5ul`
+# a scalar in its value
+$ ompc explain forms/no_temporary.c
+forms/no_temporary.c:3:35: error: `int` cannot stand here [E102]
+    3 |     for (int i = 0; i < 8; i++) { int x = i + s; A[x % 8] = 1; }
+      |                                   ^~~
+forms/no_temporary.c:3:35: help: the one type is `uint64_t`, also written `size_t`, `unsigned long` or `unsigned long long`, without other words before it; the name of a loop, a constant, and `int k = i / 8;`, whose value is made of these and which nothing changes, may be an `int`
+[1]
