@@ -7,8 +7,8 @@ use Rattle.c_grammar.specs.Terminal.{Terminal, Name, same}
 use Rattle.c_grammar.specs.Texts.{Item}
 use Rattle.c_grammar.specs.Blocks.{Items}
 use Rattle.c_grammar.specs.Constants.{is_mark}
-use Rattle.c_grammar.specs.Counters.{is_type}
-use Rattle.c_temporaries.specs.Temporaries.{inner_depth, is_assigned, stays}
+use Rattle.c_grammar.specs.Counters.{is_set, is_type}
+use Rattle.c_temporaries.specs.Temporaries.{inner_depth, stays}
 
 positive : (n : ℕ) → 0 < n → (n == 0) ≡ false
 positive n h = grind (arith, nat_tests)
@@ -47,14 +47,14 @@ declared zero x t d i is js h e c n g = absurd (omega (arith, h))
 declared (suc k) x t d i is js h e c n g = rw e (rw (c, n, g) refl)
 
 pub assigned : (l : ℕ) (x : List ℕ) (t : Bool) (d : ℕ) (i : Item Terminal) (is js : Items) → 0 < l → is ≡ i ∷ js →
-    is_mark sign.CloseBrace i ≡ false → same (Name x) i.terminal ≡ true → t ≡ false → is_assigned js ≡ true →
+    is_mark sign.CloseBrace i ≡ false → same (Name x) i.terminal ≡ true → t ≡ false → is_set js ≡ true →
     false ≡ stays l x t d is
 assigned zero x t d i is js h e c n g a = absurd (omega (arith, h))
 assigned (suc k) x t d i is js h e c n g a = rw e (rw (c, n, g, a) refl)
 
 -- it is neither
 pub read : (l : ℕ) (x : List ℕ) (t : Bool) (d : ℕ) (i : Item Terminal) (is js : Items) → 0 < l → is ≡ i ∷ js →
-    is_mark sign.CloseBrace i ≡ false → same (Name x) i.terminal ≡ true → t ≡ false → is_assigned js ≡ false →
+    is_mark sign.CloseBrace i ≡ false → same (Name x) i.terminal ≡ true → t ≡ false → is_set js ≡ false →
     stays l x t d is ≡ stays (l - 1) x t d js
 read zero x t d i is js h e c n g a = absurd (omega (arith, h))
 read (suc k) x t d i is js h e c n g a =

@@ -1,9 +1,6 @@
 -- What values, and names that are known, stand for.
-use Rattle.std.specs.Prelude.{ℕ, Bool, true, false, ◌||◌, List, map, reverse, Option, Some, None}
-use Rattle.c_tokens.specs.declared.kind.Sign.TheVariants as sign
+use Rattle.std.specs.Prelude.{ℕ, Bool, true, false, List, map, reverse, Option, Some, None}
 use Rattle.c_grammar.specs.Terminal.{Terminal, Mark, Name, Num}
-use Rattle.c_grammar.specs.Texts.{Item}
-use Rattle.c_grammar.specs.Constants.{is_mark}
 use Rattle.c_terminals.specs.Ahead.{ahead}
 use Rattle.c_temporaries.specs.Temporaries as spec
 use Rattle.c_temporaries.specs.Temporaries.{Terminals}
@@ -54,9 +51,3 @@ so_far false v = None
 
 abbrev pub seen_whole : Whole → spec.Whole
 seen_whole w = record { tokens = seen_parts w.tokens.items; len = w.len; more = w.more; rest = ahead w.rest }
-
--- an operator with any operand behind it
-abbrev pub is_operator : Item Terminal → Bool
-is_operator i =
-    is_mark sign.Plus i || is_mark sign.Minus i || is_mark sign.Star i || is_mark sign.Ampersand i || is_mark sign.Bar i ||
-    is_mark sign.Caret i

@@ -11,7 +11,7 @@ use Rattle.c_grammar.specs.Terminal.{Terminal, Fixed, Mark, Name, Num, same}
 use Rattle.c_grammar.specs.Texts.{Item}
 use Rattle.c_grammar.specs.Blocks.{Items, at, bare, is_directive}
 use Rattle.c_grammar.specs.Constants.{is_mark}
-use Rattle.c_grammar.specs.Counters.{is_type}
+use Rattle.c_grammar.specs.Counters.{is_set, is_type}
 use Rattle.c_grammar.specs.Triangles.{name_in}
 
 abbrev pub Terminals : Type 0
@@ -41,13 +41,18 @@ still_known d (k ∷ ks) = if nat_lt d k.depth then still_known d ks else k ∷ 
 pub data Wanted : Type 0 where
   AnOperand ADivisor AShift AnOperator : Wanted
 
+-- an operator with any operand behind it
+abbrev pub is_operator : Item Terminal → Bool
+is_operator i =
+    is_mark sign.Plus i || is_mark sign.Minus i || is_mark sign.Star i || is_mark sign.Ampersand i || is_mark sign.Bar i ||
+    is_mark sign.Caret i
+
 -- behind an operator
 abbrev pub wanted_behind : Item Terminal → Option Wanted
 wanted_behind i =
     if is_mark sign.Slash i || is_mark sign.Percent i then Some ADivisor
     else (if is_mark sign.ShiftLeft i || is_mark sign.ShiftRight i then Some AShift
-    else (if is_mark sign.Plus i || is_mark sign.Minus i || is_mark sign.Star i || is_mark sign.Ampersand i || is_mark sign.Bar i ||
-    is_mark sign.Caret i then Some AnOperand else None))
+    else (if is_operator i then Some AnOperand else None))
 
 -- a value so far: what has to come next, how many brackets are open, and its tokens
 pub record Value : Type 0 where
@@ -127,10 +132,6 @@ value_from ks n v (i ∷ is) =
 
 -- ---- what follows
 
-abbrev pub is_assigned : Items → Bool
-is_assigned [] = false
-is_assigned (i ∷ is) = is_mark sign.Equal i
-
 abbrev pub inner_depth : Item Terminal → ℕ → ℕ
 inner_depth i d = if is_mark sign.OpenBrace i then d + 1 else d
 
@@ -141,7 +142,7 @@ stays zero x typed d is = false
 stays (suc k) x typed d [] = true
 stays (suc k) x typed d (i ∷ is) =
     if is_mark sign.CloseBrace i then d == 0 || stays k x false (d - 1) is
-    else (if same (Name x) i.terminal then not typed && (not (is_assigned is) && stays k x false d is)
+    else (if same (Name x) i.terminal then not typed && (not (is_set is) && stays k x false d is)
     else stays k x (is_type i.terminal) (inner_depth i d) is)
 
 -- ---- all tokens

@@ -1,8 +1,8 @@
 //! Whether a name stays what it is up to the end of a block.
 
 ghost use Rattle.std.specs.Prelude.{◌≡◌, IfOk, false};
-ghost use Rattle.c_grammar.specs.Counters.{is_type};
-ghost use Rattle.c_temporaries.specs.Temporaries.{inner_depth, is_assigned, max_scope, stays};
+ghost use Rattle.c_grammar.specs.Counters.{is_set, is_type};
+ghost use Rattle.c_temporaries.specs.Temporaries.{inner_depth, max_scope, stays};
 ghost use Rattle.c_terminals.specs.Ahead.{ahead};
 ghost use Rattle.c_terminals.specs.Seen.{seen, seen_terminal};
 
@@ -21,7 +21,7 @@ fn is_type(terminal: Terminal<'_, '_>) -> bool
 }
 
 fn is_assigned(rest: Ahead<'_, '_, '_>) -> bool
-    ensures { result ≡ is_assigned (ahead rest.entry) }
+    ensures { result ≡ is_set (ahead rest.entry) }
 {
     let mut ahead = rest;
     match ahead.next() {

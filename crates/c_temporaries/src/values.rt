@@ -4,8 +4,8 @@ ghost use Rattle.std.specs.Prelude.{◌≡◌, ◌||◌, IfOk};
 ghost use Rattle.std.specs.Option.{option_map};
 ghost use Rattle.c_grammar.specs.Constants.{is_mark};
 ghost use Rattle.c_tokens.specs.declared.kind.Sign.TheVariants as sign;
-ghost use Rattle.c_temporaries.specs.Parts.{is_operator, seen_knowns, seen_wanted, seen_whole};
-ghost use Rattle.c_temporaries.specs.Temporaries.{nothing_read, value_from, wanted_behind};
+ghost use Rattle.c_temporaries.specs.Parts.{seen_knowns, seen_wanted, seen_whole};
+ghost use Rattle.c_temporaries.specs.Temporaries.{is_operator, nothing_read, value_from, wanted_behind};
 ghost use Rattle.c_terminals.specs.Ahead.{ahead};
 ghost use Rattle.c_terminals.specs.Seen.{seen};
 

@@ -7,9 +7,9 @@ use Rattle.c_grammar.specs.Terminal.{Terminal, Fixed, Mark, Name, Num, Line, Unk
 use Rattle.c_grammar.specs.Texts.{Item}
 use Rattle.c_grammar.specs.Blocks.{Items, at, bare, is_directive}
 use Rattle.c_grammar.specs.Constants.{is_mark}
-use Rattle.c_grammar.specs.Counters.{is_type}
+use Rattle.c_grammar.specs.Counters.{is_set, is_type}
 use Rattle.c_grammar.specs.Triangles.{name_in}
-use Rattle.c_temporaries.specs.Temporaries.{ADivisor, AShift, AnOperand, AnOperator, Known, Onward, State, Temporary, Terminals, Value, Wanted, Whole, begin, behind, declared_at, declared_in, further_on, in_brackets, in_place, inner_depth, is_assigned, is_whole, max_known, max_scope, max_value, may_begin, named_by, nothing_read, placed, placed_by, placed_on, put, put_on, spent, stays, temporary_of, typed, typed_in, value_at, value_by, value_from, written_at}
+use Rattle.c_temporaries.specs.Temporaries.{ADivisor, AShift, AnOperand, AnOperator, Known, Onward, State, Temporary, Terminals, Value, Wanted, Whole, begin, behind, declared_at, declared_in, further_on, in_brackets, in_place, inner_depth, is_whole, max_known, max_scope, max_value, may_begin, named_by, nothing_read, placed, placed_by, placed_on, put, put_on, spent, stays, temporary_of, typed, typed_in, value_at, value_by, value_from, written_at}
 use Rattle.same_text.specs.Laws.{unlined}
 use Rattle.same_text.proofs.Unlined.{AreUnlined, all_unlined, bare_unlined, one, some}
 
@@ -46,7 +46,7 @@ value_unlined (i ∷ is) ks n v =
 
 -- ---- what follows
 
-assigned_unlined : (is : Items) → is_assigned (all_unlined is) ≡ is_assigned is
+assigned_unlined : (is : Items) → is_set (all_unlined is) ≡ is_set is
 assigned_unlined [] = refl
 assigned_unlined (i ∷ is) = refl
 
