@@ -263,7 +263,11 @@ impl Walk<'_, '_> {
         let Some(known) = self.loops.get(level).copied() else {
             return unsigned();
         };
-        if self.questions == 0 || !self.numbers.is_another_at(place, known.name) {
+        if !self.numbers.is_another_at(place, known.name) {
+            return known.shape;
+        }
+        if self.questions == 0 {
+            self.plain = false;
             return known.shape;
         }
         self.questions -= 1;
