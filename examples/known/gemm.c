@@ -28,7 +28,7 @@ static void kernel_gemm(int ni, int nj, int nk, uint64_t alpha, uint64_t beta,
 {
   int i, j, k;
 
-  #pragma omp target teams distribute parallel for collapse(2) map(to: A[0:ni], B[0:nk]) map(tofrom: C[0:ni])
+  #pragma omp target teams distribute parallel for collapse(2) private(k) map(to: A[0:ni], B[0:nk]) map(tofrom: C[0:ni])
   for (i = 0; i < ni; i++)
     for (j = 0; j < nj; j++) {
       C[i][j] *= beta;

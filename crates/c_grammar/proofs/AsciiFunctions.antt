@@ -12,7 +12,7 @@ use Rattle.c_grammar.specs.Blocks.{Items, is_directive, bare}
 use Rattle.c_grammar.specs.Changes.{is_mark, is_boundary}
 use Rattle.c_grammar.specs.Constants.{Names, is_among, is_name, worked}
 use Rattle.c_grammar.specs.AsciiNames.{IsAsciiTerminal}
-use Rattle.c_grammar.specs.Functions.{array_names, Arguments, Declared, Expanded, Function, Functions, Gives, NoValue, AValue, AStatus, without_value, Headed, Known, Others, Passed, Parameter, Put, Scalar, Array, Small, Sort, stands_for, stands_small, passes_as, passes_small, Called, Counts, Puts, Returned, Where, Outside, InHead, InBody, added, argument_closed, argument_on, arguments, assigned_call, block_of, both, call, called, closed, closes, constant_in, declaration, declared_call, defined, digits, ends_here, expanded, expanded_at, expanded_by, expanded_of, expanded_with, expansion, first_some, function_of, function_with, given, has_function, has_value, head_at, headed_or, in_body, in_head, in_room, is_main, is_none, is_specifier, is_static, known_names, later, left_len, line_in, local, may_be_added, most_lines, names_in, other_name, nothing_known, opens, out_of_body, outside, parameters_from, passed, passed_to, passes, passes_array, passes_name, passes_one, passes_one_array, passes_value, put_all, put_for, put_terminal, puts_from, raw_in, returned, returned_by, specifies, statement_on, stays, terminal_for, token_in, unknown, unspelled, value_at, with_function, with_name}
+use Rattle.c_grammar.specs.Functions.{array_names, Arguments, Declared, Expanded, Function, Functions, Gives, NoValue, AValue, AStatus, without_value, Headed, Known, Others, Passed, Parameter, Put, Scalar, Array, Small, Sort, stands_for, stands_small, passes_as, passes_small, Called, Counts, Puts, Returned, Where, Outside, InHead, InBody, added, argument_closed, argument_on, arguments, assigned_call, block_of, both, call, called, closed, closes, constant_in, declaration, declared_call, defined, digits, ends_here, expanded, expanded_at, expanded_by, expanded_of, expanded_with, expansion, first_some, flag_names, function_of, function_with, given, has_function, has_value, head_at, headed_or, in_body, in_head, in_room, is_main, is_none, is_specifier, is_static, known_names, later, left_len, line_in, local, may_be_added, most_lines, names_in, other_name, nothing_known, opens, out_of_body, outside, parameters_from, passed, passed_to, passes, passes_array, passes_name, passes_one, passes_one_array, passes_value, put_all, put_for, put_terminal, puts_from, raw_in, returned, returned_by, specifies, statement_on, stays, terminal_for, token_in, unknown, unspelled, value_at, with_function, with_name}
 use Rattle.c_grammar.specs.Presence.{guarded}
 use Rattle.c_grammar.proofs.AsciiPresence.{guarded_text}
 use Rattle.c_grammar.proofs.AsciiTokens.{AreItemsText, chosen_text, both_text, bare_text}
@@ -108,7 +108,7 @@ from_text k [] = tt
 from_text k (x ∷ xs) = (unspelled_text k, from_text (k + 1) xs)
 
 other_text : (known : Names) → AreOthersText (other_name known)
-other_text known x h = go (is_among known x)
+other_text known x h = go (is_among known x || is_among flag_names x)
   where
     go : (b : Bool) → IsAscii (cond b x unknown)
     go true = h

@@ -51,6 +51,7 @@ use Rattle.c_grammar.specs.Descents.{upward}
 use Rattle.c_grammar.specs.MainArrays.{lifted}
 use Rattle.c_grammar.specs.Locals.{in_scalars}
 use Rattle.c_grammar.specs.Privates.{owned}
+use Rattle.c_grammar.specs.Shared.{apart, awaited, unshared}
 use Rattle.c_grammar.specs.Lasting.{lasting}
 use Rattle.c_grammar.specs.Unset.{zeroed}
 use Rattle.c_grammar.specs.Declarations.{Other, settled}
@@ -72,6 +73,7 @@ use Rattle.c_grammar.proofs.AsciiDevices.{devices_text}
 use Rattle.c_grammar.proofs.AsciiMainArrays.{lifted_text}
 use Rattle.c_grammar.proofs.AsciiLocals.{scalars_are_text}
 use Rattle.c_grammar.proofs.AsciiPrivates.{owned_text}
+use Rattle.c_grammar.proofs.AsciiShared.{apart_text, awaited_text, unshared_text}
 use Rattle.c_grammar.proofs.AsciiDeclarations.{settled_text}
 use Rattle.c_grammar.proofs.AsciiUpdates.{commuting_text}
 use Rattle.c_grammar.proofs.AsciiFunctions.{expanded_text}
@@ -716,7 +718,8 @@ written_text is h =
     let types : Items = typed 0 calls in
     let rows : Items = in_rows types in
     let whole : Items = in_blocks nothing_read (undeclared false rows) in
-    let loops : Items = counted whole in
+    let owning : Items = unshared whole in
+    let loops : Items = counted owning in
     let upwards : Items = upward loops in
     let private : Items = owned upwards in
     let constant : Items = lasting private in
@@ -727,27 +730,29 @@ written_text is h =
     let ended : Items = looped decisions in
     let straight : Items = rectangular ended in
     let global : Items = lifted straight in
-    let single : Items = in_scalars global in
+    let waiting : Items = awaited global in
+    let single : Items = in_scalars waiting in
     let branched : Items = chosen single in
     let plain : Items = undefined [] 0 0 branched in
     let cubes : Items = flat true [] [] [] 0 plain in
     let flattened : Items = flat false [] [] [] 0 cubes in
-    let boxes : Items = boxed flattened in
+    let distinct : Items = apart flattened in
+    let boxes : Items = boxed distinct in
     let cells : Items = commuting Outside boxes in
     devices_text (announced (changes.in_full changes.begin 0 (initialized no_globals 0 (allocated cells))))
     (announced_text (changes.in_full changes.begin 0 (initialized no_globals 0 (allocated cells)))
     (full_text (initialized no_globals 0 (allocated cells)) changes.begin 0 tt
     (initialized_text (allocated cells) no_globals 0 (tt, tt)
-    (allocated_text cells (commuting_text boxes Outside (boxed_text flattened
+    (allocated_text cells (commuting_text boxes Outside (boxed_text distinct (apart_text flattened
     (flat_text cubes false [] [] [] 0 (flat_text plain true [] [] [] 0 (undefined_text branched [] 0 0
-    (choices_text single (scalars_are_text global (lifted_text straight (rectangular_text ended (looped_text decisions
+    (choices_text single (scalars_are_text waiting (awaited_text global (lifted_text straight (rectangular_text ended (looped_text decisions
     (decided_text (expanded arrays)
     (expanded_text (λ is h. worked_text is [] [] 0 h) arrays
     (pointed_text numbered (worked_text known [] [] 0 (settled_text (zeroed constant) Other (zeroed_text constant
-    (lasting_text private (owned_text upwards (upward_text loops (counted_text whole
+    (lasting_text private (owned_text upwards (upward_text loops (counted_text owning (unshared_text whole
     (blocks_text (undeclared false rows) nothing_read (undeclared_text rows false
     (rows_text types (typed_text calls 0
-    (printed_text (nested own) 0 (nested_text own (parts_text (replaced is) (replaced_text is h))))))))))))))))))))))))))))))))
+    (printed_text (nested own) 0 (nested_text own (parts_text (replaced is) (replaced_text is h)))))))))))))))))))))))))))))))))))
 
 all_but : (is : Items) (e : Item Terminal) → AreItemsText (is ++ e ∷ []) → AreItemsText is
 all_but [] e h = tt

@@ -19,6 +19,7 @@ use Rattle.c_grammar.specs.Devices.{on_devices}
 use Rattle.c_grammar.specs.MainArrays.{lifted}
 use Rattle.c_grammar.specs.Locals.{in_scalars}
 use Rattle.c_grammar.specs.Privates.{owned}
+use Rattle.c_grammar.specs.Shared.{apart, awaited, unshared}
 use Rattle.c_grammar.specs.Lasting.{lasting}
 use Rattle.c_grammar.specs.Unset.{zeroed}
 use Rattle.c_grammar.specs.Declarations.{Other, settled}
@@ -56,6 +57,7 @@ use Rattle.c_grammar.proofs.BareMainArrays.{lifted_bare}
 use Rattle.c_grammar.proofs.BareLocals.{scalars_bare}
 use Rattle.c_grammar.proofs.BarePointers.{pointed_bare}
 use Rattle.c_grammar.proofs.BarePrivates.{owned_bare}
+use Rattle.c_grammar.proofs.BareShared.{apart_bare, awaited_bare, unshared_bare}
 use Rattle.c_grammar.proofs.BareDeclarations.{settled_bare}
 use Rattle.c_grammar.proofs.BareLoops.{looped_bare}
 use Rattle.c_grammar.proofs.BareTriangles.{rectangular_bare}
@@ -609,7 +611,8 @@ written_bare is =
     let s : Items = in_rows a in
     let u : Items = undeclared false s in
     let b : Items = in_blocks nothing_read u in
-    let l : Items = counted b in
+    let t : Items = unshared b in
+    let l : Items = counted t in
     let v : Items = upward l in
     let o : Items = owned v in
     let w : Items = lasting o in
@@ -621,7 +624,8 @@ written_bare is =
     let f : Items = looped e in
     let h : Items = rectangular f in
     let j : Items = lifted h in
-    let k : Items = in_scalars j in
+    let i : Items = awaited j in
+    let k : Items = in_scalars i in
     let x : Items = chosen k in
     let r : Items = flat true [] [] [] 0 (undefined [] 0 0 x) in
     let g : Items = flat false [] [] [] 0 r in
@@ -629,16 +633,18 @@ written_bare is =
     λ js. on_devices (announced (changes.in_full changes.begin 0 (initialized no_globals 0 (allocated js)))) in
     let since_updates : Items → Items = λ js. later (commuting Outside js) in
     let since_boxes : Items → Items = λ js. since_updates (boxed js) in
-    let since_rows : Items → Items = λ js. since_boxes (flat false [] [] [] 0 js) in
+    let since_apart : Items → Items = λ js. since_boxes (apart js) in
+    let since_rows : Items → Items = λ js. since_apart (flat false [] [] [] 0 js) in
     let since_grids : Items → Items = λ js. since_rows (flat true [] [] [] 0 js) in
     let since_defined : Items → Items = λ js. since_grids (undefined [] 0 0 js) in
-    let since_loops : Items → Items = λ js. since_defined (chosen (in_scalars (lifted (rectangular js)))) in
+    let since_loops : Items → Items = λ js. since_defined (chosen (in_scalars (awaited (lifted (rectangular js))))) in
     let since_declared : Items → Items = λ js.
     since_loops (looped (decided (expanded (pointed (worked [] [] 0 js))))) in
     let since_zeroed : Items → Items = λ js. since_declared (settled Other js) in
     let since_upward : Items → Items = λ js. since_zeroed (zeroed (lasting (owned js))) in
     let since_counted : Items → Items = λ js. since_upward (upward js) in
-    let since_blocks : Items → Items = λ js. since_counted (counted js) in
+    let since_shared : Items → Items = λ js. since_counted (counted js) in
+    let since_blocks : Items → Items = λ js. since_shared (unshared js) in
     let since_structs : Items → Items = λ js. since_blocks (in_blocks nothing_read (undeclared false js)) in
     let since_typed : Items → Items = λ js. since_structs (in_rows js) in
     ap (λ (js : Items). since_typed (typed 0 (printed 0 (nested (in_parts js))))) (replaced_bare is)
@@ -649,7 +655,8 @@ written_bare is =
     ∙ ap since_structs (rows_bare a)
     ∙ ap (λ (js : Items). since_blocks (in_blocks nothing_read js)) (undeclared_bare s false)
     ∙ ap since_blocks (blocks_bare u nothing_read)
-    ∙ ap since_counted (counted_bare b)
+    ∙ ap since_shared (unshared_bare b)
+    ∙ ap since_counted (counted_bare t)
     ∙ ap since_upward (upward_bare l)
     ∙ ap (λ (js : Items). since_zeroed (zeroed (lasting js))) (owned_bare v)
     ∙ ap (λ (js : Items). since_zeroed (zeroed js)) (lasting_bare o)
@@ -660,12 +667,14 @@ written_bare is =
     ∙ ap (λ (js : Items). since_loops (looped (decided js))) (expanded_bare (λ js. worked_bare js [] [] 0) q)
     ∙ ap (λ (js : Items). since_loops (looped js)) (decided_bare y)
     ∙ ap since_loops (looped_bare e)
-    ∙ ap (λ (js : Items). since_defined (chosen (in_scalars (lifted js)))) (rectangular_bare f)
-    ∙ ap (λ (js : Items). since_defined (chosen (in_scalars js))) (lifted_bare h)
-    ∙ ap (λ (js : Items). since_defined (chosen js)) (scalars_bare j)
+    ∙ ap (λ (js : Items). since_defined (chosen (in_scalars (awaited (lifted js))))) (rectangular_bare f)
+    ∙ ap (λ (js : Items). since_defined (chosen (in_scalars (awaited js)))) (lifted_bare h)
+    ∙ ap (λ (js : Items). since_defined (chosen (in_scalars js))) (awaited_bare j)
+    ∙ ap (λ (js : Items). since_defined (chosen js)) (scalars_bare i)
     ∙ ap since_defined (chosen_bare k)
     ∙ ap since_grids (undefined_bare x [] 0 0)
     ∙ ap since_rows (flat_bare (undefined [] 0 0 x) true [] [] [] 0)
-    ∙ ap since_boxes (flat_bare r false [] [] [] 0)
-    ∙ ap since_updates (boxed_bare g)
-    ∙ ap later (commuting_bare (boxed g)) ∙ later_bare (commuting Outside (boxed g))
+    ∙ ap since_apart (flat_bare r false [] [] [] 0)
+    ∙ ap since_boxes (apart_bare g)
+    ∙ ap since_updates (boxed_bare (apart g))
+    ∙ ap later (commuting_bare (boxed (apart g))) ∙ later_bare (commuting Outside (boxed (apart g)))

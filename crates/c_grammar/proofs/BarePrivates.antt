@@ -8,10 +8,10 @@ use Rattle.c_grammar.specs.Blocks.{Items, bare, is_directive}
 use Rattle.c_grammar.specs.Constants.{Names, with_tokens}
 use Rattle.c_grammar.specs.Expressions.{placed_of}
 use Rattle.c_grammar.specs.Lines.{is_omp}
-use Rattle.c_grammar.specs.Presence.{before_end, is_target, target_column}
+use Rattle.c_grammar.specs.Presence.{before_end, is_target, no_clause, target_column}
 use Rattle.c_grammar.specs.Updates.{is_combined}
 use Rattle.c_grammar.specs.Moves.{all_moved, moved_names}
-use Rattle.c_grammar.specs.Privates.{declared, no_clause, noted, noted_item, owned, owned_by, owned_item, owned_lines, owned_tokens, shares}
+use Rattle.c_grammar.specs.Privates.{declared, noted, noted_item, owned, owned_by, owned_item, owned_lines, owned_tokens, shares}
 use Rattle.c_grammar.proofs.BareMoves.{all_moved_bare}
 use Rattle.c_grammar.proofs.BarePresence.{line_kept, omp_stays}
 use Rattle.c_grammar.proofs.BareTokens.{IsBare, same_bare}

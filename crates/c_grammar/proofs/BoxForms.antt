@@ -59,9 +59,18 @@ mapped_elsewhere : fault (codes "#pragma omp target map(tofrom: s)" ∷ codes "{
 unfolding index_len number_of hex_number_of number_piece sign_one sign_two sign_three changing_sign sign_at format_at piece_at comment_end_from is_include after tokens_from word_of is_omp expression line_from clauses_from worked in_blocks typed printed undefined all_read initialized in_full run enter breaks wrong sort_of advance place_code first_broken first_wrong kind_of holds is_atomic is_target depth_of collapse_from uses_of uses_from line_fault line_breaks line_wrong line_enter line_advance line_place line_first_broken line_first_wrong piece_on_line lexemes_from
 mapped_elsewhere = refl
 
-moved : fault (codes "#pragma omp target data map(to: s)" ∷ codes "{ s = read();" ∷ codes "#pragma omp target update to(s)" ∷ codes "#pragma omp target" ∷ codes "{ A[0] = s; } }" ∷ []) ≡ None
+-- but where the device may have it already, which C does not look at
+moved : fault (codes "#pragma omp target data map(to: s)" ∷ codes "{ s = read();" ∷ codes "#pragma omp target update to(s)" ∷ codes "#pragma omp target" ∷ codes "{ A[0] = s; } }" ∷ []) ≡ at UnknownClause 6 13
 unfolding index_len number_of hex_number_of number_piece sign_one sign_two sign_three changing_sign sign_at format_at piece_at comment_end_from is_include after tokens_from word_of is_omp expression line_from clauses_from worked in_blocks typed printed undefined all_read initialized in_full run enter breaks wrong sort_of advance place_code first_broken first_wrong kind_of holds is_atomic is_target depth_of collapse_from uses_of uses_from line_fault line_breaks line_wrong line_enter line_advance line_place line_first_broken line_first_wrong piece_on_line lexemes_from
 moved = refl
+
+copied : fault (codes "#pragma omp target data map(tofrom: s)" ∷ codes "{" ∷ codes "#pragma omp target firstprivate(s)" ∷ codes "{ A[0] = s; } }" ∷ []) ≡ at UnknownClause 5 13
+unfolding index_len number_of hex_number_of number_piece sign_one sign_two sign_three changing_sign sign_at format_at piece_at comment_end_from is_include after tokens_from word_of is_omp expression line_from clauses_from worked in_blocks typed printed undefined all_read initialized in_full run enter breaks wrong sort_of advance place_code first_broken first_wrong kind_of holds is_atomic is_target depth_of collapse_from uses_of uses_from line_fault line_breaks line_wrong line_enter line_advance line_place line_first_broken line_first_wrong piece_on_line lexemes_from
+copied = refl
+
+ordered_and_not_mapped : fault (codes "#pragma omp target map(from: s) nowait depend(out: s)" ∷ codes "{ s = 1; }" ∷ codes "#pragma omp target depend(in: s)" ∷ codes "{ A[0] = s; }" ∷ []) ≡ at UnknownClause 5 13
+unfolding index_len number_of hex_number_of number_piece sign_one sign_two sign_three changing_sign sign_at format_at piece_at comment_end_from is_include after tokens_from word_of is_omp expression line_from clauses_from worked in_blocks typed printed undefined all_read initialized in_full run enter breaks wrong sort_of advance place_code first_broken first_wrong kind_of holds is_atomic is_target depth_of collapse_from uses_of uses_from line_fault line_breaks line_wrong line_enter line_advance line_place line_first_broken line_first_wrong piece_on_line lexemes_from
+ordered_and_not_mapped = refl
 
 ordered : fault (codes "#pragma omp target map(from: s) nowait depend(out: s)" ∷ codes "{ s = A[1]; }" ∷ codes "#pragma omp taskwait" ∷ []) ≡ None
 unfolding index_len number_of hex_number_of number_piece sign_one sign_two sign_three changing_sign sign_at format_at piece_at comment_end_from is_include after tokens_from word_of is_omp expression line_from clauses_from worked in_blocks typed printed undefined all_read initialized in_full run enter breaks wrong sort_of advance place_code first_broken first_wrong kind_of holds is_atomic is_target depth_of collapse_from uses_of uses_from line_fault line_breaks line_wrong line_enter line_advance line_place line_first_broken line_first_wrong piece_on_line lexemes_from

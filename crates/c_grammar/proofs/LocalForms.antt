@@ -3,7 +3,7 @@ use Rattle.std.proofs.Common.{◌≡◌, ℕ, List, [], ◌∷◌, ◌++◌, map
 use Rattle.std.specs.Prelude.{codes}
 use Rattle.base.specs.declared.fault.TextFault.{TextFault}
 use Rattle.base.specs.declared.fault.ReadCode.{ReadCode as Code}
-use Rattle.base.specs.declared.fault.ReadCode.TheVariants.{Unexpected, Undeclared, UnknownDirective}
+use Rattle.base.specs.declared.fault.ReadCode.TheVariants.{Unexpected, Undeclared, UnknownClause, UnknownDirective}
 use Rattle.c_tokens.specs.declared.kind.Sign.TheVariants as sign
 use Rattle.c_tokens.specs.Text.{tokens_of}
 use Rattle.c_tokens.specs.Piece.{number_of, hex_number_of, number_piece, sign_one, sign_two, sign_three, changing_sign, sign_at, format_at, piece_at, comment_end_from, is_include}
@@ -110,3 +110,16 @@ line_in_turns = refl
 too_many_cells : fault (codes "uint64_t t[257];" ∷ []) ≡ at Unexpected 2 11
 unfolding cell_names called defined parameters arguments index_len number_of hex_number_of number_piece sign_one sign_two sign_three changing_sign sign_at format_at piece_at comment_end_from is_include after tokens_from word_of is_omp expression line_from clauses_from worked in_blocks typed printed undefined all_read initialized in_full run enter breaks wrong sort_of advance place_code first_broken first_wrong kind_of holds is_atomic is_target depth_of collapse_from uses_of uses_from line_fault line_breaks line_wrong line_enter line_advance line_place line_first_broken line_first_wrong piece_on_line lexemes_from
 too_many_cells = refl
+
+-- a target with nowait may use an array of a block when it has other numbers
+behind_its_line : fault (codes "uint64_t t[2] = {1, 2};" ∷ codes "#pragma omp target nowait map(tofrom: A)" ∷ codes "{ A[0] = t[1]; }" ∷ codes "#pragma omp taskwait" ∷ []) ≡ at UnknownClause 3 13
+unfolding cell_names called defined parameters arguments index_len number_of hex_number_of number_piece sign_one sign_two sign_three changing_sign sign_at format_at piece_at comment_end_from is_include after tokens_from word_of is_omp expression line_from clauses_from worked in_blocks typed printed undefined all_read initialized in_full run enter breaks wrong sort_of advance place_code first_broken first_wrong kind_of holds is_atomic is_target depth_of collapse_from uses_of uses_from line_fault line_breaks line_wrong line_enter line_advance line_place line_first_broken line_first_wrong piece_on_line lexemes_from
+behind_its_line = refl
+
+at_its_line : fault (codes "uint64_t t[2] = {1, 2};" ∷ codes "#pragma omp target map(tofrom: A)" ∷ codes "{ A[0] = t[1]; }" ∷ []) ≡ None
+unfolding cell_names called defined parameters arguments index_len number_of hex_number_of number_piece sign_one sign_two sign_three changing_sign sign_at format_at piece_at comment_end_from is_include after tokens_from word_of is_omp expression line_from clauses_from worked in_blocks typed printed undefined all_read initialized in_full run enter breaks wrong sort_of advance place_code first_broken first_wrong kind_of holds is_atomic is_target depth_of collapse_from uses_of uses_from line_fault line_breaks line_wrong line_enter line_advance line_place line_first_broken line_first_wrong piece_on_line lexemes_from
+at_its_line = refl
+
+of_the_target : fault (codes "#pragma omp target nowait map(tofrom: A)" ∷ codes "{ uint64_t t[2] = {1, 2}; A[0] = t[1]; }" ∷ codes "#pragma omp taskwait" ∷ []) ≡ None
+unfolding cell_names called defined parameters arguments index_len number_of hex_number_of number_piece sign_one sign_two sign_three changing_sign sign_at format_at piece_at comment_end_from is_include after tokens_from word_of is_omp expression line_from clauses_from worked in_blocks typed printed undefined all_read initialized in_full run enter breaks wrong sort_of advance place_code first_broken first_wrong kind_of holds is_atomic is_target depth_of collapse_from uses_of uses_from line_fault line_breaks line_wrong line_enter line_advance line_place line_first_broken line_first_wrong piece_on_line lexemes_from
+of_the_target = refl

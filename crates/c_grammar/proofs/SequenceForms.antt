@@ -3,7 +3,7 @@ use Rattle.std.proofs.Common.{◌≡◌, ℕ, List, [], ◌∷◌, ◌++◌, map
 use Rattle.std.specs.Prelude.{codes}
 use Rattle.base.specs.declared.fault.TextFault.{TextFault}
 use Rattle.base.specs.declared.fault.ReadCode.{ReadCode as Code}
-use Rattle.base.specs.declared.fault.ReadCode.TheVariants.{DirectiveInTarget}
+use Rattle.base.specs.declared.fault.ReadCode.TheVariants.{DirectiveInTarget, UnknownClause}
 use Rattle.c_tokens.specs.Piece.{number_of, hex_number_of, number_piece, sign_one, sign_two, sign_three, changing_sign, sign_at, format_at, piece_at, comment_end_from, is_include}
 use Rattle.c_tokens.specs.Text.{after, tokens_from}
 use Rattle.c_grammar.specs.Lexeme.{word_of, piece_on_line, lexemes_from}
@@ -78,3 +78,8 @@ with_a_statement = refl
 with_a_declaration : fault (codes "#pragma omp target" ∷ codes "{" ∷ codes "uint64_t z = 1;" ∷ codes "#pragma omp parallel for" ∷ codes "for (int i = 0; i < 8; i++) A[i] = i;" ∷ codes "}" ∷ []) ≡ at DirectiveInTarget 5 1
 unfolding called defined parameters arguments index_len number_of hex_number_of number_piece sign_one sign_two sign_three changing_sign sign_at format_at piece_at comment_end_from is_include after tokens_from word_of is_omp expression line_from clauses_from worked in_blocks typed printed undefined all_read initialized in_full run enter breaks wrong sort_of advance place_code first_broken first_wrong kind_of holds is_atomic is_target depth_of collapse_from uses_of uses_from line_fault line_breaks line_wrong line_enter line_advance line_place line_first_broken line_first_wrong piece_on_line lexemes_from
 with_a_declaration = refl
+
+-- turns share the name of an inner loop that is declared before the line
+inner_loop : fault (codes "int i, j;" ∷ codes "#pragma omp target map(tofrom: A)" ∷ codes "{" ∷ codes "#pragma omp parallel for" ∷ codes "for (i = 0; i < 4; i++) for (j = 0; j < 4; j++) A[4 * i + j] = j;" ∷ codes "{ A[0] = 1; }" ∷ codes "}" ∷ []) ≡ at UnknownClause 3 13
+unfolding called defined parameters arguments index_len number_of hex_number_of number_piece sign_one sign_two sign_three changing_sign sign_at format_at piece_at comment_end_from is_include after tokens_from word_of is_omp expression line_from clauses_from worked in_blocks typed printed undefined all_read initialized in_full run enter breaks wrong sort_of advance place_code first_broken first_wrong kind_of holds is_atomic is_target depth_of collapse_from uses_of uses_from line_fault line_breaks line_wrong line_enter line_advance line_place line_first_broken line_first_wrong piece_on_line lexemes_from
+inner_loop = refl

@@ -18,12 +18,12 @@ use Rattle.c_grammar.specs.Presence.{closes_list, guarded, opens_list}
 -- each three digits in a row stand once
 abbrev pub digits : List ℕ
 digits =
-    codes "000100200300400500600701101201301401501601701702102202302402502602703103203303403503603704104" ++
-    codes "204304404504604705105205305405505605706106206306406506606707107207307407507607711121131141" ++
-    codes "151161171221231241251261271321331341351361371421431441451461471521531541551561571621631641" ++
-    codes "651661671721731741751761772223224225226227233234235236237243244245246247253254255256257263" ++
-    codes "264265266267273274275276277333433533633734434534634735435535635736436536636737437537637744" ++
-    codes "4544644745545645746546646747547647755565575665675765776667677700"
+    codes "0001002003004005006007011012013014015016017021022023024025026027031032033034035036037041042" ++
+    codes "0430440450460470510520530540550560570610620630640650660670710720730740750760771112113114115" ++
+    codes "1161171221231241251261271321331341351361371421431441451461471521531541551561571621631641651" ++
+    codes "6616717217317417517617722232242252262272332342352362372432442452462472532542552562572632642" ++
+    codes "6526626727327427527627733343353363373443453463473543553563573643653663673743753763774445446" ++
+    codes "44745545645746546646747547647755565575665675765776667677700"
 
 abbrev pub most_names : ℕ
 most_names = 512
@@ -292,17 +292,26 @@ name_in (i ∷ is) = of_terminal i.terminal
     of_terminal (Name x) = x ∷ []
     of_terminal _ = []
 
+-- a type that a declaration begins with
+abbrev pub begins_declaration : Terminal → Bool
+begins_declaration t =
+    same (Fixed Uint64) t || (same (Fixed Int) t || (same (Name (codes "bool")) t || same (Name (codes "_Bool")) t))
+
 abbrev pub declared_in : Items → Names
 declared_in [] = []
-declared_in (i ∷ is) = (if same (Fixed Uint64) i.terminal then name_in is else []) ++ declared_in is
+declared_in (i ∷ is) = (if begins_declaration i.terminal then name_in is else []) ++ declared_in is
 
 abbrev pub puts_from : ℕ → Names → Puts
 puts_from k [] = []
 puts_from k (x ∷ xs) = (x, Called (unspelled k)) ∷ puts_from (k + 1) xs
 
+-- what names of types and numbers are in C
+abbrev pub flag_names : Names
+flag_names = codes "bool" ∷ codes "_Bool" ∷ codes "true" ∷ codes "false" ∷ []
+
 -- a name that is known before the function, which no other in it hides, stays
 abbrev pub other_name : Names → Others
-other_name known x = if is_among known x then x else unknown
+other_name known x = if is_among known x || is_among flag_names x then x else unknown
 
 -- ---- what a body assigns
 

@@ -80,6 +80,11 @@ clauses_for [] column ts is = []
 clauses_for (x ∷ xs) column ts is =
     (if uses x 0 is && not (is_mapped x 0 false ts) then present_clause column x else []) ++ clauses_for xs column ts is
 
+-- a clause that names nothing, which is no clause of the grammar
+abbrev pub no_clause : ℕ → List Placed
+no_clause column =
+    all_at column (Worded (codes "private") ∷ Signed sign.OpenParen ∷ Signed sign.CloseParen ∷ [])
+
 -- before the end of the line
 abbrev pub before_end : List Placed → List Placed → List Placed
 before_end new [] = []

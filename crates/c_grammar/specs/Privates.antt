@@ -13,7 +13,7 @@ use Rattle.c_grammar.specs.Expressions.{placed_of}
 use Rattle.c_grammar.specs.LineForms.{all_at, is_sign}
 use Rattle.c_grammar.specs.Lines.{is_omp}
 use Rattle.c_grammar.specs.Moves.{Before, Starts, all_moved, begins, behind, is_fresh, moved_names}
-use Rattle.c_grammar.specs.Presence.{before_end, closes_list, goes_on, is_target, is_word, opens_list, opens_part, target_column, uses_on}
+use Rattle.c_grammar.specs.Presence.{before_end, closes_list, goes_on, is_target, is_word, no_clause, opens_list, opens_part, target_column, uses_on}
 use Rattle.c_grammar.specs.Updates.{is_combined}
 
 -- ---- the names that a region declares
@@ -102,11 +102,6 @@ sets x b d (i ∷ is) =
 abbrev pub shares : Names → List Lexeme → Items → Bool
 shares [] ts is = false
 shares (x ∷ xs) ts is = (sets x Starts 0 is && not (is_private x 0 false ts)) || shares xs ts is
-
--- a clause that names nothing, which is no clause of the grammar
-abbrev pub no_clause : ℕ → List Placed
-no_clause column =
-    all_at column (Worded (codes "private") ∷ Signed sign.OpenParen ∷ Signed sign.CloseParen ∷ [])
 
 abbrev pub noted_line : Names → Item Terminal → List Lexeme → Items → Item Terminal
 noted_line xs i ts is =

@@ -9,8 +9,9 @@ use Rattle.c_grammar.specs.Clauses.{Place, Scope, at_begin, names_len, place_aft
 use Rattle.c_grammar.specs.Constants.{Names, behind_two, front_two, with_tokens}
 use Rattle.c_grammar.specs.Lines.{is_omp}
 use Rattle.c_grammar.specs.Nesting.{name_len}
-use Rattle.c_grammar.specs.Presence.{before_end, is_target, target_column}
-use Rattle.c_grammar.specs.Privates.{declared, kept, leave_on, leaves, no_clause, noted_item, owned_item, owned_len, owned_tokens, private_len, scope, shares}
+use Rattle.c_grammar.specs.Presence.{before_end, is_target, no_clause, target_column}
+use Rattle.c_grammar.specs.Privates.{declared, kept, leave_on, leaves, noted_item, owned_item, owned_len, owned_tokens, private_len, scope, shares}
+use Rattle.c_grammar.specs.Shared.{marked_at}
 use Rattle.c_grammar.specs.Terminal.{Terminal, Line}
 use Rattle.c_grammar.specs.Texts.{Item}
 use Rattle.c_grammar.specs.Updates.{is_combined}
@@ -187,3 +188,27 @@ noted_put xs t l is qs e d f h g =
     let omp = sym (ap (λ (g : Given). is_directive (seen_terminal g)) e) ∙ d in
     ap (line_item t) g ∙ sym (put_noted xs t (seen_line l.now) is omp f h)
     ∙ sym (ap (λ (g : Given). noted_item xs (item_at t g) (seen_terminal g) is) e)
+
+-- ---- the line of a target that lacks one
+
+put_marked : (t : Token) (ls : List Placed) → is_omp (kinds_of ls) ≡ true → is_target (kinds_of ls) ≡ true →
+    marked_at true (line_item t ls) (Line (kinds_of ls)) ≡ line_item t (before_end (no_clause (target_column ls)) ls)
+put_marked t ls e f =
+    let new = no_clause (target_column ls) in
+    rw (e, f) (ap (λ (qs : List Placed). with_tokens (line_item t ls) (kinds_of ls) (before_end (no_clause (target_column qs)) qs))
+    (placed_again ls)
+    ∙ ap (λ (ts : List Lexeme). record {
+      terminal = Line ts;
+      line = t.line;
+      column = t.column;
+      columns = columns_of (before_end new ls);
+    }) (new_in_front new ls f))
+
+pub marked_put : (t : Token) (l : Bor LineTokens) (qs : List Placed) → t.terminal ≡ given.Line l →
+    is_directive (seen_terminal t.terminal) ≡ true → is_target (kinds_of (seen_line l.now)) ≡ true →
+    qs ≡ before_end (no_clause (target_column (seen_line l.now))) (seen_line l.now) →
+    line_item t qs ≡ marked_at true (seen t) (seen_terminal t.terminal)
+marked_put t l qs e d f g =
+    let omp = sym (ap (λ (g : Given). is_directive (seen_terminal g)) e) ∙ d in
+    ap (line_item t) g ∙ sym (put_marked t (seen_line l.now) omp f)
+    ∙ sym (ap (λ (g : Given). marked_at true (item_at t g) (seen_terminal g)) e)

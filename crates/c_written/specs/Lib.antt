@@ -37,3 +37,4 @@ pub mod RowSections
 pub mod Boxes
 pub mod Moves
 pub mod Privates
+pub mod Shared

@@ -117,8 +117,8 @@ pub fn goes_on(depth: usize, rest: Ahead<'_, '_, '_>) -> bool
     }
 }
 
-// Whether the statement that begins there uses the name, before it declares it.
-fn uses(name: &[u8], tokens: &[Token<'_, '_>]) -> bool
+/// Whether the statement that begins there uses the name, before it declares it.
+pub fn uses(name: &[u8], tokens: &[Token<'_, '_>]) -> bool
     ensures { result ≡ uses name.now 0 (bare (seen_all tokens.now)) }
 {
     let mut depth = 0usize;

@@ -5,7 +5,7 @@ ghost use Rattle.std.specs.Option.{option_map};
 ghost use Rattle.c_grammar.specs.Blocks.{bare};
 ghost use Rattle.c_grammar.specs.Lexeme.{Int};
 ghost use Rattle.c_grammar.specs.Terminal.{Fixed, same};
-ghost use Rattle.c_grammar.specs.Functions.{Outside, begins_function, declared_in, defined, expanded, has_function, has_value, is_assigned, is_assigning, is_main, is_specifier, is_static, is_step, is_type, main_follows, name_in, nothing_known, returned, specifies, value_at, words};
+ghost use Rattle.c_grammar.specs.Functions.{Outside, begins_declaration, begins_function, declared_in, defined, expanded, has_function, has_value, is_assigned, is_assigning, is_main, is_specifier, is_static, is_step, is_type, main_follows, name_in, nothing_known, returned, specifies, value_at, words};
 ghost use Rattle.c_terminals.specs.Ahead.{ahead};
 ghost use Rattle.c_written.specs.Functions.{is_outside, seen_returned};
 ghost use Rattle.c_terminals.specs.Held.{written_all};
@@ -75,6 +75,16 @@ fn specifies(start: Ahead<'_, '_, '_>) -> bool
     }
 }
 
+// Whether it is a type that a declaration begins with.
+fn begins_declaration(terminal: Terminal<'_, '_>) -> bool
+    ensures { result ≡ begins_declaration (seen_terminal terminal.entry) }
+{
+    terminal.is_word(Word::Uint64)
+        || terminal.is_word(Word::Int)
+        || terminal.is_named(b"bool")
+        || terminal.is_named(b"_Bool")
+}
+
 // The names right behind a type.
 fn add_declared<'a>(tokens: &[Token<'a, '_>], names: &mut Vec<&'a [u8]>) -> Result<(), AllocError>
     ensures { OnOk result (map (λ x. x.now) names.new.items ≡ map (λ x. x.now) names.old.items ++ declared_in (bare (seen_all tokens.now))) }
@@ -87,7 +97,7 @@ fn add_declared<'a>(tokens: &[Token<'a, '_>], names: &mut Vec<&'a [u8]>) -> Resu
                 names.push(name)?;
             }
         }
-        typed = token.terminal.is_word(Word::Uint64);
+        typed = begins_declaration(token.terminal);
     }
     Ok(())
 }

@@ -3,26 +3,23 @@
 ghost use Rattle.std.specs.Prelude.{◌≡◌, ◌&&◌, true, false, IfOk};
 ghost use Rattle.c_grammar.specs.Blocks.{bare};
 ghost use Rattle.c_grammar.specs.Moves.{Starts};
-ghost use Rattle.c_grammar.specs.Presence.{before_end, target_column};
-ghost use Rattle.c_grammar.specs.Privates.{is_private, no_clause, noted, noted_item, sets, shares};
+ghost use Rattle.c_grammar.specs.Privates.{is_private, noted, noted_item, sets, shares};
 ghost use Rattle.c_grammar.specs.Updates.{is_combined};
-ghost use Rattle.directives.specs.Ahead.{seen_line};
 ghost use Rattle.c_terminals.specs.Held.{seen_written, written_all};
 ghost use Rattle.c_terminals.specs.Seen.{seen, seen_all};
 ghost use Rattle.c_written.specs.Boxes.{texts};
-ghost use Rattle.c_written.specs.Forms.{all_placed};
 ghost use Rattle.c_written.specs.Spots.{all_kinds};
 
 use crate::boxed::goes_on;
+use crate::lacks::noted_line;
 use crate::line_forms::is_name;
 use crate::moves::{Before, is_fresh};
-use crate::nesting::put_before_end;
-use crate::presence::{opens_part, target_column};
+use crate::presence::opens_part;
 use crate::reductions::is_combined;
 use crate::spots::{closes_list, opens_list};
 use c_terminals::{Ahead, Terminal, Token, Written, WrittenTerminal};
 use c_tokens::Sign;
-use directives::{Lexeme, LineTokens, PlacedLexeme};
+use directives::PlacedLexeme;
 use std::alloc::{AllocError, Global};
 
 // Whether the name stands in a clause `private`.
@@ -87,32 +84,6 @@ fn shares(names: &[&[u8]], tokens: &[PlacedLexeme<'_>], region: &[Token<'_, '_>]
         }
     }
     false
-}
-
-// The line with a clause that names nothing.
-fn noted_line<'a>(alloc: Global, line: &LineTokens<'a>) -> Result<LineTokens<'a>, AllocError>
-    ensures { IfOk result (λ l. seen_line l ≡
-        before_end (no_clause (target_column (seen_line line.now))) (seen_line line.now)) }
-{
-    let tokens = line.tokens();
-    let column = target_column(tokens);
-    let clause = [
-        PlacedLexeme {
-            lexeme: Lexeme::Name(b"private"),
-            column,
-        },
-        PlacedLexeme {
-            lexeme: Lexeme::Sign(Sign::OpenParen),
-            column,
-        },
-        PlacedLexeme {
-            lexeme: Lexeme::Sign(Sign::CloseParen),
-            column,
-        },
-    ];
-    let mut put = Vec::new(alloc);
-    put_before_end(&mut put, &clause, tokens)?;
-    Ok(LineTokens::of(put))
 }
 
 fn noted_token<'a>(

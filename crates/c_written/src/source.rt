@@ -25,6 +25,7 @@ ghost use Rattle.c_grammar.specs.Pointers.{pointed};
 ghost use Rattle.c_grammar.specs.Prints.{printed};
 ghost use Rattle.c_grammar.specs.Privates.{owned};
 ghost use Rattle.c_grammar.specs.Sequences.{in_parts};
+ghost use Rattle.c_grammar.specs.Shared.{apart, awaited, unshared};
 ghost use Rattle.c_grammar.specs.Source.{item_of, text_of, written_out};
 ghost use Rattle.c_grammar.specs.Structs.{in_rows};
 ghost use Rattle.c_grammar.specs.Triangles.{rectangular};
@@ -53,6 +54,7 @@ use crate::pointed::pointed;
 use crate::prints::printed;
 use crate::privates::owned;
 use crate::sequences::in_parts;
+use crate::shared::{apart, awaited, unshared};
 use crate::types::typed;
 use crate::unset::zeroed;
 use crate::updates::commuting;
@@ -126,7 +128,7 @@ fn raw<'a>(alloc: Global, bytes: &'a [u8]) -> Result<Vec<Written<'a>>, AllocErro
 /// functions and the clauses `private`.
 fn with_constants<'a>(alloc: Global, raw: &[Written<'a>]) -> Result<Vec<Written<'a>>, AllocError>
     ensures { IfOk result (λ v. written_all v.items ≡
-        worked [] [] 0 (settled Other (zeroed (lasting (owned (upward (counted (in_blocks nothing_read (undeclared false (in_rows (typed 0 (printed 0 (nested (in_parts (replaced (written_all raw.now)))))))))))))))) }
+        worked [] [] 0 (settled Other (zeroed (lasting (owned (upward (counted (unshared (in_blocks nothing_read (undeclared false (in_rows (typed 0 (printed 0 (nested (in_parts (replaced (written_all raw.now))))))))))))))))) }
 {
     let tokens = borrowed(alloc, raw)?;
     let tokens = replaced(alloc, &tokens)?;
@@ -139,6 +141,8 @@ fn with_constants<'a>(alloc: Global, raw: &[Written<'a>]) -> Result<Vec<Written<
     let tokens = in_rows(alloc, &tokens)?;
     let tokens = undeclared(alloc, &tokens)?;
     let tokens = in_blocks(alloc, &tokens)?;
+    let tokens = unshared(alloc, &tokens)?;
+    let tokens = borrowed(alloc, &tokens)?;
     let tokens = counted(alloc, &tokens)?;
     let tokens = upward(alloc, &tokens)?;
     let tokens = borrowed(alloc, &tokens)?;
@@ -151,13 +155,11 @@ fn with_constants<'a>(alloc: Global, raw: &[Written<'a>]) -> Result<Vec<Written<
 }
 
 /// The tokens without clauses `if`, loops that end by a condition, loops whose bounds name others, arrays that `main`
-/// declares, local arrays, conditional operators, definitions, arrays of several dimensions, allocations and initializers,
-/// with the boxed scalars, the updates that commute, and with their changes in full.
-fn with_changes<'a>(alloc: Global, called: &[Written<'a>]) -> Result<Vec<Written<'a>>, AllocError>
+/// declares, local arrays, conditional operators, definitions and arrays of several dimensions.
+fn with_rows<'a>(alloc: Global, called: &[Written<'a>]) -> Result<Vec<Written<'a>>, AllocError>
     ensures { IfOk result (λ v. written_all v.items ≡
-        announced (in_full begin 0 (initialized no_globals 0
-        (allocated (commuting Outside (boxed (flat false [] [] [] 0 (flat true [] [] [] 0 (undefined [] 0 0
-        (chosen (in_scalars (lifted (rectangular (looped (decided (written_all called.now)))))))))))))))) }
+        flat false [] [] [] 0 (flat true [] [] [] 0 (undefined [] 0 0
+        (chosen (in_scalars (awaited (lifted (rectangular (looped (decided (written_all called.now))))))))))) }
 {
     let tokens = borrowed(alloc, called)?;
     let tokens = decided(alloc, &tokens)?;
@@ -165,13 +167,26 @@ fn with_changes<'a>(alloc: Global, called: &[Written<'a>]) -> Result<Vec<Written
     let tokens = looped(alloc, &tokens)?;
     let tokens = rectangular(alloc, &tokens)?;
     let tokens = lifted(alloc, &tokens)?;
+    let tokens = awaited(alloc, &tokens)?;
+    let tokens = borrowed(alloc, &tokens)?;
     let tokens = in_scalars(alloc, &tokens)?;
     let tokens = borrowed(alloc, &tokens)?;
     let tokens = chosen(alloc, &tokens)?;
     let tokens = undefined(alloc, &tokens)?;
     let tokens = flat(alloc, true, &tokens)?;
     let tokens = borrowed(alloc, &tokens)?;
-    let tokens = flat(alloc, false, &tokens)?;
+    flat(alloc, false, &tokens)
+}
+
+/// The tokens without allocations and initializers, with the boxed scalars, the updates that commute, and with their changes
+/// in full.
+fn with_changes<'a>(alloc: Global, rows: &[Written<'a>]) -> Result<Vec<Written<'a>>, AllocError>
+    ensures { IfOk result (λ v. written_all v.items ≡
+        announced (in_full begin 0 (initialized no_globals 0
+        (allocated (commuting Outside (boxed (apart (written_all rows.now)))))))) }
+{
+    let tokens = borrowed(alloc, rows)?;
+    let tokens = apart(alloc, &tokens)?;
     let tokens = borrowed(alloc, &tokens)?;
     let tokens = boxed(alloc, &tokens)?;
     let tokens = borrowed(alloc, &tokens)?;
@@ -202,7 +217,8 @@ pub fn written<'a>(alloc: Global, bytes: &'a [u8]) -> Result<Vec<Written<'a>>, A
     let raw = raw(alloc, bytes)?;
     let worked = with_constants(alloc, &raw)?;
     let called = with_calls(alloc, &worked)?;
-    let changed = with_changes(alloc, &called)?;
+    let rows = with_rows(alloc, &called)?;
+    let changed = with_changes(alloc, &rows)?;
     let tokens = borrowed(alloc, &changed)?;
     on_devices(alloc, &tokens)
 }

@@ -19,7 +19,7 @@ use Rattle.same_text.proofs.UnlinedPresence.{line_unlined, on_unlined, same_if}
 
 -- ---- which scalars are boxed
 
-listed_unlined : (is : Items) (xs : Names) → all_listed (all_unlined is) xs ≡ all_listed is xs
+pub listed_unlined : (is : Items) (xs : Names) → all_listed (all_unlined is) xs ≡ all_listed is xs
 listed_unlined [] xs = refl
 listed_unlined (i ∷ is) xs = listed_unlined is (listed_on i.terminal xs)
 
@@ -54,7 +54,7 @@ found_unlined (i ∷ is) d b f =
     (declared_unlined d b i is)
     ∙ found_unlined is (depth_behind i.terminal d) (is_mark sign.OpenParen i) (with_declared (declared_at d b i is) f)
 
-boxes_unlined : (is : Items) → boxes_of (all_unlined is) ≡ boxes_of is
+pub boxes_unlined : (is : Items) → boxes_of (all_unlined is) ≡ boxes_of is
 boxes_unlined is =
     ap (λ (js : Items). only (found 0 false nothing_found js) (all_listed (all_unlined is) [])) (bare_unlined is)
     ∙ ap (λ (f : Found). only f (all_listed (all_unlined is) [])) (found_unlined (bare is) 0 false nothing_found)
@@ -66,7 +66,7 @@ before_unlined : (x : List ℕ) (i : Item Terminal) (is : Items) → is_declared
 before_unlined x i [] = refl
 before_unlined x i (j ∷ is) = refl
 
-uses_unlined : (x : List ℕ) (is : Items) (d : ℕ) → uses x d (all_unlined is) ≡ uses x d is
+pub uses_unlined : (x : List ℕ) (is : Items) (d : ℕ) → uses x d (all_unlined is) ≡ uses x d is
 uses_unlined x [] d = refl
 uses_unlined x (i ∷ is) d =
     ap (λ (b : Bool). cond b false (cond (same (Name x) i.terminal) true rest)) (before_unlined x i is)

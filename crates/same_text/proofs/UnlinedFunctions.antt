@@ -9,7 +9,7 @@ use Rattle.c_grammar.specs.Texts.{Item}
 use Rattle.c_grammar.specs.Blocks.{Items, is_directive, bare}
 use Rattle.c_grammar.specs.Changes.{is_mark, is_boundary}
 use Rattle.c_grammar.specs.Constants.{Names, is_among, is_name, worked}
-use Rattle.c_grammar.specs.Functions.{array_names, Declared, Function, Functions, Head, Begins, Headed, Known, Onward, Others, Parameter, Parameters, Puts, Returned, Step, Goes, Adds, Closes, Stops, Where, Outside, InHead, InBody, added, called, closed, declared_in, declares, defined, expanded, function_with, has_function, has_value, head_at, headed, headed_by, headed_on, headed_or, in_body, in_head, is_assigned, is_assigning, is_main, is_specifier, is_static, is_step, is_type, known_names, line_in, may_be_added, most_known, most_lines, most_names, name_in, names_in, no_parameters, nothing_known, opens_body, other_name, out_of_body, outside, parameter_on, parameters, parameters_from, parameters_in, plain, put_all, puts_from, raw_in, returned, returned_by, specifies, token_in, unspelled, value_at, value_ended, behind, with_function, with_name, Gives, NoValue, AValue, AStatus, without_value}
+use Rattle.c_grammar.specs.Functions.{array_names, begins_declaration, Declared, Function, Functions, Head, Begins, Headed, Known, Onward, Others, Parameter, Parameters, Puts, Returned, Step, Goes, Adds, Closes, Stops, Where, Outside, InHead, InBody, added, called, closed, declared_in, declares, defined, expanded, function_with, has_function, has_value, head_at, headed, headed_by, headed_on, headed_or, in_body, in_head, is_assigned, is_assigning, is_main, is_specifier, is_static, is_step, is_type, known_names, line_in, may_be_added, most_known, most_lines, most_names, name_in, names_in, no_parameters, nothing_known, opens_body, other_name, out_of_body, outside, parameter_on, parameters, parameters_from, parameters_in, plain, put_all, puts_from, raw_in, returned, returned_by, specifies, token_in, unspelled, value_at, value_ended, behind, with_function, with_name, Gives, NoValue, AValue, AStatus, without_value}
 use Rattle.same_text.specs.Laws.{unlined}
 use Rattle.c_grammar.specs.Presence.{guarded}
 use Rattle.same_text.proofs.UnlinedPresence.{guarded_unlined}
@@ -97,7 +97,7 @@ name_same (i ∷ is) = refl
 declared_same : (is : Items) → declared_in (all_unlined is) ≡ declared_in is
 declared_same [] = refl
 declared_same (i ∷ is) =
-    ap₂ (λ (v w : Names). cond (same (Fixed Uint64) i.terminal) v [] ++ w) (name_same is) (declared_same is)
+    ap₂ (λ (v w : Names). cond (begins_declaration i.terminal) v [] ++ w) (name_same is) (declared_same is)
 
 names_same : (h : Headed) (body : Items) → names_in h (all_unlined body) ≡ names_in h body
 names_same h body =

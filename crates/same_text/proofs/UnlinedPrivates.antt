@@ -11,8 +11,8 @@ use Rattle.c_grammar.specs.Constants.{Names, with_tokens}
 use Rattle.c_grammar.specs.Expressions.{placed_of}
 use Rattle.c_grammar.specs.Lines.{is_omp}
 use Rattle.c_grammar.specs.Moves.{Before, Starts, all_moved, begins, behind, moved_names}
-use Rattle.c_grammar.specs.Presence.{before_end, goes_on, is_target, opens_part, target_column}
-use Rattle.c_grammar.specs.Privates.{declared, is_private, no_clause, noted, noted_item, owned, owned_by, owned_item, owned_lines, owned_tokens, region_on, sets, shares, with_declared}
+use Rattle.c_grammar.specs.Presence.{before_end, goes_on, is_target, no_clause, opens_part, target_column}
+use Rattle.c_grammar.specs.Privates.{declared, is_private, noted, noted_item, owned, owned_by, owned_item, owned_lines, owned_tokens, region_on, sets, shares, with_declared}
 use Rattle.c_grammar.specs.Updates.{is_combined}
 use Rattle.same_text.specs.Laws.{unlined}
 use Rattle.same_text.proofs.Unlined.{AreUnlined, all_unlined, bare_unlined}

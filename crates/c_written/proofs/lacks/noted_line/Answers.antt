@@ -1,11 +1,10 @@
 use Rattle.std.proofs.Common.{◌∙◌, List, ◌++◌, ap}
-use Rattle.c_grammar.specs.Presence.{before_end}
-use Rattle.c_grammar.specs.Privates.{no_clause}
+use Rattle.c_grammar.specs.Presence.{before_end, no_clause}
 use Rattle.directives.specs.declared.lexeme.PlacedLexeme.{PlacedLexeme}
 use Rattle.directives.specs.Seen.{is_whole}
 use Rattle.c_written.specs.Forms.{all_placed}
 use Rattle.c_written.proofs.KeptLines.{noted_whole}
-use Rattle.c_written.proofs.noted.noted_line.Goals as goal
+use Rattle.c_written.proofs.lacks.noted_line.Goals as goal
 
 pub of-requires : goal.of-requires
 of-requires c =
