@@ -5,6 +5,13 @@ use base::tree::Place;
 use c_tokens::{Kind, Sign, Token, Tokens};
 use std::alloc::{AllocError, Global};
 
+/// A type of scalars whose values are small.
+#[derive(Clone, Copy)]
+pub enum SmallType {
+    Int,
+    Bool,
+}
+
 // A constant or a macro, and the type of its numbers in C.
 #[derive(Clone, Copy)]
 struct Constant<'a> {
@@ -229,6 +236,29 @@ impl<'a> Numbers<'a> {
         match (before.kind, self.tokens.get(number)) {
             (Kind::Sign(_), Some(name)) => self.is_int(text_of(self.bytes, name)),
             _ => text_of(self.bytes, before) == b"int".as_slice(),
+        }
+    }
+
+    /// The type by which the scalar is declared whose name stands at a place, if it is none of 64 bits.
+    pub fn small_type_at(&self, place: Place) -> Option<SmallType> {
+        let mut first: &[u8] = &[];
+        for token in self.tokens.get(..self.index_of(place)).unwrap_or(&[]) {
+            match token.kind {
+                Kind::Line | Kind::Sign(Sign::Semicolon | Sign::OpenBrace | Sign::CloseBrace) =>
+                    first = &[],
+                _ => {
+                    if first.is_empty() {
+                        first = text_of(self.bytes, token);
+                    }
+                }
+            }
+        }
+        if first == b"int".as_slice() {
+            Some(SmallType::Int)
+        } else if first == b"bool".as_slice() || first == b"_Bool".as_slice() {
+            Some(SmallType::Bool)
+        } else {
+            None
         }
     }
 

@@ -11,9 +11,7 @@ use crate::stream::Stream;
 use crate::walk::Walk;
 use base::tree::{Place, Program};
 use c_meaning::is_same_in_c;
-use c_temporaries::in_place;
-use c_terminals::{Written, borrowed, owned};
-use c_written::written;
+use c_read::source_written;
 use std::alloc::{AllocError, Global};
 
 /// How often a temporary is looked for among all tokens.
@@ -24,7 +22,7 @@ const MOST_QUESTIONS: u32 = 1024;
 pub struct Differences {
     pub list: Vec<Difference>,
     /// Each number is written as a decimal without a suffix, `printf` prints none of a type with 32 bits, and no loop's
-    /// name, and no temporary with one in it, is of the type `int`.
+    /// name, no temporary with one in it, and no scalar is of the type `int` or `bool`.
     pub plain: bool,
 }
 
@@ -58,15 +56,6 @@ fn settled(
     Ok(list)
 }
 
-// The tokens that the program of a source is read from: it is written out, and the values of temporaries are in their
-// places.
-fn source_tokens<'a>(alloc: Global, bytes: &'a [u8]) -> Result<Vec<Written<'a>>, AllocError> {
-    let written = written(alloc, bytes)?;
-    let tokens = borrowed(alloc, &written)?;
-    let tokens = in_place(alloc, &tokens)?;
-    owned(alloc, &tokens)
-}
-
 /// The expressions of a program that may have another value in C, or none. The bytes are its source. In one whose numbers
 /// are all decimals without a suffix they are those of the test of programs; in another one the type of each number is
 /// that of its suffix, of its hexadecimal digits, or of the constant that it stands for. The error comes where an
@@ -79,13 +68,14 @@ pub fn differences_of(
 ) -> Result<Differences, AllocError>
     ensures { IfOk result (AreTold program.now) }
 {
-    let tokens = source_tokens(alloc, bytes)?;
+    let tokens = source_written(alloc, bytes)?;
     let numbers = Numbers::new(alloc, bytes)?;
     let mut walk = Walk {
         numbers: &numbers,
         stream: Stream::new(&tokens),
         found: Vec::new(alloc),
         loops: Vec::new(alloc),
+        small: Vec::new(alloc),
         questions: MOST_QUESTIONS,
         plain: true,
     };

@@ -1,6 +1,6 @@
 // A walk over a program, beside the tokens of its source that is written out.
 
-use crate::constants::Numbers;
+use crate::constants::{Numbers, SmallType};
 use crate::difference::{Difference, InC, Reason};
 use crate::literal::{Type, is_plain};
 use crate::shape::{
@@ -8,8 +8,8 @@ use crate::shape::{
 };
 use crate::stream::Stream;
 use base::tree::{
-    BinaryOp, Bounds, CombineOp, DivideOp, Divisor, Expr, Part, Place, ShiftCount, ShiftOp, Source,
-    Stmt, UnaryOp,
+    BinaryOp, Bounds, CombineOp, DivideOp, Divisor, Expr, Part, Place, ScalarId, ShiftCount,
+    ShiftOp, Source, Stmt, UnaryOp,
 };
 use std::alloc::AllocError;
 
@@ -22,6 +22,13 @@ pub struct Known {
     end: u64,
 }
 
+/// A scalar of the type `int` or `bool`.
+#[derive(Clone, Copy)]
+pub struct Small {
+    scalar: ScalarId,
+    shape: Shape,
+}
+
 /// What has been told so far.
 #[derive(Drop)]
 pub struct Walk<'a, 'w> {
@@ -30,10 +37,12 @@ pub struct Walk<'a, 'w> {
     pub found: Vec<Difference>,
     /// The loops around, the outermost first.
     pub loops: Vec<Known>,
+    /// The scalars with small values.
+    pub small: Vec<Small>,
     /// How often it may still be asked whether a temporary stands at a place, which is looked for in all tokens.
     pub questions: u32,
     /// Each number so far is written as a decimal without a suffix, `printf` prints none of a type with 32 bits, and no
-    /// loop's name is of the type `int`.
+    /// loop's name and no scalar is of the type `int` or `bool`.
     pub plain: bool,
 }
 
@@ -199,9 +208,9 @@ impl Walk<'_, '_> {
     fn expr(&mut self, e: &Expr) -> Result<Option<Shape>, AllocError> {
         match e {
             Expr::Number(n) => self.number(*n, false),
-            Expr::Scalar(_) => {
+            Expr::Scalar(scalar) => {
                 self.stream.name();
-                Ok(Some(unsigned()))
+                Ok(Some(self.scalar(*scalar)))
             }
             Expr::LoopName(level) => {
                 let place = self.stream.name();
@@ -256,6 +265,46 @@ impl Walk<'_, '_> {
             here: shape.single(),
         };
         self.tell(place, misfit, literal(e))
+    }
+
+    // What is known of a scalar: one of a type that is no `uint64_t` has small values.
+    fn scalar(&self, scalar: ScalarId) -> Shape {
+        'small: for known in &self.small {
+            if known.scalar.0 == scalar.0 {
+                return known.shape;
+            }
+        }
+        unsigned()
+    }
+
+    // A scalar whose name stands at a place where it is declared.
+    fn declare(&mut self, scalar: ScalarId, place: Place) -> Result<(), AllocError> {
+        let shape = match self.numbers.small_type_at(place) {
+            None => return Ok(()),
+            Some(SmallType::Int) => counter(0, Type::Int.greatest().saturating_add(1)),
+            Some(SmallType::Bool) => flag(),
+        };
+        self.plain = false;
+        self.small.push(Small { scalar, shape })?;
+        Ok(())
+    }
+
+    // An assignment. Of what is added to an `int` that has small values the sum is one, or C says nothing of it.
+    fn assign(&mut self, scalar: ScalarId, v: &Source) -> Result<(), AllocError> {
+        if self.scalar(scalar).ctype.width() == 32 {
+            if let Source::Value(Expr::Binary(BinaryOp::Add, own, added)) = v {
+                if let Expr::Scalar(other) = &**own {
+                    if other.0 == scalar.0 {
+                        self.stream.assigns();
+                        self.stream.name();
+                        self.stream.binary(BinaryOp::Add);
+                        self.expr(added)?;
+                        return Ok(());
+                    }
+                }
+            }
+        }
+        self.source(v)
     }
 
     // The name of a loop. Where it stands for a temporary, it is an `int` in C, whatever the loop's is.
@@ -359,9 +408,14 @@ impl Walk<'_, '_> {
     #[cycle(statements)]
     fn stmt(&mut self, s: &Stmt) -> Result<(), AllocError> {
         match s {
-            Stmt::Declare(_, v) | Stmt::Assign(_, v) => {
-                self.stream.name();
+            Stmt::Declare(scalar, v) => {
+                let place = self.stream.name();
+                self.declare(*scalar, place)?;
                 self.source(v)
+            }
+            Stmt::Assign(scalar, v) => {
+                self.stream.name();
+                self.assign(*scalar, v)
             }
             Stmt::Store(_, _, e, v) => {
                 self.of_cell(e)?;

@@ -12,5 +12,7 @@ mod plain;
 mod program;
 mod region;
 mod wrap;
+mod written;
 
 pub use program::read_program;
+pub use written::source_written;

@@ -28,15 +28,14 @@ ghost use Rattle.c_read.specs.Starts.{IsStart};
 use crate::boxes::boxes;
 use crate::globals::globals;
 use crate::parts::gather;
+use crate::written::source_written;
 use base::fault::{ReadCode, ReadFault, TextFault};
 use base::tree::{Part, Program};
 use c_expressions::{Cursor, Frame, ReadError, Scope};
 use c_statements::open_body;
-use c_temporaries::in_place;
-use c_terminals::{Written, borrowed, owned};
+use c_terminals::Written;
 use c_tokens::Sign;
 use c_tokens::limits::MAX_SOURCE;
-use c_written::written;
 use directives::Word;
 use std::alloc::{AllocError, Global};
 
@@ -122,16 +121,6 @@ fn new_scope<'a>(alloc: Global) -> Result<Scope<'a>, AllocError>
         scalars: 0,
         statements: 0,
     })
-}
-
-/// The tokens of a source that is written out, with the values of temporaries in their places.
-fn source_written<'a>(alloc: Global, bytes: &'a [u8]) -> Result<Vec<Written<'a>>, AllocError>
-    ensures { IfOk result (λ v. written_all v.items ≡ written_out (map (item_of bytes.now) (tokens_of bytes.now))) }
-{
-    let written = written(alloc, bytes)?;
-    let tokens = borrowed(alloc, &written)?;
-    let tokens = in_place(alloc, &tokens)?;
-    owned(alloc, &tokens)
 }
 
 /// The tokens of a source, which are written out.

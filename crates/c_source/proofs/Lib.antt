@@ -1,3 +1,4 @@
 pub mod Sources
 pub mod Written
 mod TemporaryForms
+mod IntForms

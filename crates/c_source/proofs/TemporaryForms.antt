@@ -104,6 +104,6 @@ a_scalar_among_them : fault (codes "for (int i = 0; i < 8; i++) { int t = i, u =
 unfolding called defined parameters arguments index_len number_of hex_number_of number_piece sign_one sign_two sign_three changing_sign sign_at format_at piece_at comment_end_from is_include after tokens_from word_of is_omp expression line_from clauses_from worked in_blocks typed printed undefined all_read initialized in_full run enter breaks wrong sort_of advance place_code first_broken first_wrong kind_of holds is_atomic is_target depth_of collapse_from uses_of uses_from line_fault line_breaks line_wrong line_enter line_advance line_place line_first_broken line_first_wrong piece_on_line lexemes_from
 a_scalar_among_them = refl
 
-no_value_among_them : fault (codes "for (int i = 0; i < 8; i++) { int t = i, u; A[t] = 1; }" ∷ []) ≡ at Unexpected 2 42
+scalar_among_them : fault (codes "for (int i = 0; i < 8; i++) { int t = i, u = s; A[t] = 1; }" ∷ []) ≡ at Unexpected 2 42
 unfolding called defined parameters arguments index_len number_of hex_number_of number_piece sign_one sign_two sign_three changing_sign sign_at format_at piece_at comment_end_from is_include after tokens_from word_of is_omp expression line_from clauses_from worked in_blocks typed printed undefined all_read initialized in_full run enter breaks wrong sort_of advance place_code first_broken first_wrong kind_of holds is_atomic is_target depth_of collapse_from uses_of uses_from line_fault line_breaks line_wrong line_enter line_advance line_place line_first_broken line_first_wrong piece_on_line lexemes_from
-no_value_among_them = refl
+scalar_among_them = refl

@@ -1,4 +1,4 @@
--- Writing out, with temporaries in their places: directive lines are seen through, and names stay ASCII.
+-- Writing out, with temporaries in their places and int as uint64_t: directive lines are seen through, and names stay ASCII.
 use Rattle.std.proofs.Common.{◌≡◌, ◌∙◌, ◌++◌, ℕ, List, [], ◌∷◌, ap, map}
 use Rattle.c_tokens.specs.Text.{tokens_of}
 use Rattle.c_grammar.specs.AsciiNames.{AreAscii, IsAsciiTerminal, terminals_of}
@@ -10,13 +10,18 @@ use Rattle.c_grammar.specs.Texts.{Item}
 use Rattle.c_grammar.proofs.AsciiNames as forms_ascii
 use Rattle.c_grammar.proofs.BareForms as forms_bare
 use Rattle.c_source.specs.Source.{items_of, written_out}
+use Rattle.c_ints.specs.Ints.{widened}
+use Rattle.c_ints.proofs.AsciiInts.{widened_text}
+use Rattle.c_ints.proofs.BareInts.{widened_bare}
 use Rattle.c_temporaries.specs.Temporaries.{in_place}
 use Rattle.c_temporaries.proofs.AsciiTemporaries.{place_text}
 use Rattle.c_temporaries.proofs.AsciiTokens.{AreItemsText, both_text}
 use Rattle.c_temporaries.proofs.BareTemporaries.{place_bare}
 
 pub written_bare : (is : Items) → written_out (bare is) ≡ bare (written_out is)
-written_bare is = ap in_place (forms_bare.written_bare is) ∙ place_bare (forms.written_out is)
+written_bare is =
+    ap widened (ap in_place (forms_bare.written_bare is) ∙ place_bare (forms.written_out is))
+    ∙ widened_bare (in_place (forms.written_out is))
 
 all_but : (is : Items) (e : Item Terminal) → AreItemsText (is ++ e ∷ []) → AreItemsText is
 all_but [] e h = tt
@@ -30,4 +35,5 @@ pub names_are_ascii : (bytes : List ℕ) → AreAscii (terminals_of (items_of by
 names_are_ascii bytes =
     let raw : Items = map (item_of bytes) (tokens_of bytes) in
     let text : AreItemsText (forms.written_out raw) = all_but (forms.written_out raw) (end_of bytes) (forms_ascii.names_are_ascii bytes) in
-    ended_text (written_out raw) (end_of bytes) (place_text (forms.written_out raw) text) tt
+    let placed : AreItemsText (in_place (forms.written_out raw)) = place_text (forms.written_out raw) text in
+    ended_text (written_out raw) (end_of bytes) (widened_text (in_place (forms.written_out raw)) placed) tt

@@ -11,11 +11,13 @@ use Rattle.c_grammar.specs.Rules.{Rule, begin, source_grammar}
 use Rattle.c_grammar.specs.Program.{source_machine, start as first_stack}
 use Rattle.c_grammar.specs.Source as forms
 use Rattle.c_grammar.specs.Source.{item_of, end_of, fault_of, found_fault, max_source}
+use Rattle.c_ints.specs.Ints.{widened}
 use Rattle.c_temporaries.specs.Temporaries.{in_place}
 
--- the tokens with all that C lets be left out, and then with the values of temporaries in their places
+-- the tokens with all that C lets be left out, then with the values of temporaries in their places, and then with uint64_t for
+-- the types of scalars whose values are small
 abbrev pub written_out : List (Item Terminal) → List (Item Terminal)
-written_out is = in_place (forms.written_out is)
+written_out is = widened (in_place (forms.written_out is))
 
 -- the tokens of a text, written out, and its end
 abbrev pub items_of : List ℕ → List (Item Terminal)

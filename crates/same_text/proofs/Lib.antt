@@ -29,12 +29,15 @@ mod UnlinedGrids
 mod UnlinedDeclarations
 mod UnlinedCounters
 pub mod UnlinedTemporaries
+pub mod UnlinedInts
+pub mod UnlinedSmall
 mod UnlinedLasting
 mod UnlinedMoves
 mod UnlinedPrivates
 mod UnlinedConditions
 mod UnlinedUpdates
 mod UnlinedBoxes
+mod UnlinedShared
 mod UnlinedTexts
 mod Told
 mod Whole

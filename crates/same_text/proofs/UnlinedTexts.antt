@@ -20,6 +20,7 @@ use Rattle.c_grammar.specs.Devices.{on_devices}
 use Rattle.c_grammar.specs.MainArrays.{lifted}
 use Rattle.c_grammar.specs.Locals.{in_scalars}
 use Rattle.c_grammar.specs.Privates.{owned}
+use Rattle.c_grammar.specs.Shared.{apart, awaited, unshared}
 use Rattle.c_grammar.specs.Lasting.{lasting}
 use Rattle.c_grammar.specs.Unset.{zeroed}
 use Rattle.c_grammar.specs.Declarations.{Other, settled}
@@ -32,6 +33,7 @@ use Rattle.c_grammar.specs.DeclaredFunctions.{undeclared}
 use Rattle.c_grammar.specs.Prints.{printed}
 use Rattle.c_grammar.specs.Source as forms
 use Rattle.c_source.specs.Source.{written_out}
+use Rattle.c_ints.specs.Ints.{widened}
 use Rattle.c_temporaries.specs.Temporaries.{in_place}
 use Rattle.erasure.proofs.Spelled.{kinds_in}
 use Rattle.same_text.proofs.Unlined.{all_unlined, AreUnlined, typed_unlined, blocks_unlined}
@@ -64,6 +66,8 @@ use Rattle.same_text.proofs.UnlinedAllocations.{allocated_unlined}
 use Rattle.same_text.proofs.UnlinedGlobals.{initialized_unlined}
 use Rattle.same_text.proofs.UnlinedChanges.{full_unlined}
 use Rattle.same_text.proofs.UnlinedTemporaries.{place_unlined}
+use Rattle.same_text.proofs.UnlinedInts.{widened_unlined}
+use Rattle.same_text.proofs.UnlinedShared.{apart_unlined, awaited_unlined, unshared_unlined}
 
 -- what follows the constants
 later_unlined : (is : Items) →
@@ -88,7 +92,8 @@ forms_unlined is =
     let s : Items = in_rows a in
     let u : Items = undeclared false s in
     let b : Items = in_blocks nothing_read u in
-    let l : Items = counted b in
+    let t : Items = unshared b in
+    let l : Items = counted t in
     let v : Items = upward l in
     let o : Items = owned v in
     let w : Items = lasting o in
@@ -100,23 +105,26 @@ forms_unlined is =
     let x : Items = looped y in
     let h : Items = rectangular x in
     let j : Items = lifted h in
-    let k : Items = in_scalars j in
+    let i : Items = awaited j in
+    let k : Items = in_scalars i in
     let f : Items = chosen k in
     let r : Items = flat true [] [] [] 0 (undefined [] 0 0 f) in
     let g : Items = flat false [] [] [] 0 r in
     let later : Items → Items = λ js. on_devices (announced (in_full begin 0 (initialized no_globals 0 (allocated js)))) in
     let since_boxes : Items → Items = λ js. later (commuting Outside js) in
     let since_updates : Items → Items = λ js. since_boxes (boxed js) in
-    let since_rows : Items → Items = λ js. since_updates (flat false [] [] [] 0 js) in
+    let since_apart : Items → Items = λ js. since_updates (apart js) in
+    let since_rows : Items → Items = λ js. since_apart (flat false [] [] [] 0 js) in
     let since_grids : Items → Items = λ js. since_rows (flat true [] [] [] 0 js) in
     let since_defined : Items → Items = λ js. since_grids (undefined [] 0 0 js) in
-    let since_loops : Items → Items = λ js. since_defined (chosen (in_scalars (lifted (rectangular js)))) in
+    let since_loops : Items → Items = λ js. since_defined (chosen (in_scalars (awaited (lifted (rectangular js))))) in
     let since_declared : Items → Items = λ js.
     since_loops (looped (decided (expanded (pointed (worked [] [] 0 js))))) in
     let since_zeroed : Items → Items = λ js. since_declared (settled Other js) in
     let since_upward : Items → Items = λ js. since_zeroed (zeroed (lasting (owned js))) in
     let since_counted : Items → Items = λ js. since_upward (upward js) in
-    let since_blocks : Items → Items = λ js. since_counted (counted js) in
+    let since_shared : Items → Items = λ js. since_counted (counted js) in
+    let since_blocks : Items → Items = λ js. since_shared (unshared js) in
     let since_structs : Items → Items = λ js. since_blocks (in_blocks nothing_read (undeclared false js)) in
     let since_typed : Items → Items = λ js. since_structs (in_rows js) in
     ap (λ (js : Items). since_typed (typed 0 (printed 0 (nested (in_parts js))))) (replaced_unlined is)
@@ -127,7 +135,8 @@ forms_unlined is =
     ∙ ap since_structs (rows_unlined a)
     ∙ ap (λ (js : Items). since_blocks (in_blocks nothing_read js)) (undeclared_unlined s false)
     ∙ ap since_blocks (blocks_unlined u nothing_read)
-    ∙ ap since_counted (counted_unlined b)
+    ∙ ap since_shared (unshared_unlined b)
+    ∙ ap since_counted (counted_unlined t)
     ∙ ap since_upward (upward_unlined l)
     ∙ ap (λ (js : Items). since_zeroed (zeroed (lasting js))) (owned_unlined v)
     ∙ ap (λ (js : Items). since_zeroed (zeroed js)) (lasting_unlined o)
@@ -138,18 +147,22 @@ forms_unlined is =
     ∙ ap (λ (js : Items). since_loops (looped (decided js))) (expanded_unlined q)
     ∙ ap (λ (js : Items). since_loops (looped js)) (decided_unlined e)
     ∙ ap since_loops (looped_unlined y)
-    ∙ ap (λ (js : Items). since_defined (chosen (in_scalars (lifted js)))) (rectangular_unlined x)
-    ∙ ap (λ (js : Items). since_defined (chosen (in_scalars js))) (lifted_unlined h)
-    ∙ ap (λ (js : Items). since_defined (chosen js)) (scalars_unlined_all j)
+    ∙ ap (λ (js : Items). since_defined (chosen (in_scalars (awaited (lifted js))))) (rectangular_unlined x)
+    ∙ ap (λ (js : Items). since_defined (chosen (in_scalars (awaited js)))) (lifted_unlined h)
+    ∙ ap (λ (js : Items). since_defined (chosen (in_scalars js))) (awaited_unlined j)
+    ∙ ap (λ (js : Items). since_defined (chosen js)) (scalars_unlined_all i)
     ∙ ap since_defined (chosen_unlined k)
     ∙ ap since_grids (undefined_unlined f [] 0 0)
     ∙ ap since_rows (flat_unlined (undefined [] 0 0 f) true [] [] [] 0)
-    ∙ ap since_updates (flat_unlined r false [] [] [] 0)
-    ∙ ap since_boxes (boxed_unlined g)
-    ∙ ap later (commuting_unlined (boxed g) Outside) ∙ later_unlined (commuting Outside (boxed g))
+    ∙ ap since_apart (flat_unlined r false [] [] [] 0)
+    ∙ ap since_updates (apart_unlined g)
+    ∙ ap since_boxes (boxed_unlined (apart g))
+    ∙ ap later (commuting_unlined (boxed (apart g)) Outside) ∙ later_unlined (commuting Outside (boxed (apart g)))
 
 written_unlined : (is : Items) → AreUnlined (written_out (all_unlined is)) (written_out is)
-written_unlined is = ap in_place (forms_unlined is) ∙ place_unlined (forms.written_out is)
+written_unlined is =
+    ap widened (ap in_place (forms_unlined is) ∙ place_unlined (forms.written_out is))
+    ∙ widened_unlined (in_place (forms.written_out is))
 
 kinds_unlined : (is : Items) → kinds_in is ≡ kinds_in (all_unlined is)
 kinds_unlined [] = refl

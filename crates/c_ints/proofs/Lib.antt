@@ -1,0 +1,5 @@
+pub mod AsciiInts
+pub mod BareInts
+pub mod Keeping
+pub mod Returning
+pub mod SmallValues
