@@ -4,6 +4,7 @@ ghost use Rattle.std.specs.Prelude.{IfOk};
 ghost use Rattle.mend.specs.Mends.{IsPlanVerdict, IsVerdict, IsVerdictOn};
 
 use crate::bare::without_directives;
+use crate::blocks::block_end;
 use crate::lines::is_space;
 use base::fault::{CheckFault, RefusalCode};
 use base::item::{Cell, Item, ItemKind};
@@ -106,10 +107,14 @@ fn items_from(items: &[Item], first: usize) -> usize {
     count
 }
 
-fn line_of(items: &[Item], number: usize) -> usize {
-    match items.get(number) {
-        Some(item) => item.place.line,
-        None => 0,
+// The line of an item; of the end of a region of data that of its brace.
+fn line_of(text: &[u8], items: &[Item], number: usize) -> usize {
+    let Some(item) = items.get(number) else {
+        return 0;
+    };
+    match item.kind {
+        ItemKind::End => block_end(text, item.place.line).unwrap_or(item.place.line),
+        _ => item.place.line,
     }
 }
 
@@ -159,7 +164,7 @@ fn rank_at(
     cell: Cell,
     other: Option<u32>,
 ) -> Rank {
-    let following = lines_behind(text, line_of(items, item as usize));
+    let following = lines_behind(text, line_of(text, items, item as usize));
     Rank {
         pass,
         items_left: items_from(items, item as usize),
