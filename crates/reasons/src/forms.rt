@@ -20,7 +20,7 @@ const LOOP: &str =
 const MAIN: &str = "a program is its globals, and then `int main(void) { .. }`";
 
 const TYPE: &str =
-    "the one type is `uint64_t`, also written `size_t`, `unsigned long` or `unsigned long long`, without other words before it; the name of a loop, a constant, and `int k = i / 8;`, whose value is made of these and which nothing changes, may be an `int`";
+    "the one type is `uint64_t`, also written `size_t`, `unsigned long` or `unsigned long long`, without other words before it; the name of a loop, a constant, `int k = i / 8;`, whose value is made of these and which nothing changes, and a scalar that counts or tells, `errors++` and `ok = a < b`, may be an `int`";
 
 const CONSTANT: &str =
     "a constant is `const uint64_t N = NUM;`, before `main` or in no block within it, or `#define N NUM`: it has a name of its own, and NUM is a constant expression, with `#define` in brackets";
@@ -53,7 +53,7 @@ const LOCAL_ARRAY: &str =
     "write numbers as its subscripts, or names of loops around that have numbers for bounds and at most 64 turns; or declare it before `main`";
 
 const FUNCTION: &str =
-    "a function stands before `main`, `void f(uint64_t *a, uint64_t n) { .. }` or `uint64_t f(uint64_t n) { .. return e; }`, and is called as a statement, `f(A, 8);`, or as all of a right side, `x = f(8);`";
+    "a function stands before `main`, `void f(uint64_t *a, uint64_t n) { .. }` or `uint64_t f(uint64_t n) { .. return e; }`, and is called as a statement, `f(A, 8);`, or as all of a right side, `x = f(8);`, with the name of an array for an array, a constant for an `int`, and any value for a `uint64_t`";
 
 const READ: &str = "`read()` is all of a right side: `x = read();`";
 
@@ -300,7 +300,7 @@ fn foreign(around: &Around<'_>) -> Option<&'static str> {
     let word = around.word;
     if word == "return" {
         return Some(
-            "take it away: `main` ends at its last brace, before which `return 0;` may stand",
+            "take it away: `main` ends at its last brace, before which `return e;` of names, numbers and comparisons may stand",
         );
     }
     if let Some(form) = jump(word) {
@@ -316,7 +316,7 @@ fn foreign(around: &Around<'_>) -> Option<&'static str> {
     }
     if around.next == b'(' && around.line.is_empty() {
         return Some(
-            "a function is called behind its definition, as a statement, `f(A, 8);`, or, where it gives a value, as all of a right side, `x = f(8);`",
+            "a function is called behind its definition, as a statement, `f(A, 8);`, or, where it gives a value, as all of a right side, `x = f(8);`, with the name of an array for an array, a constant for an `int`, and any value for a `uint64_t`",
         );
     }
     None

@@ -216,10 +216,18 @@ impl Scene<'_> {
                 "put it under an `if` that the values of the loops decide, or change the bounds of the loop",
             )?
         } else {
-            let last = u64::from(self.length_of(access.array)).saturating_sub(1);
-            format!(in self.alloc;
-                "what scalars and cells hold is not known here: mask the subscript, as by `& {last}`"
-            )?
+            let length = u64::from(self.length_of(access.array));
+            let last = length.saturating_sub(1);
+            // a mask keeps the numbers that are within where it has all lower bits
+            if length & last == 0 {
+                format!(in self.alloc;
+                    "what scalars and cells hold is not known here: mask the subscript, as by `& {last}`"
+                )?
+            } else {
+                format!(in self.alloc;
+                    "what scalars and cells hold is not known here: bound the subscript, as by `% {length}`"
+                )?
+            }
         };
         add(notes, Weight::Help, access.place, help)
     }

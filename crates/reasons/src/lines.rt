@@ -66,8 +66,8 @@ pub fn unknown_directive(around: &Around<'_>) -> Option<&'static str> {
 pub fn no_clause(around: &Around<'_>) -> Telling {
     if around.word == "target" {
         return Telling {
-            said: "has turns that share a scalar which each of them assigns before all else",
-            help: "name the scalar on this line, `private(t)`, or declare it in the loop",
+            said: "lacks a clause for a variable that stands in its region",
+            help: "`map(tofrom: s)` or `reduction` for a scalar that another line maps, of which C makes a copy here; `private(t)`, or a declaration in the loop, for a scalar that each turn assigns before all else, and for the name of an inner loop, which all turns share; no `nowait` where an array of a block is used",
         };
     }
     with_help(ReadCode::UnknownClause, unknown_clause(around))

@@ -130,7 +130,7 @@ pub fn read_help(code: ReadCode) -> &'static str {
         ReadCode::DirectiveInTarget =>
             "close the `target` before it; a `target` without `nowait` may have several constructs, `parallel for` or `simd`, each right before its loop, and between them loops and blocks: put a statement into a block, `{ .. }`",
         ReadCode::OuterAssigned =>
-            "write the value to a cell of an array that is mapped `from` or `tofrom`",
+            "name the scalar in a `map` clause on the line, `map(tofrom: s)`, or write the value to a cell of an array that is mapped `from` or `tofrom`",
         ReadCode::HostOnly => "print after the `target`, once the cells are back on the host",
         ReadCode::NoBody => "put braces around what follows, or write the loop that is missing",
         ReadCode::DirectiveUnderIf => "put the condition into the regions",
