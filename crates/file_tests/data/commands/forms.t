@@ -149,7 +149,7 @@ $ ompc explain forms/int_list.c
 forms/int_list.c:3:1: error: `int` cannot stand here [E102]
     3 | int i, n;
       | ^~~
-forms/int_list.c:3:1: help: the one type is `uint64_t`, also written `size_t`, `unsigned long` or `unsigned long long`, without other words before it; the name of a loop, a constant, and `int k = i / 8;`, whose value is made of these and which nothing changes, may be an `int`
+forms/int_list.c:3:1: help: the one type is `uint64_t`, also written `size_t`, `unsigned long` or `unsigned long long`, without other words before it; the name of a loop, a constant, `int k = i / 8;`, whose value is made of these and which nothing changes, and a scalar that counts or tells, `errors++` and `ok = a < b`, may be an `int`
 [1]
 $ ompc explain forms/two_names.c
 forms/two_names.c:2:11: error: `,` cannot stand here [E102]
@@ -239,7 +239,7 @@ $ ompc explain forms/size.c
 forms/size.c:2:1: error: `unsigned` is not declared here [E103]
     2 | unsigned x = 4;
       | ^~~~~~~~
-forms/size.c:2:1: help: the one type is `uint64_t`, also written `size_t`, `unsigned long` or `unsigned long long`, without other words before it; the name of a loop, a constant, and `int k = i / 8;`, whose value is made of these and which nothing changes, may be an `int`
+forms/size.c:2:1: help: the one type is `uint64_t`, also written `size_t`, `unsigned long` or `unsigned long long`, without other words before it; the name of a loop, a constant, `int k = i / 8;`, whose value is made of these and which nothing changes, and a scalar that counts or tells, `errors++` and `ok = a < b`, may be an `int`
 [1]
 
 # numbers and texts
@@ -291,7 +291,7 @@ $ ompc explain forms/status.c
 forms/status.c:2:1: error: `return` is not declared here [E103]
     2 | return 1;
       | ^~~~~~
-forms/status.c:2:1: help: take it away: `main` ends at its last brace, before which `return 0;` may stand
+forms/status.c:2:1: help: take it away: `main` ends at its last brace, before which `return e;` of names, numbers and comparisons may stand
 [1]
 $ ompc explain forms/parameters.c
 forms/parameters.c:1:10: error: `int` cannot stand here [E102]
@@ -303,13 +303,13 @@ $ ompc explain forms/function.c
 forms/function.c:1:11: error: `(` cannot stand here [E102]
     1 | uint64_t f(uint64_t x) {
       |           ^
-forms/function.c:1:11: help: a function stands before `main`, `void f(uint64_t *a, uint64_t n) { .. }` or `uint64_t f(uint64_t n) { .. return e; }`, and is called as a statement, `f(A, 8);`, or as all of a right side, `x = f(8);`
+forms/function.c:1:11: help: a function stands before `main`, `void f(uint64_t *a, uint64_t n) { .. }` or `uint64_t f(uint64_t n) { .. return e; }`, and is called as a statement, `f(A, 8);`, or as all of a right side, `x = f(8);`, with the name of an array for an array, a constant for an `int`, and any value for a `uint64_t`
 [1]
 $ ompc explain forms/call.c
 forms/call.c:2:1: error: `f` is not declared here [E103]
     2 | f(1);
       | ^
-forms/call.c:2:1: help: a function is called behind its definition, as a statement, `f(A, 8);`, or, where it gives a value, as all of a right side, `x = f(8);`
+forms/call.c:2:1: help: a function is called behind its definition, as a statement, `f(A, 8);`, or, where it gives a value, as all of a right side, `x = f(8);`, with the name of an array for an array, a constant for an `int`, and any value for a `uint64_t`
 [1]
 $ ompc explain forms/nothing.c
 forms/nothing.c:1:1: error: the end of the text cannot stand here [E102]
@@ -630,5 +630,5 @@ $ ompc explain forms/no_temporary.c
 forms/no_temporary.c:3:35: error: `int` cannot stand here [E102]
     3 |     for (int i = 0; i < 8; i++) { int x = i + s; A[x % 8] = 1; }
       |                                   ^~~
-forms/no_temporary.c:3:35: help: the one type is `uint64_t`, also written `size_t`, `unsigned long` or `unsigned long long`, without other words before it; the name of a loop, a constant, and `int k = i / 8;`, whose value is made of these and which nothing changes, may be an `int`
+forms/no_temporary.c:3:35: help: the one type is `uint64_t`, also written `size_t`, `unsigned long` or `unsigned long long`, without other words before it; the name of a loop, a constant, `int k = i / 8;`, whose value is made of these and which nothing changes, and a scalar that counts or tells, `errors++` and `ok = a < b`, may be an `int`
 [1]

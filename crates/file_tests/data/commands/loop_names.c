@@ -23,7 +23,7 @@ int main(void) {
     }
     #pragma omp target data map(to: A[0:N]) map(tofrom: B[0:N])
     for (t = 0; t < 3; t++) {
-        #pragma omp target teams distribute parallel for
+        #pragma omp target teams distribute parallel for private(j)
         for (i = 0; i < N; i++)
             for (j = 0; j < N; j++)
                 B[i] += A[j] * i;

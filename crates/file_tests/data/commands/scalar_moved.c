@@ -4,9 +4,9 @@
 int main(void) {
     uint64_t s = 1;
 #pragma omp target enter data map(to: s)
-#pragma omp target nowait depend(inout: s)
+#pragma omp target nowait map(tofrom: s) depend(inout: s)
     { s = s * 10; }
-#pragma omp target nowait depend(inout: s)
+#pragma omp target nowait map(tofrom: s) depend(inout: s)
     {
 #pragma omp atomic
         s += 2;
