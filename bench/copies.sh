@@ -77,31 +77,37 @@ int main(int argc, char **argv) {
 END
     if ! command -v cc > /dev/null; then return; fi
     cc -O2 -o "$folder/by_memcpy" "$folder/by_memcpy.c"
-    local wall
-    read -r wall _ <<< "$(take "$folder/by_memcpy" "$1")"
-    printf '%-14s memcpy %s s\n' '' "$wall"
+    local told
+    told=$(take "$folder/by_memcpy" "$1")
+    printf '%-14s memcpy %s s\n' '' "${told% *}"
 }
 
-# seconds and KiB that a command takes
+# seconds and KiB that a command takes, which must not fail
 take() {
-    /usr/bin/time -f '%e %M' -o "$folder/time" "$@" < /dev/null > /dev/null 2>&1 || true
+    if ! /usr/bin/time -f '%e %M' -o "$folder/time" "$@" < /dev/null > /dev/null 2> "$folder/err"; then
+        echo "$1 failed: $(head -1 "$folder/err")" >&2
+        return 1
+    fi
     tail -1 "$folder/time"
 }
 
 measure() {
     "$1" "$2" > "$folder/source.c"
     "$ompc" check "$folder/source.c" > /dev/null
-    local check run memory
-    read -r check _ <<< "$(take "$ompc" check "$folder/source.c")"
-    read -r run memory <<< "$(take "$ompc" run "$folder/source.c")"
+    local told check run memory
+    told=$(take "$ompc" check "$folder/source.c")
+    check=${told% *}
+    told=$(take "$ompc" run "$folder/source.c")
+    run=${told% *}
+    memory=${told#* }
     awk -v name="$1 $2" -v check="$check" -v run="$run" -v memory="$memory" 'BEGIN {
         printf "%-14s check %5.2f s, run %6.2f s, %4d MiB\n", name, check, run, memory / 1024
     }'
     if command -v clang > /dev/null && clang -O2 -include stdint.h -Dprint= -fopenmp -fopenmp-targets=x86_64-pc-linux-gnu \
         -o "$folder/offload" "$folder/source.c" 2> /dev/null; then
-        local wall
-        read -r wall _ <<< "$(take "$folder/offload")"
-        printf '%-14s clang -fopenmp-targets %s s\n' '' "$wall"
+        if told=$(take "$folder/offload"); then
+            printf '%-14s clang -fopenmp-targets %s s\n' '' "${told% *}"
+        fi
     fi
 }
 

@@ -32,11 +32,13 @@ same() {
 }
 
 run_all() {
-    for source in *.c; do
-        same "${source%.c}.out" "$(input_of "${source%.c}")" run "$source" --finals
-    done
-    for source in known/*.c gallery/*.c; do
-        same "${source%.c}.out" /dev/null run "$source"
+    for workers in 1 2 4 16; do
+        for source in *.c; do
+            same "${source%.c}.out" "$(input_of "${source%.c}")" run "$source" --finals --workers "$workers"
+        done
+        for source in known/*.c gallery/*.c; do
+            same "${source%.c}.out" /dev/null run "$source" --workers "$workers"
+        done
     done
     for source in refused/*.c; do
         same "${source%.c}.out" /dev/null check "$source"

@@ -1,5 +1,6 @@
 // The types in C of the numbers of a source: as they are written, or those of constants.
 
+use crate::given::{Function, computes};
 use crate::literal::{Type, decimal_type, type_of_text};
 use base::tree::Place;
 use c_tokens::{Kind, Sign, Token, Tokens};
@@ -19,15 +20,18 @@ struct Constant<'a> {
     ctype: Type,
 }
 
-/// The tokens of a source as they stand, and its constants.
+/// The tokens of a source as they stand, its constants, and what it declares by the type `int`.
 #[derive(Drop)]
 pub struct Numbers<'a> {
-    bytes: &'a [u8],
-    tokens: Vec<Token>,
+    pub bytes: &'a [u8],
+    pub tokens: Vec<Token>,
     constants: Vec<Constant<'a>>,
+    /// The names of what is declared by `int`.
+    pub ints: Vec<&'a [u8]>,
+    pub functions: Vec<Function<'a>>,
 }
 
-fn text_of<'a>(bytes: &'a [u8], token: &Token) -> &'a [u8] {
+pub fn text_of<'a>(bytes: &'a [u8], token: &Token) -> &'a [u8] {
     match bytes.get(token.first..token.last.saturating_add(1)) {
         None => &[],
         Some(text) => text,
@@ -128,14 +132,62 @@ impl<'a> Numbers<'a> {
             bytes,
             tokens,
             constants: Vec::new(alloc),
+            ints: Vec::new(alloc),
+            functions: Vec::new(alloc),
         };
         numbers.define()?;
+        numbers.note_ints()?;
+        numbers.note_functions()?;
         Ok(numbers)
+    }
+
+    /// The type of a number or a constant; of another token that of the smallest numbers.
+    pub fn type_of(&self, token: &Token) -> Type {
+        type_of_token(self.bytes, &self.constants, token)
+    }
+
+    /// Whether it is the name of a constant, or of a macro.
+    pub fn is_constant(&self, token: &Token) -> bool {
+        type_of_name(&self.constants, text_of(self.bytes, token)).is_some()
     }
 
     fn add(&mut self, name: &'a [u8], ctype: Type) -> Result<(), AllocError> {
         self.constants.push(Constant { name, ctype })?;
         Ok(())
+    }
+
+    /// Whether the token is a line that defines a constant by an expression of the type `unsigned int`.
+    pub fn defines_half(&self, token: Token) -> bool {
+        let Kind::Line = token.kind else {
+            return false;
+        };
+        let Some((_, text)) = definition_on(text_of(self.bytes, &token)) else {
+            return false;
+        };
+        if text.first() == Some(&b'(')
+            || type_of_group(text, &self.constants, Tokens::new(text)) != Type::UnsignedInt
+        {
+            return false;
+        }
+        'tokens: for token in Tokens::new(text) {
+            if let Kind::Sign(sign) = token.kind {
+                if computes(sign) {
+                    return true;
+                }
+            }
+        }
+        false
+    }
+
+    // The type of an enumerator by the number behind it.
+    fn enumerated(&self, number: usize) -> Type {
+        match self.tokens.get(number.saturating_add(2)) {
+            Some(value) => match value.kind {
+                Kind::Number(_) => self.type_of(value),
+                _ => Type::Int,
+            },
+            None => Type::Int,
+        }
     }
 
     // The constant of a line, or the macro, whose numbers stand at the place of its name where it is used.
@@ -170,7 +222,10 @@ impl<'a> Numbers<'a> {
                 }
                 Kind::Name if in_const && text == b"int".as_slice() => ctype = Type::Int,
                 Kind::Name if text == b"enum".as_slice() => in_enum = true,
-                Kind::Name if in_enum => self.add(text, Type::Int)?,
+                Kind::Name if in_enum => {
+                    let ctype = self.enumerated(number);
+                    self.add(text, ctype)?;
+                }
                 Kind::Name if in_const => self.add(text, ctype)?,
                 Kind::Sign(Sign::Semicolon) => {
                     in_const = false;
@@ -182,8 +237,8 @@ impl<'a> Numbers<'a> {
         Ok(())
     }
 
-    // How many tokens stand before a place.
-    fn index_of(&self, place: Place) -> usize {
+    /// How many tokens stand before a place.
+    pub fn index_of(&self, place: Place) -> usize {
         self.tokens.partition_point(|token| is_before(token, place))
     }
 
@@ -308,11 +363,21 @@ impl<'a> Numbers<'a> {
         }
     }
 
-    /// Whether a call of `printf` stands at a place.
+    /// Whether a call of `printf` stands at a place that takes a number of 64 bits.
     pub fn is_printf_at(&self, place: Place) -> bool {
         match self.token_at(place) {
             None => false,
-            Some(token) => text_of(self.bytes, token) == b"printf".as_slice(),
+            Some(token) => {
+                text_of(self.bytes, token) == b"printf".as_slice() && !self.takes_int_at(place)
+            }
+        }
+    }
+
+    // Whether a bracket and the text of a number of the type `int` follow.
+    fn takes_int_at(&self, place: Place) -> bool {
+        match self.tokens.get(self.index_of(place).saturating_add(2)) {
+            None => false,
+            Some(text) => matches!(text.kind, Kind::Sign(Sign::FormatInt)),
         }
     }
 }

@@ -29,6 +29,8 @@ pub enum Reason {
     Count,
     /// A loop's name that may pass its type behind the last turn.
     Counter,
+    /// A number of another type in what is given to an `int`.
+    Cut,
     /// A number that `printf` takes as an `unsigned long`.
     Printed,
     /// Another one.

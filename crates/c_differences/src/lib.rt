@@ -3,6 +3,8 @@
 
 mod constants;
 mod difference;
+mod given;
+mod ints;
 mod literal;
 mod shape;
 mod stream;

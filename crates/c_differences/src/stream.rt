@@ -72,6 +72,14 @@ impl<'a, 'w> Stream<'a, 'w> {
         self.pass(Wanted::Name)
     }
 
+    /// Whether a subscript stands next.
+    pub fn is_indexed(&self) -> bool {
+        match self.tokens {
+            [token, ..] => Wanted::Sign(Sign::OpenBracket).is(&token.terminal),
+            [] => false,
+        }
+    }
+
     pub fn print(&mut self) -> Place {
         self.pass(Wanted::Print)
     }

@@ -80,8 +80,12 @@ pub fn differences_of(
         plain: true,
     };
     walk.parts(&program.body)?;
-    let Walk { found, plain, .. } = walk;
-    if !plain {
+    let Walk {
+        mut found,
+        plain,
+        ..
+    } = walk;
+    if numbers.tell_given(&mut found)? || !plain {
         return Ok(Differences {
             list: found,
             plain: false,

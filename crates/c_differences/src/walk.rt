@@ -74,18 +74,38 @@ fn logical(left: Option<Shape>, right: Option<Shape>) -> Option<Shape> {
     }
 }
 
-fn is_behind(place: Place, other: Place) -> bool {
-    place.line > other.line || (place.line == other.line && place.column > other.column)
+// What is known of a number of the type `int`.
+fn any_int() -> Shape {
+    counter(0, Type::Int.greatest().saturating_add(1))
+}
+
+fn is_any_int(shape: Shape) -> bool {
+    shape.lo == 0 && shape.hi == Type::Int.greatest() && shape.ctype == Type::Int
+}
+
+// Whether what an operator gives is an `int`, where C says anything of it.
+fn is_open(op: BinaryOp, s: Shape, t: Shape) -> bool {
+    (is_any_int(s) || is_any_int(t))
+        && s.ctype == Type::Int
+        && t.ctype == Type::Int
+        && matches!(
+            op,
+            BinaryOp::Add | BinaryOp::Multiply | BinaryOp::BitOr | BinaryOp::BitXor
+        )
 }
 
 impl Walk<'_, '_> {
-    // Whether no place that has been told is as far in the source. What is written once and stands twice in the source that
-    // is written out, as `e` of `A[e] += 1`, is so told once.
+    // Whether nothing has been told of the place. What is written once and stands twice in the source that is written out,
+    // as `e` of `A[e] += 1` and what stands in a function, is so told once.
     fn is_new(&self, place: Place) -> bool {
-        match self.found.last() {
-            None => true,
-            Some(last) => is_behind(place, last.place),
+        'found: for back in 1..self.found.len().saturating_add(1) {
+            if let Some(told) = self.found.get(self.found.len() - back) {
+                if told.place.line == place.line && told.place.column == place.column {
+                    return false;
+                }
+            }
         }
+        true
     }
 
     fn tell(
@@ -155,7 +175,12 @@ impl Walk<'_, '_> {
         operand: Option<u64>,
     ) -> Result<Option<Shape>, AllocError> {
         match operands {
-            (Some(s), Some(t)) => self.result(place, binary(op, s, t), operand),
+            (Some(s), Some(t)) => {
+                if !self.plain && is_open(op, s, t) {
+                    return Ok(Some(any_int()));
+                }
+                self.result(place, binary(op, s, t), operand)
+            }
             _ => Ok(None),
         }
     }
@@ -194,13 +219,26 @@ impl Walk<'_, '_> {
         }
     }
 
+    // A cell, which is a name alone where that is a boxed scalar's.
     #[cycle(expressions)]
     fn of_cell(&mut self, subscript: &Expr) -> Result<Option<Shape>, AllocError> {
-        self.stream.name();
+        let place = self.stream.name();
+        if !self.stream.is_indexed() {
+            return Ok(Some(self.named(place, unsigned())));
+        }
         match self.expr(subscript)? {
             None => Ok(None),
-            Some(_) => Ok(Some(unsigned())),
+            Some(_) => Ok(Some(self.named(place, unsigned()))),
         }
+    }
+
+    // What is known of a name, or of its cell: one that is declared by `int` has small values.
+    fn named(&mut self, place: Place, shape: Shape) -> Shape {
+        if !self.numbers.is_int_name_at(place) {
+            return shape;
+        }
+        self.plain = false;
+        any_int()
     }
 
     // The type and the bounds of an expression, or none where one of it was told.
@@ -209,8 +247,9 @@ impl Walk<'_, '_> {
         match e {
             Expr::Number(n) => self.number(*n, false),
             Expr::Scalar(scalar) => {
-                self.stream.name();
-                Ok(Some(self.scalar(*scalar)))
+                let place = self.stream.name();
+                let shape = self.scalar(*scalar);
+                Ok(Some(self.named(place, shape)))
             }
             Expr::LoopName(level) => {
                 let place = self.stream.name();
@@ -281,7 +320,7 @@ impl Walk<'_, '_> {
     fn declare(&mut self, scalar: ScalarId, place: Place) -> Result<(), AllocError> {
         let shape = match self.numbers.small_type_at(place) {
             None => return Ok(()),
-            Some(SmallType::Int) => counter(0, Type::Int.greatest().saturating_add(1)),
+            Some(SmallType::Int) => any_int(),
             Some(SmallType::Bool) => flag(),
         };
         self.plain = false;

@@ -10,7 +10,8 @@ use Rattle.c_grammar.specs.AsciiNames.{IsAsciiTerminal}
 use Rattle.c_grammar.specs.Changes.{reversed}
 use Rattle.c_grammar.specs.Choices.{Onward, Parts, State, all_alone, alone, assigned, begin, choice_len, chosen, chosen_in, chosen_on, condition_len, cut, cut_by, declared, either_at, first_len, held_name, is_question, left_len, lifted, lifted_by, max_choices, parts, parts_at, put_on, question_at, second_len, with_first, with_second, written}
 use Rattle.c_grammar.proofs.AsciiTokens.{AreItemsText, bare_text, both_text, chosen_text as either_text}
-use Rattle.c_grammar.proofs.AsciiFunctions.{all_low, low_text, take_text, drop_text}
+use Rattle.c_grammar.proofs.AsciiCalls.{take_text, drop_text}
+use Rattle.c_grammar.proofs.AsciiPassed.{all_low, low_text}
 
 -- ---- a statement
 

@@ -15,7 +15,7 @@ use Rattle.c_grammar.specs.Expressions.{placed_of}
 use Rattle.c_grammar.specs.Triangles.{Parts, cut, max_head, max_open, name_of, semicolon_at}
 use Rattle.c_grammar.specs.Descents.{Called, Counted, Loop, Onward, Open, Part, Plain, Signed, Small, State, Turned, all_at, before_sum, begin, behind, behind_sum, block_of, blocks_behind, head, in_brackets, inside, is_descent, len, part_of, parts_of, line_for, loop_at, loop_in, loop_named, loop_of, loop_with, name_in, next_behind, one_more, put, put_all, put_on_line, small_in, small_named, stand, stands, stands_in, stands_of, step, terminal_of, turned_on, upward, upward_in, upward_on, upward_step}
 use Rattle.c_grammar.proofs.AsciiTokens.{AreItemsText, bare_text, both_text, chosen_text as either_text}
-use Rattle.c_grammar.proofs.AsciiFunctions.{take_text}
+use Rattle.c_grammar.proofs.AsciiCalls.{take_text}
 use Rattle.c_grammar.proofs.AsciiTriangles.{ArePartsText, IsNameText, TextParts, by_text, of_text}
 
 -- ---- the open blocks

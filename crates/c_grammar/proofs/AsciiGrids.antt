@@ -14,7 +14,7 @@ use Rattle.c_grammar.specs.Functions.{index_len}
 use Rattle.c_grammar.specs.Grids.{Declared, Elsewhere, Grids, Onward, Open, Ranges, added_on, closing_on, declared, declared_on, flat, flat_declaration, flat_line, flat_on, grid_on, has_second, in_rows, is_row, named_on, row_begins, row_ends, second_len, token_on}
 use Rattle.c_grammar.specs.AsciiNames.{IsAsciiTerminal}
 use Rattle.c_grammar.proofs.AsciiTokens.{AreItemsText, bare_text, both_text, chosen_text}
-use Rattle.c_grammar.proofs.AsciiFunctions.{drop_text, take_text}
+use Rattle.c_grammar.proofs.AsciiCalls.{drop_text, take_text}
 
 abbrev AreText : Onward → Type 0
 AreText go = (gs : Grids) (rs : Ranges) (os : Open) (k : ℕ) → AreItemsText (go gs rs os k)

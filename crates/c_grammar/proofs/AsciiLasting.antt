@@ -8,7 +8,7 @@ use Rattle.c_grammar.specs.Blocks.{Items, at, bare, is_directive}
 use Rattle.c_grammar.specs.AsciiNames.{IsAsciiTerminal}
 use Rattle.c_grammar.specs.Lasting.{State, begin, behind, const_at, const_for, is_lasting, is_looked, lasting, lasting_in}
 use Rattle.c_grammar.proofs.AsciiTokens.{AreItemsText, both_text, chosen_text}
-use Rattle.c_grammar.proofs.AsciiFunctions.{AreLow, all_low, low_text}
+use Rattle.c_grammar.proofs.AsciiPassed.{AreLow, all_low, low_text}
 use Rattle.std.specs.Prelude.{codes}
 
 word_text : IsAscii (codes "const")

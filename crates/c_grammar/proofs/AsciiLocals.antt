@@ -14,7 +14,8 @@ use Rattle.c_grammar.specs.Loops.{is_word}
 use Rattle.c_grammar.specs.Triangles.{Loop, len, loop_in}
 use Rattle.c_grammar.specs.Locals.{Cells, Declared, Index, Onward, Open, Pass, Put, Replace, State, Unroll, array_of, begin, body_len, body_put, cell_name, cell_names, declared, declared_as, declared_in, declared_put, has_array, hides, in_scalars, in_settings, index_in, indexed_put, is_inside, is_unrolled, line_at, line_twice, list_len, listed_put, loop_put, max_ahead, max_cells, max_index, named_put, next_setting, numbers_of, opens_list, or_plain, put, put_at, put_len, scalars, scalars_put, scan, scan_on, setting, settings, turns, turns_put, unrolled, unrolled_at, used_put, with_array, with_number}
 use Rattle.c_grammar.proofs.AsciiTokens.{AreItemsText, bare_text, both_text, chosen_text as either_text}
-use Rattle.c_grammar.proofs.AsciiFunctions.{all_low, drop_low, drop_text, low_text, take_low, take_text}
+use Rattle.c_grammar.proofs.AsciiCalls.{drop_text, take_text}
+use Rattle.c_grammar.proofs.AsciiPassed.{all_low, drop_low, low_text, take_low}
 
 -- ---- names of cells
 

@@ -9,7 +9,7 @@ use Rattle.c_grammar.specs.AsciiNames.{IsAsciiTerminal}
 use Rattle.c_grammar.specs.Constants.{is_mark}
 use Rattle.c_grammar.specs.Loops.{Branch, Left, Limit, Onward, Open, Plain, State, Turn, begin, behind, closing, head_at, leaves, left, loop_at, looped, looped_in, looped_on, put_on, turn_name, turn_names, turned_on}
 use Rattle.c_grammar.proofs.AsciiTokens.{AreItemsText, bare_text, both_text, chosen_text as either_text}
-use Rattle.c_grammar.proofs.AsciiFunctions.{AreLow, all_low, low_text, take_low}
+use Rattle.c_grammar.proofs.AsciiPassed.{AreLow, all_low, low_text, take_low}
 
 braces_text : (n : ℕ) (i : Item Terminal) → AreItemsText (braces_at n i)
 braces_text zero i = tt

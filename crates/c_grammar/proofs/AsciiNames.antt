@@ -30,7 +30,9 @@ use Rattle.c_grammar.specs.Nesting.{nested}
 use Rattle.c_grammar.specs.Sequences.{in_parts}
 use Rattle.c_grammar.specs.Macros.{replaced}
 use Rattle.c_grammar.specs.DeclaredFunctions.{begins_part, ends_part, has_functions, undeclared}
-use Rattle.c_grammar.specs.Prints.{is_text, text_len, alone, print_at, print_on, printed}
+use Rattle.c_grammar.specs.Needless.{needed}
+use Rattle.c_grammar.specs.Types.{of_one_type}
+use Rattle.c_grammar.specs.Prints.{is_text, text_len, alone, print_at, print_on, printed, stays}
 use Rattle.c_grammar.specs.Constants.{with_tokens, line_tokens, put_item, Definition, Defines, Misdefines, definition, at_wanted, wanted, Names, undefined, definition_len, drop_on, leave_on, work_on, Onward, plain, expressed, read_on, worked}
 use Rattle.c_grammar.specs.Initial as globals
 use Rattle.c_grammar.specs.Initial.{Globals, Initial, initialized, no_globals}
@@ -62,6 +64,8 @@ use Rattle.c_grammar.proofs.AsciiSequences.{parts_text}
 use Rattle.c_grammar.proofs.AsciiLoops.{looped_text}
 use Rattle.c_grammar.proofs.AsciiTriangles.{rectangular_text}
 use Rattle.c_grammar.proofs.AsciiStructs.{rows_text}
+use Rattle.c_grammar.proofs.AsciiNeedless.{needed_text}
+use Rattle.c_grammar.proofs.AsciiTypes.{types_text}
 use Rattle.c_grammar.proofs.AsciiChoices.{chosen_text as choices_text}
 use Rattle.c_grammar.proofs.AsciiConditions.{decided_text}
 use Rattle.c_grammar.proofs.AsciiMacros.{AreLexemesText, AreWholeText, IsLexemeText, IsLineText, replaced_text}
@@ -443,7 +447,7 @@ print_on_text : (k : ℕ) (i : Item Terminal) (n : ℕ) (go : ℕ → Items) →
     → ((k : ℕ) → AreItemsText (go k)) → AreItemsText (print_on k i n go)
 print_on_text zero i n go h r = print_text i n go h r
 print_on_text (suc k) i n go h r =
-    chosen_text (same (Mark sign.OpenParen) i.terminal) _ _ (h, r (suc k)) (r k)
+    chosen_text (stays i.terminal) _ _ (h, r (suc k)) (r k)
 
 printed_text : (is : Items) (k : ℕ) → AreItemsText is → AreItemsText (printed k is)
 unfolding printed
@@ -716,8 +720,10 @@ written_text is h =
     let own : Items = in_parts (replaced is) in
     let calls : Items = printed 0 (nested own) in
     let types : Items = typed 0 calls in
-    let rows : Items = in_rows types in
-    let whole : Items = in_blocks nothing_read (undeclared false rows) in
+    let needs : Items = needed types in
+    let rows : Items = in_rows needs in
+    let one_type : Items = of_one_type (undeclared false rows) in
+    let whole : Items = in_blocks nothing_read one_type in
     let owning : Items = unshared whole in
     let loops : Items = counted owning in
     let upwards : Items = upward loops in
@@ -750,9 +756,9 @@ written_text is h =
     (expanded_text (λ is h. worked_text is [] [] 0 h) arrays
     (pointed_text numbered (worked_text known [] [] 0 (settled_text (zeroed constant) Other (zeroed_text constant
     (lasting_text private (owned_text upwards (upward_text loops (counted_text owning (unshared_text whole
-    (blocks_text (undeclared false rows) nothing_read (undeclared_text rows false
-    (rows_text types (typed_text calls 0
-    (printed_text (nested own) 0 (nested_text own (parts_text (replaced is) (replaced_text is h)))))))))))))))))))))))))))))))))))
+    (blocks_text one_type nothing_read (types_text (undeclared false rows) (undeclared_text rows false
+    (rows_text needs (needed_text types (typed_text calls 0
+    (printed_text (nested own) 0 (nested_text own (parts_text (replaced is) (replaced_text is h)))))))))))))))))))))))))))))))))))))
 
 all_but : (is : Items) (e : Item Terminal) → AreItemsText (is ++ e ∷ []) → AreItemsText is
 all_but [] e h = tt

@@ -6,11 +6,10 @@ use Rattle.c_grammar.specs.Lexeme.{Uint64}
 use Rattle.c_grammar.specs.Terminal.{Terminal, Fixed, Mark, Name, Num, Line, Unknown, Unworked, End, same}
 use Rattle.c_grammar.specs.Texts.{Item}
 use Rattle.c_grammar.specs.Blocks.{Items, at, bare, is_directive}
-use Rattle.c_grammar.specs.Boxes.{is_declared}
 use Rattle.c_grammar.specs.Constants.{Names, is_mark, with_tokens}
 use Rattle.c_grammar.specs.Expressions.{placed_of}
 use Rattle.c_grammar.specs.Lines.{is_omp}
-use Rattle.c_grammar.specs.Presence.{before_end, is_target, no_clause, target_column}
+use Rattle.c_grammar.specs.Presence.{before_end, is_declared, is_target, no_clause, target_column}
 use Rattle.c_grammar.specs.Updates.{is_combined}
 use Rattle.c_grammar.specs.Moves.{Barred, Before, Ending, Other, Stand, Starts, Typed, all_moved, begin, behind, behind_put, is_ending, moved, moved_names, name_put, other_put, passed}
 use Rattle.c_grammar.specs.Privates.{declared, noted, noted_item, owned, owned_by, owned_item, owned_lines, owned_tokens, shares}

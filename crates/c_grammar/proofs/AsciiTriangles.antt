@@ -12,7 +12,7 @@ use Rattle.c_grammar.specs.Constants.{is_mark}
 use Rattle.c_grammar.specs.Loops.{is_word}
 use Rattle.c_grammar.specs.Triangles.{Bound, Loop, Named, Onward, Open, Parts, Plain, State, Step, asks, begin, begins_block, behind, between, block_of, bound_in, closing, counts, cut, cut_at, cut_behind, cut_by, guard, guard_for, head, hull_end, is_guarded, is_written, len, limit_sign, loop_at, loop_in, loop_named, loop_of, loop_on, loop_to, loop_with, lower, max_head, max_open, name_in, name_of, names, number_for, put_on, rectangular, rectangular_in, rectangular_on, semicolon_at, step, step_by, step_in, sum_step, turned_on, upper}
 use Rattle.c_grammar.proofs.AsciiTokens.{AreItemsText, bare_text, both_text, chosen_text as either_text}
-use Rattle.c_grammar.proofs.AsciiFunctions.{take_text, drop_text}
+use Rattle.c_grammar.proofs.AsciiCalls.{take_text, drop_text}
 
 -- ---- the head
 

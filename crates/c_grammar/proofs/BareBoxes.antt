@@ -1,30 +1,22 @@
 -- What is written for boxed scalars stands on directive lines alone, and a text without those boxes no scalar.
-use Rattle.std.proofs.Common.{◌≡◌, ◌∙◌, Bool, true, false, cond, List, [], ◌∷◌, refl, sym, ap}
+use Rattle.std.proofs.Common.{◌≡◌, ◌∙◌, Bool, true, false, cond, [], ◌∷◌, refl, sym, ap}
 use Rattle.std.specs.Prelude.{◌&&◌, not}
-use Rattle.c_grammar.specs.Lexeme.{Lexeme, Placed}
 use Rattle.c_grammar.specs.Terminal.{Terminal, Fixed, Mark, Name, Num, Line, Unknown, Unworked, End}
 use Rattle.c_grammar.specs.Texts.{Item}
 use Rattle.c_grammar.specs.Blocks.{Items, bare, is_directive}
-use Rattle.c_grammar.specs.Constants.{Names, with_tokens}
+use Rattle.c_grammar.specs.Constants.{Names}
 use Rattle.c_grammar.specs.Expressions.{placed_of}
 use Rattle.c_grammar.specs.Lines.{is_omp}
 use Rattle.c_grammar.specs.Allocations.{begins_main}
 use Rattle.c_grammar.specs.Boxes.{all_listed, announced, before_main, boxed, boxed_item, boxed_lines, boxed_tokens, boxes_of, boxing_at, found, listed_on, named_before, nothing_found, only}
-use Rattle.c_grammar.proofs.BarePresence.{omp_stays}
+use Rattle.c_grammar.proofs.BarePresence.{omp_kept}
 
 -- ---- sections and clauses
-
--- a directive line stays one
-line_kept : (i : Item Terminal) (ts : List Lexeme) (ps : List Placed) (b : Bool) → is_omp ts ≡ b →
-    is_directive i.terminal ≡ b →
-    is_directive (cond b (with_tokens i ts ps) i).terminal ≡ b
-line_kept i ts ps true e f = omp_stays i ts ps e
-line_kept i ts ps false e f = f
 
 item_kept : (names : Names) (i : Item Terminal) (t : Terminal) (is : Items) → i.terminal ≡ t →
     is_directive (boxed_item names i t is).terminal ≡ is_directive i.terminal
 item_kept names i (Line ts) is e =
-    line_kept i ts (boxed_tokens names ts is (placed_of ts i.columns)) (is_omp ts) refl (ap is_directive e)
+    omp_kept i ts (boxed_tokens names ts is (placed_of ts i.columns)) (is_omp ts) refl (ap is_directive e)
     ∙ sym (ap is_directive e)
 item_kept names i (Fixed w) is e = refl
 item_kept names i (Mark s) is e = refl

@@ -9,7 +9,7 @@ use Rattle.c_grammar.specs.Blocks.{Items, at, bare, is_directive}
 use Rattle.c_grammar.specs.Choices.{Onward, Parts, State, all_alone, alone, assigned, begin, choice_len, chosen, chosen_in, chosen_on, condition_len, cut, cut_by, declared, either_at, first_len, held_name, is_question, left_len, lifted, lifted_by, max_choices, parts, parts_at, put_on, question_at, second_len, with_first, with_second, written}
 use Rattle.c_grammar.specs.Changes.{reversed}
 use Rattle.c_grammar.proofs.BareTokens.{ArePlain, IsBare, IsPlain, both_plain, either_plain, one, plain_bare, same_bare, some}
-use Rattle.c_grammar.proofs.BareFunctions.{take_plain, drop_plain}
+use Rattle.c_grammar.proofs.BareCalls.{take_plain, drop_plain}
 
 -- ---- no directive line is put in
 

@@ -11,7 +11,7 @@ use Rattle.c_grammar.specs.Expressions.{placed_of}
 use Rattle.c_grammar.specs.Triangles.{Parts, cut, max_head, max_open, semicolon_at}
 use Rattle.c_grammar.specs.Descents.{Called, Counted, Loop, Onward, Open, Part, Signed, State, all_at, before_sum, begin, behind, behind_sum, head, in_brackets, inside, is_descent, len, line_for, loop_at, loop_in, loop_named, loop_of, loop_with, name_in, one_more, put, put_all, put_on_line, small_in, stand, stands_of, step, terminal_of, turned_on, upward, upward_in, upward_on, upward_step}
 use Rattle.c_grammar.proofs.BareTokens.{ArePlain, IsBare, IsPlain, both_plain, either_plain, one, plain_bare, same_bare, some}
-use Rattle.c_grammar.proofs.BareFunctions.{take_plain}
+use Rattle.c_grammar.proofs.BareCalls.{take_plain}
 use Rattle.c_grammar.proofs.BarePresence.{omp_stays}
 use Rattle.c_grammar.proofs.BareTriangles.{ArePartsPlain, PlainParts, by_plain}
 

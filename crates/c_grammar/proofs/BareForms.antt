@@ -13,6 +13,8 @@ use Rattle.c_grammar.specs.Nesting.{nested}
 use Rattle.c_grammar.specs.Sequences.{in_parts}
 use Rattle.c_grammar.specs.Macros.{replaced}
 use Rattle.c_grammar.specs.DeclaredFunctions.{undeclared}
+use Rattle.c_grammar.specs.Needless.{needed}
+use Rattle.c_grammar.specs.Types.{of_one_type}
 use Rattle.c_grammar.specs.Counters.{counted}
 use Rattle.c_grammar.specs.Descents.{upward}
 use Rattle.c_grammar.specs.Devices.{on_devices}
@@ -23,7 +25,7 @@ use Rattle.c_grammar.specs.Shared.{apart, awaited, unshared}
 use Rattle.c_grammar.specs.Lasting.{lasting}
 use Rattle.c_grammar.specs.Unset.{zeroed}
 use Rattle.c_grammar.specs.Declarations.{Other, settled}
-use Rattle.c_grammar.specs.Prints.{is_text, text_len, alone, print_at, print_on, printed}
+use Rattle.c_grammar.specs.Prints.{is_text, text_len, alone, print_at, print_on, printed, stays}
 use Rattle.c_grammar.specs.Expressions.{Values, value_of, number_for, Worked, Number, Fault}
 use Rattle.c_grammar.specs.Constants.{with_terminal, front_two, put_item, Definition, Defines, Misdefines, definition, at_wanted, wanted, Names, definition_len, drop_on, leave_on, undefined, Onward, expressed, read_on, work_on, worked}
 use Rattle.c_grammar.specs.Changes as changes
@@ -48,6 +50,8 @@ use Rattle.c_grammar.proofs.BareNesting.{nested_bare}
 use Rattle.c_grammar.proofs.BareSequences.{parts_bare}
 use Rattle.c_grammar.proofs.BareMacros.{replaced_bare}
 use Rattle.c_grammar.proofs.BareDeclaredFunctions.{undeclared_bare}
+use Rattle.c_grammar.proofs.BareNeedless.{needed_bare}
+use Rattle.c_grammar.proofs.BareTypes.{types_bare}
 use Rattle.c_grammar.proofs.BareFunctions.{expanded_bare}
 use Rattle.c_grammar.proofs.BareLasting.{lasting_bare}
 use Rattle.c_grammar.proofs.BareCounters.{counted_bare, zeroed_bare}
@@ -113,7 +117,7 @@ print_on_bare : (k : ℕ) (i : Item Terminal) (n : ℕ) (go go' : ℕ → Items)
     → ((k : ℕ) → IsBare (go' k) (go k)) → IsBare (print_on k i n go') (print_on k i n go)
 print_on_bare zero i n go go' h r = print_bare i n go go' h r
 print_on_bare (suc k) i n go go' h r =
-    either (same (Mark sign.OpenParen) i.terminal) (i ∷ go (suc k)) (go k) _ _
+    either (stays i.terminal) (i ∷ go (suc k)) (go k) _ _
     (one i (go (suc k)) (go' (suc k)) h (r (suc k))) (r k)
 
 printed_bare : (is : Items) (k : ℕ) → IsBare (printed k (bare is)) (printed k is)
@@ -608,9 +612,11 @@ written_bare is =
     let n : Items = nested z in
     let p : Items = printed 0 n in
     let a : Items = typed 0 p in
-    let s : Items = in_rows a in
+    let needs : Items = needed a in
+    let s : Items = in_rows needs in
     let u : Items = undeclared false s in
-    let b : Items = in_blocks nothing_read u in
+    let one_type : Items = of_one_type u in
+    let b : Items = in_blocks nothing_read one_type in
     let t : Items = unshared b in
     let l : Items = counted t in
     let v : Items = upward l in
@@ -645,16 +651,18 @@ written_bare is =
     let since_counted : Items → Items = λ js. since_upward (upward js) in
     let since_shared : Items → Items = λ js. since_counted (counted js) in
     let since_blocks : Items → Items = λ js. since_shared (unshared js) in
-    let since_structs : Items → Items = λ js. since_blocks (in_blocks nothing_read (undeclared false js)) in
-    let since_typed : Items → Items = λ js. since_structs (in_rows js) in
+    let since_structs : Items → Items = λ js. since_blocks (in_blocks nothing_read (of_one_type (undeclared false js))) in
+    let since_typed : Items → Items = λ js. since_structs (in_rows (needed js)) in
     ap (λ (js : Items). since_typed (typed 0 (printed 0 (nested (in_parts js))))) (replaced_bare is)
     ∙ ap (λ (js : Items). since_typed (typed 0 (printed 0 (nested js)))) (parts_bare m)
     ∙ ap (λ (js : Items). since_typed (typed 0 (printed 0 js))) (nested_bare z)
     ∙ ap (λ (js : Items). since_typed (typed 0 js)) (printed_bare n 0)
     ∙ ap since_typed (typed_bare p 0)
-    ∙ ap since_structs (rows_bare a)
-    ∙ ap (λ (js : Items). since_blocks (in_blocks nothing_read js)) (undeclared_bare s false)
-    ∙ ap since_blocks (blocks_bare u nothing_read)
+    ∙ ap (λ (js : Items). since_structs (in_rows js)) (needed_bare a)
+    ∙ ap since_structs (rows_bare needs)
+    ∙ ap (λ (js : Items). since_blocks (in_blocks nothing_read (of_one_type js))) (undeclared_bare s false)
+    ∙ ap (λ (js : Items). since_blocks (in_blocks nothing_read js)) (types_bare u)
+    ∙ ap since_blocks (blocks_bare one_type nothing_read)
     ∙ ap since_shared (unshared_bare b)
     ∙ ap since_counted (counted_bare t)
     ∙ ap since_upward (upward_bare l)

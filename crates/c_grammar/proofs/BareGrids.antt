@@ -11,7 +11,7 @@ use Rattle.c_grammar.specs.Expressions.{placed_of, value_of}
 use Rattle.c_grammar.specs.Functions.{index_len}
 use Rattle.c_grammar.specs.Grids.{Declared, Elsewhere, Grids, Onward, Open, Ranges, added_on, closing_on, declared, declared_on, flat, flat_declaration, flat_line, flat_on, grid_on, has_second, in_rows, is_row, named_on, row_begins, row_ends, second_len, token_on}
 use Rattle.c_grammar.proofs.BarePresence.{omp_stays}
-use Rattle.c_grammar.proofs.BareFunctions.{drop_plain, take_plain}
+use Rattle.c_grammar.proofs.BareCalls.{drop_plain, take_plain}
 use Rattle.c_grammar.proofs.BareTokens.{ArePlain, IsBare, IsPlain, both_plain, either, one, plain_bare, same_bare, some}
 
 abbrev AreBare : Onward → Onward → Type 0

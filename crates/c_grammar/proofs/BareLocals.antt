@@ -13,7 +13,7 @@ use Rattle.c_grammar.specs.Loops.{is_word}
 use Rattle.c_grammar.specs.Triangles.{Loop, len, loop_in}
 use Rattle.c_grammar.specs.Locals.{Cells, Declared, Index, Onward, Open, Pass, Put, Replace, State, Unroll, array_of, begin, body_len, body_put, cell_name, declared, declared_put, has_array, hides, in_scalars, in_settings, index_in, indexed_put, is_unrolled, line_at, line_twice, list_len, listed_put, loop_put, max_ahead, max_cells, max_index, named_put, next_setting, numbers_of, or_plain, put, put_at, put_len, scalars, scalars_put, scan, scan_on, setting, settings, turns, turns_put, twice, unrolled, unrolled_at, used_put, with_array, with_number}
 use Rattle.c_grammar.proofs.BareTokens.{ArePlain, IsBare, IsPlain, both_plain, either_plain, plain_bare, same_bare, some}
-use Rattle.c_grammar.proofs.BareFunctions.{drop_plain, take_plain}
+use Rattle.c_grammar.proofs.BareCalls.{drop_plain, take_plain}
 use Rattle.c_grammar.proofs.BarePresence.{omp_stays}
 
 -- ---- what is put has no directive line

@@ -6,8 +6,8 @@ use Rattle.c_grammar.specs.Lexeme.{Uint64}
 use Rattle.c_grammar.specs.Terminal.{Terminal, Fixed, Name, same}
 use Rattle.c_grammar.specs.Texts.{Item}
 use Rattle.c_grammar.specs.Blocks.{Items, at, bare, is_directive}
-use Rattle.c_grammar.specs.Boxes.{is_declared}
 use Rattle.c_grammar.specs.Constants.{Names, is_mark}
+use Rattle.c_grammar.specs.Presence.{is_declared}
 use Rattle.c_grammar.specs.Moves.{Barred, Before, Ending, Onward, Other, Stand, Starts, Typed, all_moved, begin, behind, behind_put, is_ending, moved, moved_on, name_put, other_put, passed}
 use Rattle.c_grammar.proofs.BareTokens.{ArePlain, IsBare, IsPlain, either, either_plain, same_bare, some}
 

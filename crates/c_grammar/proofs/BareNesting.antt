@@ -9,7 +9,7 @@ use Rattle.c_grammar.specs.Changes.{is_mark}
 use Rattle.c_grammar.specs.Expressions.{placed_of}
 use Rattle.c_grammar.specs.Lines.{is_omp}
 use Rattle.c_grammar.specs.Presence.{is_target}
-use Rattle.c_grammar.specs.Nesting.{has_construct, is_only, joined, joined_of, joined_tokens, joins, moves, nested, nested_on}
+use Rattle.c_grammar.specs.Nesting.{has_construct, is_only, joined, joined_line, joined_of, joins, moves, nested, nested_on}
 use Rattle.c_grammar.proofs.BarePresence.{omp_stays}
 
 -- what two lines that are joined are
@@ -56,7 +56,7 @@ second_is End u e = absurd cc
 joined_of_stays : (i j : Item Terminal) (t u : Terminal) → joins t u ≡ true → is_directive i.terminal ≡ true →
     is_directive (joined_of i j t u).terminal ≡ true
 joined_of_stays i j (Line ts) (Line us) e f =
-    omp_stays i ts (joined_tokens ts us (placed_of ts i.columns) (placed_of us j.columns))
+    omp_stays i ts (joined_line ts us (placed_of ts i.columns) (placed_of us j.columns))
     (lines_omp (is_omp ts) (is_target ts) (is_omp us) _ e).0
 joined_of_stays i j (Line ts) (Fixed w) e f = f
 joined_of_stays i j (Line ts) (Mark s) e f = f

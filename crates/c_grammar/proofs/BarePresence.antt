@@ -8,7 +8,7 @@ use Rattle.c_grammar.specs.Blocks.{Items, bare, is_directive}
 use Rattle.c_grammar.specs.Constants.{Names, with_tokens}
 use Rattle.c_grammar.specs.Expressions.{placed_of}
 use Rattle.c_grammar.specs.Lines.{is_omp}
-use Rattle.c_grammar.specs.Presence.{guarded, guarded_item, guarded_tokens, is_target}
+use Rattle.c_grammar.specs.Presence.{guarded, guarded_item, guarded_tokens}
 
 pub omp_stays : (i : Item Terminal) (ts : List Lexeme) (ps : List Placed) → is_omp ts ≡ true →
     is_directive (with_tokens i ts ps).terminal ≡ true
@@ -17,17 +17,23 @@ omp_stays i [] ps e = absurd cc
 omp_stays i (t ∷ []) ps e = absurd cc
 omp_stays i (t ∷ u ∷ ts) ps e = e
 
--- a directive line stays one
+-- the line of a target stays a directive line
 pub line_kept : (i : Item Terminal) (ts : List Lexeme) (ps : List Placed) (b c : Bool) → is_omp ts ≡ b → is_directive i.terminal ≡ b →
     is_directive (cond (b && c) (with_tokens i ts ps) i).terminal ≡ b
 line_kept i ts ps true true e f = omp_stays i ts ps e
 line_kept i ts ps true false e f = f
 line_kept i ts ps false c e f = f
 
+-- so does any
+pub omp_kept : (i : Item Terminal) (ts : List Lexeme) (ps : List Placed) (b : Bool) → is_omp ts ≡ b → is_directive i.terminal ≡ b →
+    is_directive (cond b (with_tokens i ts ps) i).terminal ≡ b
+omp_kept i ts ps true e f = omp_stays i ts ps e
+omp_kept i ts ps false e f = f
+
 item_kept : (names : Names) (i : Item Terminal) (t : Terminal) (is : Items) → i.terminal ≡ t →
     is_directive (guarded_item names i t is).terminal ≡ is_directive i.terminal
 item_kept names i (Line ts) is e =
-    line_kept i ts (guarded_tokens names ts is (placed_of ts i.columns)) (is_omp ts) (is_target ts) refl (ap is_directive e)
+    omp_kept i ts (guarded_tokens names ts is (placed_of ts i.columns)) (is_omp ts) refl (ap is_directive e)
     ∙ sym (ap is_directive e)
 item_kept names i (Fixed w) is e = refl
 item_kept names i (Mark s) is e = refl
@@ -51,13 +57,13 @@ item_same names i End is e = refl
 pub bare_guarded : (names : Names) (is : Items) → bare (guarded names is) ≡ bare is
 bare_guarded names [] = refl
 bare_guarded names (i ∷ is) =
-    go (is_directive i.terminal) refl (item_kept names i i.terminal is refl) (bare_guarded names is)
+    go (is_directive i.terminal) refl (item_kept names i i.terminal (bare is) refl) (bare_guarded names is)
   where
-    go : (b : Bool) → is_directive i.terminal ≡ b → is_directive (guarded_item names i i.terminal is).terminal ≡ is_directive i.terminal →
+    go : (b : Bool) → is_directive i.terminal ≡ b → is_directive (guarded_item names i i.terminal (bare is)).terminal ≡ is_directive i.terminal →
         bare (guarded names is) ≡ bare is → bare (guarded names (i ∷ is)) ≡ bare (i ∷ is)
     go true e k ih = rw (k ∙ e) (rw e ih)
     go false e k ih =
-        rw (k ∙ e) (rw e (ap (λ (j : Item Terminal). j ∷ bare (guarded names is)) (item_same names i i.terminal is e)
+        rw (k ∙ e) (rw e (ap (λ (j : Item Terminal). j ∷ bare (guarded names is)) (item_same names i i.terminal (bare is) e)
         ∙ ap (λ (js : Items). i ∷ js) ih))
 
 plain_guarded : (names : Names) (is : Items) → guarded names (bare is) ≡ bare is
@@ -68,7 +74,7 @@ plain_guarded names (i ∷ is) = go (is_directive i.terminal) refl (plain_guarde
         guarded names (cond b (bare is) (i ∷ bare is)) ≡ cond b (bare is) (i ∷ bare is)
     go true e ih = ih
     go false e ih =
-        ap (λ (j : Item Terminal). j ∷ guarded names (bare is)) (item_same names i i.terminal (bare is) e)
+        ap (λ (j : Item Terminal). j ∷ guarded names (bare is)) (item_same names i i.terminal (bare (bare is)) e)
         ∙ ap (λ (js : Items). i ∷ js) ih
 
 pub guarded_bare : (names : Names) (is : Items) → guarded names (bare is) ≡ bare (guarded names is)

@@ -10,7 +10,7 @@ use Rattle.c_grammar.specs.Constants.{is_mark}
 use Rattle.c_grammar.specs.Loops.{is_word}
 use Rattle.c_grammar.specs.Triangles.{Bound, Loop, Named, Onward, Open, Parts, Plain, State, Step, asks, begin, begins_block, behind, between, block_of, bound_in, closing, counts, cut, cut_at, cut_behind, cut_by, guard, guard_for, head, hull_end, is_guarded, is_written, len, limit_sign, loop_at, loop_in, loop_named, loop_of, loop_on, loop_to, loop_with, lower, max_head, max_open, name_in, names, number_for, put_on, rectangular, rectangular_in, rectangular_on, semicolon_at, step, step_by, step_in, sum_step, turned_on, upper}
 use Rattle.c_grammar.proofs.BareTokens.{ArePlain, IsBare, IsPlain, both_plain, either_plain, one, plain_bare, same_bare, some}
-use Rattle.c_grammar.proofs.BareFunctions.{take_plain, drop_plain}
+use Rattle.c_grammar.proofs.BareCalls.{take_plain, drop_plain}
 
 -- ---- the head has no directive line
 

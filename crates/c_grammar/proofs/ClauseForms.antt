@@ -96,9 +96,9 @@ a_default_map : written (codes "#pragma omp target defaultmap(tofrom: aggregate)
 unfolding number_of hex_number_of number_piece sign_one sign_two sign_three changing_sign sign_at piece_at comment_end_from is_include after tokens_from word_of is_omp expression line_from clauses_from worked in_blocks typed printed undefined all_read initialized in_full run enter breaks wrong sort_of advance place_code first_broken first_wrong kind_of holds is_atomic is_target depth_of collapse_from uses_of uses_from line_fault line_breaks line_wrong line_enter line_advance line_place line_first_broken line_first_wrong piece_on_line lexemes_from
 a_default_map = refl
 
-of_all_kinds : written (codes "#pragma omp target map(tofrom: A), defaultmap(tofrom)") ≡ words (codes "#pragma omp target map(tofrom: A)")
+of_pointers_too : written (codes "#pragma omp target map(tofrom: A) defaultmap(tofrom)") ≡ words (codes "#pragma omp target map(tofrom: A) defaultmap(tofrom)")
 unfolding number_of hex_number_of number_piece sign_one sign_two sign_three changing_sign sign_at piece_at comment_end_from is_include after tokens_from word_of is_omp expression line_from clauses_from worked in_blocks typed printed undefined all_read initialized in_full run enter breaks wrong sort_of advance place_code first_broken first_wrong kind_of holds is_atomic is_target depth_of collapse_from uses_of uses_from line_fault line_breaks line_wrong line_enter line_advance line_place line_first_broken line_first_wrong piece_on_line lexemes_from
-of_all_kinds = refl
+of_pointers_too = refl
 
 of_scalars : written (codes "#pragma omp target teams distribute parallel for defaultmap(tofrom: scalar), num_teams(2)") ≡ words (codes "#pragma omp target teams distribute parallel for num_teams(2)")
 unfolding number_of hex_number_of number_piece sign_one sign_two sign_three changing_sign sign_at piece_at comment_end_from is_include after tokens_from word_of is_omp expression line_from clauses_from worked in_blocks typed printed undefined all_read initialized in_full run enter breaks wrong sort_of advance place_code first_broken first_wrong kind_of holds is_atomic is_target depth_of collapse_from uses_of uses_from line_fault line_breaks line_wrong line_enter line_advance line_place line_first_broken line_first_wrong piece_on_line lexemes_from

@@ -75,10 +75,10 @@ of_a_constant : fault (codes "const int i;" ∷ codes "for (i = 0; i < 4; i++) A
 unfolding index_len number_of hex_number_of number_piece sign_one sign_two sign_three changing_sign sign_at format_at piece_at comment_end_from is_include after tokens_from word_of is_omp expression line_from clauses_from worked in_blocks typed printed undefined all_read initialized in_full run enter breaks wrong sort_of advance place_code first_broken first_wrong kind_of holds is_atomic is_target depth_of collapse_from uses_of uses_from line_fault line_breaks line_wrong line_enter line_advance line_place line_first_broken line_first_wrong piece_on_line lexemes_from
 of_a_constant = refl
 
--- int is the type of such names alone
-another_int : fault (codes "int i, n;" ∷ codes "for (i = 0; i < 4; i++) A[i] = i;" ∷ []) ≡ at Unexpected 2 1
+-- beside one that no loop has
+beside_another_int : fault (codes "int i, n;" ∷ codes "for (i = 0; i < 4; i++) A[i] = i;" ∷ []) ≡ None
 unfolding index_len number_of hex_number_of number_piece sign_one sign_two sign_three changing_sign sign_at format_at piece_at comment_end_from is_include after tokens_from word_of is_omp expression line_from clauses_from worked in_blocks typed printed undefined all_read initialized in_full run enter breaks wrong sort_of advance place_code first_broken first_wrong kind_of holds is_atomic is_target depth_of collapse_from uses_of uses_from line_fault line_breaks line_wrong line_enter line_advance line_place line_first_broken line_first_wrong piece_on_line lexemes_from
-another_int = refl
+beside_another_int = refl
 
 -- a scalar without a value
 unset : fault (codes "uint64_t a;" ∷ codes "{ uint64_t b, c; a = b + c; }" ∷ codes "print(a);" ∷ []) ≡ None

@@ -11,7 +11,8 @@ use Rattle.c_grammar.specs.Lines.{is_omp, kind_of, holds, is_atomic, is_target, 
 use Rattle.c_grammar.specs.LineRules.{line_breaks, line_wrong, line_enter}
 use Rattle.c_grammar.specs.LineMachine.{line_advance, line_place, line_first_broken, line_first_wrong}
 use Rattle.c_grammar.specs.Expressions.{expression}
-use Rattle.c_grammar.specs.Functions.{called, defined, parameters, arguments, index_len}
+use Rattle.c_grammar.specs.Functions.{called, defined, arguments, index_len}
+use Rattle.c_grammar.specs.FunctionHeads.{parameters}
 use Rattle.c_grammar.specs.LineForms.{line_from}
 use Rattle.c_grammar.specs.Constants.{worked, undefined}
 use Rattle.c_grammar.specs.Changes.{in_full}

@@ -2,7 +2,7 @@
 use Rattle.std.proofs.Common.{◌≡◌, ◌+◌, ℕ, zero, suc, Bool, true, List, [], ◌∷◌, refl}
 use Rattle.std.specs.Prelude.{◌&&◌, ◌==◌, if◌then◌else◌, take}
 use Rattle.std.specs.Str.{bytes_eq}
-use Rattle.c_grammar.specs.Functions.{digits, most_names, unspelled}
+use Rattle.c_grammar.specs.Unspelled.{digits, most_names, unspelled}
 
 -- the place where three digits in a row first are these
 abbrev first_place : ℕ → List ℕ → List ℕ → ℕ

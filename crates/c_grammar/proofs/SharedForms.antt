@@ -1,4 +1,5 @@
--- What is answered of sources whose turns share the name of a loop, by computation.
+-- What is answered of sources whose turns share the name of a loop, sum up other cells than are mapped, order by a pointer, or
+-- have a condition of the target alone, by computation.
 use Rattle.std.proofs.Common.{◌≡◌, ℕ, List, [], ◌∷◌, ◌++◌, Option, Some, None, refl}
 use Rattle.std.specs.Prelude.{codes}
 use Rattle.base.specs.declared.fault.TextFault.{TextFault}
@@ -67,3 +68,42 @@ declared_in_the_head = refl
 declared_in_the_body : fault (codes "int i;" ∷ codes "#pragma omp target teams distribute parallel for" ∷ codes "for (i = 0; i < 4; i++) { int j, k; for (k = 0; k < 1; k++) for (j = 0; j < 4; j++) A[4 * i + j] = j; }" ∷ []) ≡ None
 unfolding index_len number_of hex_number_of number_piece sign_one sign_two sign_three changing_sign sign_at format_at piece_at comment_end_from is_include after tokens_from word_of is_omp expression line_from clauses_from worked in_blocks typed printed undefined all_read initialized in_full run enter breaks wrong sort_of advance place_code first_broken first_wrong kind_of holds is_atomic is_target depth_of collapse_from uses_of uses_from line_fault line_breaks line_wrong line_enter line_advance line_place line_first_broken line_first_wrong piece_on_line lexemes_from
 declared_in_the_body = refl
+
+-- sums of other cells than those that are mapped
+sum_of_fewer : fault (codes "#pragma omp target teams distribute parallel for map(tofrom: A[0:8]) reduction(+: A[0:2])" ∷ codes "for (int i = 0; i < 8; i++) A[i % 2] += 1;" ∷ []) ≡ at UnknownClause 2 13
+unfolding index_len number_of hex_number_of number_piece sign_one sign_two sign_three changing_sign sign_at format_at piece_at comment_end_from is_include after tokens_from word_of is_omp expression line_from clauses_from worked in_blocks typed printed undefined all_read initialized in_full run enter breaks wrong sort_of advance place_code first_broken first_wrong kind_of holds is_atomic is_target depth_of collapse_from uses_of uses_from line_fault line_breaks line_wrong line_enter line_advance line_place line_first_broken line_first_wrong piece_on_line lexemes_from
+sum_of_fewer = refl
+
+sum_of_all : fault (codes "#pragma omp target teams distribute parallel for map(tofrom: A[0:2]) reduction(+: A)" ∷ codes "for (int i = 0; i < 8; i++) A[i % 2] += 1;" ∷ []) ≡ at UnknownClause 2 13
+unfolding index_len number_of hex_number_of number_piece sign_one sign_two sign_three changing_sign sign_at format_at piece_at comment_end_from is_include after tokens_from word_of is_omp expression line_from clauses_from worked in_blocks typed printed undefined all_read initialized in_full run enter breaks wrong sort_of advance place_code first_broken first_wrong kind_of holds is_atomic is_target depth_of collapse_from uses_of uses_from line_fault line_breaks line_wrong line_enter line_advance line_place line_first_broken line_first_wrong piece_on_line lexemes_from
+sum_of_all = refl
+
+sum_of_the_same : fault (codes "#pragma omp target teams distribute parallel for map(tofrom: A[0:2]) reduction(+: A[0:2])" ∷ codes "for (int i = 0; i < 8; i++) A[i % 2] += 1;" ∷ []) ≡ None
+unfolding index_len number_of hex_number_of number_piece sign_one sign_two sign_three changing_sign sign_at format_at piece_at comment_end_from is_include after tokens_from word_of is_omp expression line_from clauses_from worked in_blocks typed printed undefined all_read initialized in_full run enter breaks wrong sort_of advance place_code first_broken first_wrong kind_of holds is_atomic is_target depth_of collapse_from uses_of uses_from line_fault line_breaks line_wrong line_enter line_advance line_place line_first_broken line_first_wrong piece_on_line lexemes_from
+sum_of_the_same = refl
+
+-- a pointer orders by itself, in a clause depend without a section
+ordered_by_a_pointer : fault (codes "uint64_t *a = malloc(8 * sizeof(uint64_t));" ∷ codes "#pragma omp target map(tofrom: a[0:8]) depend(inout: a)" ∷ codes "{ a[0] = 1; }" ∷ codes "free(a);" ∷ []) ≡ at UnknownClause 3 13
+unfolding index_len number_of hex_number_of number_piece sign_one sign_two sign_three changing_sign sign_at format_at piece_at comment_end_from is_include after tokens_from word_of is_omp expression line_from clauses_from worked in_blocks typed printed undefined all_read initialized in_full run enter breaks wrong sort_of advance place_code first_broken first_wrong kind_of holds is_atomic is_target depth_of collapse_from uses_of uses_from line_fault line_breaks line_wrong line_enter line_advance line_place line_first_broken line_first_wrong piece_on_line lexemes_from
+ordered_by_a_pointer = refl
+
+waits_for_a_pointer : fault (codes "uint64_t *a = malloc(8 * sizeof(uint64_t));" ∷ codes "#pragma omp taskwait depend(in: a)" ∷ codes "free(a);" ∷ []) ≡ at UnknownClause 3 13
+unfolding index_len number_of hex_number_of number_piece sign_one sign_two sign_three changing_sign sign_at format_at piece_at comment_end_from is_include after tokens_from word_of is_omp expression line_from clauses_from worked in_blocks typed printed undefined all_read initialized in_full run enter breaks wrong sort_of advance place_code first_broken first_wrong kind_of holds is_atomic is_target depth_of collapse_from uses_of uses_from line_fault line_breaks line_wrong line_enter line_advance line_place line_first_broken line_first_wrong piece_on_line lexemes_from
+waits_for_a_pointer = refl
+
+ordered_by_cells : fault (codes "uint64_t *a = malloc(8 * sizeof(uint64_t));" ∷ codes "#pragma omp target map(tofrom: a[0:8]) depend(inout: a[0:8])" ∷ codes "{ a[0] = 1; }" ∷ codes "free(a);" ∷ []) ≡ None
+unfolding index_len number_of hex_number_of number_piece sign_one sign_two sign_three changing_sign sign_at format_at piece_at comment_end_from is_include after tokens_from word_of is_omp expression line_from clauses_from worked in_blocks typed printed undefined all_read initialized in_full run enter breaks wrong sort_of advance place_code first_broken first_wrong kind_of holds is_atomic is_target depth_of collapse_from uses_of uses_from line_fault line_breaks line_wrong line_enter line_advance line_place line_first_broken line_first_wrong piece_on_line lexemes_from
+ordered_by_cells = refl
+
+-- a condition of the target alone, which leaves threads where it is 0
+condition_that_holds : fault (codes "#pragma omp target if(2 > 1) map(tofrom: A)" ∷ codes "#pragma omp parallel for" ∷ codes "for (int i = 0; i < 8; i++) A[i] = i;" ∷ []) ≡ None
+unfolding index_len number_of hex_number_of number_piece sign_one sign_two sign_three changing_sign sign_at format_at piece_at comment_end_from is_include after tokens_from word_of is_omp expression line_from clauses_from worked in_blocks typed printed undefined all_read initialized in_full run enter breaks wrong sort_of advance place_code first_broken first_wrong kind_of holds is_atomic is_target depth_of collapse_from uses_of uses_from line_fault line_breaks line_wrong line_enter line_advance line_place line_first_broken line_first_wrong piece_on_line lexemes_from
+condition_that_holds = refl
+
+condition_that_does_not : fault (codes "#pragma omp target if(1 > 2) map(tofrom: A)" ∷ codes "#pragma omp parallel for" ∷ codes "for (int i = 0; i < 8; i++) A[i] = i;" ∷ []) ≡ at UnknownClause 2 20
+unfolding index_len number_of hex_number_of number_piece sign_one sign_two sign_three changing_sign sign_at format_at piece_at comment_end_from is_include after tokens_from word_of is_omp expression line_from clauses_from worked in_blocks typed printed undefined all_read initialized in_full run enter breaks wrong sort_of advance place_code first_broken first_wrong kind_of holds is_atomic is_target depth_of collapse_from uses_of uses_from line_fault line_breaks line_wrong line_enter line_advance line_place line_first_broken line_first_wrong piece_on_line lexemes_from
+condition_that_does_not = refl
+
+condition_of_threads_too : fault (codes "#pragma omp target parallel if(1 > 2) map(tofrom: A)" ∷ codes "#pragma omp for" ∷ codes "for (int i = 0; i < 8; i++) A[i] = i;" ∷ []) ≡ None
+unfolding index_len number_of hex_number_of number_piece sign_one sign_two sign_three changing_sign sign_at format_at piece_at comment_end_from is_include after tokens_from word_of is_omp expression line_from clauses_from worked in_blocks typed printed undefined all_read initialized in_full run enter breaks wrong sort_of advance place_code first_broken first_wrong kind_of holds is_atomic is_target depth_of collapse_from uses_of uses_from line_fault line_breaks line_wrong line_enter line_advance line_place line_first_broken line_first_wrong piece_on_line lexemes_from
+condition_of_threads_too = refl

@@ -13,7 +13,7 @@ use Rattle.c_grammar.specs.Functions.{Spot, line_begins, spot_behind}
 use Rattle.c_grammar.specs.LineForms.{all_at, is_sign}
 use Rattle.c_grammar.specs.LineRules.{is_among as is_one}
 use Rattle.c_grammar.specs.Lines.{boxing_word, is_omp}
-use Rattle.c_grammar.specs.Presence.{before_end, is_target, is_word, opens_list, target_column, uses_on}
+use Rattle.c_grammar.specs.Presence.{before_end, is_target, is_word, opens_list, target_column, uses}
 
 -- ---- the names in clauses
 
@@ -131,17 +131,6 @@ sectioned names s (p ∷ ps) =
     sectioned names (behind s p.lexeme (lexemes ps)) ps)
 
 -- ---- what a target uses
-
-abbrev pub is_declared : List ℕ → Item Terminal → Items → Bool
-is_declared x t [] = false
-is_declared x t (i ∷ is) = same (Fixed Uint64) t.terminal && same (Name x) i.terminal
-
--- whether the statement that begins there uses the name, before it declares it
-abbrev pub uses : List ℕ → ℕ → Items → Bool
-uses x d [] = false
-uses x d (i ∷ is) =
-    if is_declared x i is then false
-    else (if same (Name x) i.terminal then true else uses_on d i is (λ d. uses x d is))
 
 -- map(to: x[0:1])
 abbrev pub to_clause : ℕ → List ℕ → List Placed

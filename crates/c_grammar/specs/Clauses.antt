@@ -95,20 +95,20 @@ default_len _ = None
 abbrev pub is_word_at : List ℕ → Placed → Bool
 is_word_at x p = same (Worded x) p.lexeme
 
--- what is used without a map item is mapped so where no kind of variables is named, or this kind: arrays are anyway, and a
--- scalar that the host cannot change meanwhile is seen alike
-abbrev pub maps_so : Scope → Placed → Bool
-maps_so s w = is_word_at (codes "default") w || (is_word_at (codes "tofrom") w && not s.defers)
+-- what is used without a map item is mapped so where no kind of variables is named: by tofrom pointers would be too
+abbrev pub maps_so : Placed → Bool
+maps_so w = is_word_at (codes "default") w
 
+-- or this kind: arrays are anyway, and a scalar that the host cannot change meanwhile is seen alike
 abbrev pub maps_kind_so : Scope → Placed → Placed → Bool
 maps_kind_so s w k =
     (is_word_at (codes "default") w && is_worded k.lexeme) ||
     (is_word_at (codes "tofrom") w && (is_word_at (codes "aggregate") k || (is_word_at (codes "scalar") k && not s.defers))) ||
     (is_word_at (codes "firstprivate") w && is_word_at (codes "scalar") k)
 
-abbrev pub is_any_kind : Scope → List Placed → Bool
-is_any_kind s (w ∷ c ∷ ps) = maps_so s w && is_sign sign.CloseParen c.lexeme
-is_any_kind s ps = false
+abbrev pub is_any_kind : List Placed → Bool
+is_any_kind (w ∷ c ∷ ps) = maps_so w && is_sign sign.CloseParen c.lexeme
+is_any_kind ps = false
 
 abbrev pub is_one_kind : Scope → List Placed → Bool
 is_one_kind s (w ∷ c ∷ k ∷ e ∷ ps) =
@@ -117,7 +117,7 @@ is_one_kind s ps = false
 
 -- behind the bracket of defaultmap: what says what holds anyway
 abbrev pub map_len : Scope → List Placed → Option ℕ
-map_len s ps = if is_any_kind s ps then Some 3 else (if is_one_kind s ps then Some 5 else None)
+map_len s ps = if is_any_kind ps then Some 3 else (if is_one_kind s ps then Some 5 else None)
 
 -- behind the bracket of the clause with this word
 abbrev pub list_len : Scope → Lexeme → List Placed → Option ℕ

@@ -2,183 +2,20 @@
 -- parameters. Where a function is defined it is left out.
 use Rattle.std.specs.Prelude.{ℕ, zero, suc, ◌+◌, ◌-◌, ◌^◌, Bool, true, false, not, ◌&&◌, ◌||◌, ◌==◌, nat_lt, if◌then◌else◌, List, [], ◌∷◌, ◌++◌, length, take, drop, map, Option, Some, None, codes, is_some}
 use Rattle.std.specs.Str.{bytes_eq}
+use Rattle.c_tokens.specs.declared.kind.Sign.{Sign}
 use Rattle.c_tokens.specs.declared.kind.Sign.TheVariants as sign
-use Rattle.c_grammar.specs.Lexeme.{Lexeme, Worded, Numbered, Uint64, Int, Main, Void}
+use Rattle.c_grammar.specs.Lexeme.{Lexeme, Worded, Numbered, Uint64, Int, Main}
 use Rattle.c_grammar.specs.Terminal.{Terminal, Fixed, Mark, Name, Num, Line, same}
 use Rattle.c_grammar.specs.Texts.{Item}
 use Rattle.c_grammar.specs.Blocks.{Items, at, bare, is_directive}
 use Rattle.c_grammar.specs.Changes.{is_mark, is_boundary, kind_of}
-use Rattle.c_grammar.specs.Constants.{Names, is_among, is_name, is_number, with_terminal, worked}
+use Rattle.c_grammar.specs.Choices.{is_setting}
+use Rattle.c_grammar.specs.Constants.{Names, is_among, is_name, with_terminal, worked}
 use Rattle.c_grammar.specs.Expressions.{Nothing, Worked, Number, expression}
 use Rattle.c_grammar.specs.LineForms.{is_sign}
 use Rattle.c_grammar.specs.Presence.{closes_list, guarded, opens_list}
-
--- ---- names that no source can spell
-
--- each three digits in a row stand once
-abbrev pub digits : List ℕ
-digits =
-    codes "0001002003004005006007011012013014015016017021022023024025026027031032033034035036037041042" ++
-    codes "0430440450460470510520530540550560570610620630640650660670710720730740750760771112113114115" ++
-    codes "1161171221231241251261271321331341351361371421431441451461471521531541551561571621631641651" ++
-    codes "6616717217317417517617722232242252262272332342352362372432442452462472532542552562572632642" ++
-    codes "6526626727327427527627733343353363373443453463473543553563573643653663673743753763774445446" ++
-    codes "44745545645746546646747547647755565575665675765776667677700"
-
-abbrev pub most_names : ℕ
-most_names = 512
-
-abbrev pub unspelled : ℕ → List ℕ
-unspelled k = take 3 (drop k digits)
-
--- that of a name which stands for nothing that the function may use
-abbrev pub unknown : List ℕ
-unknown = unspelled 0
-
--- ---- the head of a function
-
--- what a parameter is: a number of 64 bits, an array, a number of the type int
-pub data Sort : Type 0 where
-  Scalar Array Small : Sort
-
-abbrev pub is_array : Sort → Bool
-is_array Array = true
-is_array s = false
-
-abbrev pub is_scalar : Sort → Bool
-is_scalar Scalar = true
-is_scalar s = false
-
-pub record Declared : Type 0 where
-  pub name : List ℕ
-  pub sort : Sort
-
--- what has been read of a parameter
-pub data Head : Type 0 where
-  Begins Typed IntTyped Starred : Head
-  Named : (x : List ℕ) (sort : Sort) → Head
-  -- in brackets, before their number and behind it
-  Opened Sized : (x : List ℕ) → Head
-  -- behind brackets; in others behind those, before their number
-  Rows Inner : (x : List ℕ) → Head
-
--- the parameter goes on, another one follows, it was the last one, or it is none
-pub data Step : Type 0 where
-  Goes : (h : Head) → Step
-  Adds Closes : (x : List ℕ) (sort : Sort) → Step
-  Stops : Step
-
-abbrev pub is_qualifier : Terminal → Bool
-is_qualifier t =
-    same (Name (codes "const")) t || same (Name (codes "restrict")) t || same (Name (codes "__restrict__")) t ||
-    same (Name (codes "__restrict")) t
-
-abbrev pub named : Terminal → Sort → Step
-named (Name x) sort = Goes (Named x sort)
-named t sort = Stops
-
-abbrev pub behind_name : List ℕ → Sort → Terminal → Step
-behind_name x sort t =
-    if same (Mark sign.Comma) t then Adds x sort
-    else (if same (Mark sign.CloseParen) t then Closes x sort
-    else (if same (Mark sign.OpenBracket) t && is_scalar sort then Goes (Opened x) else Stops))
-
-abbrev pub closing : List ℕ → Terminal → Step
-closing x t = if same (Mark sign.CloseBracket) t then Goes (Rows x) else Stops
-
-abbrev pub behind_rows : List ℕ → Terminal → Step
-behind_rows x t = if same (Mark sign.OpenBracket) t then Goes (Inner x) else behind_name x Array t
-
-abbrev pub columns : List ℕ → Terminal → Step
-columns x t = if is_number t then Goes (Sized x) else Stops
-
-abbrev pub behind : Head → Terminal → Step
-behind Begins t =
-    if is_qualifier t then Goes Begins
-    else (if same (Fixed Uint64) t then Goes Typed else (if same (Fixed Int) t then Goes IntTyped else Stops))
-behind Typed t =
-    if is_qualifier t then Goes Typed else (if same (Mark sign.Star) t then Goes Starred else named t Scalar)
-behind IntTyped t = if is_qualifier t then Goes IntTyped else named t Small
-behind Starred t = if is_qualifier t then Goes Starred else named t Array
-behind (Named x sort) t = behind_name x sort t
-behind (Opened x) t = if is_number t then Goes (Sized x) else closing x t
-behind (Sized x) t = closing x t
-behind (Rows x) t = behind_rows x t
-behind (Inner x) t = columns x t
-
-abbrev pub Parameters : Type 0
-Parameters = Option (List Declared × ℕ)
-
-abbrev pub declares : List ℕ → Sort → Declared
-declares x sort = record { name = x; sort = sort }
-
-abbrev pub parameter_on : Step → List Declared → ℕ → (Head → List Declared → Parameters) → Parameters
-parameter_on (Goes h) ps k go = go h ps
-parameter_on (Adds x sort) ps k go = go Begins (ps ++ declares x sort ∷ [])
-parameter_on (Closes x sort) ps k go = Some (ps ++ declares x sort ∷ [], k)
-parameter_on Stops ps k go = None
-
--- the parameters up to the closing bracket, and how many tokens that is
-unfoldable pub parameters : Head → List Declared → ℕ → Items → Parameters
-parameters h ps k [] = None
-parameters h ps k (i ∷ is) =
-    parameter_on (behind h i.terminal) ps (k + 1) (λ h ps. parameters h ps (k + 1) is)
-
--- without parameters: one bracket, or void and one
-abbrev pub no_parameters : Items → Option ℕ
-no_parameters (i ∷ is) =
-    if is_mark sign.CloseParen i then Some 1 else (if same (Fixed Void) i.terminal then voided is else None)
-  where
-    voided : Items → Option ℕ
-    voided (j ∷ js) = if is_mark sign.CloseParen j then Some 2 else None
-    voided [] = None
-no_parameters [] = None
-
-abbrev pub parameters_in : Option ℕ → Items → Parameters
-parameters_in (Some k) is = Some ([], k)
-parameters_in None is = parameters Begins [] 0 is
-
--- what a function gives: nothing, a number of 64 bits, or a number of the type int, which no call uses
-pub data Gives : Type 0 where
-  NoValue AValue AStatus : Gives
-
--- the head of a function that is defined: its name, what it gives, its parameters, and how many more tokens the head has, up to
--- the brace
-pub record Headed : Type 0 where
-  pub name : List ℕ
-  pub gives : Gives
-  pub declared : List Declared
-  pub len : ℕ
-
-abbrev pub opens_body : ℕ → Items → Bool
-opens_body k is = begins (drop k is)
-  where
-    begins : Items → Bool
-    begins (i ∷ is) = is_mark sign.OpenBrace i
-    begins [] = false
-
-abbrev pub headed_on : List ℕ → Gives → Items → Parameters → Option Headed
-headed_on x gives is None = None
-headed_on x gives is (Some p) =
-    if opens_body p.1 is then Some (record { name = x; gives = gives; declared = p.0; len = 3 + p.1 }) else None
-
-abbrev pub headed_by : Terminal → Gives → Item Terminal → Items → Option Headed
-headed_by (Name x) gives o is =
-    if is_mark sign.OpenParen o then headed_on x gives is (parameters_in (no_parameters is) is) else None
-headed_by t gives o is = None
-
--- behind the type of what it gives
-abbrev pub headed : Gives → Items → Option Headed
-headed gives (x ∷ o ∷ is) = headed_by x.terminal gives o is
-headed gives is = None
-
-abbrev pub is_type : Terminal → Bool
-is_type t = same (Fixed Void) t || same (Fixed Uint64) t || same (Fixed Int) t
-
-abbrev pub head_at : Terminal → Items → Option Headed
-head_at t is =
-    if same (Fixed Void) t then headed NoValue is
-    else (if same (Fixed Uint64) t then headed AValue is else (if same (Fixed Int) t then headed AStatus is else None))
+use Rattle.c_grammar.specs.FunctionHeads.{AStatus, AValue, Array, Declared, Gives, Headed, NoValue, Scalar, Small, Sort, head_at, is_array, is_type}
+use Rattle.c_grammar.specs.Unspelled.{most_names, unknown, unspelled}
 
 -- ---- functions
 
@@ -452,54 +289,127 @@ passed_to globals ps args = passed globals ps args
 abbrev pub stays : Others
 stays x = x
 
--- what the value is given to
-abbrev pub given : Item Terminal → Items → Items → Items
-given i [] value = []
-given i (l ∷ ls) value = (l ∷ ls) ++ (at i (Mark sign.Equal) ∷ (value ++ at i (Mark sign.Semicolon) ∷ []))
+abbrev pub has_value : Items → Bool
+has_value [] = false
+has_value (i ∷ is) = true
 
--- the block of a call at the name of the function, with the value given to what stands on the left
-abbrev pub block_of : Function → Item Terminal → Items → Passed → Items
-block_of f i left p =
+-- what stands before a call in its statement: what is assigned, with the sign that assigns it, or nothing where the call is the
+-- statement; and tokens of the value
+pub record Front : Type 0 where
+  pub left : Items
+  pub value : Items
+
+abbrev pub alone : Front
+alone = record { left = []; value = [] }
+
+-- the value of a function, in brackets where other tokens stand beside the call
+abbrev pub in_value : Item Terminal → Items → Items → Items → Items
+in_value i front value back =
+    if has_value front || has_value back
+    then front ++ (at i (Mark sign.OpenParen) ∷ (value ++ (at i (Mark sign.CloseParen) ∷ back))) else value
+
+-- the assignment, where there is one
+abbrev pub given : Item Terminal → Front → Items → Items → Items
+given i f value back =
+    if has_value f.left then f.left ++ (in_value i f.value value back ++ at i (Mark sign.Semicolon) ∷ []) else []
+
+-- the block of a call at the name of the function, with the assignment of its value; behind the call stand such tokens
+abbrev pub block_of : Function → Item Terminal → Front → Items → Passed → Items
+block_of f i front back p =
     at i (Mark sign.OpenBrace) ∷ (p.before ++ (put_all p.puts stays f.body ++
-    (given i left (put_all p.puts stays f.value) ++ at i (Mark sign.CloseBrace) ∷ [])))
+    (given i front (put_all p.puts stays f.value) back ++ at i (Mark sign.CloseBrace) ∷ [])))
 
 -- how many tokens of the source it is, and what it is
 pub record Expanded : Type 0 where
   pub len : ℕ
   pub items : Items
 
-abbrev pub has_value : Items → Bool
-has_value [] = false
-has_value (i ∷ is) = true
+-- what may stand beside a call: numbers, names, and operators that have all their operands evaluated
+abbrev pub is_strict : Sign → Bool
+is_strict sign.Plus = true
+is_strict sign.Minus = true
+is_strict sign.Star = true
+is_strict sign.Slash = true
+is_strict sign.Percent = true
+is_strict sign.ShiftLeft = true
+is_strict sign.ShiftRight = true
+is_strict sign.Ampersand = true
+is_strict sign.Bar = true
+is_strict sign.Caret = true
+is_strict sign.Tilde = true
+is_strict sign.Bang = true
+is_strict sign.EqualEqual = true
+is_strict sign.NotEqual = true
+is_strict sign.Less = true
+is_strict sign.LessEqual = true
+is_strict sign.Greater = true
+is_strict sign.GreaterEqual = true
+is_strict sign.OpenParen = true
+is_strict sign.CloseParen = true
+is_strict sign.OpenBracket = true
+is_strict sign.CloseBracket = true
+is_strict s = false
+
+abbrev pub is_beside : Terminal → Bool
+is_beside (Num n) = true
+is_beside (Name x) = true
+is_beside (Mark s) = is_strict s
+is_beside t = false
+
+abbrev pub opens_call : Item Terminal → Items → Bool
+opens_call i [] = false
+opens_call i (j ∷ is) = is_name i.terminal && is_mark sign.OpenParen j
+
+-- behind so many tokens, and n more, a call stands in the value
+abbrev pub before_call : ℕ → Items → Option ℕ
+before_call n [] = None
+before_call n (i ∷ is) =
+    if opens_call i is then Some n else (if is_beside i.terminal then before_call (n + 1) is else None)
+
+-- so many tokens, and n more, stand between a call and the semicolon, and no other call
+abbrev pub behind_call : ℕ → Items → Option ℕ
+behind_call n [] = None
+behind_call n (i ∷ is) =
+    if is_mark sign.Semicolon i then Some n
+    else (if is_beside i.terminal && not (opens_call i is) then behind_call (n + 1) is else None)
 
 abbrev pub ends_here : Items → Bool
 ends_here [] = false
 ends_here (i ∷ is) = is_mark sign.Semicolon i
 
-abbrev pub expanded_by : Function → Item Terminal → Items → ℕ → Option Passed → Option Expanded
-expanded_by f i left len None = None
-expanded_by f i left len (Some p) = Some (record { len = len; items = block_of f i left p })
+-- nothing stands behind a call that is the statement
+abbrev pub back_len : Front → Items → Option ℕ
+back_len f is = if has_value f.left then behind_call 0 is else (if ends_here is then Some 0 else None)
 
-abbrev pub expanded_with : Names → Function → Item Terminal → Items → Items → Option Arguments → Option Expanded
-expanded_with globals f i left is None = None
-expanded_with globals f i left is (Some a) =
-    if ends_here (drop a.len is) then expanded_by f i left (a.len + 3) (passed_to globals f.parameters a.list) else None
+abbrev pub expanded_by : Function → Item Terminal → Front → Items → ℕ → Option Passed → Option Expanded
+expanded_by f i front back len None = None
+expanded_by f i front back len (Some p) = Some (record { len = len; items = block_of f i front back p })
 
-abbrev pub expanded_of : Names → Option Function → Item Terminal → Items → Items → Option Expanded
-expanded_of globals None i left is = None
-expanded_of globals (Some f) i left is =
-    if has_value left && not (has_value (bare f.value)) then None
-    else expanded_with globals f i left is (arguments 0 [] [] 0 is)
+-- behind the arguments, of which there are so many tokens
+abbrev pub expanded_to : Names → Function → Item Terminal → Front → Items → Arguments → Option ℕ → Option Expanded
+expanded_to globals f i front is a None = None
+expanded_to globals f i front is a (Some n) =
+    expanded_by f i front (take n (drop a.len is)) (a.len + 3 + n) (passed_to globals f.parameters a.list)
 
-abbrev pub expanded_at : Names → Functions → Terminal → Item Terminal → Items → Items → Option Expanded
-expanded_at globals fs (Name x) i left is = expanded_of globals (function_of fs x) i left is
-expanded_at globals fs t i left is = None
+abbrev pub expanded_with : Names → Function → Item Terminal → Front → Items → Option Arguments → Option Expanded
+expanded_with globals f i front is None = None
+expanded_with globals f i front is (Some a) = expanded_to globals f i front is a (back_len front (drop a.len is))
 
--- a call at the front, whose value is given to what stands on the left
-abbrev pub call : Names → Functions → Items → Items → Option Expanded
-call globals fs left (i ∷ o ∷ is) =
-    if is_mark sign.OpenParen o then expanded_at globals fs i.terminal i left is else None
-call globals fs left is = None
+abbrev pub expanded_of : Names → Option Function → Item Terminal → Front → Items → Option Expanded
+expanded_of globals None i front is = None
+expanded_of globals (Some f) i front is =
+    if has_value front.left && not (has_value (bare f.value)) then None
+    else expanded_with globals f i front is (arguments 0 [] [] 0 is)
+
+abbrev pub expanded_at : Names → Functions → Terminal → Item Terminal → Front → Items → Option Expanded
+expanded_at globals fs (Name x) i front is = expanded_of globals (function_of fs x) i front is
+expanded_at globals fs t i front is = None
+
+-- a call at the front, behind such tokens
+abbrev pub call : Names → Functions → Front → Items → Option Expanded
+call globals fs front (i ∷ o ∷ is) =
+    if is_mark sign.OpenParen o then expanded_at globals fs i.terminal i front is else None
+call globals fs front is = None
 
 -- what may be given a value: a name, a cell, or a name with its type, which is first declared
 abbrev pub index_out : ℕ → ℕ → (ℕ → Option ℕ) → Option ℕ
@@ -523,13 +433,13 @@ equal_behind is (Some k) = ends (drop k is)
   where
     ends : Items → Option ℕ
     ends [] = None
-    ends (e ∷ es) = if is_mark sign.Equal e then Some (k + 1) else None
+    ends (e ∷ es) = if is_setting e.terminal then Some (k + 1) else None
 
--- how many tokens of a name or a cell stand before the sign =
+-- how many tokens of a name or a cell stand before the sign that assigns it
 abbrev pub left_len : Items → Option ℕ
 left_len (i ∷ j ∷ is) =
     if not (is_name i.terminal) then None
-    else (if is_mark sign.Equal j then Some 1
+    else (if is_setting j.terminal then Some 1
     else (if is_mark sign.OpenBracket j then equal_behind (j ∷ is) (index_len 0 0 (j ∷ is)) else None))
 left_len is = None
 
@@ -537,9 +447,18 @@ abbrev pub later : ℕ → Items → Option Expanded → Option Expanded
 later k before None = None
 later k before (Some e) = Some (record { len = k + e.len; items = before ++ e.items })
 
+-- the first call in a value, behind what it is given to
+abbrev pub given_call : Names → Functions → Items → Items → Option ℕ → Option Expanded
+given_call globals fs left is None = None
+given_call globals fs left is (Some n) =
+    later n [] (call globals fs (record { left = left; value = take n is }) (drop n is))
+
+abbrev pub valued_call : Names → Functions → Items → Items → Option Expanded
+valued_call globals fs left is = given_call globals fs left is (before_call 0 is)
+
 abbrev pub assigned_call : Names → Functions → Items → Option ℕ → Option Expanded
 assigned_call globals fs is None = None
-assigned_call globals fs is (Some k) = later (k + 1) [] (call globals fs (take k is) (drop (k + 1) is))
+assigned_call globals fs is (Some k) = later (k + 1) [] (valued_call globals fs (take (k + 1) is) (drop (k + 1) is))
 
 -- uint64_t NAME = 0;
 abbrev pub declaration : Item Terminal → Item Terminal → Items
@@ -548,7 +467,7 @@ declaration t x = t ∷ x ∷ at x (Mark sign.Equal) ∷ at x (Num (Some 0)) ∷
 abbrev pub declared_call : Names → Functions → Items → Option Expanded
 declared_call globals fs (t ∷ x ∷ e ∷ is) =
     if same (Fixed Uint64) t.terminal && is_name x.terminal && is_mark sign.Equal e
-    then later 3 (declaration t x) (call globals fs (x ∷ []) is) else None
+    then later 3 (declaration t x) (valued_call globals fs (x ∷ e ∷ []) is) else None
 declared_call globals fs is = None
 
 abbrev pub first_some : Option Expanded → Option Expanded → Option Expanded
@@ -558,7 +477,7 @@ first_some (Some e) o = Some e
 -- the statement that these tokens begin with, if it is a call
 abbrev pub expansion : Names → Functions → Items → Option Expanded
 expansion globals fs is =
-    first_some (call globals fs [] is)
+    first_some (call globals fs alone is)
     (first_some (declared_call globals fs is) (assigned_call globals fs is (left_len is)))
 
 -- ---- statements with their calls

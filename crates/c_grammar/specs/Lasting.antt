@@ -7,7 +7,7 @@ use Rattle.std.specs.Prelude.{ℕ, zero, suc, ◌+◌, ◌-◌, ◌==◌, nat_le
 use Rattle.c_tokens.specs.declared.kind.Sign.{Sign}
 use Rattle.c_tokens.specs.declared.kind.Sign.TheVariants as sign
 use Rattle.c_grammar.specs.Lexeme.{For, Int, Main}
-use Rattle.c_grammar.specs.Terminal.{Terminal, Fixed, Mark, Name, Num, same}
+use Rattle.c_grammar.specs.Terminal.{Terminal, Fixed, Line, Mark, Name, Num, same}
 use Rattle.c_grammar.specs.Texts.{Item}
 use Rattle.c_grammar.specs.Blocks.{Items, at, bare, is_directive}
 use Rattle.c_grammar.specs.Constants.{behind_changing, behind_divider, depth_behind}
@@ -151,11 +151,16 @@ may_declare s = s.starts && ((s.depth == 0) || (s.main && (s.depth == 1)))
 abbrev pub is_looked : State → Item Terminal → Items → Bool
 is_looked s i is = may_declare s && (is_type i.terminal && (not (s.left == 0) && is_given is))
 
+-- a line that begins with #, as one that defines a constant, ends no statement and begins none
+abbrev pub is_line : Terminal → Bool
+is_line (Line ts) = true
+is_line t = false
+
 abbrev pub behind : State → Item Terminal → Items → State
 behind s i is = record {
   depth = depth_behind i.terminal s.depth;
   main = s.main || same (Fixed Main) i.terminal;
-  starts = is_boundary i.terminal;
+  starts = is_boundary i.terminal || (is_line i.terminal && s.starts);
   left = if is_looked s i is then s.left - 1 else s.left;
 }
 

@@ -6,9 +6,9 @@ use Rattle.c_grammar.specs.Lexeme.{Uint64, Int}
 use Rattle.c_grammar.specs.Terminal.{Terminal, Fixed, Name, same}
 use Rattle.c_grammar.specs.Texts.{Item}
 use Rattle.c_grammar.specs.Blocks.{Items, at, bare, is_directive}
-use Rattle.c_grammar.specs.Boxes.{is_declared}
 use Rattle.c_grammar.specs.Changes.{is_boundary, is_ended}
 use Rattle.c_grammar.specs.Constants.{Names, depth_behind, is_among, is_mark}
+use Rattle.c_grammar.specs.Presence.{is_declared}
 
 -- ---- where a name stands
 

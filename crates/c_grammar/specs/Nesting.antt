@@ -1,16 +1,16 @@
 -- Constructs inside a target: the line of one right behind that of the target, or alone in its block with its loop, belongs to
--- it, so that both are one combined construct.
-use Rattle.std.specs.Prelude.{ℕ, ◌+◌, ◌-◌, ◌==◌, Bool, true, false, not, ◌&&◌, ◌||◌, if◌then◌else◌, List, [], ◌∷◌, ◌++◌, take, drop, codes}
+-- it, so that both are one combined construct. A condition of the target stays one of the target alone.
+use Rattle.std.specs.Prelude.{ℕ, ◌+◌, ◌-◌, ◌==◌, Bool, true, false, not, ◌&&◌, ◌||◌, if◌then◌else◌, List, [], ◌∷◌, ◌++◌, map, take, drop, codes}
 use Rattle.c_tokens.specs.declared.kind.Sign.TheVariants as sign
 use Rattle.c_grammar.specs.Lexeme as lexeme
-use Rattle.c_grammar.specs.Lexeme.{Lexeme, Reserved, Worded, Ended, For, Placed}
+use Rattle.c_grammar.specs.Lexeme.{Lexeme, Reserved, Signed, Worded, Ended, For, If, Placed}
 use Rattle.c_grammar.specs.Terminal.{Terminal, Fixed, Line, same}
 use Rattle.c_grammar.specs.Texts.{Item}
 use Rattle.c_grammar.specs.Blocks.{Items, is_directive}
 use Rattle.c_grammar.specs.Changes.{is_mark}
 use Rattle.c_grammar.specs.Constants.{with_tokens}
 use Rattle.c_grammar.specs.Expressions.{placed_of}
-use Rattle.c_grammar.specs.LineForms.{is_sign}
+use Rattle.c_grammar.specs.LineForms.{all_at, is_sign}
 use Rattle.c_grammar.specs.Lines.{is_omp}
 use Rattle.c_grammar.specs.Presence.{before_end, closes_list, goes_on, is_else, is_mapped, is_target, is_word, opens_list, opens_part, target_column}
 
@@ -84,13 +84,33 @@ are_inner ns d (t ∷ ts) =
     else (if closes_list t then are_inner ns (d - 1) ts
     else (if (d == 0) && not (takes ns t || is_between t) then false else are_inner ns d ts))
 
+-- a clause that would be of the construct inside too, where it stood on one line with it: one variable for all threads of that
+abbrev pub is_of_outer : Lexeme → Bool
+is_of_outer t = is_word (codes "private") t
+
+abbrev pub is_if : Lexeme → Bool
+is_if t = lexeme.same (Reserved If) t
+
+abbrev pub is_named : List Lexeme → Lexeme → Bool
+is_named ns (Worded x) = has x ns
+is_named ns t = false
+
+-- behind the word if: the condition is for a part that a target's construct with these words does not have
+abbrev pub is_misplaced : List Lexeme → List Lexeme → Bool
+is_misplaced ns (o ∷ w ∷ c ∷ ts) = is_sign sign.Colon c && not (is_word (codes "target") w || is_named ns w)
+is_misplaced ns ts = false
+
+abbrev pub is_strange : List Lexeme → Lexeme → List Lexeme → Bool
+is_strange ns t ts =
+    is_of_outer t || (is_if t && is_misplaced ns ts) || (is_of_construct t && not (takes ns t))
+
 -- the same of the line of a target
 abbrev pub are_own : List Lexeme → ℕ → List Lexeme → Bool
 are_own ns d [] = true
 are_own ns d (t ∷ ts) =
     if opens_list t then are_own ns (d + 1) ts
     else (if closes_list t then are_own ns (d - 1) ts
-    else (if (d == 0) && is_of_construct t && not (takes ns t) then false else are_own ns d ts))
+    else (if (d == 0) && is_strange ns t ts then false else are_own ns d ts))
 
 abbrev pub is_mapped_on : List Lexeme → Lexeme → Bool
 is_mapped_on ts (Worded x) = is_mapped x 0 false ts
@@ -117,12 +137,18 @@ abbrev pub construct_end : List Lexeme → Lexeme
 construct_end (p ∷ o ∷ t ∷ ts) = last_word t ts
 construct_end ts = Ended
 
+-- what is summed up on the first line is so for each thread of the construct inside: that says so too, or is in its threads
+abbrev pub sums_fit : List Lexeme → List Lexeme → Bool
+sums_fit ts us =
+    (not (has (codes "reduction") ts) || (has (codes "reduction") us || is_word (codes "parallel") (construct_end ts))) &&
+    sums_mapped ts 0 false us
+
 -- behind the words pragma omp target
 abbrev pub is_own : List Lexeme → Bool
 is_own ts = let k = name_len ts in are_own (take k ts) 0 (drop k ts)
 
 abbrev pub fit : List Lexeme → List Lexeme → Bool
-fit ts us = is_own (drop 3 ts) && follows (construct_end ts) (drop 2 us) && sums_mapped ts 0 false us
+fit ts us = is_own (drop 3 ts) && follows (construct_end ts) (drop 2 us) && sums_fit ts us
 
 abbrev pub join_lines : List Lexeme → List Lexeme → Bool
 join_lines ts us = is_omp ts && is_target ts && is_omp us && fit ts us
@@ -141,6 +167,46 @@ abbrev pub joined_tokens : List Lexeme → List Lexeme → List Placed → List 
 joined_tokens ts us ps qs =
     joined_at (3 + name_len (drop 3 ts)) (name_len (drop 2 us)) (drop 2 (inner_at (target_column ps) qs)) ps
 
+-- ---- conditions of a target
+
+abbrev pub lexemes : List Placed → List Lexeme
+lexemes ps = map (λ p. p.lexeme) ps
+
+abbrev pub next_depth : ℕ → Lexeme → ℕ
+next_depth d t = if opens_list t then d + 1 else (if closes_list t then d - 1 else d)
+
+abbrev pub begins_with_colon : List Lexeme → Bool
+begins_with_colon [] = false
+begins_with_colon (t ∷ ts) = is_sign sign.Colon t
+
+-- behind the bracket of a clause if: a word says what it is for
+abbrev pub is_modified : List Lexeme → Bool
+is_modified [] = false
+is_modified (t ∷ ts) = begins_with_colon ts
+
+-- the bracket of one that does not have such a word; behind if or not
+abbrev pub opens_condition : Bool → Lexeme → List Lexeme → Bool
+opens_condition conditional t ts = conditional && is_sign sign.OpenParen t && not (is_modified ts)
+
+abbrev pub target_word : ℕ → List Placed
+target_word column = all_at column (Worded (codes "target") ∷ Signed sign.Colon ∷ [])
+
+-- clauses with this word in each such one, in so many brackets
+abbrev pub targeted : Bool → ℕ → List Placed → List Placed
+targeted conditional d [] = []
+targeted conditional d (p ∷ ps) =
+    p ∷ ((if opens_condition conditional p.lexeme (lexemes ps) then target_word p.column else []) ++
+    targeted ((d == 0) && is_if p.lexeme) (next_depth d p.lexeme) ps)
+
+-- the line of a target whose conditions are for the target alone, where these tokens stand behind its first three: the construct
+-- inside does not have them, unless its threads are those of the target's own construct
+abbrev pub conditioned : List Lexeme → List Placed → List Placed
+conditioned ts ps =
+    if has (codes "parallel") (take (name_len ts) ts) then ps else take 3 ps ++ targeted false 0 (drop 3 ps)
+
+abbrev pub joined_line : List Lexeme → List Lexeme → List Placed → List Placed → List Placed
+joined_line ts us ps qs = let cs = conditioned (drop 3 ts) ps in joined_tokens (lexemes cs) us cs qs
+
 -- ---- all tokens
 
 abbrev pub joins : Terminal → Terminal → Bool
@@ -148,7 +214,7 @@ joins (Line ts) (Line us) = join_lines ts us
 joins t u = false
 
 abbrev pub joined_of : Item Terminal → Item Terminal → Terminal → Terminal → Item Terminal
-joined_of i j (Line ts) (Line us) = with_tokens i ts (joined_tokens ts us (placed_of ts i.columns) (placed_of us j.columns))
+joined_of i j (Line ts) (Line us) = with_tokens i ts (joined_line ts us (placed_of ts i.columns) (placed_of us j.columns))
 joined_of i j t u = i
 
 -- the line of the target with what stands on that of the construct inside

@@ -1,4 +1,5 @@
--- Calls of printf with one number, which are print: printf("%lu\n", e), printf("%llu\n", e), printf("%" PRIu64 "\n", e).
+-- Calls of printf with one number, which are print: printf("%lu\n", e), printf("%llu\n", e), printf("%" PRIu64 "\n", e). Of
+-- printf("%d\n", e) the text is left before e, which has to be seen to be a number of the type int.
 use Rattle.std.specs.Prelude.{ℕ, zero, suc, Bool, true, false, ◌&&◌, ◌||◌, if◌then◌else◌, List, [], ◌∷◌, codes}
 use Rattle.c_tokens.specs.declared.kind.Sign.TheVariants as sign
 use Rattle.c_grammar.specs.Lexeme.{Print}
@@ -20,12 +21,19 @@ abbrev pub joined_text : List Terminal
 joined_text =
     Mark sign.OpenParen ∷ Mark sign.FormatStart ∷ Name (codes "PRIu64") ∷ Mark sign.FormatEnd ∷ Mark sign.Comma ∷ []
 
--- how many tokens that is behind the bracket, or 0
+abbrev pub int_text : List Terminal
+int_text = Mark sign.OpenParen ∷ Mark sign.FormatInt ∷ Mark sign.Comma ∷ []
+
+-- how many tokens of that are left out behind the bracket, or 0
 abbrev pub text_len : Items → ℕ
-text_len is = if begins_with one_text is then 2 else (if begins_with joined_text is then 4 else 0)
+text_len is =
+    if begins_with one_text is then 2
+    else (if begins_with joined_text is then 4 else (if begins_with int_text is then 1 else 0))
 
 abbrev pub is_text : Terminal → Bool
-is_text t = same (Mark sign.FormatNumber) t || same (Mark sign.FormatStart) t || same (Mark sign.FormatEnd) t
+is_text t =
+    same (Mark sign.FormatNumber) t || same (Mark sign.FormatStart) t || same (Mark sign.FormatEnd) t ||
+    same (Mark sign.FormatInt) t
 
 -- the token by itself: a text in any other place is no token of the language
 abbrev pub alone : Item Terminal → Item Terminal
@@ -36,9 +44,12 @@ print_at i zero go = alone i ∷ go 0
 print_at i (suc n) go =
     if same (Name (codes "printf")) i.terminal then at i (Fixed Print) ∷ go (suc n) else alone i ∷ go 0
 
--- the bracket stays
+-- the bracket stays, and the text of a number of the type int
+abbrev pub stays : Terminal → Bool
+stays t = same (Mark sign.OpenParen) t || same (Mark sign.FormatInt) t
+
 abbrev pub print_on : ℕ → Item Terminal → ℕ → (ℕ → Items) → Items
-print_on (suc k) i n go = if same (Mark sign.OpenParen) i.terminal then i ∷ go (suc k) else go k
+print_on (suc k) i n go = if stays i.terminal then i ∷ go (suc k) else go k
 print_on zero i n go = print_at i n go
 
 -- the tokens with print for printf, of which k more are left out behind a bracket

@@ -1,25 +1,28 @@
 -- What C shares between threads, and what it does not share: the name of a loop in the turns of a combined construct, where a
 -- declaration before the line is the only one of it; an array of a block that a target with nowait uses; and a boxed scalar
--- that a target uses and does not map, of which C makes a copy, though there may be another one on the device. Such a line gets
--- a clause that names nothing, which is no clause of the grammar. The loops of the construct itself have names of their own:
--- one loop, or as many as collapse says.
+-- that a target uses and does not map, of which C makes a copy, though there may be another one on the device; or of which each
+-- thread has one, by firstprivate, though the line maps it; and an array of which a line sums up other cells than it maps. Such
+-- a line gets a clause that names nothing, which is no clause of the grammar. The loops of the construct itself have names of
+-- their own: one loop, or as many as collapse says.
 use Rattle.std.specs.Prelude.{ℕ, ◌+◌, ◌-◌, ◌==◌, Bool, true, false, not, ◌&&◌, ◌||◌, if◌then◌else◌, List, [], ◌∷◌, ◌++◌, Some, codes}
 use Rattle.c_tokens.specs.declared.kind.Sign.TheVariants as sign
-use Rattle.c_grammar.specs.Lexeme.{Lexeme, Numbered, Uint64, For}
+use Rattle.c_grammar.specs.Lexeme as lexeme
+use Rattle.c_grammar.specs.Lexeme.{Lexeme, Worded, Numbered, Uint64, For}
 use Rattle.c_grammar.specs.Terminal.{Terminal, Fixed, Name, Line, same}
 use Rattle.c_grammar.specs.Texts.{Item}
 use Rattle.c_grammar.specs.Blocks.{Items, bare}
-use Rattle.c_grammar.specs.Boxes.{at_begin, boxes_of, listed, uses}
+use Rattle.c_grammar.specs.Boxes.{at_begin, boxes_of, listed}
 use Rattle.c_grammar.specs.Changes.{is_mark}
 use Rattle.c_grammar.specs.Constants.{Names, depth_behind, with_tokens}
 use Rattle.c_grammar.specs.Constants.{is_among as is_one}
 use Rattle.c_grammar.specs.Counters as counters
 use Rattle.c_grammar.specs.Counters.{Before, in_head, is_set}
 use Rattle.c_grammar.specs.Expressions.{placed_of}
+use Rattle.c_grammar.specs.LineForms.{is_sign}
 use Rattle.c_grammar.specs.LineRules.{is_among}
 use Rattle.c_grammar.specs.Lines.{is_omp}
-use Rattle.c_grammar.specs.Nesting.{has}
-use Rattle.c_grammar.specs.Presence.{before_end, closes_list, is_target, is_word, no_clause, opens_list, target_column, uses_on}
+use Rattle.c_grammar.specs.Nesting.{has, next_depth}
+use Rattle.c_grammar.specs.Presence.{before_end, closes_list, is_target, is_word, no_clause, opens_list, target_column, uses, uses_on}
 use Rattle.c_grammar.specs.Unset.{is_behind_type}
 use Rattle.c_grammar.specs.Updates.{is_combined}
 
@@ -96,11 +99,82 @@ shares ts r d [] = false
 shares ts r d (i ∷ is) =
     if is_shared ts r i is then true else uses_on d i is (λ d. shares ts (behind r i) d is)
 
+-- whether the name stands in the list of a map clause, and in no bound, in so many brackets, of which the first are those of one or
+-- not
+abbrev pub is_listed : List ℕ → ℕ → Bool → List Lexeme → Bool
+is_listed x d map [] = false
+is_listed x d map (t ∷ ts) =
+    if opens_list t then is_listed x (d + 1) map ts
+    else (if closes_list t then is_listed x (d - 1) map ts
+    else (if d == 0 then is_listed x 0 (is_word (codes "map") t) ts
+    else (if map && ((d == 1) && is_word x t) then true else is_listed x d map ts)))
+
+abbrev pub maps_too : List Lexeme → Lexeme → Bool
+maps_too ts (Worded x) = is_listed x 0 false ts
+maps_too ts t = false
+
+-- whether a name of a clause firstprivate is mapped on the line, in so many brackets, of which the first are those of one or not
+abbrev pub is_copied : List Lexeme → ℕ → Bool → List Lexeme → Bool
+is_copied ts d own [] = false
+is_copied ts d own (u ∷ us) =
+    if opens_list u then is_copied ts (d + 1) own us
+    else (if closes_list u then is_copied ts (d - 1) own us
+    else (if d == 0 then is_copied ts 0 (is_word (codes "firstprivate") u) us
+    else (if own && maps_too ts u then true else is_copied ts d own us)))
+
+-- ---- sums
+
+abbrev pub is_number : ℕ → Lexeme → Bool
+is_number n (Numbered (Some m)) = n == m
+is_number n t = false
+
+abbrev pub is_alike : Lexeme → Lexeme → Bool
+is_alike (Numbered (Some n)) u = is_number n u
+is_alike t u = lexeme.same t u
+
+-- behind the name of an array the same bounds stand in two lists, or none; in so many brackets
+abbrev pub same_bounds : ℕ → List Lexeme → List Lexeme → Bool
+same_bounds d [] us = false
+same_bounds d (t ∷ ts) [] = false
+same_bounds d (t ∷ ts) (u ∷ us) =
+    if (d == 0) && not (is_sign sign.OpenBracket t) then not (is_sign sign.OpenBracket u)
+    else is_alike t u && same_bounds (next_depth d t) ts us
+
+-- wherever a map clause lists the name, the bounds behind it are those; in so many brackets, of which the first are those of such
+-- a clause or not
+abbrev pub fits : List ℕ → List Lexeme → ℕ → Bool → List Lexeme → Bool
+fits x us d map [] = true
+fits x us d map (t ∷ ts) =
+    if opens_list t then fits x us (d + 1) map ts
+    else (if closes_list t then fits x us (d - 1) map ts
+    else (if d == 0 then fits x us 0 (is_word (codes "map") t) ts
+    else (if map && ((d == 1) && is_word x t) && not (same_bounds 0 us ts) then false else fits x us d map ts)))
+
+abbrev pub fits_on : List Lexeme → Lexeme → List Lexeme → Bool
+fits_on ts (Worded x) us = fits x us 0 false ts
+fits_on ts u us = true
+
+-- so it is with each name of the clauses reduction of a line, in so many brackets, of which the first are those of one or not
+abbrev pub sums_fit : List Lexeme → ℕ → Bool → List Lexeme → Bool
+sums_fit ts d sum [] = true
+sums_fit ts d sum (u ∷ us) =
+    if opens_list u then sums_fit ts (d + 1) sum us
+    else (if closes_list u then sums_fit ts (d - 1) sum us
+    else (if d == 0 then sums_fit ts 0 (is_word (codes "reduction") u) us
+    else (if sum && (d == 1) && not (fits_on ts u us) then false else sums_fit ts d sum us)))
+
+-- an array is summed up in other bounds than the line maps it: the sums of a thread have those cells alone, and all of them are
+-- put into the array at the end
+abbrev pub is_parted : List Lexeme → Bool
+is_parted ts = not (sums_fit ts 0 false ts)
+
 abbrev pub shares_at : Terminal → Items → Bool
-shares_at (Line ts) is = is_combined ts && shares ts (region_of ts) 0 is
+shares_at (Line ts) is =
+    is_copied ts 0 false ts || is_parted ts || (is_combined ts && shares ts (region_of ts) 0 is)
 shares_at t is = false
 
--- all tokens, with such a clause on the lines of constructs whose turns share the name of a loop
+-- all tokens, with such a clause on the lines of constructs whose turns share the name of a loop, have a copy of what the line
+-- maps, or sum up other cells of an array than it maps
 abbrev pub unshared : Items → Items
 unshared is = marked shares_at is
 

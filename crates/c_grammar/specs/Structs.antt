@@ -9,7 +9,7 @@ use Rattle.c_grammar.specs.Texts.{Item}
 use Rattle.c_grammar.specs.Blocks.{Items, at, bare, is_directive}
 use Rattle.c_grammar.specs.Allocations.{depth_behind, is_boundary}
 use Rattle.c_grammar.specs.Constants.{is_mark, is_name}
-use Rattle.c_grammar.specs.Functions.{is_qualifier}
+use Rattle.c_grammar.specs.FunctionHeads.{is_qualifier}
 
 abbrev pub struct_word : Terminal
 struct_word = Name (codes "struct")

@@ -12,7 +12,8 @@ use Rattle.c_grammar.specs.Lines.{is_omp, kind_of, holds, is_atomic, is_target, 
 use Rattle.c_grammar.specs.LineRules.{line_breaks, line_wrong, line_enter}
 use Rattle.c_grammar.specs.LineMachine.{line_advance, line_place, line_first_broken, line_first_wrong}
 use Rattle.c_grammar.specs.Expressions.{expression}
-use Rattle.c_grammar.specs.Functions.{called, defined, parameters, arguments, index_len}
+use Rattle.c_grammar.specs.Functions.{called, defined, arguments, index_len}
+use Rattle.c_grammar.specs.FunctionHeads.{parameters}
 use Rattle.c_grammar.specs.LineForms.{line_from}
 use Rattle.c_grammar.specs.Constants.{worked, undefined}
 use Rattle.c_grammar.specs.Changes.{in_full}
@@ -67,9 +68,14 @@ behind_its_block : fault (codes "for (int i = 0; i < 8; i++) { { int t = i; A[t]
 unfolding called defined parameters arguments index_len number_of hex_number_of number_piece sign_one sign_two sign_three changing_sign sign_at format_at piece_at comment_end_from is_include after tokens_from word_of is_omp expression line_from clauses_from worked in_blocks typed printed undefined all_read initialized in_full run enter breaks wrong sort_of advance place_code first_broken first_wrong kind_of holds is_atomic is_target depth_of collapse_from uses_of uses_from line_fault line_breaks line_wrong line_enter line_advance line_place line_first_broken line_first_wrong piece_on_line lexemes_from
 behind_its_block = refl
 
-assigned : fault (codes "for (int i = 0; i < 8; i++) { int t = i; A[t] = 1; t = 2; }" ∷ []) ≡ at Unexpected 2 31
+assigned : fault (codes "for (int i = 0; i < 8; i++) { int t = i; A[t] = 1; t = s; }" ∷ []) ≡ at Unexpected 2 31
 unfolding called defined parameters arguments index_len number_of hex_number_of number_piece sign_one sign_two sign_three changing_sign sign_at format_at piece_at comment_end_from is_include after tokens_from word_of is_omp expression line_from clauses_from worked in_blocks typed printed undefined all_read initialized in_full run enter breaks wrong sort_of advance place_code first_broken first_wrong kind_of holds is_atomic is_target depth_of collapse_from uses_of uses_from line_fault line_breaks line_wrong line_enter line_advance line_place line_first_broken line_first_wrong piece_on_line lexemes_from
 assigned = refl
+
+-- a number of the type int, whose values are small
+given_small_values : fault (codes "for (int i = 0; i < 8; i++) { int t = i; A[t] = 1; t = 2; }" ∷ []) ≡ None
+unfolding called defined parameters arguments index_len number_of hex_number_of number_piece sign_one sign_two sign_three changing_sign sign_at format_at piece_at comment_end_from is_include after tokens_from word_of is_omp expression line_from clauses_from worked in_blocks typed printed undefined all_read initialized in_full run enter breaks wrong sort_of advance place_code first_broken first_wrong kind_of holds is_atomic is_target depth_of collapse_from uses_of uses_from line_fault line_breaks line_wrong line_enter line_advance line_place line_first_broken line_first_wrong piece_on_line lexemes_from
+given_small_values = refl
 
 of_a_scalar : fault (codes "for (int i = 0; i < 8; i++) { int t = i + s; A[t] = 1; }" ∷ []) ≡ at Unexpected 2 31
 unfolding called defined parameters arguments index_len number_of hex_number_of number_piece sign_one sign_two sign_three changing_sign sign_at format_at piece_at comment_end_from is_include after tokens_from word_of is_omp expression line_from clauses_from worked in_blocks typed printed undefined all_read initialized in_full run enter breaks wrong sort_of advance place_code first_broken first_wrong kind_of holds is_atomic is_target depth_of collapse_from uses_of uses_from line_fault line_breaks line_wrong line_enter line_advance line_place line_first_broken line_first_wrong piece_on_line lexemes_from

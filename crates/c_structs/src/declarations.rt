@@ -3,7 +3,7 @@
 ghost use Rattle.std.specs.Prelude.{◌≡◌, map};
 ghost use Rattle.std.specs.Option.{option_map};
 ghost use Rattle.c_grammar.specs.Allocations.{is_boundary};
-ghost use Rattle.c_grammar.specs.Functions.{is_qualifier};
+ghost use Rattle.c_grammar.specs.FunctionHeads.{is_qualifier};
 ghost use Rattle.c_grammar.specs.Structs.{declared, declared_behind, declared_by, ends, ends_first, ends_length, is_many, pointer, pointer_on, struct_at, tagged_use, use_at, variable, variable_on};
 ghost use Rattle.c_structs.specs.Found.{seen_declared, seen_form, seen_use};
 ghost use Rattle.c_structs.specs.Definitions.{seen_struct};

@@ -11,7 +11,7 @@ pub struct Names<'a> {
 }
 
 impl<'a> Names<'a> {
-    ghost use Rattle.std.specs.Prelude.{◌≡◌, ◌∷◌, [], OnOk};
+    ghost use Rattle.std.specs.Prelude.{◌≡◌, ◌∷◌, [], OnOk, length};
     ghost use Rattle.c_grammar.specs.LineRules.{is_among};
     ghost use Rattle.c_terminals.specs.Names.{seen_names};
 
@@ -28,6 +28,13 @@ impl<'a> Names<'a> {
     {
         self.names.push(name)?;
         Ok(())
+    }
+
+    /// How many there are.
+    pub fn len(&self) -> usize
+        ensures { result ≡ length (seen_names self.now) }
+    {
+        self.names.len()
     }
 
     pub fn contains(&self, name: &[u8]) -> bool

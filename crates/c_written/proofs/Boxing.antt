@@ -4,11 +4,11 @@ use Rattle.std.specs.Borrow.{Bor}
 use Rattle.std.specs.Prelude.{◌&&◌, ◌==◌, not, codes}
 use Rattle.c_grammar.specs.Lexeme.{Lexeme, Reserved, Signed, Worded, Numbered, Strange, Ended, Placed}
 use Rattle.c_grammar.specs.Blocks.{Items, is_directive}
-use Rattle.c_grammar.specs.Boxes.{Listing, at_begin, begins_bounds, behind, boxed_item, boxed_tokens, boxing_at, boxing_lexemes, clauses_for, is_box, is_item, lexemes, listed, lists, section, sectioned, to_clause, to_clauses, uses}
+use Rattle.c_grammar.specs.Boxes.{Listing, at_begin, begins_bounds, behind, boxed_item, boxed_tokens, boxing_at, boxing_lexemes, clauses_for, is_box, is_item, lexemes, listed, lists, section, sectioned, to_clause, to_clauses}
 use Rattle.c_grammar.specs.Constants.{Names, behind_two, front_two, is_among, with_tokens}
 use Rattle.c_grammar.specs.LineForms.{all_at}
 use Rattle.c_grammar.specs.Lines.{boxing_word, is_omp}
-use Rattle.c_grammar.specs.Presence.{before_end, is_target, opens_list, target_column}
+use Rattle.c_grammar.specs.Presence.{before_end, is_target, opens_list, target_column, uses}
 use Rattle.c_grammar.specs.Terminal.{Terminal, Line}
 use Rattle.c_grammar.specs.Texts.{Item}
 use Rattle.directives.specs.declared.line_tokens.LineTokens.{LineTokens}

@@ -1,5 +1,5 @@
--- The line of a target with clauses before its end.
-use Rattle.std.proofs.Common.{◌≡◌, ◌∙◌, ℕ, zero, suc, ◌+◌, ◌-◌, ◌≤◌, Bool, true, false, cond, List, [], ◌∷◌, ◌++◌, length, take, drop, refl, sym, ap, arith, append_assoc}
+-- A line with clauses before its end.
+use Rattle.std.proofs.Common.{◌≡◌, ◌∙◌, ℕ, zero, suc, ◌+◌, ◌-◌, ◌<◌, ◌≤◌, Bool, true, false, cond, List, [], ◌∷◌, ◌++◌, length, take, drop, refl, sym, ap, arith, append_assoc}
 use Rattle.std.specs.Borrow.{Bor}
 use Rattle.std.specs.Prelude.{◌&&◌, not}
 use Rattle.std.proofs.lemmas.List.{drop-map, length-drop, length-map, map-append, take-map, take_all}
@@ -7,7 +7,7 @@ use Rattle.c_grammar.specs.Lexeme.{Lexeme, Placed}
 use Rattle.c_grammar.specs.Blocks.{Items, is_directive}
 use Rattle.c_grammar.specs.Constants.{Names, behind_two, front_two, with_tokens}
 use Rattle.c_grammar.specs.Lines.{is_omp}
-use Rattle.c_grammar.specs.Presence.{before_end, clauses_for, guarded_item, guarded_tokens, is_mapped, is_target, present_clause, target_column, uses}
+use Rattle.c_grammar.specs.Presence.{before_end, clauses_for, guarded_item, guarded_tokens, is_mapped, is_target, line_clauses, map_clauses, no_clause, orders, present_clause, target_column, uses}
 use Rattle.c_grammar.specs.Terminal.{Terminal, Line}
 use Rattle.c_grammar.specs.Texts.{Item}
 use Rattle.directives.specs.declared.lexeme.PlacedLexeme.{PlacedLexeme}
@@ -20,6 +20,7 @@ use Rattle.c_terminals.specs.declared.token.Terminal.TheVariants as given
 use Rattle.c_terminals.specs.declared.token.Token.{Token}
 use Rattle.c_written.specs.Forms.{all_placed}
 use Rattle.c_terminals.specs.Seen.{columns_in, seen, seen_terminal}
+use Rattle.c_written.specs.Spots.{all_kinds}
 use Rattle.c_terminals.proofs.Placing.{placed_again}
 
 -- tokens that end well before others
@@ -61,6 +62,53 @@ clauses_inner (x ∷ xs) column ts is = go (uses x 0 is && not (is_mapped x 0 fa
     go true e = e
     go false e = e
 
+map_inner : (names : Names) (column : ℕ) (ts : List Lexeme) (is : Items) → inner (map_clauses names column ts is) ≡ true
+map_inner names column ts is = go (is_target ts)
+  where
+    go : (b : Bool) → inner (cond b (clauses_for names column ts is) []) ≡ true
+    go true = clauses_inner names column ts is
+    go false = refl
+
+both_inner : (ps qs : List Placed) → inner ps ≡ true → inner qs ≡ true → inner (ps ++ qs) ≡ true
+both_inner [] qs e f = f
+both_inner (p ∷ ps) qs e f =
+    rw (first_true (ends_well p.lexeme false) (inner ps) e)
+    (both_inner ps qs (second_true (ends_well p.lexeme false) (inner ps) e) f)
+
+line_inner : (names : Names) (column : ℕ) (ts : List Lexeme) (is : Items) → inner (line_clauses names column ts is) ≡ true
+line_inner names column [] is = refl
+line_inner names column (p ∷ []) is = refl
+line_inner names column (p ∷ o ∷ []) is = refl
+line_inner names column (p ∷ o ∷ t ∷ ts) is = go (orders names 0 false false ts)
+  where
+    maps : List Placed
+    maps = map_clauses names column (p ∷ o ∷ t ∷ ts) is
+
+    go : (b : Bool) → inner (maps ++ cond b (no_clause column) []) ≡ true
+    go true = both_inner maps (no_clause column) (map_inner names column (p ∷ o ∷ t ∷ ts) is) refl
+    go false = both_inner maps [] (map_inner names column (p ∷ o ∷ t ∷ ts) is) refl
+
+-- what is put on a line of fewer words than three, and on any other
+pub short_clauses : (names : Names) (column : ℕ) (ts : List PlacedLexeme) (is : Items) → length ts < 3 →
+    [] ≡ line_clauses names column (all_kinds ts) is
+short_clauses names column [] is h = refl
+short_clauses names column (p ∷ []) is h = refl
+short_clauses names column (p ∷ o ∷ []) is h = refl
+short_clauses names column (p ∷ o ∷ t ∷ ts) is h = absurd (omega (arith, h))
+
+abbrev pub order_clause : Names → ℕ → List PlacedLexeme → List Placed
+order_clause names column ts = cond (orders names 0 false false (all_kinds ts)) (no_clause column) []
+
+pub long_clauses : (names : Names) (column : ℕ) (ts : List PlacedLexeme) (is : Items) → 3 ≤ length ts →
+    map_clauses names column (all_kinds ts) is ++ order_clause names column (take (length ts - 3) (drop 3 ts))
+    ≡ line_clauses names column (all_kinds ts) is
+long_clauses names column [] is h = absurd (omega (arith, h))
+long_clauses names column (p ∷ []) is h = absurd (omega (arith, h))
+long_clauses names column (p ∷ o ∷ []) is h = absurd (omega (arith, h))
+long_clauses names column (p ∷ o ∷ t ∷ ts) is h =
+    let all : take (length (p ∷ o ∷ t ∷ ts) - 3) ts ≡ ts = take_all (length (p ∷ o ∷ t ∷ ts) - 3) ts (omega arith) in
+    ap (λ (us : List PlacedLexeme). map_clauses names column (all_kinds (p ∷ o ∷ t ∷ ts)) is ++ order_clause names column us) all
+
 pub before_at : (new ps : List Placed) (n : ℕ) → length ps ≡ n + 1 → before_end new ps ≡ take n ps ++ (new ++ drop n ps)
 before_at new [] n e = absurd (omega (arith, e))
 before_at new (p ∷ []) zero e = refl
@@ -98,8 +146,8 @@ put_parts n ts v0 v1 v2 v3 cs ls new m s w e f g h k =
     ∙ ap (before_end new) s
 
 pub clauses_whole : (names : Names) (column : ℕ) (ts : List Lexeme) (is : Items) (ls : List Placed) → is_whole ls ≡ true →
-    is_whole (before_end (clauses_for names column ts is) ls) ≡ true
-clauses_whole names column ts is ls w = whole_before (clauses_for names column ts is) ls (clauses_inner names column ts is) w
+    is_whole (before_end (line_clauses names column ts is) ls) ≡ true
+clauses_whole names column ts is ls w = whole_before (line_clauses names column ts is) ls (line_inner names column ts is) w
 
 -- ---- the line
 
@@ -117,23 +165,33 @@ line_item t ps = record { terminal = Line (kinds_of ps); line = t.line; column =
 abbrev pub item_at : Token → Given → Item Terminal
 item_at t g = record { terminal = seen_terminal g; line = t.line; column = t.column; columns = columns_in g }
 
-put_target : (names : Names) (t : Token) (ls : List Placed) (is : Items) → is_omp (kinds_of ls) ≡ true → is_target (kinds_of ls) ≡ true →
+-- the words of any directive stay
+words_stay : (names : Names) (column : ℕ) (is : Items) (ls : List Placed) → is_omp (kinds_of ls) ≡ true →
+    front_two (kinds_of ls) ++ kinds_of (behind_two (before_end (line_clauses names column (kinds_of ls) is) ls))
+    ≡ kinds_of (before_end (line_clauses names column (kinds_of ls) is) ls)
+unfolding is_omp
+words_stay names column is [] e = absurd cc
+words_stay names column is (p ∷ []) e = absurd cc
+words_stay names column is (p ∷ q ∷ []) e = refl
+words_stay names column is (p ∷ q ∷ r ∷ ls) e = refl
+
+put_line : (names : Names) (t : Token) (ls : List Placed) (is : Items) → is_omp (kinds_of ls) ≡ true →
     guarded_item names (line_item t ls) (Line (kinds_of ls)) is ≡ line_item t (guarded_tokens names (kinds_of ls) is ls)
-put_target names t ls is e f =
-    rw e (rw f (ap (λ (qs : List Placed). with_tokens (line_item t ls) (kinds_of ls) (guarded_tokens names (kinds_of ls) is qs))
+put_line names t ls is e =
+    rw e (ap (λ (qs : List Placed). with_tokens (line_item t ls) (kinds_of ls) (guarded_tokens names (kinds_of ls) is qs))
     (placed_again ls)
     ∙ ap (λ (ts : List Lexeme). record {
       terminal = Line ts;
       line = t.line;
       column = t.column;
       columns = columns_of (guarded_tokens names (kinds_of ls) is ls);
-    }) (in_front (clauses_for names (target_column ls) (kinds_of ls) is) ls f)))
+    }) (words_stay names (target_column ls) is ls e))
 
 pub guarded_put : (names : Names) (t : Token) (l : Bor LineTokens) (is : Items) (qs : List Placed) → t.terminal ≡ given.Line l →
-    is_directive (seen_terminal t.terminal) ≡ true → is_target (kinds_of (seen_line l.now)) ≡ true →
+    is_directive (seen_terminal t.terminal) ≡ true →
     qs ≡ guarded_tokens names (kinds_of (seen_line l.now)) is (seen_line l.now) →
     line_item t qs ≡ guarded_item names (seen t) (seen_terminal t.terminal) is
-guarded_put names t l is qs e d f g =
+guarded_put names t l is qs e d g =
     let omp = sym (ap (λ (g : Given). is_directive (seen_terminal g)) e) ∙ d in
-    ap (line_item t) g ∙ sym (put_target names t (seen_line l.now) is omp f)
+    ap (line_item t) g ∙ sym (put_line names t (seen_line l.now) is omp)
     ∙ sym (ap (λ (g : Given). guarded_item names (item_at t g) (seen_terminal g) is) e)

@@ -3,7 +3,8 @@ use Rattle.std.proofs.Common.{◌≡◌, ◌∙◌, ℕ, ◌+◌, List, [], ◌�
 use Rattle.c_grammar.specs.Terminal.{Terminal}
 use Rattle.c_grammar.specs.Texts.{Item}
 use Rattle.c_grammar.specs.Blocks.{Items}
-use Rattle.c_grammar.specs.Functions.{Declared as Declaring, Head as Heading, Step as Stepping, behind, parameter_on, parameters}
+use Rattle.c_grammar.specs.FunctionHeads.{Declared as Declaring, Head as Heading, Step as Stepping}
+use Rattle.c_grammar.specs.FunctionHeads.{behind, parameter_on, parameters}
 use Rattle.c_written.specs.declared.heads.Declared.{Declared}
 use Rattle.c_written.specs.Functions.{all_declared, seen_declared}
 

@@ -1,14 +1,14 @@
 -- The line of a target with the words and the clauses of the construct inside it.
 use Rattle.std.proofs.Common.{◌≡◌, ◌∙◌, ℕ, zero, suc, ◌+◌, ◌-◌, ◌<◌, ◌≤◌, Bool, true, false, cond, List, [], ◌∷◌, ◌++◌, length, take, drop, refl, sym, ap, arith, append_assoc}
 use Rattle.std.specs.Borrow.{Bor}
-use Rattle.std.specs.Prelude.{◌&&◌}
+use Rattle.std.specs.Prelude.{◌&&◌, codes}
 use Rattle.std.proofs.lemmas.List.{drop-map, length-drop, length-map, map-append, take-map, take_all}
 use Rattle.c_grammar.specs.Lexeme.{Lexeme, Reserved, Signed, Worded, Numbered, Strange, Ended, Placed}
 use Rattle.c_grammar.specs.Constants.{behind_two, front_two, with_tokens}
 use Rattle.c_grammar.specs.Expressions.{placed_of}
 use Rattle.c_grammar.specs.Lines.{is_omp}
 use Rattle.c_grammar.specs.Presence.{before_end, is_target, target_column}
-use Rattle.c_grammar.specs.Nesting.{fit, inner_at, is_part, join_lines, joined, joined_at, joined_of, joined_tokens, joins, name_len}
+use Rattle.c_grammar.specs.Nesting.{conditioned, fit, has, inner_at, is_part, join_lines, joined, joined_at, joined_line, joined_of, joined_tokens, joins, name_len, targeted}
 use Rattle.c_grammar.specs.Terminal.{Line}
 use Rattle.directives.specs.Seen.{all_end_well, ends_well, is_whole, seen_placed}
 use Rattle.directives.specs.declared.lexeme.PlacedLexeme.{PlacedLexeme}
@@ -208,21 +208,40 @@ front_at zero k moved (p ∷ q ∷ ps) h e = absurd (omega (arith, h))
 front_at (suc zero) k moved (p ∷ q ∷ ps) h e = absurd (omega (arith, h))
 front_at (suc (suc n)) k moved (p ∷ q ∷ ps) h e = refl
 
+-- so it is where the conditions of the target are for it alone
+line_front : (n k : ℕ) (ts : List Lexeme) (moved ps : List Placed) → 2 ≤ n → is_target (kinds_of ps) ≡ true →
+    front_two (kinds_of ps) ++ kinds_of (behind_two (joined_at n k moved (conditioned ts ps)))
+    ≡ kinds_of (joined_at n k moved (conditioned ts ps))
+line_front n k ts moved [] h e = absurd cc
+line_front n k ts moved (p ∷ []) h e = absurd cc
+line_front n k ts moved (p ∷ q ∷ []) h e = absurd cc
+line_front n k ts moved (p ∷ q ∷ r ∷ []) h e = absurd cc
+line_front n k ts moved (p ∷ q ∷ r ∷ s ∷ ps) h e = go (has (codes "parallel") (take (name_len ts) ts))
+  where
+    line : Bool → List Placed
+    line b = cond b (p ∷ q ∷ r ∷ s ∷ ps) (p ∷ q ∷ r ∷ targeted false 0 (s ∷ ps))
+
+    go : (b : Bool) →
+        p.lexeme ∷ q.lexeme ∷ kinds_of (behind_two (joined_at n k moved (line b))) ≡ kinds_of (joined_at n k moved (line b))
+    go true = front_at n k moved (p ∷ q ∷ r ∷ s ∷ ps) h e
+    go false = front_at n k moved (p ∷ q ∷ r ∷ targeted false 0 (s ∷ ps)) h e
+
 joined_item : (t u : Token) (ls ms : List Placed) → is_target (kinds_of ls) ≡ true →
     joined_of (line_item t ls) (line_item u ms) (Line (kinds_of ls)) (Line (kinds_of ms))
-    ≡ line_item t (joined_tokens (kinds_of ls) (kinds_of ms) ls ms)
+    ≡ line_item t (joined_line (kinds_of ls) (kinds_of ms) ls ms)
 joined_item t u ls ms e =
+    let own : List Placed = conditioned (drop 3 (kinds_of ls)) ls in
     ap (λ (qs : List Placed). with_tokens (line_item t ls) (kinds_of ls)
-    (joined_tokens (kinds_of ls) (kinds_of ms) qs (placed_of (kinds_of ms) (columns_of ms)))) (placed_again ls)
-    ∙ ap (λ (qs : List Placed). with_tokens (line_item t ls) (kinds_of ls) (joined_tokens (kinds_of ls) (kinds_of ms) ls qs))
+    (joined_line (kinds_of ls) (kinds_of ms) qs (placed_of (kinds_of ms) (columns_of ms)))) (placed_again ls)
+    ∙ ap (λ (qs : List Placed). with_tokens (line_item t ls) (kinds_of ls) (joined_line (kinds_of ls) (kinds_of ms) ls qs))
     (placed_again ms)
     ∙ ap (λ (ts : List Lexeme). record {
       terminal = Line ts;
       line = t.line;
       column = t.column;
-      columns = columns_of (joined_tokens (kinds_of ls) (kinds_of ms) ls ms);
-    }) (front_at (3 + name_len (drop 3 (kinds_of ls))) (name_len (drop 2 (kinds_of ms)))
-    (drop 2 (inner_at (target_column ls) ms)) ls (omega arith) e)
+      columns = columns_of (joined_line (kinds_of ls) (kinds_of ms) ls ms);
+    }) (line_front (3 + name_len (drop 3 (kinds_of own))) (name_len (drop 2 (kinds_of ms))) (drop 3 (kinds_of ls))
+    (drop 2 (inner_at (target_column own) ms)) ls (omega arith) e)
 
 -- a target with a construct inside it
 pub target_of : (ts us : List Lexeme) → join_lines ts us ≡ true → is_target ts ≡ true
@@ -237,7 +256,7 @@ directive_of ts us e =
 
 pub joined_put : (t u : Token) (l m : Bor LineTokens) (qs : List Placed) → t.terminal ≡ given.Line l → u.terminal ≡ given.Line m →
     joins (seen_terminal t.terminal) (seen_terminal u.terminal) ≡ true →
-    qs ≡ joined_tokens (kinds_of (seen_line l.now)) (kinds_of (seen_line m.now)) (seen_line l.now) (seen_line m.now) →
+    qs ≡ joined_line (kinds_of (seen_line l.now)) (kinds_of (seen_line m.now)) (seen_line l.now) (seen_line m.now) →
     line_item t qs ≡ joined (seen t) (seen u)
 joined_put t u l m qs e f g h =
     let target = target_of (kinds_of (seen_line l.now)) (kinds_of (seen_line m.now))

@@ -45,13 +45,13 @@ pub mod CallParameters
 pub mod CallLists
 pub mod Sourcing
 pub mod SourceSteps
-pub mod CallLefts
 pub mod CallWalk
 pub mod Guarding
 pub mod Boxing
 pub mod Joining
 pub mod Parting
 pub mod Fitting
+pub mod OwnIfs
 pub mod DeclaringFunctions
 pub mod Ranging
 pub mod Subscripts

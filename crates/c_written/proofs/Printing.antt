@@ -1,26 +1,25 @@
 -- One token of a call of printf after another.
 use Rattle.std.proofs.Common.{◌≡◌, ℕ, zero, suc, ◌-◌, ◌<◌, Bool, true, false, cond, [], ◌∷◌, refl, sym, ap, arith}
 use Rattle.std.specs.Prelude.{codes}
-use Rattle.c_tokens.specs.declared.kind.Sign.TheVariants as sign
 use Rattle.c_grammar.specs.Lexeme.{Print}
-use Rattle.c_grammar.specs.Terminal.{Terminal, Fixed, Mark, Name, same}
+use Rattle.c_grammar.specs.Terminal.{Terminal, Fixed, Name, same}
 use Rattle.c_grammar.specs.Texts.{Item}
 use Rattle.c_grammar.specs.Blocks.{Items, is_directive, bare, at}
-use Rattle.c_grammar.specs.Prints.{text_len, alone, print_at, printed}
+use Rattle.c_grammar.specs.Prints.{text_len, alone, print_at, printed, stays}
 
 pub printed_line : (k : ℕ) (i : Item Terminal) (is : Items) → is_directive i.terminal ≡ true →
     printed k (i ∷ is) ≡ i ∷ printed k is
 unfolding printed
 printed_line k i is e = rw e refl
 
-pub printed_bracket : (k : ℕ) (i : Item Terminal) (is : Items) → is_directive i.terminal ≡ false → 0 < k →
-    same (Mark sign.OpenParen) i.terminal ≡ true → printed k (i ∷ is) ≡ i ∷ printed k is
+pub printed_stays : (k : ℕ) (i : Item Terminal) (is : Items) → is_directive i.terminal ≡ false → 0 < k →
+    stays i.terminal ≡ true → printed k (i ∷ is) ≡ i ∷ printed k is
 unfolding printed
-printed_bracket zero i is e h f = absurd (omega arith)
-printed_bracket (suc k) i is e h f = rw (e, f) refl
+printed_stays zero i is e h f = absurd (omega arith)
+printed_stays (suc k) i is e h f = rw (e, f) refl
 
 pub printed_left : (k : ℕ) (i : Item Terminal) (is : Items) → is_directive i.terminal ≡ false → 0 < k →
-    same (Mark sign.OpenParen) i.terminal ≡ false → printed k (i ∷ is) ≡ printed (k - 1) is
+    stays i.terminal ≡ false → printed k (i ∷ is) ≡ printed (k - 1) is
 unfolding printed
 printed_left zero i is e h f = absurd (omega arith)
 printed_left (suc k) i is e h f =

@@ -6,7 +6,8 @@ use Rattle.c_grammar.specs.Lexeme.{Int}
 use Rattle.c_grammar.specs.Terminal.{Terminal, Fixed, same}
 use Rattle.c_grammar.specs.Texts.{Item}
 use Rattle.c_grammar.specs.Blocks.{Items, bare, is_directive}
-use Rattle.c_grammar.specs.Functions.{Headed, InBody, InHead, Known, Onward, Where, called, defined, has_function, in_head, is_main, is_specifier, is_static, line_in, main_follows, raw_in, token_in}
+use Rattle.c_grammar.specs.Functions.{InBody, InHead, Known, Onward, Where, called, defined, has_function, in_head, is_main, is_specifier, is_static, line_in, main_follows, raw_in, token_in}
+use Rattle.c_grammar.specs.FunctionHeads.{Headed}
 use Rattle.c_written.specs.declared.functions.Place.{Place}
 use Rattle.c_written.specs.declared.functions.Place.TheVariants as places
 use Rattle.c_written.specs.declared.functions.Source.{Source}

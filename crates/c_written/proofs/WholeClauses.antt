@@ -39,10 +39,10 @@ default_within (x ∷ c ∷ ps) n e =
     by_test (is_default x.lexeme && is_sign sign.CloseParen c.lexeme) (Some 3) None (Some n)
     (n ≤ 1 + length (x ∷ c ∷ ps)) (λ _ f. (let three : 3 ≡ n = cc in omega (arith, three))) (λ _ f. absurd cc) e
 
-any_within : (s : Scope) (ps : List Placed) → is_any_kind s ps ≡ true → 2 ≤ length ps
-any_within s [] e = absurd cc
-any_within s (w ∷ []) e = absurd cc
-any_within s (w ∷ c ∷ ps) e = omega arith
+any_within : (ps : List Placed) → is_any_kind ps ≡ true → 2 ≤ length ps
+any_within [] e = absurd cc
+any_within (w ∷ []) e = absurd cc
+any_within (w ∷ c ∷ ps) e = omega arith
 
 one_within : (s : Scope) (ps : List Placed) → is_one_kind s ps ≡ true → 4 ≤ length ps
 one_within s [] e = absurd cc
@@ -53,8 +53,8 @@ one_within s (w ∷ c ∷ k ∷ d ∷ ps) e = omega arith
 
 map_within : (s : Scope) (ps : List Placed) (n : ℕ) → map_len s ps ≡ Some n → n ≤ 1 + length ps
 map_within s ps n e =
-    by_test (is_any_kind s ps) (Some 3) _ (Some n) (n ≤ 1 + length ps)
-    (λ g f. (let three : 3 ≡ n = cc in let two = any_within s ps g in omega (arith, three, two)))
+    by_test (is_any_kind ps) (Some 3) _ (Some n) (n ≤ 1 + length ps)
+    (λ g f. (let three : 3 ≡ n = cc in let two = any_within ps g in omega (arith, three, two)))
     (λ _ f. by_test (is_one_kind s ps) (Some 5) None (Some n) (n ≤ 1 + length ps)
     (λ g h. (let five : 5 ≡ n = cc in let four = one_within s ps g in omega (arith, five, four))) (λ _ h. absurd cc) f) e
 

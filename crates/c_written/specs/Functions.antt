@@ -1,7 +1,8 @@
 -- Functions so far.
-use Rattle.std.specs.Prelude.{ℕ, ◌++◌, Bool, true, false, List, length, map, nat_lt, Option, Some, None, if◌then◌else◌}
+use Rattle.std.specs.Prelude.{ℕ, ◌++◌, ◌&&◌, Bool, true, false, not, List, length, map, nat_lt, Option, Some, None, if◌then◌else◌}
 use Rattle.c_grammar.specs.Blocks.{Items, bare}
 use Rattle.c_grammar.specs.Constants.{Names}
+use Rattle.c_grammar.specs.FunctionHeads as headings
 use Rattle.c_grammar.specs.Functions as functions
 use Rattle.c_grammar.specs.Functions.{Called, Counts, Puts as SpecPuts, Others, Functions, other_name, stays}
 use Rattle.c_written.specs.declared.calls.Expanded.{Expanded}
@@ -10,6 +11,7 @@ use Rattle.c_written.specs.declared.calls.Given.{Given}
 use Rattle.c_written.specs.declared.calls.Parameter.{Parameter}
 use Rattle.c_written.specs.declared.calls.Passed.{Passed}
 use Rattle.c_written.specs.declared.calls.Scope.{Scope}
+use Rattle.c_written.specs.declared.fronts.Front.{Front}
 use Rattle.c_written.specs.declared.heads.Declared.{Declared}
 use Rattle.c_written.specs.declared.heads.Gives.{Gives}
 use Rattle.c_written.specs.declared.heads.Gives.TheVariants as gives
@@ -34,40 +36,40 @@ use Rattle.c_terminals.specs.Seen.{seen_all}
 
 -- ---- heads
 
-abbrev pub seen_sort : Sort → functions.Sort
-seen_sort sorts.Scalar = functions.Scalar
-seen_sort sorts.Array = functions.Array
-seen_sort sorts.Small = functions.Small
+abbrev pub seen_sort : Sort → headings.Sort
+seen_sort sorts.Scalar = headings.Scalar
+seen_sort sorts.Array = headings.Array
+seen_sort sorts.Small = headings.Small
 
-abbrev pub seen_declared : Declared → functions.Declared
+abbrev pub seen_declared : Declared → headings.Declared
 seen_declared d = record { name = d.name.now; sort = seen_sort d.sort }
 
-abbrev pub seen_head : Head → functions.Head
-seen_head heads.Begins = functions.Begins
-seen_head heads.Typed = functions.Typed
-seen_head heads.IntTyped = functions.IntTyped
-seen_head heads.Starred = functions.Starred
-seen_head (heads.Named d) = functions.Named d.name.now (seen_sort d.sort)
-seen_head (heads.Opened x) = functions.Opened x.now
-seen_head (heads.Sized x) = functions.Sized x.now
-seen_head (heads.Rows x) = functions.Rows x.now
-seen_head (heads.Inner x) = functions.Inner x.now
+abbrev pub seen_head : Head → headings.Head
+seen_head heads.Begins = headings.Begins
+seen_head heads.Typed = headings.Typed
+seen_head heads.IntTyped = headings.IntTyped
+seen_head heads.Starred = headings.Starred
+seen_head (heads.Named d) = headings.Named d.name.now (seen_sort d.sort)
+seen_head (heads.Opened x) = headings.Opened x.now
+seen_head (heads.Sized x) = headings.Sized x.now
+seen_head (heads.Rows x) = headings.Rows x.now
+seen_head (heads.Inner x) = headings.Inner x.now
 
-abbrev pub seen_step : Step → functions.Step
-seen_step (steps.Goes h) = functions.Goes (seen_head h)
-seen_step (steps.Adds d) = functions.Adds d.name.now (seen_sort d.sort)
-seen_step (steps.Closes d) = functions.Closes d.name.now (seen_sort d.sort)
-seen_step steps.Stops = functions.Stops
+abbrev pub seen_step : Step → headings.Step
+seen_step (steps.Goes h) = headings.Goes (seen_head h)
+seen_step (steps.Adds d) = headings.Adds d.name.now (seen_sort d.sort)
+seen_step (steps.Closes d) = headings.Closes d.name.now (seen_sort d.sort)
+seen_step steps.Stops = headings.Stops
 
-abbrev pub seen_gives : Gives → functions.Gives
-seen_gives gives.NoValue = functions.NoValue
-seen_gives gives.AValue = functions.AValue
-seen_gives gives.AStatus = functions.AStatus
+abbrev pub seen_gives : Gives → headings.Gives
+seen_gives gives.NoValue = headings.NoValue
+seen_gives gives.AValue = headings.AValue
+seen_gives gives.AStatus = headings.AStatus
 
-abbrev pub all_declared : List Declared → List functions.Declared
+abbrev pub all_declared : List Declared → List headings.Declared
 all_declared ds = map seen_declared ds
 
-abbrev pub seen_headed : Headed → functions.Headed
+abbrev pub seen_headed : Headed → headings.Headed
 seen_headed h = record { name = h.name.now; gives = seen_gives h.gives; declared = all_declared h.declared.items; len = h.len }
 
 -- ---- names
@@ -107,6 +109,13 @@ globals_of s = map (λ x. x.now) s.globals.items
 
 abbrev pub seen_given : Given → functions.Arguments
 seen_given g = record { list = map (λ v. seen_all v.items) g.list.items; len = g.len }
+
+abbrev pub seen_front : Front → functions.Front
+seen_front f = record { left = seen_all f.left.now; value = seen_all f.value.now }
+
+-- a value is wanted, and there is none
+abbrev pub lacks_value : functions.Front → Items → Bool
+lacks_value front value = functions.has_value front.left && not (functions.has_value (bare value))
 
 abbrev pub seen_expanded : Expanded → functions.Expanded
 seen_expanded e = record { len = e.len; items = written_all e.items.items }

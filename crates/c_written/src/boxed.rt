@@ -2,12 +2,10 @@
 
 ghost use Rattle.std.specs.Prelude.{◌≡◌, ◌++◌, [], IfOk, OnOk};
 ghost use Rattle.c_grammar.specs.Blocks.{bare};
-ghost use Rattle.c_grammar.specs.Presence.{goes_on};
-ghost use Rattle.c_grammar.specs.Boxes.{at_begin, begins_bounds, boxed, boxed_item, boxed_lines, boxed_tokens, clauses_for, is_box, is_declared, section, sectioned, to_clause, to_clauses, uses};
+ghost use Rattle.c_grammar.specs.Boxes.{at_begin, begins_bounds, boxed, boxed_item, boxed_lines, boxed_tokens, clauses_for, is_box, section, sectioned, to_clause, to_clauses};
 ghost use Rattle.directives.specs.Ahead.{seen_line};
 ghost use Rattle.directives.specs.Seen.{seen_lexeme};
 ghost use Rattle.directives.specs.Spells.{kinds_of};
-ghost use Rattle.c_terminals.specs.Ahead.{ahead};
 ghost use Rattle.c_written.specs.Boxes.{texts};
 ghost use Rattle.c_written.specs.Forms.{all_placed};
 ghost use Rattle.c_terminals.specs.Held.{seen_written, written_all};
@@ -17,10 +15,11 @@ ghost use Rattle.c_written.specs.Spots.{all_kinds};
 use crate::box_lists::{Listing, add_listed};
 use crate::boxes::boxes_of;
 use crate::line_forms::is_sign;
-use crate::presence::{is_target, opens_part, target_column};
-use c_terminals::{Ahead, Terminal, Token, Written, WrittenTerminal, is_among};
+use crate::presence::{is_target, target_column};
+use crate::used::uses;
+use c_terminals::{Terminal, Token, Written, WrittenTerminal, is_among};
 use c_tokens::Sign;
-use directives::{Lexeme, LineTokens, PlacedLexeme, Word};
+use directives::{Lexeme, LineTokens, PlacedLexeme};
 use std::alloc::{AllocError, Global};
 
 // [0:1] at a column.
@@ -90,60 +89,6 @@ fn sectioned<'a>(
         listing = listing.behind(token.lexeme, behind)?;
     }
     Ok(put)
-}
-
-/// Whether the name is declared by a token and the next one.
-pub fn is_declared(name: &[u8], token: Token<'_, '_>, rest: Ahead<'_, '_, '_>) -> bool
-    ensures { result ≡ is_declared name.now (seen token.entry) (ahead rest.entry) }
-{
-    let mut ahead = rest;
-    match ahead.next() {
-        Some(next) => token.terminal.is_word(Word::Uint64) && next.terminal.is_named(name),
-        None => false,
-    }
-}
-
-/// The region goes on behind a brace that closes one of so many parts.
-pub fn goes_on(depth: usize, rest: Ahead<'_, '_, '_>) -> bool
-    ensures { result ≡ goes_on depth (ahead rest.entry) }
-{
-    if depth > 1 {
-        return true;
-    }
-    let mut ahead = rest;
-    match ahead.next() {
-        Some(next) => next.terminal.is_word(Word::Else),
-        None => false,
-    }
-}
-
-/// Whether the statement that begins there uses the name, before it declares it.
-pub fn uses(name: &[u8], tokens: &[Token<'_, '_>]) -> bool
-    ensures { result ≡ uses name.now 0 (bare (seen_all tokens.now)) }
-{
-    let mut depth = 0usize;
-    let mut ahead = Ahead::new(tokens);
-    'tokens: while let Some(token) = ahead.next() {
-        if is_declared(name, token, ahead) {
-            return false;
-        }
-        if token.terminal.is_named(name) {
-            return true;
-        }
-        if opens_part(token) {
-            depth += 1;
-        } else if token.terminal.is_sign(Sign::CloseBrace) {
-            if !goes_on(depth, ahead) {
-                return false;
-            }
-            depth = depth.saturating_sub(1);
-        } else if token.terminal.is_sign(Sign::CloseParen) {
-            depth = depth.saturating_sub(1);
-        } else if token.terminal.is_sign(Sign::Semicolon) && depth == 0 {
-            return false;
-        }
-    }
-    false
 }
 
 // Adds map(to: NAME[0:1]).

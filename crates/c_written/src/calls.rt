@@ -4,7 +4,7 @@ ghost use Rattle.std.specs.Prelude.{◌≡◌, ◌==◌, ◌&&◌, ◌<◌, ◌^
 ghost use Rattle.std.specs.Option.{option_map};
 ghost use Rattle.c_grammar.specs.Terminal.{Mark};
 ghost use Rattle.c_grammar.specs.Blocks.{at, bare};
-ghost use Rattle.c_grammar.specs.Functions.{arguments, called, closes, constant_in, ends_here, index_len, left_len, opens, passed_to, put_all, stays};
+ghost use Rattle.c_grammar.specs.Functions.{arguments, called, closes, constant_in, index_len, left_len, opens, passed_to, put_all, stays};
 ghost use Rattle.c_grammar.specs.Changes.{is_mark};
 ghost use Rattle.c_tokens.specs.declared.kind.Sign.TheVariants as signs;
 ghost use Rattle.c_terminals.specs.Ahead.{ahead};
@@ -15,9 +15,11 @@ ghost use Rattle.c_terminals.specs.Seen.{seen, seen_all};
 
 use crate::changes::is_boundary;
 use crate::expressions::{Worked, expression};
+use crate::fronts::{Front, before_call, taken};
 use crate::heads::{Sort, passed};
 use crate::puts::{Other, Put, Puts};
 use crate::values::Values;
+use c_choices::is_setting;
 use c_terminals::{Ahead, Terminal, Token, Written, WrittenTerminal, is_among};
 use c_tokens::Sign;
 use directives::Word;
@@ -365,61 +367,127 @@ fn put_body<'a>(
 }
 
 impl<'a> Function<'a> {
-    ghost use Rattle.std.specs.Prelude.{◌≡◌, ◌++◌, IfOk, OnOk};
-    ghost use Rattle.c_grammar.specs.Functions.{block_of, given, put_all, stays};
-    ghost use Rattle.c_written.specs.Functions.{puts_of, seen_function, seen_passed};
+    ghost use Rattle.std.specs.Prelude.{◌≡◌, ◌++◌, ◌<◌, ◌^◌, length, map, IfOk, OnOk, Some};
+    ghost use Rattle.std.specs.Option.{option_map};
+    ghost use Rattle.c_grammar.specs.Functions.{block_of, expanded_of, given, in_value, put_all, stays};
+    ghost use Rattle.c_terminals.specs.Ahead.{ahead};
+    ghost use Rattle.c_written.specs.Functions.{lacks_value, puts_of, seen_expanded, seen_front, seen_function, seen_passed};
     ghost use Rattle.c_terminals.specs.Held.{written_all};
     ghost use Rattle.c_terminals.specs.Seen.{seen, seen_all};
 
-    // What the value is given to, and the value, behind others.
+    // The value, in brackets where other tokens stand beside the call, behind others.
+    fn put_value(
+        &self,
+        alloc: Global,
+        token: Token<'a, '_>,
+        front: &[Token<'a, '_>],
+        back: &[Token<'a, '_>],
+        puts: &Puts<'a>,
+        done: &mut Vec<Written<'a>>,
+    ) -> Result<(), AllocError>
+        ensures { OnOk result (written_all done.new.items ≡ written_all done.old.items ++ in_value (seen token.entry) (seen_all front.now) (put_all (puts_of puts.now) stays (written_all self.now.value.items)) (seen_all back.now)) }
+    {
+        if front.is_empty() && back.is_empty() {
+            return put_body(alloc, puts, &self.value, done);
+        }
+        put_tokens(alloc, done, front)?;
+        put_sign(done, token, Sign::OpenParen)?;
+        put_body(alloc, puts, &self.value, done)?;
+        put_sign(done, token, Sign::CloseParen)?;
+        put_tokens(alloc, done, back)
+    }
+
+    // The assignment of the value, where there is one, behind others.
     fn put_given(
         &self,
         alloc: Global,
         token: Token<'a, '_>,
-        left: &[Token<'a, '_>],
+        front: Front<'a, '_, '_>,
+        back: &[Token<'a, '_>],
         puts: &Puts<'a>,
         done: &mut Vec<Written<'a>>,
     ) -> Result<(), AllocError>
-        ensures { OnOk result (written_all done.new.items ≡ written_all done.old.items ++ given (seen token.entry) (seen_all left.now) (put_all (puts_of puts.now) stays (written_all self.now.value.items))) }
+        ensures { OnOk result (written_all done.new.items ≡ written_all done.old.items ++ given (seen token.entry) (seen_front front.entry) (put_all (puts_of puts.now) stays (written_all self.now.value.items)) (seen_all back.now)) }
     {
-        if left.is_empty() {
+        if front.left.is_empty() {
             return Ok(());
         }
-        put_tokens(alloc, done, left)?;
-        put_sign(done, token, Sign::Equal)?;
-        put_body(alloc, puts, &self.value, done)?;
+        put_tokens(alloc, done, front.left)?;
+        self.put_value(alloc, token, front.value, back, puts, done)?;
         put_sign(done, token, Sign::Semicolon)?;
         Ok(())
     }
 
-    // The block of a call, with the value given to what stands on the left.
+    // The block of a call, with the assignment of its value; behind the call stand such tokens.
     fn block(
         &self,
         alloc: Global,
         token: Token<'a, '_>,
-        left: &[Token<'a, '_>],
+        front: Front<'a, '_, '_>,
+        back: &[Token<'a, '_>],
         passed: Passed<'a>,
     ) -> Result<Vec<Written<'a>>, AllocError>
-        ensures { IfOk result (λ v. written_all v.items ≡ block_of (seen_function self.now) (seen token.entry) (seen_all left.now) (seen_passed passed.entry)) }
+        ensures { IfOk result (λ v. written_all v.items ≡ block_of (seen_function self.now) (seen token.entry) (seen_front front.entry) (seen_all back.now) (seen_passed passed.entry)) }
     {
         let Passed { mut before, puts } = passed;
         let mut done = Vec::new(alloc);
         put_sign(&mut done, token, Sign::OpenBrace)?;
         done.append(&mut before)?;
         put_body(alloc, &puts, &self.body, &mut done)?;
-        self.put_given(alloc, token, left, &puts, &mut done)?;
+        self.put_given(alloc, token, front, back, &puts, &mut done)?;
         put_sign(&mut done, token, Sign::CloseBrace)?;
         Ok(done)
+    }
+
+    // Whether a value is wanted of a function that gives none.
+    fn lacks_value(&self, front: Front<'_, '_, '_>) -> bool
+        ensures { result ≡ lacks_value (seen_front front.entry) (written_all self.now.value.items) }
+    {
+        !front.left.is_empty() && bare_len(&self.value) == 0
+    }
+
+    // The call at the name of the function, behind such tokens and before what follows the bracket.
+    fn called_at(
+        &self,
+        alloc: Global,
+        globals: &[&[u8]],
+        token: Token<'a, '_>,
+        front: Front<'a, '_, '_>,
+        start: Ahead<'a, '_, '_>,
+    ) -> Result<Option<Expanded<'a>>, AllocError>
+        requires { length (ahead start) < 2 ^ 63 }
+        ensures { IfOk result (λ o. option_map seen_expanded o ≡
+            expanded_of (map (λ x. x.now) globals.now) (Some (seen_function self.now)) (seen token.entry) (seen_front front.entry) (ahead start.entry)) }
+    {
+        if self.lacks_value(front) {
+            return Ok(None);
+        }
+        let Some(Given { list, len }) = arguments(alloc, start)? else {
+            return Ok(None);
+        };
+        let rest = passed(start, len);
+        let Some(count) = front.back_len(rest)? else {
+            return Ok(None);
+        };
+        let Some(given) = passed_to(alloc, globals, &self.parameters, &list)? else {
+            return Ok(None);
+        };
+        let back = taken(alloc, rest, count)?;
+        let len = len.checked_add(3).ok_or(AllocError)?;
+        Ok(Some(Expanded {
+            len: len.checked_add(count).ok_or(AllocError)?,
+            items: self.block(alloc, token, front, &back, given)?,
+        }))
     }
 }
 
 impl<'a> Scope<'a> {
     ghost use Rattle.std.specs.Prelude.{◌≡◌, ◌<◌, ◌^◌, [], length, IfOk};
     ghost use Rattle.std.specs.Option.{option_map};
-    ghost use Rattle.c_grammar.specs.Functions.{assigned_call, call, declared_call, expansion, function_of, left_len};
+    ghost use Rattle.c_grammar.specs.Functions.{assigned_call, call, declared_call, expansion, function_of, left_len, valued_call};
     ghost use Rattle.c_terminals.specs.Ahead.{ahead};
     ghost use Rattle.c_grammar.specs.Blocks.{bare};
-    ghost use Rattle.c_written.specs.Functions.{functions_of, globals_of, seen_expanded, seen_function, statement_at};
+    ghost use Rattle.c_written.specs.Functions.{functions_of, globals_of, seen_expanded, seen_front, seen_function, statement_at};
     ghost use Rattle.c_terminals.specs.Seen.{seen_all};
 
     fn function(&self, name: &[u8]) -> Option<&Function<'a>>
@@ -433,15 +501,15 @@ impl<'a> Scope<'a> {
         None
     }
 
-    // A call at the front, whose value is given to what stands on the left.
+    // A call at the front, behind such tokens.
     fn call(
         &self,
         alloc: Global,
-        left: &[Token<'a, '_>],
+        front: Front<'a, '_, '_>,
         start: Ahead<'a, '_, '_>,
     ) -> Result<Option<Expanded<'a>>, AllocError>
         requires { length (ahead start) < 2 ^ 63 }
-        ensures { IfOk result (λ o. option_map seen_expanded o ≡ call (globals_of self.now) (functions_of self.now) (seen_all left.now) (ahead start.entry)) }
+        ensures { IfOk result (λ o. option_map seen_expanded o ≡ call (globals_of self.now) (functions_of self.now) (seen_front front.entry) (ahead start.entry)) }
     {
         let mut ahead = start;
         let Some(first) = ahead.next() else {
@@ -459,25 +527,37 @@ impl<'a> Scope<'a> {
         let Some(function) = self.function(name) else {
             return Ok(None);
         };
-        if !left.is_empty() && bare_len(&function.value) == 0 {
-            return Ok(None);
-        }
-        let Some(Given { list, len }) = arguments(alloc, ahead)? else {
+        function.called_at(alloc, &self.globals, first, front, ahead)
+    }
+
+    // The first call in a value, behind what it is given to.
+    fn valued_call(
+        &self,
+        alloc: Global,
+        left: &[Token<'a, '_>],
+        start: Ahead<'a, '_, '_>,
+    ) -> Result<Option<Expanded<'a>>, AllocError>
+        requires { length (ahead start) < 2 ^ 63 }
+        ensures { IfOk result (λ o. option_map seen_expanded o ≡ valued_call (globals_of self.now) (functions_of self.now) (seen_all left.now) (ahead start.entry)) }
+    {
+        let Some(count) = before_call(start)? else {
             return Ok(None);
         };
-        if !ends_here(passed(ahead, len)) {
-            return Ok(None);
-        }
-        let Some(given) = passed_to(alloc, &self.globals, &function.parameters, &list)? else {
+        let value = taken(alloc, start, count)?;
+        let front = Front {
+            left,
+            value: value.as_slice(),
+        };
+        let Some(Expanded { len, items }) = self.call(alloc, front, passed(start, count))? else {
             return Ok(None);
         };
         Ok(Some(Expanded {
-            len: len.checked_add(3).ok_or(AllocError)?,
-            items: function.block(alloc, first, left, given)?,
+            len: count.checked_add(len).ok_or(AllocError)?,
+            items,
         }))
     }
 
-    // `uint64_t NAME =` and a call.
+    // `uint64_t NAME =` and a value with a call.
     fn declared_call(
         &self,
         alloc: Global,
@@ -502,7 +582,8 @@ impl<'a> Scope<'a> {
         if !name.terminal.is_name() || !sign.terminal.is_sign(Sign::Equal) {
             return Ok(None);
         }
-        let Some(Expanded { len, mut items }) = self.call(alloc, &[name], ahead)? else {
+        let Some(Expanded { len, mut items }) = self.valued_call(alloc, &[name, sign], ahead)?
+        else {
             return Ok(None);
         };
         let mut done = Vec::new(alloc);
@@ -517,7 +598,7 @@ impl<'a> Scope<'a> {
         }))
     }
 
-    // A name or a cell, `=` and a call.
+    // A name or a cell, the sign that assigns it, and a value with a call.
     fn assigned_call(
         &self,
         alloc: Global,
@@ -529,16 +610,10 @@ impl<'a> Scope<'a> {
         let Some(count) = left_len(start) else {
             return Ok(None);
         };
-        let mut ahead = start;
-        let mut left = Vec::new(alloc);
-        'left: while left.len() < count {
-            let Some(token) = ahead.next() else {
-                return Ok(None);
-            };
-            left.push(token)?;
-        }
         let before = count.checked_add(1).ok_or(AllocError)?;
-        let Some(Expanded { len, items }) = self.call(alloc, &left, passed(start, before))? else {
+        let left = taken(alloc, start, before)?;
+        let Some(Expanded { len, items }) = self.valued_call(alloc, &left, passed(start, before))?
+        else {
             return Ok(None);
         };
         Ok(Some(Expanded {
@@ -556,7 +631,7 @@ impl<'a> Scope<'a> {
         requires { length (ahead start) < 2 ^ 63 }
         ensures { IfOk result (λ o. option_map seen_expanded o ≡ expansion (globals_of self.now) (functions_of self.now) (ahead start.entry)) }
     {
-        if let Some(found) = self.call(alloc, &[], start)? {
+        if let Some(found) = self.call(alloc, Front::alone(), start)? {
             return Ok(Some(found));
         }
         if let Some(found) = self.declared_call(alloc, start)? {
@@ -588,17 +663,7 @@ impl<'a> Scope<'a> {
     }
 }
 
-fn ends_here(start: Ahead<'_, '_, '_>) -> bool
-    ensures { result ≡ ends_here (ahead start.entry) }
-{
-    let mut ahead = start;
-    match ahead.next() {
-        Some(token) => token.terminal.is_sign(Sign::Semicolon),
-        None => false,
-    }
-}
-
-// How many tokens of a name or a cell stand before the sign `=`.
+// How many tokens of a name or a cell stand before the sign that assigns it.
 fn left_len(start: Ahead<'_, '_, '_>) -> Option<usize>
     requires { length (ahead start) < 2 ^ 63 }
     ensures { result ≡ left_len (ahead start.entry) }
@@ -610,7 +675,7 @@ fn left_len(start: Ahead<'_, '_, '_>) -> Option<usize>
     }
     let index = ahead;
     let next = ahead.next()?;
-    if next.terminal.is_sign(Sign::Equal) {
+    if is_setting(next.terminal) {
         return Some(1);
     }
     if !next.terminal.is_sign(Sign::OpenBracket) {
@@ -618,7 +683,7 @@ fn left_len(start: Ahead<'_, '_, '_>) -> Option<usize>
     }
     let len = index_len(index)?;
     let equal = passed(index, len).next()?;
-    if equal.terminal.is_sign(Sign::Equal) {
+    if is_setting(equal.terminal) {
         Some(len + 1)
     } else {
         None

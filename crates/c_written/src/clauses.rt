@@ -1,10 +1,10 @@
 //! A directive line with the map types that its clauses leave out, and without the clauses that say what holds anyway.
 
 ghost use Rattle.std.specs.Prelude.{◌≡◌, ◌<◌, ◌^◌, ◌++◌, IfOk, map};
-ghost use Rattle.c_grammar.specs.Clauses.{after_item, at_begin, begins_clause, behind_first, BeforeName, are_items, clauses_from, clauses_in_full, default_len, first_sign, first_word, has_body, has_nowait, has_threads, is_default, part_after, place_after, scope_of, type_for, type_step, with_comma};
+ghost use Rattle.c_grammar.specs.Clauses.{after_item, at_begin, begins_clause, behind_first, BeforeName, are_items, clauses_from, clauses_in_full, default_len, first_sign, first_word, has_body, has_nowait, has_threads, is_any_kind, is_default, maps_so, part_after, place_after, scope_of, type_for, type_step, with_comma};
 ghost use Rattle.c_grammar.specs.LineForms.{begins_word, is_worded};
 ghost use Rattle.directives.specs.Ahead.{seen_line};
-ghost use Rattle.directives.specs.Seen.{seen_lexeme};
+ghost use Rattle.directives.specs.Seen.{seen_lexeme, seen_placed};
 ghost use Rattle.c_written.specs.Clauses.{seen_part, seen_place, seen_scope, seen_step};
 ghost use Rattle.c_written.specs.Forms.{all_placed};
 ghost use Rattle.c_terminals.specs.Names.{seen_names};
@@ -321,9 +321,26 @@ impl Place {
     }
 }
 
+// Whether what is used without a map item is mapped so anyway.
+fn maps_so(word: PlacedLexeme<'_>) -> bool
+    ensures { result ≡ maps_so (seen_placed word.entry) }
+{
+    is_name(word.lexeme, b"default".as_slice())
+}
+
+// `so)`
+fn is_any_kind(rest: &[PlacedLexeme<'_>]) -> bool
+    ensures { result ≡ is_any_kind (all_placed rest.now) }
+{
+    match rest {
+        [word, bracket, ..] => maps_so(*word) && is_sign(bracket.lexeme, Sign::CloseParen),
+        _ => false,
+    }
+}
+
 impl<'v, 'a> Scope<'v, 'a> {
     ghost use Rattle.std.specs.Prelude.{◌≡◌, ◌≤◌, ◌+◌, [], length, IfSome};
-    ghost use Rattle.c_grammar.specs.Clauses.{clause_len, clause_step, idle_len, is_any_kind, is_one_kind, list_len, map_len, maps_kind_so, maps_so, may_stand, names_len, step_at};
+    ghost use Rattle.c_grammar.specs.Clauses.{clause_len, clause_step, idle_len, is_one_kind, list_len, map_len, maps_kind_so, may_stand, names_len, step_at};
     ghost use Rattle.c_grammar.specs.Privates.{scope};
     ghost use Rattle.directives.specs.Seen.{seen_lexeme, seen_placed};
     ghost use Rattle.c_terminals.specs.Names.{seen_names};
@@ -380,14 +397,6 @@ impl<'v, 'a> Scope<'v, 'a> {
         None
     }
 
-    /// Whether what is used without a map item is mapped so anyway.
-    fn maps_so(&self, word: PlacedLexeme<'a>) -> bool
-        ensures { result ≡ maps_so (seen_scope self.now) (seen_placed word.entry) }
-    {
-        is_name(word.lexeme, b"default".as_slice())
-            || (is_name(word.lexeme, b"tofrom".as_slice()) && !self.defers)
-    }
-
     /// Whether variables of a kind are.
     fn maps_kind_so(&self, word: PlacedLexeme<'a>, kind: PlacedLexeme<'a>) -> bool
         ensures { result ≡ maps_kind_so (seen_scope self.now) (seen_placed word.entry) (seen_placed kind.entry) }
@@ -397,16 +406,6 @@ impl<'v, 'a> Scope<'v, 'a> {
             || (is_name(word.lexeme, b"tofrom".as_slice())
                 && (is_name(kind.lexeme, b"aggregate".as_slice()) || (scalars && !self.defers)))
             || (is_name(word.lexeme, b"firstprivate".as_slice()) && scalars)
-    }
-
-    // `so)`
-    fn is_any_kind(&self, rest: &[PlacedLexeme<'a>]) -> bool
-        ensures { result ≡ is_any_kind (seen_scope self.now) (all_placed rest.now) }
-    {
-        match rest {
-            [word, bracket, ..] => self.maps_so(*word) && is_sign(bracket.lexeme, Sign::CloseParen),
-            _ => false,
-        }
     }
 
     // `so: kind)`
@@ -427,7 +426,7 @@ impl<'v, 'a> Scope<'v, 'a> {
     fn map_len(&self, rest: &[PlacedLexeme<'a>]) -> Option<usize>
         ensures { result ≡ map_len (seen_scope self.now) (all_placed rest.now) }
     {
-        if self.is_any_kind(rest) {
+        if is_any_kind(rest) {
             return Some(3);
         }
         if self.is_one_kind(rest) {

@@ -19,7 +19,6 @@ ghost use Rattle.c_written.specs.Decided.{put_list};
 ghost use Rattle.c_written.specs.Ifs.{seen_clauses, seen_heading};
 ghost use Rattle.c_written.specs.Spots.{all_kinds};
 
-use crate::boxed::goes_on;
 use crate::conditions::{
     Clause, Heading, Part, are_idle, are_orderly, are_read, behind_words, clauses, front_words,
     is_off, is_region, kept,
@@ -28,6 +27,7 @@ use crate::line_forms::is_name;
 use crate::nesting::name_len;
 use crate::presence::{is_mapped, opens_part};
 use crate::privates::declared;
+use crate::used::goes_on;
 use c_terminals::{Ahead, Names, Terminal, Token, Written, WrittenTerminal};
 use c_tokens::Sign;
 use directives::{Lexeme, LineTokens, PlacedLexeme};

@@ -2,13 +2,14 @@
 
 ghost use Rattle.std.specs.Prelude.{◌≡◌, ◌≤◌, ◌<◌, ◌+◌, ◌^◌, [], length, drop, IfOk, IfSome};
 ghost use Rattle.std.specs.Option.{option_map};
-ghost use Rattle.c_grammar.specs.Functions.{Begins, behind, behind_name, behind_rows, closing, columns, head_at, headed, is_qualifier, named, no_parameters, parameters, parameters_in};
+ghost use Rattle.c_grammar.specs.FunctionHeads.{Begins, behind, behind_name, behind_rows, closing, columns, head_at, headed, named, no_parameters, parameters, parameters_in};
 ghost use Rattle.c_terminals.specs.Ahead.{ahead};
 ghost use Rattle.c_written.specs.Functions.{all_declared, seen_gives, seen_headed, seen_sort, seen_step};
 ghost use Rattle.c_terminals.specs.Seen.{seen, seen_terminal};
 
 use c_terminals::{Ahead, Terminal, Token};
 use c_tokens::Sign;
+use c_types::is_qualifier;
 use directives::Word;
 use std::alloc::{AllocError, Global};
 
@@ -76,15 +77,6 @@ enum Step<'a> {
     Stops,
 }
 
-fn is_qualifier(terminal: Terminal<'_, '_>) -> bool
-    ensures { result ≡ is_qualifier (seen_terminal terminal.entry) }
-{
-    terminal.is_named(b"const")
-        || terminal.is_named(b"restrict")
-        || terminal.is_named(b"__restrict__")
-        || terminal.is_named(b"__restrict")
-}
-
 fn named<'a>(terminal: Terminal<'a, '_>, sort: Sort) -> Step<'a>
     ensures { seen_step result ≡ named (seen_terminal terminal.entry) (seen_sort sort) }
 {
@@ -139,7 +131,7 @@ fn columns<'a>(name: &'a [u8], terminal: Terminal<'a, '_>) -> Step<'a>
 
 impl Sort {
     ghost use Rattle.std.specs.Prelude.{◌≡◌};
-    ghost use Rattle.c_grammar.specs.Functions.{is_array, is_scalar};
+    ghost use Rattle.c_grammar.specs.FunctionHeads.{is_array, is_scalar};
     ghost use Rattle.c_written.specs.Functions.{seen_sort};
 
     pub fn is_array(self) -> bool
@@ -163,7 +155,7 @@ impl Sort {
 
 impl<'a> Head<'a> {
     ghost use Rattle.std.specs.Prelude.{◌≡◌};
-    ghost use Rattle.c_grammar.specs.Functions.{behind};
+    ghost use Rattle.c_grammar.specs.FunctionHeads.{behind};
     ghost use Rattle.c_written.specs.Functions.{seen_head, seen_step};
     ghost use Rattle.c_terminals.specs.Seen.{seen_terminal};
 

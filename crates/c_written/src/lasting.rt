@@ -1,7 +1,7 @@
 //! Scalars that nothing changes and that stand where a number is wanted, which are constants.
 
 ghost use Rattle.std.specs.Prelude.{◌≡◌, ◌∷◌, ◌++◌, false, IfOk, OnOk};
-ghost use Rattle.c_grammar.specs.Lasting.{Elsewhere, allocates, alters, begins_array, begins_change, begins_word, begun, const_for, declares, divided, divides_by, has_value, is_lasting, is_looked, is_operator, is_part, lasting, lasts, lasts_as, opens};
+ghost use Rattle.c_grammar.specs.Lasting.{Elsewhere, allocates, alters, begins_array, begins_change, begins_word, begun, const_for, declares, divided, divides_by, has_value, is_lasting, is_line, is_looked, is_operator, is_part, lasting, lasts, lasts_as, opens};
 ghost use Rattle.c_grammar.specs.Loops.{steps};
 ghost use Rattle.c_terminals.specs.Ahead.{ahead};
 ghost use Rattle.c_terminals.specs.Seen.{seen, seen_all, seen_terminal};
@@ -19,6 +19,16 @@ use std::alloc::{AllocError, Global};
 
 /// So many declarations are looked at.
 const MOST_LOOKED: usize = 256;
+
+// Whether it is a line that begins with `#`, which ends no statement.
+fn is_line(terminal: Terminal<'_, '_>) -> bool
+    ensures { result ≡ is_line (seen_terminal terminal.entry) }
+{
+    match terminal {
+        Terminal::Line(_) => true,
+        _ => false,
+    }
+}
 
 fn steps(token: Token<'_, '_>) -> bool
     ensures { result ≡ steps (seen token.entry) }
@@ -324,7 +334,7 @@ impl State {
         Ok(State {
             depth: depth_behind(token, self.depth)?,
             main: self.main || token.terminal.is_word(Word::Main),
-            starts: is_boundary(token.terminal),
+            starts: is_boundary(token.terminal) || (is_line(token.terminal) && self.starts),
             left: if looked { self.left - 1 } else { self.left },
         })
     }

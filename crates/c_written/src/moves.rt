@@ -3,17 +3,17 @@
 
 ghost use Rattle.std.specs.Prelude.{◌≡◌, [], false, MatchOption, IfOk, OnOk};
 ghost use Rattle.c_grammar.specs.Blocks.{bare};
-ghost use Rattle.c_grammar.specs.Boxes.{is_declared};
 ghost use Rattle.c_grammar.specs.Changes.{is_boundary, is_ended};
 ghost use Rattle.c_grammar.specs.Moves.{Starts, all_moved, begin, is_fresh, is_moved, left, moved, moved_names, stands, unset, unspoiled, with_name, with_unset};
+ghost use Rattle.c_grammar.specs.Presence.{is_declared};
 ghost use Rattle.c_terminals.specs.Ahead.{ahead};
 ghost use Rattle.c_terminals.specs.Seen.{seen, seen_all, seen_terminal};
 ghost use Rattle.c_written.specs.Boxes.{texts};
 
-use crate::boxed::is_declared;
 use crate::boxes::depth_behind;
 use crate::changes::is_boundary;
 use crate::targets::is_sign;
+use crate::used::is_declared;
 use c_terminals::{Ahead, Terminal, Token, is_among};
 use c_tokens::Sign;
 use directives::Word;

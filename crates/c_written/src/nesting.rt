@@ -1,7 +1,7 @@
 //! Constructs inside a target: the line of one goes on that of the target, where both are one combined construct.
 
 ghost use Rattle.std.specs.Prelude.{◌≡◌, ◌≤◌, ◌++◌, false, length, map, true, IfOk, OnOk};
-ghost use Rattle.c_grammar.specs.Nesting.{are_inner, are_own, closes_block, construct_end, follows, has, has_construct, has_for, inner_at, is_between, is_for, is_last, is_mapped_on, is_of_construct, is_only, is_own, is_part, join_lines, joined, joined_tokens, joins, last_word, may_follow, moves, name_len, nested, sums_mapped, takes};
+ghost use Rattle.c_grammar.specs.Nesting.{are_inner, are_own, closes_block, construct_end, follows, has, has_construct, has_for, inner_at, is_between, is_for, is_if, is_last, is_mapped_on, is_misplaced, is_named, is_of_construct, is_of_outer, is_only, is_own, is_part, is_strange, join_lines, joined, joined_line, joined_tokens, joins, last_word, may_follow, moves, name_len, nested, sums_fit, sums_mapped, takes};
 ghost use Rattle.c_grammar.specs.Presence.{before_end};
 ghost use Rattle.directives.specs.Ahead.{seen_line};
 ghost use Rattle.directives.specs.Seen.{is_whole, seen_lexeme};
@@ -12,6 +12,7 @@ ghost use Rattle.c_terminals.specs.Seen.{seen, seen_all, seen_terminal};
 ghost use Rattle.c_written.specs.Spots.{all_kinds};
 
 use crate::line_forms::{is_name, is_sign};
+use crate::own_ifs::conditioned;
 use crate::presence::{goes_on, is_else, is_mapped, is_target, opens_part, target_column};
 use crate::spots::{closes_list, opens_list};
 use c_terminals::{Terminal, Token, Written, WrittenTerminal};
@@ -150,6 +151,52 @@ fn is_of_construct(lexeme: Lexeme<'_>) -> bool
         || is_name(lexeme, b"reduction")
 }
 
+// Whether a clause with this word would be of the construct inside too, where it stood on one line with it.
+fn is_of_outer(lexeme: Lexeme<'_>) -> bool
+    ensures { result ≡ is_of_outer (seen_lexeme lexeme.entry) }
+{
+    is_name(lexeme, b"private")
+}
+
+/// The word of a condition.
+pub fn is_if(lexeme: Lexeme<'_>) -> bool
+    ensures { result ≡ is_if (seen_lexeme lexeme.entry) }
+{
+    same_lexeme(Lexeme::Reserved(Word::If), lexeme)
+}
+
+// Whether the token is one of these words.
+fn is_named(words: &[PlacedLexeme<'_>], lexeme: Lexeme<'_>) -> bool
+    ensures { result ≡ is_named (all_kinds words.now) (seen_lexeme lexeme.entry) }
+{
+    match lexeme {
+        Lexeme::Name(word) => has(word, words),
+        _ => false,
+    }
+}
+
+// Whether a condition is for a part that a target's construct with these words does not have; behind the word `if`.
+fn is_misplaced(words: &[PlacedLexeme<'_>], behind: &[PlacedLexeme<'_>]) -> bool
+    ensures { result ≡ is_misplaced (all_kinds words.now) (all_kinds behind.now) }
+{
+    match behind {
+        [_, part, colon, ..] => {
+            is_sign(colon.lexeme, Sign::Colon)
+                && !(is_name(part.lexeme, b"target") || is_named(words, part.lexeme))
+        }
+        _ => false,
+    }
+}
+
+// Whether a clause of a target's line is neither its own, nor one of a construct with these words.
+fn is_strange(words: &[PlacedLexeme<'_>], lexeme: Lexeme<'_>, behind: &[PlacedLexeme<'_>]) -> bool
+    ensures { result ≡ is_strange (all_kinds words.now) (seen_lexeme lexeme.entry) (all_kinds behind.now) }
+{
+    is_of_outer(lexeme)
+        || (is_if(lexeme) && is_misplaced(words, behind))
+        || (is_of_construct(lexeme) && !takes(words, lexeme))
+}
+
 // What stands between clauses.
 fn is_between(lexeme: Lexeme<'_>) -> bool
     ensures { result ≡ is_between (seen_lexeme lexeme.entry) }
@@ -188,7 +235,7 @@ fn are_own(words: &[PlacedLexeme<'_>], tokens: &[PlacedLexeme<'_>]) -> bool
             depth += 1;
         } else if closes_list(token.lexeme) {
             depth = depth.saturating_sub(1);
-        } else if depth == 0 && is_of_construct(token.lexeme) && !takes(words, token.lexeme) {
+        } else if depth == 0 && is_strange(words, token.lexeme, behind) {
             return false;
         }
     }
@@ -225,6 +272,16 @@ fn sums_mapped(target: &[PlacedLexeme<'_>], tokens: &[PlacedLexeme<'_>]) -> bool
         }
     }
     true
+}
+
+// Whether what the line of the target sums up is so for each thread of the construct on the line inside, whose sums it maps.
+fn sums_fit(target: &[PlacedLexeme<'_>], tokens: &[PlacedLexeme<'_>]) -> bool
+    ensures { result ≡ sums_fit (all_kinds target.now) (all_kinds tokens.now) }
+{
+    (!has(b"reduction", target)
+        || has(b"reduction", tokens)
+        || is_name(construct_end(target), b"parallel"))
+        && sums_mapped(target, tokens)
 }
 
 // Whether a construct with these tokens goes on with the name that ends so.
@@ -271,7 +328,7 @@ fn join_lines(target: &LineTokens<'_>, inner: &LineTokens<'_>) -> bool
     let [_, _, behind @ ..] = words else {
         return false;
     };
-    follows(construct_end(tokens), behind) && sums_mapped(tokens, words)
+    follows(construct_end(tokens), behind) && sums_fit(tokens, words)
 }
 
 // All but the end of a line, at this column.
@@ -341,9 +398,10 @@ fn joined_line<'a>(
     inner: &LineTokens<'a>,
 ) -> Result<LineTokens<'a>, AllocError>
     requires { join_lines (kinds_of (seen_line target.now)) (kinds_of (seen_line inner.now)) ≡ true }
-    ensures { IfOk result (λ l. seen_line l ≡ joined_tokens (kinds_of (seen_line target.now)) (kinds_of (seen_line inner.now)) (seen_line target.now) (seen_line inner.now)) }
+    ensures { IfOk result (λ l. seen_line l ≡ joined_line (kinds_of (seen_line target.now)) (kinds_of (seen_line inner.now)) (seen_line target.now) (seen_line inner.now)) }
 {
-    let tokens = joined_tokens(alloc, target.tokens(), inner.tokens())?;
+    let own = conditioned(alloc, target.tokens())?;
+    let tokens = joined_tokens(alloc, &own, inner.tokens())?;
     Ok(LineTokens::of(tokens))
 }
 

@@ -10,13 +10,13 @@ ghost use Rattle.c_terminals.specs.Seen.{seen, seen_all};
 ghost use Rattle.c_written.specs.Boxes.{texts};
 ghost use Rattle.c_written.specs.Spots.{all_kinds};
 
-use crate::boxed::goes_on;
 use crate::lacks::noted_line;
 use crate::line_forms::is_name;
 use crate::moves::{Before, is_fresh};
 use crate::presence::opens_part;
 use crate::reductions::is_combined;
 use crate::spots::{closes_list, opens_list};
+use crate::used::goes_on;
 use c_terminals::{Ahead, Terminal, Token, Written, WrittenTerminal};
 use c_tokens::Sign;
 use directives::PlacedLexeme;

@@ -1,7 +1,9 @@
-//! Arrays that are pointers in C, where a target uses them: on its line they are said to be present.
+//! Arrays that are pointers in C, where a target uses them: on its line they are said to be present. Where a line orders by such
+//! a pointer, it gets a clause that names nothing.
 
-ghost use Rattle.std.specs.Prelude.{◌≡◌, ◌++◌, ◌∷◌, false, map, [], IfOk, OnOk};
-ghost use Rattle.c_grammar.specs.Presence.{clauses_for, goes_on, guarded, guarded_item, guarded_tokens, is_else, is_mapped, is_other, is_target, opens_part, present_clause, target_column, uses};
+ghost use Rattle.std.specs.Prelude.{◌≡◌, ◌++◌, ◌∷◌, false, if◌then◌else◌, map, [], IfOk, OnOk};
+ghost use Rattle.c_grammar.specs.Blocks.{bare};
+ghost use Rattle.c_grammar.specs.Presence.{begins_list, begins_section, clauses_for, goes_on, guarded, guarded_item, guarded_tokens, is_else, is_mapped, is_other, is_pointer, is_target, line_clauses, map_clauses, no_clause, opens_part, orders, present_clause, target_column};
 ghost use Rattle.directives.specs.Ahead.{seen_line};
 ghost use Rattle.directives.specs.Seen.{seen_lexeme, seen_placed};
 ghost use Rattle.directives.specs.Spells.{kinds_of};
@@ -10,9 +12,10 @@ ghost use Rattle.c_terminals.specs.Held.{seen_written, written_all};
 ghost use Rattle.c_terminals.specs.Seen.{seen, seen_all};
 ghost use Rattle.c_written.specs.Spots.{all_kinds};
 
-use crate::line_forms::is_name;
+use crate::line_forms::{is_name, is_sign};
 use crate::spots::{closes_list, opens_list};
-use c_terminals::{Terminal, Token, Written, WrittenTerminal};
+use crate::used::uses;
+use c_terminals::{Terminal, Token, Written, WrittenTerminal, is_among};
 use c_tokens::Sign;
 use directives::{Lexeme, LineTokens, PlacedLexeme, Word};
 use std::alloc::{AllocError, Global};
@@ -82,36 +85,6 @@ pub fn goes_on(depth: usize, behind: &[Token<'_, '_>]) -> bool
     depth > 1 || is_else(behind)
 }
 
-// Whether the name stands in the statement that begins there, up to a directive line.
-fn uses(name: &[u8], tokens: &[Token<'_, '_>]) -> bool
-    ensures { result ≡ uses name.now 0 (seen_all tokens.now) }
-{
-    let mut depth = 0usize;
-    let mut rest = tokens;
-    'tokens: while let [token, behind @ ..] = rest {
-        rest = behind;
-        if token.terminal.is_directive() {
-            return false;
-        }
-        if token.terminal.is_named(name) {
-            return true;
-        }
-        if opens_part(*token) {
-            depth += 1;
-        } else if token.terminal.is_sign(Sign::CloseBrace) {
-            if !goes_on(depth, behind) {
-                return false;
-            }
-            depth = depth.saturating_sub(1);
-        } else if token.terminal.is_sign(Sign::CloseParen) {
-            depth = depth.saturating_sub(1);
-        } else if token.terminal.is_sign(Sign::Semicolon) && depth == 0 {
-            return false;
-        }
-    }
-    false
-}
-
 // Adds the clause that an array is present.
 fn put_clause<'a>(
     clauses: &mut Vec<PlacedLexeme<'a>>,
@@ -164,7 +137,7 @@ fn clauses_for<'a>(
     tokens: &[PlacedLexeme<'a>],
     behind: &[Token<'a, '_>],
 ) -> Result<Vec<PlacedLexeme<'a>>, AllocError>
-    ensures { IfOk result (λ v. all_placed v.items ≡ clauses_for (map (λ x. x.now) names.now) column (all_kinds tokens.now) (seen_all behind.now)) }
+    ensures { IfOk result (λ v. all_placed v.items ≡ clauses_for (map (λ x. x.now) names.now) column (all_kinds tokens.now) (bare (seen_all behind.now))) }
 {
     let mut clauses = Vec::new(alloc);
     'names: for name in names {
@@ -173,6 +146,130 @@ fn clauses_for<'a>(
         }
     }
     Ok(clauses)
+}
+
+// The clauses that these arrays are present, if the line is that of a target.
+fn map_clauses<'a>(
+    alloc: Global,
+    names: &[&'a [u8]],
+    column: usize,
+    tokens: &[PlacedLexeme<'a>],
+    behind: &[Token<'a, '_>],
+) -> Result<Vec<PlacedLexeme<'a>>, AllocError>
+    ensures { IfOk result (λ v. all_placed v.items ≡ map_clauses (map (λ x. x.now) names.now) column (all_kinds tokens.now) (bare (seen_all behind.now))) }
+{
+    if is_target(tokens) {
+        clauses_for(alloc, names, column, tokens, behind)
+    } else {
+        Ok(Vec::new(alloc))
+    }
+}
+
+fn begins_section(tokens: &[PlacedLexeme<'_>]) -> bool
+    ensures { result ≡ begins_section (all_kinds tokens.now) }
+{
+    match tokens {
+        [next, ..] => is_sign(next.lexeme, Sign::OpenBracket),
+        [] => false,
+    }
+}
+
+// Whether a token is one of these names, without a section behind it.
+fn is_pointer(names: &[&[u8]], lexeme: Lexeme<'_>, behind: &[PlacedLexeme<'_>]) -> bool
+    ensures { result ≡ is_pointer (map (λ x. x.now) names.now) (seen_lexeme lexeme.entry) (all_kinds behind.now) }
+{
+    match lexeme {
+        Lexeme::Name(name) => is_among(names, name) && !begins_section(behind),
+        _ => false,
+    }
+}
+
+// The sign behind which a clause `depend` lists what it orders.
+fn begins_list(depth: usize, lexeme: Lexeme<'_>) -> bool
+    ensures { result ≡ begins_list depth (seen_lexeme lexeme.entry) }
+{
+    depth == 1 && is_sign(lexeme, Sign::Colon)
+}
+
+// Whether such a name is listed in a clause `depend`.
+fn orders(names: &[&[u8]], tokens: &[PlacedLexeme<'_>]) -> bool
+    ensures { result ≡ orders (map (λ x. x.now) names.now) 0 false false (all_kinds tokens.now) }
+{
+    let mut depth = 0usize;
+    let mut depend = false;
+    let mut listed = false;
+    let mut rest = tokens;
+    'tokens: while let [token, behind @ ..] = rest {
+        rest = behind;
+        if opens_list(token.lexeme) {
+            depth += 1;
+        } else if closes_list(token.lexeme) {
+            depth = depth.saturating_sub(1);
+        } else if depth == 0 {
+            depend = is_name(token.lexeme, b"depend");
+            listed = false;
+        } else if listed && (depth == 1 && is_pointer(names, token.lexeme, behind)) {
+            return true;
+        } else {
+            listed = listed || (depend && begins_list(depth, token.lexeme));
+        }
+    }
+    false
+}
+
+// Adds a clause that names nothing.
+fn put_nothing(clauses: &mut Vec<PlacedLexeme<'_>>, column: usize) -> Result<(), AllocError>
+    ensures { OnOk result (all_placed clauses.new.items ≡ all_placed clauses.old.items ++ no_clause column) }
+{
+    clauses.extend_from_slice(&[
+        PlacedLexeme {
+            lexeme: Lexeme::Name(b"private"),
+            column,
+        },
+        PlacedLexeme {
+            lexeme: Lexeme::Sign(Sign::OpenParen),
+            column,
+        },
+        PlacedLexeme {
+            lexeme: Lexeme::Sign(Sign::CloseParen),
+            column,
+        },
+    ])?;
+    Ok(())
+}
+
+// Adds one where such a name is listed.
+fn put_orders(
+    clauses: &mut Vec<PlacedLexeme<'_>>,
+    names: &[&[u8]],
+    column: usize,
+    tokens: &[PlacedLexeme<'_>],
+) -> Result<(), AllocError>
+    ensures { OnOk result (all_placed clauses.new.items ≡ all_placed clauses.old.items ++
+        (if orders (map (λ x. x.now) names.now) 0 false false (all_kinds tokens.now) then no_clause column else [])) }
+{
+    if orders(names, tokens) {
+        return put_nothing(clauses, column);
+    }
+    Ok(())
+}
+
+// What is put on a line.
+fn line_clauses<'a>(
+    alloc: Global,
+    names: &[&'a [u8]],
+    column: usize,
+    tokens: &[PlacedLexeme<'a>],
+    behind: &[Token<'a, '_>],
+) -> Result<Vec<PlacedLexeme<'a>>, AllocError>
+    ensures { IfOk result (λ v. all_placed v.items ≡ line_clauses (map (λ x. x.now) names.now) column (all_kinds tokens.now) (bare (seen_all behind.now))) }
+{
+    let [_, _, _, clauses @ ..] = tokens else {
+        return Ok(Vec::new(alloc));
+    };
+    let mut put = map_clauses(alloc, names, column, tokens, behind)?;
+    put_orders(&mut put, names, column, clauses)?;
+    Ok(put)
 }
 
 pub fn target_column(tokens: &[PlacedLexeme<'_>]) -> usize
@@ -184,18 +281,18 @@ pub fn target_column(tokens: &[PlacedLexeme<'_>]) -> usize
     }
 }
 
-// The line of a target with the clauses for these arrays.
+// A line with the clauses for these arrays.
 fn with_clauses<'a>(
     alloc: Global,
     names: &[&'a [u8]],
     line: &LineTokens<'a>,
     behind: &[Token<'a, '_>],
 ) -> Result<LineTokens<'a>, AllocError>
-    ensures { IfOk result (λ l. seen_line l ≡ guarded_tokens (map (λ x. x.now) names.now) (kinds_of (seen_line line.now)) (seen_all behind.now) (seen_line line.now)) }
+    ensures { IfOk result (λ l. seen_line l ≡ guarded_tokens (map (λ x. x.now) names.now) (kinds_of (seen_line line.now)) (bare (seen_all behind.now)) (seen_line line.now)) }
 {
     let tokens = line.tokens();
     let column = target_column(tokens);
-    let mut clauses = clauses_for(alloc, names, column, tokens, behind)?;
+    let mut clauses = line_clauses(alloc, names, column, tokens, behind)?;
     let mut put = Vec::new(alloc);
     let last = tokens.len().saturating_sub(1);
     put.extend_from_slice(&tokens[..last])?;
@@ -210,10 +307,10 @@ fn guarded_token<'a>(
     token: Token<'a, '_>,
     behind: &[Token<'a, '_>],
 ) -> Result<Written<'a>, AllocError>
-    ensures { IfOk result (λ w. seen_written w ≡ guarded_item (map (λ x. x.now) names.now) (seen token.entry) (seen token.entry).terminal (seen_all behind.now)) }
+    ensures { IfOk result (λ w. seen_written w ≡ guarded_item (map (λ x. x.now) names.now) (seen token.entry) (seen token.entry).terminal (bare (seen_all behind.now))) }
 {
     if let Terminal::Line(line) = token.terminal {
-        if token.terminal.is_directive() && is_target(line.tokens()) {
+        if token.terminal.is_directive() {
             return Ok(Written {
                 terminal: WrittenTerminal::Line(with_clauses(alloc, names, line, behind)?),
                 line: token.line,
@@ -224,7 +321,7 @@ fn guarded_token<'a>(
     Written::of(alloc, token)
 }
 
-/// The tokens with the clauses for these arrays on the lines of targets that use them.
+/// The tokens with the clauses for these arrays on the lines of targets that use them, and on those that order by one.
 pub fn guarded<'a>(
     alloc: Global,
     names: &[&'a [u8]],

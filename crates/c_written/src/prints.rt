@@ -3,7 +3,7 @@
 ghost use Rattle.std.specs.Prelude.{◌≡◌, IfOk, MatchOption, false, codes, if◌then◌else◌};
 ghost use Rattle.c_grammar.specs.Terminal.{Name, same};
 ghost use Rattle.c_grammar.specs.Blocks.{bare};
-ghost use Rattle.c_grammar.specs.Prints.{alone, begins_with, is_text, joined_text, one_text, printed, text_len};
+ghost use Rattle.c_grammar.specs.Prints.{alone, begins_with, int_text, is_text, joined_text, one_text, printed, stays, text_len};
 ghost use Rattle.c_terminals.specs.Seen.{seen, seen_all, seen_terminal};
 
 use crate::targets::is_sign;
@@ -46,7 +46,18 @@ fn has_joined_text(rest: &[Token<'_, '_>]) -> bool
     is_sign(ahead.next(), Sign::Comma)
 }
 
-/// How many tokens stand between the bracket of a call of `printf` and its number; 0 where it is no such call.
+/// Whether a bracket, the text of a number of the type `int` and a comma follow.
+fn has_int_text(rest: &[Token<'_, '_>]) -> bool
+    ensures { result ≡ begins_with int_text (bare (seen_all rest.now)) }
+{
+    let mut ahead = Ahead::new(rest);
+    if !is_sign(ahead.next(), Sign::OpenParen) || !is_sign(ahead.next(), Sign::FormatInt) {
+        return false;
+    }
+    is_sign(ahead.next(), Sign::Comma)
+}
+
+/// How many tokens behind the bracket of a call of `printf` are left out; 0 where it is no such call.
 fn text_len(token: Token<'_, '_>, rest: &[Token<'_, '_>]) -> usize
     ensures { result ≡ (if same (Name (codes "printf")) (seen_terminal token.entry.terminal) then text_len (bare (seen_all rest.now)) else 0) }
 {
@@ -56,7 +67,10 @@ fn text_len(token: Token<'_, '_>, rest: &[Token<'_, '_>]) -> usize
     if has_one_text(rest) {
         return 2;
     }
-    if has_joined_text(rest) { 4 } else { 0 }
+    if has_joined_text(rest) {
+        return 4;
+    }
+    if has_int_text(rest) { 1 } else { 0 }
 }
 
 fn is_text(terminal: Terminal<'_, '_>) -> bool
@@ -65,6 +79,13 @@ fn is_text(terminal: Terminal<'_, '_>) -> bool
     terminal.is_sign(Sign::FormatNumber)
         || terminal.is_sign(Sign::FormatStart)
         || terminal.is_sign(Sign::FormatEnd)
+        || terminal.is_sign(Sign::FormatInt)
+}
+
+fn stays(terminal: Terminal<'_, '_>) -> bool
+    ensures { result ≡ stays (seen_terminal terminal.entry) }
+{
+    terminal.is_sign(Sign::OpenParen) || terminal.is_sign(Sign::FormatInt)
 }
 
 /// The token in any other place: there a text is no token of the language.
@@ -98,7 +119,7 @@ impl<'a, 'l> Prints<'a, 'l> {
             return Ok(());
         }
         if self.left > 0 {
-            if token.terminal.is_sign(Sign::OpenParen) {
+            if stays(token.terminal) {
                 self.done.push(token)?;
                 return Ok(());
             }

@@ -12,12 +12,12 @@ ghost use Rattle.c_terminals.specs.Names.{seen_names};
 ghost use Rattle.c_terminals.specs.Seen.{seen, seen_all};
 ghost use Rattle.c_written.specs.Forms.{all_placed};
 
-use crate::boxed::goes_on;
 use crate::clauses::{Place, Scope, place_after, with_comma};
 use crate::line_forms::{is_name, is_sign};
 use crate::moves::{all_moved, moved_names};
 use crate::noted::noted;
 use crate::presence::{is_target, opens_part};
+use crate::used::goes_on;
 use crate::values::Values;
 use c_terminals::{Ahead, Names, Terminal, Token, Written, WrittenTerminal, borrowed};
 use c_tokens::Sign;

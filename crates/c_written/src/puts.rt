@@ -1,7 +1,7 @@
 //! Names in the body of a function, and what stands for them.
 
 ghost use Rattle.std.specs.Prelude.{◌≡◌, drop, take};
-ghost use Rattle.c_grammar.specs.Functions.{unspelled};
+ghost use Rattle.c_grammar.specs.Unspelled.{unspelled};
 
 use crate::spots::Spot;
 use c_terminals::{Terminal, Token, Written, WrittenTerminal, is_among};

@@ -1,10 +1,11 @@
 //! What C shares between threads, and what it does not: names of loops that are declared before a construct, arrays of
-//! blocks that a target with `nowait` uses, and boxed scalars that a target uses and does not map.
+//! blocks that a target with `nowait` uses, boxed scalars that a target uses and does not map, and sums of other cells than
+//! those that are mapped.
 
 ghost use Rattle.std.specs.Prelude.{◌≡◌, [], IfOk, OnOk, false};
 ghost use Rattle.c_grammar.specs.Blocks.{bare};
 ghost use Rattle.c_grammar.specs.Boxes.{at_begin, listed};
-ghost use Rattle.c_grammar.specs.Shared.{all_kept, apart, array_at, awaited, block_arrays, copies_at, copies_one, is_mapped, is_own, keeps_data, kept_on, loops_behind, loops_on, maps, owns, region_of, shares, shares_at, unshared, uses_one, waits_at};
+ghost use Rattle.c_grammar.specs.Shared.{all_kept, apart, array_at, awaited, block_arrays, copies_at, copies_one, is_copied, is_listed, is_mapped, is_own, keeps_data, kept_on, loops_behind, loops_on, maps, maps_too, owns, region_of, shares, shares_at, unshared, uses_one, waits_at};
 ghost use Rattle.c_grammar.specs.Counters.{is_set};
 ghost use Rattle.directives.specs.Seen.{seen_lexeme};
 ghost use Rattle.c_terminals.specs.Ahead.{ahead};
@@ -14,15 +15,16 @@ ghost use Rattle.c_written.specs.Boxes.{texts};
 ghost use Rattle.c_written.specs.Spots.{all_kinds};
 
 use crate::box_lists::add_listed;
-use crate::boxed::{goes_on, uses};
 use crate::boxes::{boxes_of, depth_behind};
 use crate::counters::{Before, is_set};
 use crate::lacks::marked;
 use crate::line_forms::is_name;
 use crate::nesting::has;
+use crate::parted::is_parted;
 use crate::presence::opens_part;
 use crate::reductions::is_combined;
 use crate::spots::{closes_list, opens_list};
+use crate::used::{goes_on, uses};
 use c_terminals::{Ahead, Names, Terminal, Token, Written, is_among};
 use c_tokens::Sign;
 use directives::{Lexeme, PlacedLexeme, Word};
@@ -187,6 +189,60 @@ fn shares(
     Ok(false)
 }
 
+// Whether the name stands in the list of a map clause, and in no bound.
+fn is_listed(name: &[u8], tokens: &[PlacedLexeme<'_>]) -> bool
+    ensures { result ≡ is_listed name.now 0 false (all_kinds tokens.now) }
+{
+    let mut depth = 0usize;
+    let mut map = false;
+    let mut rest = tokens;
+    'tokens: while let [token, behind @ ..] = rest {
+        rest = behind;
+        if opens_list(token.lexeme) {
+            depth += 1;
+        } else if closes_list(token.lexeme) {
+            depth = depth.saturating_sub(1);
+        } else if depth == 0 {
+            map = is_name(token.lexeme, b"map");
+        } else if map && (depth == 1 && is_name(token.lexeme, name)) {
+            return true;
+        }
+    }
+    false
+}
+
+// Whether the token, if it is a name, stands in the list of a map clause of the line.
+fn maps_too(line: &[PlacedLexeme<'_>], lexeme: Lexeme<'_>) -> bool
+    ensures { result ≡ maps_too (all_kinds line.now) (seen_lexeme lexeme.entry) }
+{
+    match lexeme {
+        Lexeme::Name(name) => is_listed(name, line),
+        _ => false,
+    }
+}
+
+// Whether a name of a clause `firstprivate` is mapped on the line.
+fn is_copied(line: &[PlacedLexeme<'_>]) -> bool
+    ensures { result ≡ is_copied (all_kinds line.now) 0 false (all_kinds line.now) }
+{
+    let mut depth = 0usize;
+    let mut own = false;
+    let mut rest = line;
+    'tokens: while let [token, behind @ ..] = rest {
+        rest = behind;
+        if opens_list(token.lexeme) {
+            depth += 1;
+        } else if closes_list(token.lexeme) {
+            depth = depth.saturating_sub(1);
+        } else if depth == 0 {
+            own = is_name(token.lexeme, b"firstprivate");
+        } else if own && maps_too(line, token.lexeme) {
+            return true;
+        }
+    }
+    false
+}
+
 fn shares_at(
     alloc: Global,
     terminal: Terminal<'_, '_>,
@@ -196,6 +252,9 @@ fn shares_at(
 {
     match terminal {
         Terminal::Line(line) => {
+            if is_copied(line.tokens()) || is_parted(line.tokens()) {
+                return Ok(true);
+            }
             if !is_combined(line.tokens()) {
                 return Ok(false);
             }
@@ -205,7 +264,8 @@ fn shares_at(
     }
 }
 
-/// The tokens with a clause that names nothing on the lines of constructs whose turns share the name of a loop.
+/// The tokens with a clause that names nothing on the lines of constructs whose turns share the name of a loop, have a copy
+/// of what the line maps, or sum up other cells of an array than it maps.
 pub fn unshared<'a>(alloc: Global, tokens: &[Token<'a, '_>]) -> Result<Vec<Written<'a>>, AllocError>
     ensures { IfOk result (λ v. written_all v.items ≡ unshared (seen_all tokens.now)) }
 {

@@ -20,6 +20,7 @@ ghost use Rattle.c_grammar.specs.Locals.{in_scalars};
 ghost use Rattle.c_grammar.specs.Loops.{looped};
 ghost use Rattle.c_grammar.specs.Macros.{replaced};
 ghost use Rattle.c_grammar.specs.MainArrays.{lifted};
+ghost use Rattle.c_grammar.specs.Needless.{needed};
 ghost use Rattle.c_grammar.specs.Nesting.{nested};
 ghost use Rattle.c_grammar.specs.Pointers.{pointed};
 ghost use Rattle.c_grammar.specs.Prints.{printed};
@@ -29,6 +30,7 @@ ghost use Rattle.c_grammar.specs.Shared.{apart, awaited, unshared};
 ghost use Rattle.c_grammar.specs.Source.{item_of, text_of, written_out};
 ghost use Rattle.c_grammar.specs.Structs.{in_rows};
 ghost use Rattle.c_grammar.specs.Triangles.{rectangular};
+ghost use Rattle.c_grammar.specs.Types.{of_one_type};
 ghost use Rattle.c_grammar.specs.Lasting.{lasting};
 ghost use Rattle.c_grammar.specs.Unset.{zeroed};
 ghost use Rattle.c_grammar.specs.Updates.{Outside, commuting};
@@ -65,10 +67,12 @@ use c_devices::on_devices;
 use c_locals::in_scalars;
 use c_loops::looped;
 use c_macros::replaced;
+use c_needless::needed;
 use c_structs::in_rows;
 use c_terminals::{Written, WrittenTerminal, borrowed};
 use c_tokens::{Kind, Token, tokens};
 use c_triangles::rectangular;
+use c_types::of_one_type;
 use directives::{LineTokens, word_of};
 use std::alloc::{AllocError, Global};
 
@@ -123,12 +127,12 @@ fn raw<'a>(alloc: Global, bytes: &'a [u8]) -> Result<Vec<Written<'a>>, AllocErro
     Ok(written)
 }
 
-/// The tokens with targets taken apart, with their combined constructs, calls of `printf`, types, structs as rows, blocks, declarations, names of loops
-/// and constants, with loops that count up in the place of those that count down, and without the lines that declare
-/// functions and the clauses `private`.
+/// The tokens with targets taken apart, with their combined constructs, calls of `printf`, types, structs as rows, numbers of
+/// the type `int`, blocks, declarations, names of loops and constants, with loops that count up in the place of those that count
+/// down, without what says nothing, the lines that declare functions and the clauses `private`.
 fn with_constants<'a>(alloc: Global, raw: &[Written<'a>]) -> Result<Vec<Written<'a>>, AllocError>
     ensures { IfOk result (λ v. written_all v.items ≡
-        worked [] [] 0 (settled Other (zeroed (lasting (owned (upward (counted (unshared (in_blocks nothing_read (undeclared false (in_rows (typed 0 (printed 0 (nested (in_parts (replaced (written_all raw.now))))))))))))))))) }
+        worked [] [] 0 (settled Other (zeroed (lasting (owned (upward (counted (unshared (in_blocks nothing_read (of_one_type (undeclared false (in_rows (needed (typed 0 (printed 0 (nested (in_parts (replaced (written_all raw.now))))))))))))))))))) }
 {
     let tokens = borrowed(alloc, raw)?;
     let tokens = replaced(alloc, &tokens)?;
@@ -138,8 +142,10 @@ fn with_constants<'a>(alloc: Global, raw: &[Written<'a>]) -> Result<Vec<Written<
     let tokens = borrowed(alloc, &tokens)?;
     let tokens = printed(alloc, &tokens)?;
     let tokens = typed(alloc, &tokens)?;
+    let tokens = needed(alloc, &tokens)?;
     let tokens = in_rows(alloc, &tokens)?;
     let tokens = undeclared(alloc, &tokens)?;
+    let tokens = of_one_type(alloc, &tokens)?;
     let tokens = in_blocks(alloc, &tokens)?;
     let tokens = unshared(alloc, &tokens)?;
     let tokens = borrowed(alloc, &tokens)?;

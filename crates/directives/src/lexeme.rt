@@ -82,6 +82,7 @@ pub fn sign_number(sign: Sign) -> u8
         Sign::FormatNumber => 42,
         Sign::FormatStart => 43,
         Sign::FormatEnd => 44,
+        Sign::FormatInt => 47,
         Sign::Question => 45,
         Sign::Dot => 46,
     }

@@ -5,6 +5,7 @@ mod checked;
 mod ending;
 mod explained;
 mod fixed;
+mod input;
 mod perform;
 mod running;
 mod sources;

@@ -9,6 +9,7 @@ ghost use Rattle.driver.specs.Refused.{IsNoRefusal, IsPlanFault, IsRefusalBy, Is
 ghost use Rattle.driver.specs.Stepping.{IsStepWay};
 
 use crate::ending::{DONE, Ending, FAILED, ending_of};
+use crate::input::read_numbers;
 use crate::sources::{Sources, bytes_of};
 use base::fault::{RunFault, SourceFault};
 use base::item::Answer;
@@ -17,7 +18,7 @@ use command::{Request, Run, Step, Workers};
 use erased_meaning::erased_text_runs;
 use mapcheck::{Accepted, check};
 use maps::run_maps_text;
-use numbers::{NumbersFault, choice_list, input_numbers, run_list};
+use numbers::{NumbersFault, choice_list, run_list};
 use outline::Outlined;
 use pipeline::{items, read, run_accepted, run_accepted_on_threads, tell};
 use report::{finals_text, log_text};
@@ -28,22 +29,12 @@ use std::sync::Wait;
 use std::thread::Threads;
 use stepper::run_fine;
 
-/// Reads the input of a program to its end.
+/// Reads the input of a program.
 pub(crate) fn read_input<'a, R: Read>(alloc: Global, input: &mut R) -> Result<Vec<u64>, Ending<'a>>
     ensures numbers { IfOk result (λ ns. IsInput (R.remaining input.old) ns.items) }
     ensures refused { IfErr result IsNoRefusal }
 {
-    let mut bytes = Vec::new(alloc);
-    match input.read_to_end(&mut bytes) {
-        Ok(_) => {}
-        Err(error) => {
-            return Err(match error.kind() {
-                io::ErrorKind::OutOfMemory => Ending::OutOfMemory,
-                _ => Ending::BadInput,
-            });
-        }
-    }
-    match input_numbers(alloc, &bytes) {
+    match read_numbers(alloc, input) {
         Ok(numbers) => Ok(numbers),
         Err(NumbersFault::Malformed) => Err(Ending::BadInput),
         Err(NumbersFault::OutOfMemory) => Err(Ending::OutOfMemory),

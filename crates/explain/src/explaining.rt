@@ -8,14 +8,15 @@ ghost use Rattle.pipeline.specs.Checking.{IsRefused, IsUnaccepted};
 
 use crate::lines::place_told;
 use crate::telling::all_told;
+use crate::values::text_told;
 use crate::warnings::warnings_of;
 use base::fault::{CheckFault, OutlineFault, ReadFault, SourceFault};
 use base::tree::Program;
 use c_read::read_program;
 use graph::{graph_text, message_graph};
-use mapcheck::check;
+use mapcheck::{Refused, checked};
 use outline::{Outlined, outline};
-use reasons::{Diagnosis, text_diagnosis, too_many};
+use reasons::{Diagnosis, too_many};
 use rendering::{Told, as_json, as_sarif, as_text};
 use std::alloc::{AllocError, Global};
 use std::io;
@@ -110,13 +111,13 @@ impl Report<'_> {
     fn write_refused<W: Write>(
         &self,
         outlined: &Outlined<'_>,
-        fault: &CheckFault,
+        refused: &Refused<'_>,
         out: &mut W,
     ) -> io::Result<()> {
         if self.form == Form::Dot {
-            return self.write_graph(outlined, Some(fault), out);
+            return self.write_graph(outlined, Some(&refused.fault()), out);
         }
-        let told = all_told(self.alloc, self.bytes, outlined, fault);
+        let told = all_told(self.alloc, self.bytes, outlined, refused);
         self.write_told(outlined.program(), told, out)
     }
 
@@ -140,15 +141,18 @@ fn explain_outlined<W: Write>(
     ensures accepted { IfOk result (λ w. OnOk w (IsAccepted (plan outlined.now))) }
     ensures fault { IfErr result (IsUnaccepted outlined.now) }
 {
-    let fault = match check(report.alloc, outlined) {
+    let refused = match checked(report.alloc, outlined) {
         Ok(accepted) => {
             accepted.is_accepted();
             return Ok(report.write_accepted(outlined, out));
         }
-        Err(CheckFault::OutOfMemory) => return Err(SourceFault::Check(CheckFault::OutOfMemory)),
-        Err(fault) => fault,
+        Err(refused) => refused,
     };
-    match report.write_refused(outlined, &fault, out) {
+    let fault = refused.fault();
+    if matches!(fault, CheckFault::OutOfMemory) {
+        return Err(SourceFault::Check(fault));
+    }
+    match report.write_refused(outlined, &refused, out) {
         Ok(()) => Err(SourceFault::Check(fault)),
         Err(error) => Ok(Err(error)),
     }
@@ -166,7 +170,7 @@ fn explain_text<W: Write>(
     let ReadFault::Text(text) = fault else {
         return Err(SourceFault::Read(fault));
     };
-    let told = text_diagnosis(report.alloc, report.bytes, &text);
+    let told = text_told(report.alloc, report.bytes, &text);
     match report.write_one(told, out) {
         Ok(()) => Err(SourceFault::Read(fault)),
         Err(error) => Ok(Err(error)),

@@ -7,6 +7,7 @@ mod explaining;
 mod lines;
 mod remedy;
 mod telling;
+mod values;
 mod warnings;
 mod weights;
 
@@ -15,4 +16,5 @@ pub use lines::place_told;
 pub use remedy::seek;
 pub use rendering::Remedy;
 pub use telling::all_told;
+pub use values::text_told;
 pub use warnings::warnings_of;

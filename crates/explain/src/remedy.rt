@@ -5,9 +5,9 @@ ghost use Rattle.explain.specs.Explained.{IsRemedy};
 
 use crate::weights::checks_for;
 use base::fault::{CheckFault, RangeCode, RangeFault};
-use mend::{MOST_CHECKS, mend_within};
+use mend::{MOST_CHECKS, seek_within};
 use outline::Outlined;
-use rendering::Remedy;
+use rendering::{Remedy, Tried};
 use std::alloc::{AllocError, Global};
 
 // Whether another directive can help.
@@ -31,10 +31,10 @@ fn are_texts(source: &[u8], text: &[u8]) -> bool {
 fn sought(alloc: Global, source: &[u8], checks: usize) -> Result<Remedy, AllocError>
     ensures { IfOk result (IsRemedy source.now) }
 {
-    let Ok(found) = mend_within(alloc, source, checks) else {
+    let Ok(found) = seek_within(alloc, source, checks) else {
         return Err(AllocError);
     };
-    match found {
+    match found.mended {
         Some(mended) => {
             if !are_texts(source, &mended.text) {
                 return Ok(Remedy::Unsought);
@@ -45,7 +45,11 @@ fn sought(alloc: Global, source: &[u8], checks: usize) -> Result<Remedy, AllocEr
             if checks < MOST_CHECKS {
                 Ok(Remedy::Unsought)
             } else {
-                Ok(Remedy::Missing)
+                Ok(Remedy::Missing(Tried {
+                    steps: found.steps,
+                    checks: found.checks,
+                    latest: found.latest,
+                }))
             }
         }
     }
@@ -63,7 +67,7 @@ pub fn seek(
     ensures { IfOk result (IsRemedy source.now) }
 {
     if !may_be_mended(fault) {
-        return Ok(Remedy::Missing);
+        return Ok(Remedy::Untried);
     }
     let checks = checks_for(alloc, outlined)?;
     if checks < 2 {

@@ -5,7 +5,7 @@ ghost use Rattle.explain.specs.Explained.{IsRemedy};
 
 use crate::calls::calls_in;
 use crate::remedy::seek;
-use base::fault::CheckFault;
+use mapcheck::Refused;
 use outline::Outlined;
 use reasons::{Diagnosis, Faults, Note, Weight, faults_of};
 use rendering::{Remedy, Told};
@@ -45,21 +45,21 @@ fn note_calls(
     Ok(())
 }
 
-/// Why the checker refuses a program, whose text these bytes are and whose first fault this is. The error comes where
-/// an allocation fails.
+/// Why the checker refuses a program, whose text these bytes are, from what it found. The error comes where an
+/// allocation fails.
 pub fn all_told(
     alloc: Global,
     bytes: &[u8],
     outlined: &Outlined<'_>,
-    fault: &CheckFault,
+    refused: &Refused<'_>,
 ) -> Result<Told, AllocError>
     ensures { IfOk result (λ told. IsRemedy bytes.now told.remedy) }
 {
     let Faults {
         mut diagnoses,
         more,
-    } = faults_of(alloc, bytes, outlined, fault)?;
-    let remedy = seek(alloc, bytes, outlined, fault)?;
+    } = faults_of(alloc, bytes, outlined, refused)?;
+    let remedy = seek(alloc, bytes, outlined, &refused.fault())?;
     note_unsought(alloc, &remedy, &mut diagnoses)?;
     note_calls(alloc, bytes, &mut diagnoses)?;
     Ok(Told {

@@ -50,6 +50,11 @@ fn c_text(alloc: Global, difference: &Difference) -> Result<String, AllocError> 
                 "in C this is an `{word}`, which may not hold the number behind the last turn"
             )
         }
+        Reason::Cut => {
+            format!(in alloc;
+                "in C this has type `{word}`, and what is made of it is cut to an `int`"
+            )
+        }
         Reason::Other => String::from_str(alloc, "this may have another value in C"),
         _ => value_text(alloc, difference),
     }
@@ -58,10 +63,13 @@ fn c_text(alloc: Global, difference: &Difference) -> Result<String, AllocError> 
 fn message(alloc: Global, difference: &Difference) -> Result<String, AllocError> {
     let text = c_text(alloc, difference)?;
     match (difference.reason, difference.here) {
-        (Reason::Printed, _) | (_, None) => Ok(text),
+        (Reason::Printed | Reason::Cut, _) | (_, None) => Ok(text),
         (_, Some(n)) => format!(in alloc; "{text}; here it is {n}"),
     }
 }
+
+/// What could be done with a value that an `int` does not hold.
+const WIDER: &str = "give it to a `uint64_t`";
 
 // What could be written where no operand is a number.
 fn help_without(alloc: Global, reason: Reason) -> Result<String, AllocError> {
@@ -74,6 +82,9 @@ fn help_without(alloc: Global, reason: Reason) -> Result<String, AllocError> {
     if reason == Reason::Counter {
         return String::from_str(alloc, "let its type be `uint64_t`");
     }
+    if reason == Reason::Cut {
+        return String::from_str(alloc, WIDER);
+    }
     String::from_str(alloc, "make an operand a `uint64_t`: `(0ul + ..)`")
 }
 
@@ -85,6 +96,12 @@ fn help(alloc: Global, difference: &Difference) -> Result<String, AllocError> {
         Some(n) => {
             if reason == Reason::Number || reason == Reason::Printed {
                 return format!(in alloc; "write `{n}ul`");
+            }
+            if reason == Reason::Cut && n <= Type::Int.greatest() {
+                return format!(in alloc; "write `{n}`, or give it to a `uint64_t`");
+            }
+            if reason == Reason::Cut {
+                return String::from_str(alloc, WIDER);
             }
             format!(in alloc; "make an operand a `uint64_t`: `{n}ul`")
         }

@@ -84,7 +84,7 @@ pub fn load_rows(alloc: Global, rows: &mut [Row], reach: &[Section], table: &mut
 }
 
 // What every slice of numbers is.
-fn are_numbers(numbers: &[u64])
+pub(crate) fn are_numbers(numbers: &[u64])
     ensures { AreNumbers numbers.now }
 {
     let _numbers = numbers;

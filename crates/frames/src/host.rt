@@ -1,21 +1,22 @@
 // The host memory's part of a frame, and what a run leaves in it.
 
-ghost use Rattle.std.specs.Prelude.{◌≡◌, ◌+◌, ◌-◌, ◌<◌, ◌≤◌, ◌^◌, All, ℕ, true, Some, IfOk, length, slice_get, slice_index};
+ghost use Rattle.std.specs.Prelude.{◌≡◌, ◌+◌, ◌-◌, ◌<◌, ◌≤◌, ◌^◌, All, ℕ, true, Some, IfOk, IfSome, length, slice_get, slice_index, slice_range};
 ghost use Rattle.host_memory.specs.Arrays.{lengths_of, memory_of, row_of};
 ghost use Rattle.base.specs.Memory.{end_of, view_of, within};
 ghost use Rattle.frames.specs.Reach.{AreRuns, in_reach};
 ghost use Rattle.frames.specs.Rows.{AreNumbers, AreRows, IsRow, run_from};
 ghost use Rattle.frames.specs.Views.{AreCells, with_stored};
 ghost use Rattle.kernel.specs.Rows.{cells_of, cells_stored, marks_kept};
-ghost use Rattle.shared_row.specs.Rows.{numbers_in};
+ghost use Rattle.shared_row.specs.Rows.{lent_numbers, numbers_in};
 ghost use Rattle.present.specs.Rows.{marked_in};
 ghost use Rattle.regions.specs.Footprints.{BoundedScalars, BoundedView};
 
+use crate::device::are_numbers;
 use base::item::{LoopValues, Section};
 use base::tree::ArrayId;
 use host_memory::Memory;
 use kernel::{Frame, KeptRow, Row, Scalars};
-use shared_row::{Marks, RowCells};
+use shared_row::{LentRow, Marks, RowCells};
 use std::alloc::{AllocError, Global};
 
 // These numbers, each of which is below 2^64.
@@ -26,7 +27,7 @@ fn copied(alloc: Global, numbers: &[u64]) -> Result<Vec<u64>, AllocError>
     Vec::from_slice(alloc, numbers)
 }
 
-// The cells of a run.
+// The cells of a run. They are not copied where the host memory lends them.
 fn host_row(alloc: Global, section: &Section, host: &Memory) -> Result<Row, AllocError>
     requires { 1 ≤ section.now.length → end_of section.now ≤ slice_index (lengths_of host.now) section.now.array.0 }
     ensures row { IfOk result (IsRow (view_of (lengths_of host.now) (memory_of host.now)) section.now) }
@@ -36,6 +37,13 @@ fn host_row(alloc: Global, section: &Section, host: &Memory) -> Result<Row, Allo
         return Ok(Row {
             first,
             cells: RowCells::Own(Vec::new(alloc)),
+        });
+    }
+    if let Some(lent) = host.lent(section) {
+        are_numbers(lent.numbers());
+        return Ok(Row {
+            first,
+            cells: RowCells::Lent(lent),
         });
     }
     let cells = copied(alloc, host.section(section))?;
@@ -117,6 +125,50 @@ fn store_run(host: &mut Memory, array: ArrayId, first: u64, numbers: &[u64])
     host.set_section(&section, numbers);
 }
 
+// Stores all numbers of a row that others have too in the cells of an array from an index on.
+fn store_lent(host: &mut Memory, array: ArrayId, first: u64, lent: &LentRow)
+    requires some { 1 ≤ length (lent_numbers lent.now) }
+    requires cells { first + length (lent_numbers lent.now) ≤ length (row_of host.old array.0) }
+    ensures stored { memory_of host.new ≡ within (run_from array first (length (lent_numbers lent.now)))
+        (λ c. slice_index (lent_numbers lent.now) (c.index - first)) (memory_of host.old) }
+    ensures lengths { lengths_of host.new ≡ lengths_of host.old }
+{
+    let section = Section {
+        array,
+        first,
+        length: lent.numbers().len() as u64,
+    };
+    host.set_section_lent(&section, lent);
+}
+
+// Stores a part of a row's numbers in the cells of an array, the first of the row from the index `first` on.
+fn store_part(
+    host: &mut Memory,
+    array: ArrayId,
+    first: u64,
+    cells: &RowCells,
+    from: usize,
+    end: usize,
+)
+    requires some { from < end }
+    requires part { end ≤ length (numbers_in cells.now) }
+    requires cells { first + end ≤ length (row_of host.old array.0) }
+    ensures stored { memory_of host.new ≡ within (run_from array (first + from) (end - from))
+        (λ c. slice_index (slice_range (numbers_in cells.now) from end) (c.index - (first + from))) (memory_of host.old) }
+    ensures lengths { lengths_of host.new ≡ lengths_of host.old }
+{
+    match cells {
+        RowCells::Own(numbers) => store_run(host, array, first + from as u64, &numbers[from..end]),
+        RowCells::Lent(lent) => {
+            if from == 0 && end == lent.count {
+                store_lent(host, array, first, lent);
+            } else {
+                store_run(host, array, first + from as u64, &lent.numbers()[from..end]);
+            }
+        }
+    }
+}
+
 // Stores the marked ones of some numbers in the cells of an array from an index on.
 fn store_marked(host: &mut Memory, array: ArrayId, first: u64, numbers: &[u64], marks: &[bool])
     requires count { length marks.now ≡ length numbers.now }
@@ -144,14 +196,13 @@ fn store_row(host: &mut Memory, array: ArrayId, row: &KeptRow)
         (marked_in array row.now.first (numbers_in row.now.cells) (marks_kept row.now)) (memory_of host.old) }
     ensures lengths { lengths_of host.new ≡ lengths_of host.old }
 {
-    let numbers = row.cells.numbers();
     match &row.stored {
         Marks::Run(from, end) => {
             if from < end {
-                store_run(host, array, row.first + *from as u64, &numbers[*from..*end]);
+                store_part(host, array, row.first, &row.cells, *from, *end);
             }
         }
-        Marks::Each(marks) => store_marked(host, array, row.first, numbers, marks),
+        Marks::Each(marks) => store_marked(host, array, row.first, row.cells.numbers(), marks),
     }
 }
 

@@ -1,15 +1,15 @@
 // The host memory.
 
-ghost use Rattle.std.specs.Prelude.{◌≡◌, ◌+◌, ◌-◌, ◌≤◌, length, IfOk, slice_index, slice_range};
+ghost use Rattle.std.specs.Prelude.{◌≡◌, ◌+◌, ◌-◌, ◌≤◌, length, IfOk, IfSome, slice_index, slice_range};
 ghost use Rattle.base.specs.Memory.{end_of, within, zeros};
 ghost use Rattle.base.specs.Arrays.{overwritten};
 ghost use Rattle.host_memory.specs.Arrays.{IsSameMemory, IsWithin, lengths_of, memory_of, row_of};
-ghost use Rattle.shared_row.specs.Rows.{numbers_of};
+ghost use Rattle.shared_row.specs.Rows.{lent_numbers, numbers_of};
 
 use base::item::Section;
 use base::memory::overwrite;
 use base::tree::ArrayId;
-use shared_row::SharedRow;
+use shared_row::{LentRow, SharedRow};
 use std::alloc::{AllocError, Global};
 
 /// The host's numbers, a row for each array.
@@ -29,6 +29,21 @@ fn set_numbers(alloc: Global, row: &mut SharedRow, at: u64, numbers: &[u64])
         SharedRow::Sole(row) => overwrite(row, at, numbers),
         SharedRow::Shared(_) => unreachable!(),
     }
+}
+
+// The same for the numbers of a row that others have too. Where both are whole they are in memory once from then on, unless
+// there is no memory for that.
+fn set_lent(alloc: Global, row: &mut SharedRow, at: u64, lent: &LentRow)
+    requires { at + length (lent_numbers lent.now) ≤ length (numbers_of row.old) }
+    ensures { numbers_of row.new ≡ overwritten (numbers_of row.old) at (lent_numbers lent.now) }
+{
+    let count = lent.row.len();
+    if lent.first == 0 && lent.count == count && row.numbers().len() == count {
+        if row.adopt(alloc, &lent.row) {
+            return;
+        }
+    }
+    set_numbers(alloc, row, at, lent.numbers());
 }
 
 /// So many numbers from a place on.
@@ -81,6 +96,43 @@ impl Memory {
     {
         let row = &mut self.arrays[section.array.0 as usize];
         set_numbers(self.alloc, row, section.first, numbers);
+    }
+
+    /// The same for numbers that are lent. Where both are whole, the row and the array, they are in memory once from then
+    /// on, unless there is no memory for that.
+    pub fn set_section_lent(&mut self, section: &Section, lent: &LentRow)
+        requires within { IsWithin self.old section.now }
+        requires length { length (lent_numbers lent.now) ≡ section.now.length }
+        ensures set { memory_of self.new ≡ within section.now (λ c. slice_index (lent_numbers lent.now) (c.index - section.now.first)) (memory_of self.old) }
+        ensures lengths { lengths_of self.new ≡ lengths_of self.old }
+    {
+        let row = &mut self.arrays[section.array.0 as usize];
+        set_lent(self.alloc, row, section.first, lent);
+    }
+
+    /// The numbers of a section, lent where they are in memory once for the array and for others already and the section is
+    /// the half of its array at least.
+    pub fn lent(&self, section: &Section) -> Option<LentRow>
+        requires { IsWithin self.now section.now }
+        ensures { IfSome result (λ row. lent_numbers row ≡ slice_range (row_of self.now section.now.array.0) section.now.first (end_of section.now)) }
+    {
+        match &self.arrays[section.array.0 as usize] {
+            SharedRow::Sole(_) => None,
+            SharedRow::Shared(several) => {
+                if section.length < several.row.len() as u64 / 2 {
+                    return None;
+                }
+                let other: Result<_, _> = several.row.clone();
+                match other {
+                    Err(_) => None,
+                    Ok(row) => Some(LentRow {
+                        row,
+                        first: section.first as usize,
+                        count: section.length as usize,
+                    }),
+                }
+            }
+        }
     }
 
     /// The numbers of a row from the place `at` on become those of a section. Where both are whole, the row and the array,

@@ -18,9 +18,10 @@ use Rattle.order.specs.Built.{HasNoClash}
 use Rattle.mapwalk.specs.declared.rows.Acts.{Acts}
 use Rattle.mapwalk.specs.Acts.{acts_rows}
 use Rattle.mapwalk.specs.Walk.{HasNoRangeFault, IsFirstAlone, IsFirstRefusal, IsSound, items_before, row_items}
+use Rattle.mapwalk.specs.Walk.{AreMarked as AreMarkedOf}
 use Rattle.mapcheck.proofs.Pairs.{asked, stages_long}
-use Rattle.mapcheck.specs.Third.{AreMarked, IsPassed, NoneAlone}
-use Rattle.mapcheck.specs.Unordered.{IsFirstIn, NoConflictBelow}
+use Rattle.mapcheck.specs.Third.{AreMarked, IsJudged, IsPassed, NoneAlone}
+use Rattle.mapcheck.specs.Unordered.{IsConflictIn, IsFirstIn, NoConflictBelow}
 use Rattle.mapcheck.proofs.Accepting.{faultless}
 use Rattle.mapcheck.proofs.FirstFaults.{nothing_in}
 use Rattle.mapcheck.proofs.Stages.{rows_long}
@@ -197,3 +198,9 @@ module _ (plan : Plan) (fine : HasNoRangeFault plan) (clashes : HasNoClash plan)
           (λ (code : g.code ≡ Conflict).
           below g.item (let lt = refused_inside plan g code fault in omega (arith, lt, e)) g code refl fault)
           (split plan g fault)
+
+  -- where the first items have no conflict, the walk's refusal is the first fault
+  pub judged : (n : ℕ) (o : Option Refusal) (arrays : List ArrayId) → n ≡ items_before plan o → IsFirstRefusal plan o →
+      IsSound plan o → IsConflictIn plan n None → AreMarkedOf plan o arrays → IsJudged plan arrays o
+  judged n None arrays count first sound below marked = passed n arrays count sound below marked
+  judged n (Some r) arrays count first sound below marked = alone_first n r count first below

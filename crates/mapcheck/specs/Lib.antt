@@ -9,3 +9,5 @@ pub mod Reaches
 pub mod Segments
 pub mod Rows
 pub mod Noted
+pub mod Kept
+pub mod Refusals

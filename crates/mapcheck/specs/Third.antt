@@ -1,5 +1,5 @@
 -- What the third pass finds.
-use Rattle.std.specs.Prelude.{ℕ, ◌≡◌, ◌<◌, List, [], None, Vec, map, filter, take, length}
+use Rattle.std.specs.Prelude.{ℕ, ◌≡◌, ◌<◌, List, [], Option, None, Some, Vec, map, filter, take, length}
 use Rattle.std.specs.List.{range_with_len}
 use Rattle.std.specs.declared.alloc.Global.{Global}
 use Rattle.base.specs.declared.fault.Refusal.{Refusal}
@@ -7,7 +7,7 @@ use Rattle.base.specs.declared.tree.ArrayId.{ArrayId}
 use Rattle.base.specs.declared.item.Cell.{Cell}
 use Rattle.base.specs.Items.{Plan}
 use Rattle.base.specs.Current.{is_marked}
-use Rattle.base.specs.Accepted.{Conflicts, IsAccepted, IsFault, Refused}
+use Rattle.base.specs.Accepted.{Conflicts, IsAccepted, IsFault, IsFirstFault, Refused}
 use Rattle.base.specs.Order.{Before}
 use Rattle.mapwalk.specs.declared.rows.Acts.{Acts}
 use Rattle.mapwalk.specs.Acts.{acts_rows}
@@ -36,6 +36,11 @@ AreMarked plan arrays = map array_number arrays ≡ filter (is_marked plan) (ran
 pub record IsPassed (plan : Plan) (arrays : List ArrayId) : Type 0 where
   pub accepted : IsAccepted plan
   pub marked : AreMarked plan arrays
+
+-- what the third pass finds: the first fault of the plan, or that it is accepted, with the arrays marked current
+abbrev pub IsJudged : Plan → List ArrayId → Option Refusal → Type 0
+IsJudged plan arrays None = IsPassed plan arrays
+IsJudged plan arrays (Some r) = IsFirstFault plan (Refused r)
 
 -- of every two items that conflict the earlier is before the later
 abbrev pub AreOrdered : Plan → Type 0

@@ -5,17 +5,18 @@ ghost use Rattle.std.specs.Prelude.{◌≡◌, IfOk, IfErr};
 ghost use Rattle.base.specs.Accepted.{IsAccepted};
 ghost use Rattle.base.specs.Items.{plan};
 ghost use Rattle.mapcheck.specs.Accepting.{FaultlessIsAccepted};
+ghost use Rattle.mapcheck.specs.Refusals.{IsRefusalOf};
 ghost use Rattle.mapcheck.specs.Passes.{IsCheckFault};
 ghost use Rattle.mapcheck.specs.Reaches.{AreReaches};
 ghost use Rattle.mapcheck.specs.Third.{AreMarked, AreOrdered};
 
-use crate::passes::{footprints_of, order_of};
+use crate::passes::first_passes;
 use crate::reaches::reaches;
 use crate::third::third_pass;
 use base::fault::CheckFault;
 use base::item::Section;
 use base::tree::ArrayId;
-use mapwalk::repeats;
+use mapwalk::{Walked, repeats, walk};
 use outline::Outlined;
 use std::alloc::{AllocError, Global};
 use std::marker::Model;
@@ -23,6 +24,7 @@ use std::marker::Model;
 pub mod accesses;
 pub mod conflict;
 mod items;
+mod kept;
 mod noted;
 pub mod passes;
 mod reaches;
@@ -30,6 +32,8 @@ mod rows;
 mod segments;
 mod third;
 pub mod unordered;
+
+pub use crate::kept::{Passed, Refused};
 
 /// An accepted program: no fault of range, no two depend items that overlap without being identical, no item that is
 /// refused, and of each two items that conflict the earlier is before the later.
@@ -91,30 +95,56 @@ impl<'a> Accepted<'a> {
 /// Decides in three passes whether a program is accepted. The fault is the first one: of the first pass the range fault
 /// of the least item (E302, E303, E301); of the second the least pair of depend items that overlap in part (E505); of
 /// the third the refusal of the least item, by its code, its cell and the other item (E501 to E503, E509, E504, E506 to
-/// E508). `OutOfMemory` is answered where an allocation fails.
+/// E508). What the passes found is kept for who tells of a refusal by the third. `OutOfMemory` is answered where an
+/// allocation fails.
 ///
 /// It takes time for each turn of a region that is walked for its footprint, once for all of its items that have the same
 /// values of those loops around it that it names in a subscript or in a condition; for each cell that an item's region
 /// touches, and for what earlier items do with the cells that an item touches, as `first_conflict` says; and memory for
 /// the cells that each footprint has.
+pub fn checked<'a>(alloc: Global, outlined: &'a Outlined<'a>) -> Result<Accepted<'a>, Refused<'a>>
+    ensures accepted { IfOk result (λ a. a ≡ outlined.now) }
+    ensures refused { IfErr result (IsRefusalOf outlined.now) }
+{
+    let Ok(repeats) = repeats(alloc, outlined) else {
+        return Err(Refused::Early(CheckFault::OutOfMemory));
+    };
+    let (found, order) = match first_passes(alloc, outlined, &repeats) {
+        Ok(passed) => passed,
+        Err(fault) => return Err(Refused::Early(fault)),
+    };
+    let Ok(walked) = walk(alloc, outlined, &found) else {
+        return Err(Refused::Early(CheckFault::OutOfMemory));
+    };
+    match third_pass(alloc, outlined, &found, &order, &walked) {
+        Err(_) => Err(Refused::Early(CheckFault::OutOfMemory)),
+        Ok(Some(refusal)) => Err(Refused::Walked(
+            refusal,
+            Passed::new(outlined, found, order, walked),
+        )),
+        Ok(None) => match reaches(alloc, outlined, &repeats, &found) {
+            Err(_) => Err(Refused::Early(CheckFault::OutOfMemory)),
+            Ok(reaches) => {
+                let Walked { current, .. } = walked;
+                Ok(Accepted {
+                    outlined,
+                    current,
+                    reaches,
+                })
+            }
+        },
+    }
+}
+
+/// Decides whether a program is accepted, as `checked` does, and answers of a refusal the fault alone.
 pub fn check<'a>(alloc: Global, outlined: &'a Outlined<'a>) -> Result<Accepted<'a>, CheckFault>
     ensures accepted { IfOk result (λ a. a ≡ outlined.now) }
     ensures fault { IfErr result (IsCheckFault (plan outlined.now)) }
 {
-    let Ok(repeats) = repeats(alloc, outlined) else {
-        return Err(CheckFault::OutOfMemory);
-    };
-    let found = footprints_of(alloc, outlined, &repeats)?;
-    let order = order_of(alloc, outlined)?;
-    let current = third_pass(alloc, outlined, &found, &order)?;
-    let Ok(reaches) = reaches(alloc, outlined, &repeats, &found) else {
-        return Err(CheckFault::OutOfMemory);
-    };
-    Ok(Accepted {
-        outlined,
-        current,
-        reaches,
-    })
+    match checked(alloc, outlined) {
+        Ok(accepted) => Ok(accepted),
+        Err(refused) => Err(refused.fault()),
+    }
 }
 
 /// The arrays all of whose cells are current on the host at the end, in ascending order. The error comes where an

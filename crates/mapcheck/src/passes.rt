@@ -93,3 +93,22 @@ pub fn order_of<'p>(alloc: Global, outlined: &Outlined<'p>) -> Result<Order<'p>,
         Err(OrderBuildFault::OutOfMemory) => Err(CheckFault::OutOfMemory),
     }
 }
+
+/// The first two passes: the footprint of each item's region, and the order. The error is the first fault of the first of
+/// them that finds one.
+pub fn first_passes<'p>(
+    alloc: Global,
+    outlined: &Outlined<'p>,
+    repeats: &[Option<usize>],
+) -> Result<(Footprints, Order<'p>), CheckFault>
+    requires { AreRepeats (plan outlined.now) repeats.now }
+    ensures found { IfOk result (λ passed. AreFootprints (plan outlined.now) (all_found passed.0)) }
+    ensures fine { OnOk result (HasNoRangeFault (plan outlined.now)) }
+    ensures program { IfOk result (λ passed. passed.1 ≡ outlined.now) }
+    ensures clashes { OnOk result (HasNoClash (plan outlined.now)) }
+    ensures fault { IfErr result (IsCheckFault (plan outlined.now)) }
+{
+    let found = footprints_of(alloc, outlined, repeats)?;
+    let order = order_of(alloc, outlined)?;
+    Ok((found, order))
+}

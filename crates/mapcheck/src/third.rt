@@ -1,21 +1,19 @@
 // The third pass: the items one after the other, and the conflicts of items of which neither is before the other.
 
-ghost use Rattle.std.specs.Prelude.{◌≡◌, ◌≤◌, IfOk, IfErr, OnOk, length};
+ghost use Rattle.std.specs.Prelude.{◌≡◌, ◌≤◌, IfOk, OnOk, length};
 ghost use Rattle.base.specs.Items.{plan};
 ghost use Rattle.base.specs.Limits.{most_items};
-ghost use Rattle.mapcheck.specs.Passes.{IsCheckFault};
-ghost use Rattle.mapcheck.specs.Third.{AreFirstRows, AreOfFirst, IsPassed, NoneAlone};
+ghost use Rattle.mapcheck.specs.Third.{AreFirstRows, AreOfFirst, IsJudged, NoneAlone};
 ghost use Rattle.mapcheck.specs.Unordered.{IsConflictIn};
 ghost use Rattle.mapwalk.specs.Footprints.{AreFootprints};
 ghost use Rattle.mapwalk.specs.Found.{all_found};
-ghost use Rattle.mapwalk.specs.Walk.{HasNoRangeFault};
+ghost use Rattle.mapwalk.specs.Walk.{AreActs, AreCurrent, HasNoRangeFault, IsFirstRefusal, IsSound};
 ghost use Rattle.order.specs.Built.{HasNoClash};
 
 use crate::accesses::Accesses;
 use crate::unordered::first_conflict;
-use base::fault::{CheckFault, Refusal};
-use base::tree::ArrayId;
-use mapwalk::{Acts, Footprints, Walked, walk};
+use base::fault::Refusal;
+use mapwalk::{Acts, Footprints, Walked};
 use order::Order;
 use outline::Outlined;
 use std::alloc::{AllocError, Global};
@@ -61,35 +59,27 @@ fn conflict_among(
     first_conflict(alloc, order, &accesses)
 }
 
-/// The arrays marked current, where no item is refused. The error is the first refusal, which is by an item alone or for
-/// a conflict with an earlier item; or `OutOfMemory` where an allocation fails.
+/// The first refusal of the third pass, by an item alone or for a conflict with an earlier item; none where the program is
+/// accepted, and then the walk has the arrays marked current. The error comes where an allocation fails.
 pub fn third_pass(
     alloc: Global,
     outlined: &Outlined<'_>,
     found: &Footprints,
     order: &Order<'_>,
-) -> Result<Vec<ArrayId>, CheckFault>
+    walked: &Walked,
+) -> Result<Option<Refusal>, AllocError>
     requires order { order.now ≡ outlined.now }
     requires fine { HasNoRangeFault (plan outlined.now) }
     requires clashes { HasNoClash (plan outlined.now) }
     requires found { AreFootprints (plan outlined.now) (all_found found.now) }
-    ensures passed { IfOk result (λ current. IsPassed (plan outlined.now) current.items) }
-    ensures fault { IfErr result (IsCheckFault (plan outlined.now)) }
+    requires acts { AreActs (plan outlined.now) walked.now }
+    requires first { IsFirstRefusal (plan outlined.now) walked.now.fault }
+    requires sound { IsSound (plan outlined.now) walked.now.fault }
+    requires current { AreCurrent (plan outlined.now) walked.now }
+    ensures { IfOk result (IsJudged (plan outlined.now) walked.now.current.items) }
 {
-    let Ok(walked) = walk(alloc, outlined, found) else {
-        return Err(CheckFault::OutOfMemory);
-    };
-    let Walked {
-        acts,
-        current,
-        fault,
-    } = walked;
-    let Ok(conflict) = conflict_among(alloc, outlined, &acts, found, order) else {
-        return Err(CheckFault::OutOfMemory);
-    };
-    match (conflict, fault) {
-        (Some(refusal), _) => Err(CheckFault::Refused(refusal)),
-        (None, Some(refusal)) => Err(CheckFault::Refused(refusal)),
-        (None, None) => Ok(current),
+    match conflict_among(alloc, outlined, &walked.acts, found, order)? {
+        Some(refusal) => Ok(Some(refusal)),
+        None => Ok(walked.fault),
     }
 }

@@ -39,7 +39,7 @@ impl Candidates {
         Ok(())
     }
 
-    /// Two changes, of different lines, or of which the first is inserted.
+    /// Two changes, of different lines, or of which the first stands before the line of the other.
     pub fn two(&mut self, first: Change, second: Change) -> Result<(), AllocError> {
         let mut changes = Vec::new(self.alloc);
         changes.push(first)?;
@@ -59,11 +59,7 @@ impl Candidates {
     /// Another text for a line, where there is one.
     pub fn replace(&mut self, line: usize, text: Option<Vec<u8>>) -> Result<(), AllocError> {
         match text {
-            Some(text) => self.one(Change {
-                line,
-                inserts: false,
-                text,
-            }),
+            Some(text) => self.one(Change::Replaced(line, text)),
             None => Ok(()),
         }
     }

@@ -309,6 +309,24 @@ pub fn with_reduction(
     with_item_more(alloc, line, "reduction", true, operator, item)
 }
 
+/// The line without the item at a place, and without its clause where it is the only one there.
+pub fn without_item(
+    alloc: Global,
+    line: &[u8],
+    place: usize,
+) -> Result<Option<Vec<u8>>, AllocError> {
+    let words = words(alloc, line)?;
+    let Some(word) = word_around(&words, place) else {
+        return Ok(None);
+    };
+    let items = items(alloc, line, &word)?;
+    let Some(item) = item_at(&items, place) else {
+        return Ok(None);
+    };
+    let (span, text) = left_over(alloc, line, &word, &items, item)?;
+    Ok(Some(spliced(alloc, line, span, &text)?))
+}
+
 /// The line without a clause, the blanks before it, and a comma beside it.
 pub fn without_clause(alloc: Global, line: &[u8], clause: &Word) -> Result<Vec<u8>, AllocError> {
     spliced(alloc, line, with_blanks(line, clause), &[])

@@ -205,6 +205,25 @@ fn others_back(
     Ok(text)
 }
 
+// Where the host may have written the cell, or not: an update that brings it to the host before that.
+fn brought_before(
+    view: &View<'_>,
+    number: usize,
+    writer: &Item,
+    cell: Cell,
+    out: &mut Candidates,
+) -> Result<(), AllocError> {
+    let Some(found) = view.footprint(writer)? else {
+        return Ok(());
+    };
+    match last_target(view, number, cell) {
+        Some(kernel) if !found.sure.contains(cell) => {
+            brought_back(view, number, writer, kernel, cell, out)
+        }
+        _ => Ok(()),
+    }
+}
+
 /// A host item reads a cell that is not current on the host.
 pub fn host_stale(
     view: &View<'_>,
@@ -226,6 +245,7 @@ pub fn host_stale(
         && matches!(item.kind, ItemKind::Host)
     {
         sent_behind(view, number, at, item, cell, out)?;
+        brought_before(view, number, item, cell, out)?;
     }
     let kernel = match writer {
         Some(item) if matches!(item.kind, ItemKind::Target) => Some(item),

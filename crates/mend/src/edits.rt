@@ -1,9 +1,9 @@
 // Which lines differ.
 
-use crate::lines::lines;
+use crate::lines::{Change, lines};
 use std::alloc::{AllocError, Global};
 
-/// Lines in the place of one, or inserted before it.
+/// Lines in the place of one, or inserted before it, or none in the place of one.
 #[derive(Drop)]
 pub struct Edit {
     /// The number of the line in the source, counted from 1; of inserted ones, that of the line before which they
@@ -13,17 +13,31 @@ pub struct Edit {
     pub old: Option<Vec<u8>>,
     /// The new lines, with line feeds between them.
     pub new: Vec<u8>,
-    /// How many they are.
+    /// How many they are; none where a line is removed, with its line feed.
     pub count: usize,
+}
+
+impl Edit {
+    /// The same as a change of its line, where it is one.
+    pub(crate) fn change(&self, alloc: Global) -> Result<Change, AllocError> {
+        if self.count == 0 {
+            return Ok(Change::Removed(self.line));
+        }
+        let text = Vec::from_slice(alloc, self.new.as_slice())?;
+        Ok(match self.old {
+            Some(_) => Change::Replaced(self.line, text),
+            None => Change::Preceded(self.line, text),
+        })
+    }
 }
 
 fn line_at<'t>(lines: &[&'t [u8]], place: usize) -> Option<&'t [u8]> {
     lines.get(place).copied()
 }
 
-// Whether one of the next lines of the new text, as far as lines were inserted, is this line of the old one.
-fn comes_later(new: &[&[u8]], place: usize, inserted: usize, old: &[u8]) -> bool {
-    let last = place.saturating_add(inserted);
+// Whether one of the next lines of a text, as far as it has more of them, is this line of the other one.
+fn comes_later(new: &[&[u8]], place: usize, more: usize, old: &[u8]) -> bool {
+    let last = place.saturating_add(more);
     for next in place.saturating_add(1)..last.saturating_add(1) {
         if let Some(line) = line_at(new, next)
             && line == old
@@ -46,14 +60,14 @@ fn alike(left: &[u8], right: &[u8]) -> usize {
     count
 }
 
-// Whether one of the next lines of the new text, as far as lines were inserted, is more like a line of the old one than
+// Whether one of the next lines of a text, as far as it has more of them, is more like a line of the other one than
 // this line is.
-fn is_nearer(new: &[&[u8]], place: usize, inserted: usize, old: &[u8]) -> bool {
+fn is_nearer(new: &[&[u8]], place: usize, more: usize, old: &[u8]) -> bool {
     let Some(line) = line_at(new, place) else {
         return false;
     };
     let here = alike(line, old);
-    let last = place.saturating_add(inserted);
+    let last = place.saturating_add(more);
     for next in place.saturating_add(1)..last.saturating_add(1) {
         if let Some(other) = line_at(new, next)
             && alike(other, old) > here
@@ -64,42 +78,178 @@ fn is_nearer(new: &[&[u8]], place: usize, inserted: usize, old: &[u8]) -> bool {
     false
 }
 
-/// The lines of a text that are not those of another, which has only lines changed and inserted, each by itself.
-pub fn line_edits(alloc: Global, old: &[u8], new: &[u8]) -> Result<Vec<Edit>, AllocError> {
-    let old = lines(alloc, old)?;
-    let new = lines(alloc, new)?;
-    let mut edits = Vec::new(alloc);
-    let mut inserted = new.len().saturating_sub(old.len());
-    let mut at = 0usize;
-    for place in 0..new.len() {
-        let line = new[place];
-        let was = match line_at(&old, at) {
-            Some(was) => was,
-            None => &[],
-        };
-        if line == was {
-            at = at.saturating_add(1);
-        } else if inserted > 0
-            && (comes_later(&new, place, inserted, was) || is_nearer(&new, place, inserted, was))
-        {
-            inserted = inserted.saturating_sub(1);
-            edits.push(Edit {
-                line: at.saturating_add(1),
-                old: None,
-                new: Vec::from_slice(alloc, line)?,
-                count: 1,
-            })?;
-        } else {
-            at = at.saturating_add(1);
-            edits.push(Edit {
-                line: at,
-                old: Some(Vec::from_slice(alloc, was)?),
-                new: Vec::from_slice(alloc, line)?,
-                count: 1,
-            })?;
+// Whether a line may be another one in the other text, or none: it begins with `#`, goes on a line that ends with a
+// backslash, or is empty.
+fn is_loose(lines: &[&[u8]], at: usize) -> bool {
+    let line = match line_at(lines, at) {
+        Some(line) => line.trim_ascii_start(),
+        None => &[],
+    };
+    if line.is_empty() || line.starts_with(b"#".as_slice()) {
+        return true;
+    }
+    match line_at(lines, at.wrapping_sub(1)) {
+        Some(before) => before.trim_ascii_end().ends_with(b"\\".as_slice()),
+        None => false,
+    }
+}
+
+// Where the next line from one on stands that both texts have.
+fn next_kept(lines: &[&[u8]], from: usize) -> usize {
+    for at in from..lines.len() {
+        if !is_loose(lines, at) {
+            return at;
         }
     }
+    lines.len()
+}
+
+// The lines of two texts, and how far they are compared.
+#[derive(Drop)]
+struct Compared<'t> {
+    alloc: Global,
+    old: &'t [&'t [u8]],
+    new: &'t [&'t [u8]],
+    /// The lines that come next.
+    at: usize,
+    place: usize,
+    edits: Vec<Edit>,
+}
+
+impl Compared<'_> {
+    // The next line of the new text is inserted.
+    fn insert(&mut self, line: &[u8]) -> Result<(), AllocError> {
+        self.place = self.place.saturating_add(1);
+        self.edits.push(Edit {
+            line: self.at.saturating_add(1),
+            old: None,
+            new: Vec::from_slice(self.alloc, line)?,
+            count: 1,
+        })?;
+        Ok(())
+    }
+
+    // The next line of the old text is removed.
+    fn remove(&mut self, was: &[u8]) -> Result<(), AllocError> {
+        self.at = self.at.saturating_add(1);
+        self.edits.push(Edit {
+            line: self.at,
+            old: Some(Vec::from_slice(self.alloc, was)?),
+            new: Vec::new(self.alloc),
+            count: 0,
+        })?;
+        Ok(())
+    }
+
+    // The next line of the new text stands in the place of that of the old one.
+    fn replace(&mut self, was: &[u8], line: &[u8]) -> Result<(), AllocError> {
+        self.at = self.at.saturating_add(1);
+        self.place = self.place.saturating_add(1);
+        if was == line {
+            return Ok(());
+        }
+        self.edits.push(Edit {
+            line: self.at,
+            old: Some(Vec::from_slice(self.alloc, was)?),
+            new: Vec::from_slice(self.alloc, line)?,
+            count: 1,
+        })?;
+        Ok(())
+    }
+
+    // What becomes of the next lines, where so many of both stand before one that both texts have.
+    fn take(
+        &mut self,
+        was: &[u8],
+        line: &[u8],
+        gone: usize,
+        come: usize,
+    ) -> Result<(), AllocError> {
+        let (more, fewer) = (come.saturating_sub(gone), gone.saturating_sub(come));
+        if was == line {
+            return self.replace(was, line);
+        }
+        if more > 0
+            && (comes_later(self.new, self.place, more, was)
+                || is_nearer(self.new, self.place, more, was))
+        {
+            return self.insert(line);
+        }
+        if fewer > 0
+            && (comes_later(self.old, self.at, fewer, line)
+                || is_nearer(self.old, self.at, fewer, line))
+        {
+            return self.remove(was);
+        }
+        self.replace(was, line)
+    }
+
+    // Goes on by one line, up to places of both texts.
+    fn step(&mut self, old_end: usize, new_end: usize) -> Result<(), AllocError> {
+        let (gone, come) = (
+            old_end.saturating_sub(self.at),
+            new_end.saturating_sub(self.place),
+        );
+        match (line_at(self.old, self.at), line_at(self.new, self.place)) {
+            (Some(was), Some(line)) if gone > 0 && come > 0 => self.take(was, line, gone, come),
+            (Some(was), _) if gone > 0 => self.remove(was),
+            (_, Some(line)) if come > 0 => self.insert(line),
+            _ => Ok(()),
+        }
+    }
+
+    // Goes on behind the next line that both texts have.
+    fn go_on(&mut self) -> Result<(), AllocError> {
+        let (old_end, new_end) = (
+            next_kept(self.old, self.at),
+            next_kept(self.new, self.place),
+        );
+        for _ in self.at.saturating_add(self.place)..old_end.saturating_add(new_end) {
+            self.step(old_end, new_end)?;
+        }
+        match (line_at(self.old, self.at), line_at(self.new, self.place)) {
+            (Some(was), Some(line)) => self.replace(was, line),
+            _ => Ok(()),
+        }
+    }
+}
+
+/// The lines of a text that are not those of another, of which only lines with directives are changed, inserted and
+/// removed, each by itself.
+pub fn line_edits(alloc: Global, old: &[u8], new: &[u8]) -> Result<Vec<Edit>, AllocError> {
+    let (old, new) = (lines(alloc, old)?, lines(alloc, new)?);
+    let mut compared = Compared {
+        alloc,
+        old: &old,
+        new: &new,
+        at: 0,
+        place: 0,
+        edits: Vec::new(alloc),
+    };
+    for _ in 0..old.len() {
+        compared.go_on()?;
+    }
+    let Compared { edits, .. } = compared;
     Ok(edits)
+}
+
+/// The line of a text on which the line of a number stands, counted from 1, once these edits of single lines are made;
+/// of an inserted one the line before which it stands.
+pub fn line_before(edits: &[Edit], number: usize) -> usize {
+    let (mut come, mut gone) = (0usize, 0usize);
+    for edit in edits {
+        let place = edit.line.saturating_add(come).saturating_sub(gone);
+        if place == number && edit.old.is_none() {
+            return edit.line;
+        }
+        if place < number {
+            come = come.saturating_add(edit.count);
+            if edit.old.is_some() {
+                gone = gone.saturating_add(1);
+            }
+        }
+    }
+    number.saturating_add(gone).saturating_sub(come)
 }
 
 // Adds an edit: to the last one, where that inserts lines before the same one.
@@ -114,8 +264,10 @@ fn join(edits: &mut Vec<Edit>, edit: Edit) -> Result<(), AllocError> {
             count,
             ..
         } = edit;
-        last.new.push(b'\n')?;
-        last.new.extend_from_slice(new.as_slice())?;
+        if count > 0 {
+            last.new.push(b'\n')?;
+            last.new.extend_from_slice(new.as_slice())?;
+        }
         last.count = last.count.saturating_add(count);
         last.old = old;
         return Ok(());

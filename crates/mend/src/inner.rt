@@ -40,11 +40,7 @@ fn stand_before(
     directive: &[u8],
     out: &mut Candidates,
 ) -> Result<(), AllocError> {
-    let data = Change {
-        line: item.place.line,
-        inserts: false,
-        text: data_line(view, item)?,
-    };
+    let data = Change::Replaced(item.place.line, data_line(view, item)?);
     let moved = view.directive(inner, directive_words(view, directive)?)?;
     out.two(data, moved)
 }

@@ -27,6 +27,14 @@ pub struct Rank {
     array: u32,
     index: u64,
     other_left: usize,
+    fault: Located,
+}
+
+/// The code of a fault, and its line.
+#[derive(Clone, Copy)]
+pub struct Located {
+    pub code: &'static str,
+    pub line: usize,
 }
 
 /// What comes of a text.
@@ -40,6 +48,11 @@ pub enum Verdict {
 }
 
 impl Rank {
+    /// The fault itself.
+    pub fn fault(&self) -> Located {
+        self.fault
+    }
+
     /// Whether it is later than another.
     pub fn is_later(&self, other: &Rank) -> bool {
         if self.is_beyond(other) || other.is_beyond(self) {
@@ -155,54 +168,84 @@ fn lines_behind(text: &[u8], line: usize) -> Following {
     found
 }
 
-fn rank_at(
-    text: &[u8],
-    items: &[Item],
+// A code, in which pass it comes, and its place among those of the pass.
+#[derive(Clone, Copy)]
+struct Code {
     pass: u8,
-    code: u8,
+    rank: u8,
+    text: &'static str,
+}
+
+// The item of a fault, its cell, or its column in the place of one, and the other item that it names.
+#[derive(Clone, Copy)]
+struct Spot {
     item: u32,
-    cell: Cell,
+    array: u32,
+    index: u64,
     other: Option<u32>,
-) -> Rank {
-    let following = lines_behind(text, line_of(text, items, item as usize));
+}
+
+impl Spot {
+    fn of_cell(item: u32, cell: Cell, other: Option<u32>) -> Spot {
+        Spot {
+            item,
+            array: cell.array.0,
+            index: cell.index,
+            other,
+        }
+    }
+
+    fn of(fault: &CheckFault) -> Option<Spot> {
+        match fault {
+            CheckFault::Range { item, fault } => Some(Spot {
+                item: *item,
+                array: 0,
+                index: fault.column as u64,
+                other: None,
+            }),
+            CheckFault::Order(f) => Some(Spot::of_cell(f.item, f.cell, Some(f.other))),
+            CheckFault::Refused(r) => Some(Spot::of_cell(r.item, r.cell, r.other)),
+            CheckFault::OutOfMemory => None,
+        }
+    }
+}
+
+fn rank_at(text: &[u8], items: &[Item], code: Code, spot: Spot) -> Rank {
+    let line = line_of(text, items, spot.item as usize);
+    let following = lines_behind(text, line);
     Rank {
-        pass,
-        items_left: items_from(items, item as usize),
+        pass: code.pass,
+        items_left: items_from(items, spot.item as usize),
         lines_left: following.lines,
-        code,
+        code: code.rank,
         hashes_left: following.hashes,
-        array: cell.array.0,
-        index: cell.index,
-        other_left: match other {
+        array: spot.array,
+        index: spot.index,
+        other_left: match spot.other {
             Some(other) => items_from(items, other as usize),
             None => 0,
+        },
+        fault: Located {
+            code: code.text,
+            line,
         },
     }
 }
 
+fn code_of(fault: &CheckFault) -> Code {
+    let (pass, rank, text) = match fault {
+        CheckFault::Range { fault, .. } => (1, 0, fault.code.as_str()),
+        CheckFault::Order(_) => (2, 0, "E505"),
+        CheckFault::Refused(refusal) => (3, code_rank(refusal.code), refusal.code.as_str()),
+        CheckFault::OutOfMemory => (4, 0, "F1"),
+    };
+    Code { pass, rank, text }
+}
+
 /// Where a fault is; nowhere for want of memory.
 pub fn rank_of(text: &[u8], outlined: &Outlined<'_>, fault: &CheckFault) -> Option<Rank> {
-    let items = outlined.items();
-    match fault {
-        CheckFault::Range { item, fault } => {
-            let cell = Cell {
-                array: base::tree::ArrayId(0),
-                index: fault.column as u64,
-            };
-            Some(rank_at(text, items, 1, 0, *item, cell, None))
-        }
-        CheckFault::Order(f) => { Some(rank_at(text, items, 2, 0, f.item, f.cell, Some(f.other))) }
-        CheckFault::Refused(r) => Some(rank_at(
-            text,
-            items,
-            3,
-            code_rank(r.code),
-            r.item,
-            r.cell,
-            r.other,
-        )),
-        CheckFault::OutOfMemory => None,
-    }
+    let spot = Spot::of(fault)?;
+    Some(rank_at(text, outlined.items(), code_of(fault), spot))
 }
 
 // Checks a program, whatever the borrows that are in it outlive.

@@ -10,6 +10,7 @@ mod combined;
 mod currency;
 mod devices;
 mod edits;
+mod exits;
 mod inner;
 mod judge;
 mod kinds;
@@ -29,5 +30,6 @@ mod words;
 
 pub use bare::without_directives;
 pub use edits::{Edit, edits_of};
+pub use judge::Located;
 pub use search::{MOST_CHECKS, MOST_STEPS, Mended, Sought, mend, mend_within, seek_within};
 pub use split::split_as;

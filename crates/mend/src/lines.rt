@@ -45,38 +45,39 @@ pub fn indent(line: &[u8]) -> usize {
     count
 }
 
-/// A line in the place of one, or before it. Lines are counted from 1.
+/// What becomes of a line. Lines are counted from 1.
 #[derive(Drop)]
-pub struct Change {
-    pub line: usize,
-    pub inserts: bool,
-    pub text: Vec<u8>,
+pub enum Change {
+    /// A text stands in its place.
+    Replaced(usize, Vec<u8>),
+    /// A line stands before it.
+    Preceded(usize, Vec<u8>),
+    /// It goes, with its line feed.
+    Removed(usize),
 }
 
-// What stands in the place of a line.
-fn replaced<'t>(line: &'t [u8], number: usize, changes: &'t [Change]) -> &'t [u8] {
+// What stands in the place of a line, with its line feed where there is one; nothing where it is removed.
+fn replaced<'t>(line: &'t [u8], number: usize, changes: &'t [Change]) -> Option<&'t [u8]> {
     for change in changes {
-        if !change.inserts && change.line == number {
-            return change.text.as_slice();
+        match change {
+            Change::Replaced(at, text) if *at == number => return Some(text.as_slice()),
+            Change::Removed(at) if *at == number => return None,
+            _ => {}
         }
     }
-    line
+    Some(line)
 }
 
-// Adds what is inserted before a line, and what stands in its place.
-fn add_line(
-    out: &mut Vec<u8>,
-    line: &[u8],
-    number: usize,
-    changes: &[Change],
-) -> Result<(), AllocError> {
+// Adds what stands before a line.
+fn add_before(out: &mut Vec<u8>, number: usize, changes: &[Change]) -> Result<(), AllocError> {
     for change in changes {
-        if change.inserts && change.line == number {
-            out.extend_from_slice(change.text.as_slice())?;
+        if let Change::Preceded(at, text) = change
+            && *at == number
+        {
+            out.extend_from_slice(text.as_slice())?;
             out.push(b'\n')?;
         }
     }
-    out.extend_from_slice(replaced(line, number, changes))?;
     Ok(())
 }
 
@@ -85,11 +86,14 @@ pub fn changed(alloc: Global, lines: &[&[u8]], changes: &[Change]) -> Result<Vec
     let mut out = Vec::new(alloc);
     let mut number = 0usize;
     for line in lines {
-        if number > 0 {
-            out.push(b'\n')?;
-        }
         number = number.saturating_add(1);
-        add_line(&mut out, line, number, changes)?;
+        add_before(&mut out, number, changes)?;
+        if let Some(text) = replaced(line, number, changes) {
+            out.extend_from_slice(text)?;
+            if number < lines.len() {
+                out.push(b'\n')?;
+            }
+        }
     }
     Ok(out)
 }

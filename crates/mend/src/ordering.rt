@@ -30,14 +30,6 @@ fn depend_text(view: &View<'_>, item: &Item, depend: &Depend) -> Result<String, 
     view.written_at(item, depend.line, depend.column, depend.section.array)
 }
 
-fn replaced(item: &Item, text: Vec<u8>) -> Change {
-    Change {
-        line: item.place.line,
-        inserts: false,
-        text,
-    }
-}
-
 // Whether an item may change what a device has of an array.
 fn changes_array(view: &View<'_>, item: &Item, array: ArrayId) -> bool {
     match item.kind {
@@ -53,7 +45,7 @@ fn changes_array(view: &View<'_>, item: &Item, array: ArrayId) -> bool {
 // The directive with a depend item more.
 fn depending(view: &View<'_>, item: &Item, kind: &str, text: &str) -> Result<Change, AllocError> {
     let line = with_depend(view.alloc, view.line_of(item), kind, text)?;
-    Ok(replaced(item, line))
+    Ok(Change::Replaced(item.place.line, line))
 }
 
 // The directive with a depend item more: `in` where it only reads the array, as long as that is enough.
@@ -143,11 +135,7 @@ fn reword_either(
 fn reworded(view: &View<'_>, depend: &Depend, text: &str) -> Result<Option<Change>, AllocError> {
     let place = depend.column.saturating_sub(1);
     match with_item(view.alloc, view.line(depend.line), place, text)? {
-        Some(text) => Ok(Some(Change {
-            line: depend.line,
-            inserts: false,
-            text,
-        })),
+        Some(text) => Ok(Some(Change::Replaced(depend.line, text))),
         None => Ok(None),
     }
 }

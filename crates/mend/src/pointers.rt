@@ -2,7 +2,7 @@
 
 use crate::candidates::{Candidate, Candidates};
 use crate::clauses::with_map;
-use crate::lines::cut;
+use crate::lines::{Change, cut};
 use crate::places::statement_tokens;
 use crate::view::View;
 use base::item::{Item, MapItem};
@@ -49,18 +49,26 @@ fn known_from<'v>(view: &View<'v>) -> Result<Vec<(&'v [u8], usize)>, AllocError>
     Ok(known)
 }
 
+// Whether a text in the place of a line, or before it, names no other array than that line where it is not known.
+fn are_known(known: &[(&[u8], usize)], at: usize, old: &[u8], text: &[u8]) -> bool {
+    for (name, line) in known {
+        if at <= *line && has_word(text, name) && !has_word(old, name) {
+            return false;
+        }
+    }
+    true
+}
+
 // Whether a candidate names no array on a line before which it is not known.
 fn is_known(view: &View<'_>, known: &[(&[u8], usize)], candidate: &Candidate) -> bool {
     for change in candidate.changes.as_slice() {
-        let old: &[u8] = if change.inserts {
-            &[]
-        } else {
-            view.line(change.line)
+        let is_known = match change {
+            Change::Replaced(line, text) => are_known(known, *line, view.line(*line), text),
+            Change::Preceded(line, text) => are_known(known, *line, &[], text),
+            Change::Removed(_) => true,
         };
-        for (name, line) in known {
-            if change.line <= *line && has_word(&change.text, name) && !has_word(old, name) {
-                return false;
-            }
+        if !is_known {
+            return false;
         }
     }
     true

@@ -4,6 +4,8 @@ use crate::blocks::loops_around;
 use crate::candidates::Candidates;
 use crate::clauses::{with_length, with_map};
 use crate::devices::other_devices;
+use crate::exits::{left_before, left_twice};
+use crate::lines::Change;
 use crate::places::end_of_block;
 use crate::pointers::{is_implied, map_pointer};
 use crate::sections::{common, end_of, hull, touched};
@@ -27,6 +29,54 @@ fn reword(
     let place = map.column.saturating_sub(1);
     let line = with_item(view.alloc, view.line(map.line), place, text)?;
     out.replace(map.line, line)
+}
+
+// A map item that is written, up to the end of what is needed and with what else stands there, or with all that is
+// needed.
+fn widened(
+    view: &View<'_>,
+    item: &Item,
+    map: &MapItem,
+    needed: Section,
+) -> Result<Option<Change>, AllocError> {
+    if !view.is_written(item, map) {
+        return Ok(None);
+    }
+    let text = view.map_text(item, map)?;
+    let length = end_of(needed).saturating_sub(map.section.first);
+    let text = match with_length(view.alloc, text.as_str(), length)? {
+        Some(text) if needed.first >= map.section.first => text,
+        _ => view.section_text(hull(map.section, needed))?,
+    };
+    let place = map.column.saturating_sub(1);
+    match with_item(view.alloc, view.line(map.line), place, text.as_str())? {
+        Some(line) => Ok(Some(Change::Replaced(map.line, line))),
+        None => Ok(None),
+    }
+}
+
+// The map item of a kernel and that of the block, both of which lack what the kernel touches.
+fn widen_both(
+    view: &View<'_>,
+    at: usize,
+    item: &Item,
+    map: &MapItem,
+    needed: Section,
+    out: &mut Candidates,
+) -> Result<(), AllocError> {
+    let Some((earlier, block)) = entered_before(view, at, item, map.section) else {
+        return Ok(());
+    };
+    if earlier.place.line == item.place.line || end_of(needed) <= end_of(block.section) {
+        return Ok(());
+    }
+    match (
+        widened(view, earlier, &block, needed)?,
+        widened(view, item, map, needed)?,
+    ) {
+        (Some(there), Some(here)) => out.two(there, here),
+        _ => Ok(()),
+    }
 }
 
 // A map item that is written up to an end, with what else stands there.
@@ -82,6 +132,7 @@ pub fn unmapped(
                 }
                 let text = view.section_text(hull(map.section, needed))?;
                 reword(view, item, &map, text.as_str(), out)?;
+                widen_both(view, at, item, &map, needed, out)?;
             }
             reword(view, item, &map, name.as_str(), out)
         }
@@ -239,9 +290,24 @@ pub fn absent(
     if is_implied(view, item, &map) {
         map_pointer(view, item, &map, out)?;
     }
-    let text = view.map_text(item, &map)?;
-    let name = view.whole(cell.array)?;
     other_devices(view, at.saturating_add(1), cell.array, out)?;
+    if let Some(earlier) = left_before(view, at, item, cell) {
+        return left_twice(view, at, earlier, cell, out);
+    }
+    entered_first(view, at, item, cell, &map, out)
+}
+
+// An entry of what is not present, and of all that is to be present with it, before an item and those before it.
+fn entered_first(
+    view: &View<'_>,
+    at: usize,
+    item: &Item,
+    cell: Cell,
+    map: &MapItem,
+    out: &mut Candidates,
+) -> Result<(), AllocError> {
+    let text = view.map_text(item, map)?;
+    let name = view.whole(cell.array)?;
     enter_first(view, at, item, cell.array, text.as_str(), out)?;
     let all = present_items(view, item)?;
     if !all.is_empty() && all.as_str() != text.as_str() {

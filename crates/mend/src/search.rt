@@ -6,8 +6,8 @@ ghost use Rattle.mend.specs.Mends.{IsAcceptedOf, IsMend, IsOutcome, IsUnfit};
 
 use crate::bare::without_directives;
 use crate::candidates::candidates_for;
-use crate::edits::{Edit, edits_of};
-use crate::judge::{Rank, Verdict, judge};
+use crate::edits::{Edit, edits_of, line_before, line_edits};
+use crate::judge::{Located, Rank, Verdict, judge};
 use crate::lines::{changed, lines};
 use crate::tidy::tidied;
 use crate::view::View;
@@ -38,6 +38,9 @@ pub struct Sought {
     pub steps: usize,
     /// The texts that were checked.
     pub checks: usize,
+    /// The latest of the first faults of texts that were tried, with its line in the source; none where no fault came
+    /// later than that of the source.
+    pub latest: Option<Located>,
 }
 
 // What comes of a step.
@@ -65,6 +68,14 @@ impl Refused {
         }
         self.steps > *steps
     }
+
+    fn copied(&self) -> Result<Refused, AllocError> {
+        Ok(Refused {
+            text: self.text.clone()?,
+            rank: self.rank,
+            steps: self.steps,
+        })
+    }
 }
 
 // How much was tried, and what is still to be.
@@ -77,6 +88,8 @@ struct Tried {
     open: Vec<Refused>,
     /// The digests of the texts that were checked.
     seen: Vec<u64>,
+    /// The text whose first fault came last.
+    latest: Option<Refused>,
 }
 
 // A number by which texts are told apart: where two different ones have the same, one of them is not tried.
@@ -101,6 +114,19 @@ impl Tried {
         }
         self.seen.push(digest)?;
         Ok(true)
+    }
+
+    // Adds a text whose first fault comes later than that of the text that it was made of.
+    fn add(&mut self, refused: Refused) -> Result<(), AllocError> {
+        let is_latest = match &self.latest {
+            Some(latest) => refused.rank.is_beyond(&latest.rank),
+            None => true,
+        };
+        if is_latest {
+            self.latest = Some(refused.copied()?);
+        }
+        self.open.push(refused)?;
+        Ok(())
     }
 
     // The text whose first fault is the latest; of several the one of the most steps, and of those the one found first.
@@ -183,7 +209,7 @@ fn step(
             Verdict::Accepted => return Ok(Outcome::Accepted(next)),
             Verdict::Refused(rank) => {
                 if rank.is_later(&from.rank) {
-                    tried.open.push(Refused {
+                    tried.add(Refused {
                         text: next,
                         rank,
                         steps: from.steps.saturating_add(1),
@@ -267,6 +293,33 @@ fn search(alloc: Global, bytes: &[u8], tried: &mut Tried) -> Result<Option<Mende
     }
 }
 
+// The latest first fault of the texts that were tried, where it comes later than that of the source.
+fn latest_of(alloc: Global, source: &[u8], tried: &Tried) -> Result<Option<Located>, AllocError> {
+    let Some(latest) = &tried.latest else {
+        return Ok(None);
+    };
+    let Located { code, line } = latest.rank.fault();
+    let edits = line_edits(alloc, source, &latest.text)?;
+    Ok(Some(Located {
+        code,
+        line: line_before(&edits, line),
+    }))
+}
+
+// What was found, with how much was tried.
+fn with_effort(alloc: Global, bytes: &[u8], tried: &mut Tried) -> Result<Sought, AllocError>
+    ensures { IfOk result (λ s. IfSome s.mended (λ m. IsMend bytes.now m.text.items)) }
+{
+    let mended = search(alloc, bytes, tried)?;
+    let latest = latest_of(alloc, bytes, tried)?;
+    Ok(Sought {
+        mended,
+        steps: tried.steps,
+        checks: tried.checks,
+        latest,
+    })
+}
+
 /// A source that has the same text without directives, and whose program is accepted; the source itself where its
 /// program is. None is found in [`MOST_STEPS`] steps and [`MOST_CHECKS`] checks where there is a fault that no
 /// directive mends, or one for which none of the changes that are tried helps. The fault is that of the text or of
@@ -274,9 +327,9 @@ fn search(alloc: Global, bytes: &[u8], tried: &mut Tried) -> Result<Option<Mende
 ///
 /// What is tried is what the first fault asks for: another type for a map item, the other direction or another device
 /// for a directive, a section that is wider or narrower, a map or depend item more, an entry, an exit, an update or a
-/// wait on a line of its own, or a target fewer of whose loops are in any order. Of the texts of a step the first that
-/// is accepted is taken; else the next step is from that text, of all whose first fault came later, whose first fault
-/// comes last.
+/// wait on a line of its own, an exit less, or a target fewer of whose loops are in any order. Of the texts of a step
+/// the first that is accepted is taken; else the next step is from that text, of all whose first fault came later,
+/// whose first fault comes last.
 pub fn mend(alloc: Global, bytes: &[u8]) -> Result<Option<Mended>, SourceFault>
     ensures mended { IfOk result (λ found. IfSome found (λ m. IsMend bytes.now m.text.items)) }
     ensures fault { IfErr result (IsUnfit bytes.now) }
@@ -312,13 +365,10 @@ pub fn seek_within(alloc: Global, bytes: &[u8], most: usize) -> Result<Sought, S
         checks: 0,
         open: Vec::new(alloc),
         seen: Vec::new(alloc),
+        latest: None,
     };
-    match search(alloc, bytes, &mut tried) {
-        Ok(mended) => Ok(Sought {
-            mended,
-            steps: tried.steps,
-            checks: tried.checks,
-        }),
+    match with_effort(alloc, bytes, &mut tried) {
+        Ok(sought) => Ok(sought),
         Err(_) => Err(SourceFault::Read(ReadFault::OutOfMemory)),
     }
 }

@@ -122,7 +122,25 @@ fn add_changed(
     Ok(count)
 }
 
-// What stands in the place of a line, where it is changed.
+// Adds an empty line for each break of a line that is removed, and answers how many lines of the source that stood on.
+fn add_removed(
+    out: &mut Vec<u8>,
+    source: &[&[u8]],
+    number: usize,
+    is_first: &mut bool,
+) -> Result<usize, AllocError> {
+    let mut count = 1usize;
+    for at in number..source.len() {
+        if break_len(source[at]) == 0 {
+            return Ok(count);
+        }
+        count = count.saturating_add(1);
+        add_line(out, &[], is_first)?;
+    }
+    Ok(count)
+}
+
+// What stands in the place of a line, where it is changed or removed.
 fn change_of<'e>(edits: &'e [Edit], number: usize) -> Option<&'e Edit> {
     for edit in edits {
         if edit.line == number && edit.old.is_some() {
@@ -158,7 +176,11 @@ pub fn split_as(
         match change_of(&edits, number) {
             Some(edit) => {
                 let changed = Changed::of(joined[at], &edit.new);
-                let count = add_changed(&mut out, &source, at, changed, &mut is_first)?;
+                let count = if edit.count == 0 {
+                    add_removed(&mut out, &source, at, &mut is_first)?
+                } else {
+                    add_changed(&mut out, &source, at, changed, &mut is_first)?
+                };
                 past = at.saturating_add(count);
             }
             None => match source.get(at) {

@@ -23,11 +23,7 @@ fn without_edit(
     let mut changes = Vec::new(alloc);
     for (number, edit) in edits.iter().enumerate() {
         if number != but {
-            changes.push(Change {
-                line: edit.line,
-                inserts: edit.old.is_none(),
-                text: Vec::from_slice(alloc, edit.new.as_slice())?,
-            })?;
+            changes.push(edit.change(alloc)?)?;
         }
     }
     let lines = lines(alloc, source)?;
@@ -45,6 +41,19 @@ fn better(alloc: Global, bare: &[u8], had: Vec<u8>, text: Vec<u8>) -> Result<Vec
     }
 }
 
+// Whether the word at a place of a directive line is this one.
+fn has_word(alloc: Global, line: &[u8], place: usize, text: &[u8]) -> Result<bool, AllocError> {
+    Ok(match words(alloc, line)?.get(place) {
+        Some(word) => is_text(line, word, text),
+        None => false,
+    })
+}
+
+// Whether an edit inserts an exit, which leaves what else would stay on a device.
+fn is_exit(alloc: Global, edit: &Edit) -> Result<bool, AllocError> {
+    Ok(edit.old.is_none() && has_word(alloc, edit.new.as_slice(), 3, b"exit".as_slice())?)
+}
+
 // The text without the edit of a number where it is accepted so.
 fn without_one(
     alloc: Global,
@@ -57,7 +66,10 @@ fn without_one(
     ensures { IfOk result (λ t. IsAcceptedOf bare.now t.items) }
 {
     let edits = line_edits(alloc, source, &had)?;
-    if edits.len() < 2 || number >= edits.len() {
+    let Some(edit) = edits.get(number) else {
+        return Ok(had);
+    };
+    if edits.len() < 2 || is_exit(alloc, edit)? {
         return Ok(had);
     }
     let text = without_edit(alloc, source, &edits, number)?;
@@ -87,12 +99,7 @@ fn exit_of(
     line: &[u8],
     number: usize,
 ) -> Result<Option<Change>, AllocError> {
-    let words = words(alloc, line)?;
-    let is_entry = match words.get(3) {
-        Some(word) => is_text(line, word, b"enter".as_slice()),
-        None => false,
-    };
-    if !is_entry {
+    if !has_word(alloc, line, 3, b"enter".as_slice())? {
         return Ok(None);
     }
     let Some(end) = end_of_block(text, number) else {
@@ -107,22 +114,21 @@ fn exit_of(
         return Ok(None);
     }
     let mut exit = Vec::from_slice(alloc, cut(line, 0, indent(line)))?;
-    exit.extend_from_slice(&exit_words(alloc, line, &words)?)?;
-    Ok(Some(Change {
-        line: end.line,
-        inserts: true,
-        text: exit,
-    }))
+    exit.extend_from_slice(&exit_words(alloc, line, &words(alloc, line)?)?)?;
+    Ok(Some(Change::Preceded(end.line, exit)))
 }
 
 // The text with an exit for each entry that an edit inserts, where there are any.
 fn with_exits(alloc: Global, source: &[u8], text: &[u8]) -> Result<Option<Vec<u8>>, AllocError> {
     let lines = lines(alloc, text)?;
     let mut changes = Vec::new(alloc);
-    let mut inserted = 0usize;
+    let (mut inserted, mut removed) = (0usize, 0usize);
     for edit in line_edits(alloc, source, text)?.as_slice() {
+        if edit.count == 0 {
+            removed = removed.saturating_add(1);
+        }
         if edit.old.is_none() {
-            let number = edit.line.saturating_add(inserted);
+            let number = edit.line.saturating_add(inserted).saturating_sub(removed);
             inserted = inserted.saturating_add(1);
             if let Some(exit) = exit_of(alloc, text, edit.new.as_slice(), number)? {
                 changes.push(exit)?;

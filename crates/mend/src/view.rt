@@ -189,11 +189,7 @@ impl<'v> View<'v> {
         let mut text = Vec::from_slice(self.alloc, cut(line, 0, indent(line)))?;
         text.extend_from_slice(b"#pragma omp ".as_slice())?;
         text.extend_from_slice(words.as_bytes())?;
-        Ok(Change {
-            line: before,
-            inserts: true,
-            text,
-        })
+        Ok(Change::Preceded(before, text))
     }
 
     /// Whether nothing but blanks stands before a place on its line.

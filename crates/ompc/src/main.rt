@@ -86,12 +86,43 @@ fn no_words<E: Write>(error: &io::Error, err: &mut E) -> u8 {
     }
 }
 
-/// The status of a command, once all that it printed is written.
-fn flushed<W: Write>(status: u8, out: &mut W) -> u8 {
-    match out.flush() {
-        Ok(()) => status,
-        Err(_) => FAILED,
+/// A writer, and whether it failed.
+#[derive(Drop)]
+struct Noted<W> {
+    out: W,
+    failed: bool,
+}
+
+impl<W> Noted<W> {
+    fn note<T>(&mut self, done: &io::Result<T>) {
+        if let Err(error) = done {
+            self.failed = self.failed || error.kind() != io::ErrorKind::Interrupted;
+        }
     }
+}
+
+impl<W: Write> Write for Noted<W> {
+    fn write(&mut self, buf: &[u8]) -> io::Result<usize> {
+        let done = self.out.write(buf);
+        self.note(&done);
+        done
+    }
+
+    fn flush(&mut self) -> io::Result<()> {
+        let done = self.out.flush();
+        self.note(&done);
+        done
+    }
+}
+
+/// The status of a command, once all that it printed is written.
+fn flushed<W: Write, E: Write>(status: u8, out: &mut Noted<W>, err: &mut E) -> u8 {
+    let _ = out.flush();
+    if out.failed {
+        let _ = writeln!(err, "cannot write standard output");
+        return FAILED;
+    }
+    status
 }
 
 /// Whether what is printed is shown by a terminal, and colours are not forbidden there (https://no-color.org).
@@ -109,10 +140,11 @@ fn main(rt: HostRuntime) -> ExitCode {
         Ok(words) => words,
         Err(error) => return ExitCode::from(no_words(&error, &mut rt.stderr())),
     };
-    let mut out = match BufWriter::new(rt.alloc(), io::writer(&rt)) {
+    let out = match BufWriter::new(rt.alloc(), io::writer(&rt)) {
         Ok(out) => out,
         Err(error) => return ExitCode::from(no_words(&error, &mut rt.stderr())),
     };
+    let mut out = Noted { out, failed: false };
     let status = drive(
         &rt,
         rt.alloc(),
@@ -123,5 +155,5 @@ fn main(rt: HostRuntime) -> ExitCode {
         &mut out,
         &mut rt.stderr(),
     );
-    ExitCode::from(flushed(status, &mut out))
+    ExitCode::from(flushed(status, &mut out, &mut rt.stderr()))
 }

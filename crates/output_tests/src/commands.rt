@@ -1,9 +1,9 @@
-//! Commands whose output cannot be written.
+//! Commands whose output cannot be written, or whose input has no end.
 
 use driver::{SourceError, Sources, drive};
 use std::alloc::Global;
 use std::io;
-use std::io::Write;
+use std::io::{Read, Write};
 use std::sync::Wait;
 use std::thread::Threads;
 
@@ -62,6 +62,17 @@ impl Write for Narrow {
     }
 }
 
+/// A reader of ones that has no end.
+#[derive(Drop)]
+struct Endless;
+
+impl Read for Endless {
+    fn read(&mut self, buf: &mut [u8]) -> io::Result<usize> {
+        buf.fill(b'1');
+        Ok(buf.len())
+    }
+}
+
 // The status of a command on a source whose output has room for so many bytes.
 fn status_of<R: Threads + Wait + Sync>(
     rt: &R,
@@ -93,4 +104,26 @@ fn output_that_cannot_be_written_is_a_fault(rt: HostRuntime) {
             assert_eq!(rt; status, wanted, "{command} {room}");
         }
     }
+}
+
+#[test]
+fn an_input_without_an_end_is_bad(rt: HostRuntime) {
+    let alloc = rt.alloc();
+    let mut out = Vec::new(alloc);
+    let mut err = Vec::new(alloc);
+    let status = drive(
+        &rt,
+        alloc,
+        false,
+        &["run", "a.c"],
+        &mut One {
+            alloc,
+            text: PRINTS,
+        },
+        &mut Endless,
+        &mut out,
+        &mut err,
+    );
+    assert_eq!(rt; status, 2);
+    assert_eq!(rt; err.as_slice(), b"bad input\n".as_slice());
 }

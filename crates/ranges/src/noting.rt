@@ -17,7 +17,7 @@ use bits::BitSet;
 use std::alloc::{AllocError, Global};
 
 // The first number of an interval that is in a set.
-fn first_within(row: &BitSet, cells: Interval) -> Option<usize>
+pub(crate) fn first_within(row: &BitSet, cells: Interval) -> Option<usize>
     requires { cells.hi < 2 ^ 32 }
     ensures { IsFirstAt (λ i. is_within cells i && has_number row.now i) result }
 {

@@ -1,18 +1,12 @@
 // From faults to their diagnoses.
 
-ghost use Rattle.base.specs.Items.{plan};
-ghost use Rattle.mapwalk.specs.Footprints.{AreFootprints};
-ghost use Rattle.mapwalk.specs.Found.{all_found};
-ghost use Rattle.mapwalk.specs.Walk.{HasNoRangeFault};
-
 use crate::diagnosis::Diagnosis;
 use crate::further::{Further, clashes_behind, ranges_behind};
 use crate::past::Past;
 use crate::rules::{ORDER_CODE, ORDER_RULE, range_rule, refusal_rule};
 use crate::scene::Scene;
 use base::fault::{CheckFault, RangeFault, Refusal, RefusalCode};
-use mapcheck::passes::{footprints_of, order_of};
-use mapwalk::{Footprints, repeats, walk};
+use mapcheck::{Passed, Refused};
 use order::Order;
 use outline::Outlined;
 use std::alloc::{AllocError, Global};
@@ -125,44 +119,23 @@ fn behind_conflict(
     Ok(further)
 }
 
-// Of a refusal in the third pass, where the first two have found these. Behind a conflict the pass goes on.
+// Of a refusal in the third pass, from what the passes found. Behind a conflict the pass goes on.
 fn of_walked(
     alloc: Global,
     bytes: &[u8],
-    outlined: &Outlined<'_>,
-    found: &Footprints,
-    order: &Order<'_>,
     refusal: &Refusal,
-) -> Result<Faults, AllocError>
-    requires fine { HasNoRangeFault (plan outlined.now) }
-    requires found { AreFootprints (plan outlined.now) (all_found found.now) }
-{
-    let walked = walk(alloc, outlined, found)?;
+    passed: &Passed<'_>,
+) -> Result<Faults, AllocError> {
+    let outlined = passed.outlined();
+    let walked = passed.walked();
     let scene = Scene {
         alloc,
         bytes,
         outlined,
-        past: Some(Past::new(outlined, found, &walked)),
+        past: Some(Past::new(outlined, passed.found(), walked)),
     };
-    let further = behind_conflict(&scene, order, refusal, walked.fault)?;
+    let further = behind_conflict(&scene, passed.order(), refusal, walked.fault)?;
     scene.report(&CheckFault::Refused(*refusal), &further)
-}
-
-// Of a refusal in the third pass, which needs what the passes before found.
-fn of_refusal(
-    alloc: Global,
-    bytes: &[u8],
-    outlined: &Outlined<'_>,
-    refusal: &Refusal,
-) -> Result<Faults, AllocError> {
-    let repeats = repeats(alloc, outlined)?;
-    let Ok(found) = footprints_of(alloc, outlined, &repeats) else {
-        return Err(AllocError);
-    };
-    let Ok(order) = order_of(alloc, outlined) else {
-        return Err(AllocError);
-    };
-    of_walked(alloc, bytes, outlined, &found, &order, refusal)
 }
 
 // Of a fault that is found before the walk.
@@ -191,18 +164,16 @@ fn of_earlier<'x>(
     scene.report(fault, &further)
 }
 
-/// Why the checker refuses a program, whose text these bytes are and whose first fault this is. The error comes where
-/// an allocation fails.
+/// Why the checker refuses a program, whose text these bytes are, from what it found. The error comes where an
+/// allocation fails.
 pub fn faults_of(
     alloc: Global,
     bytes: &[u8],
     outlined: &Outlined<'_>,
-    fault: &CheckFault,
+    refused: &Refused<'_>,
 ) -> Result<Faults, AllocError> {
-    match fault {
-        CheckFault::Refused(refusal) => of_refusal(alloc, bytes, outlined, refusal),
-        CheckFault::Range { .. } | CheckFault::Order(_) | CheckFault::OutOfMemory => {
-            of_earlier(alloc, bytes, outlined, fault)
-        }
+    match refused {
+        Refused::Early(fault) => of_earlier(alloc, bytes, outlined, fault),
+        Refused::Walked(refusal, passed) => of_walked(alloc, bytes, refusal, passed),
     }
 }

@@ -20,7 +20,7 @@ const LOOP: &str =
 const MAIN: &str = "a program is its globals, and then `int main(void) { .. }`";
 
 const TYPE: &str =
-    "the one type is `uint64_t`, also written `size_t`, `unsigned long` or `unsigned long long`, without other words before it; the name of a loop, a constant, `int k = i / 8;`, whose value is made of these and which nothing changes, and a scalar that counts or tells, `errors++` and `ok = a < b`, may be an `int`";
+    "the one type is `uint64_t`, also written `size_t`, `unsigned long` or `unsigned long long`, without other words before it; `int` is read where each value that an `int` gets anywhere in the source is seen to be from 0 to 2^31 - 1: made of such numbers, of cells and names that are an `int` and of comparisons, without `-`, `~` and numbers of 64 bits";
 
 const CONSTANT: &str =
     "a constant is `const uint64_t N = NUM;`, before `main` or in no block within it, or `#define N NUM`: it has a name of its own, and NUM is a constant expression, with `#define` in brackets";

@@ -62,12 +62,14 @@ pub fn unknown_directive(around: &Around<'_>) -> Option<&'static str> {
     None
 }
 
-/// Of what is no clause. The word `target` stands for a clause that is missing on its line.
+/// Of what is no clause. The word `target`, or that of the directive `taskwait`, stands for a clause that is missing on its
+/// line.
 pub fn no_clause(around: &Around<'_>) -> Telling {
-    if around.word == "target" {
+    let waits = around.word == "taskwait" && around.is_behind(b"omp".as_slice());
+    if around.word == "target" || waits {
         return Telling {
-            said: "lacks a clause for a variable that stands in its region",
-            help: "`map(tofrom: s)` or `reduction` for a scalar that another line maps, of which C makes a copy here; `private(t)`, or a declaration in the loop, for a scalar that each turn assigns before all else, and for the name of an inner loop, which all turns share; no `nowait` where an array of a block is used",
+            said: "lacks a clause for a variable that stands in its region, or bounds in one",
+            help: "`map(tofrom: s)` or `reduction` for a scalar that another line maps, of which C makes a copy here; `private(t)`, or a declaration in the loop, for a scalar that each turn assigns before all else, and for the name of an inner loop, which all turns share; no `nowait` where an array of a block is used; in `depend` a section behind a pointer, `p[0:N]`; in `reduction` the bounds that `map` has",
         };
     }
     with_help(ReadCode::UnknownClause, unknown_clause(around))

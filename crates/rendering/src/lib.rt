@@ -11,4 +11,4 @@ mod told;
 pub use objects::as_json;
 pub use sarif::as_sarif;
 pub use text::as_text;
-pub use told::{Remedy, Told};
+pub use told::{Remedy, Told, Tried};

@@ -1,7 +1,7 @@
 // A diagnosis as an object of JSON.
 
 use crate::told::{ACCEPTED, Remedy, Told};
-use mend::{Edit, Mended};
+use mend::{Edit, Located, Mended};
 use reasons::{Diagnosis, NamedCell, Note, Turn, end_of};
 use serde_json::{Value, json, push};
 use std::alloc::{AllocError, Global};
@@ -107,6 +107,10 @@ fn line_text(line: &[u8]) -> &str {
 fn edit_object(alloc: Global, edit: &Edit) -> Result<Value, AllocError> {
     let (line, new) = (edit.line, line_text(&edit.new));
     match &edit.old {
+        Some(_) if edit.count == 0 => {
+            let next = line.saturating_add(1);
+            json!(in alloc; {"line": line, "column": 1, "end_line": next, "end_column": 1, "text": ""})
+        }
         Some(old) => {
             let end = old.len().saturating_add(1);
             json!(in alloc; {"line": line, "column": 1, "end_line": line, "end_column": end, "text": new})
@@ -135,12 +139,31 @@ fn fix_objects(alloc: Global, remedy: &Remedy) -> Result<Value, AllocError> {
     Ok(Value::Array(list))
 }
 
+fn latest_object(alloc: Global, latest: Option<Located>) -> Result<Value, AllocError> {
+    match latest {
+        Some(Located { code, line }) => json!(in alloc; {"code": code, "line": line}),
+        None => Ok(Value::Null),
+    }
+}
+
+// How much was tried where no change was found.
+fn tried_object(alloc: Global, remedy: &Remedy) -> Result<Value, AllocError> {
+    match remedy {
+        Remedy::Missing(tried) => {
+            let latest = latest_object(alloc, tried.latest)?;
+            json!(in alloc; {"steps": tried.steps, "checks": tried.checks, "latest": latest})
+        }
+        _ => Ok(Value::Null),
+    }
+}
+
 /// What is told of a file whose bytes these are, as one object.
 pub fn as_json(alloc: Global, file: &str, bytes: &[u8], told: &Told) -> Result<String, AllocError> {
     let accepted = told.diagnoses.is_empty();
     let all = diagnosis_objects(alloc, bytes, &told.diagnoses)?;
     let warnings = diagnosis_objects(alloc, bytes, &told.warnings)?;
     let fixes = fix_objects(alloc, &told.remedy)?;
+    let tried = tried_object(alloc, &told.remedy)?;
     let report = json!(in alloc; {
         "version": FORM,
         "file": file,
@@ -148,7 +171,8 @@ pub fn as_json(alloc: Global, file: &str, bytes: &[u8], told: &Told) -> Result<S
         "diagnostics": all,
         "more": told.more,
         "warnings": warnings,
-        "fixes": fixes
+        "fixes": fixes,
+        "tried": tried
     })?;
     report.to_string_pretty(alloc)
 }

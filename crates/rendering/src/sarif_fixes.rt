@@ -9,6 +9,13 @@ use std::alloc::{AllocError, Global};
 fn replacement(alloc: Global, edit: &Edit) -> Result<Value, AllocError> {
     let (line, new) = (edit.line, str::from_utf8(&edit.new).unwrap_or(""));
     match &edit.old {
+        Some(_) if edit.count == 0 => {
+            let next = line.saturating_add(1);
+            json!(in alloc; {
+                "deletedRegion": {"startLine": line, "startColumn": 1, "endLine": next, "endColumn": 1},
+                "insertedContent": {"text": ""}
+            })
+        }
         Some(_) => json!(in alloc; {
             "deletedRegion": {"startLine": line, "startColumn": 1},
             "insertedContent": {"text": new}

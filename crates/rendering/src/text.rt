@@ -1,7 +1,7 @@
 // A diagnosis as compilers print one.
 
 use crate::excerpt::excerpt_of;
-use crate::told::{ACCEPTED, Remedy, Told};
+use crate::told::{ACCEPTED, Remedy, Told, Tried};
 use base::tree::Place;
 use mend::{Edit, Mended};
 use reasons::{Diagnosis, end_of, line_of};
@@ -168,19 +168,19 @@ impl Page<'_> {
         self.add("\n")
     }
 
-    // The numbers of new lines in a unified diff.
-    fn new_lines(&self, edit: &Edit, inserted: usize) -> Result<String, AllocError> {
-        let new = edit.line.saturating_add(inserted);
-        if edit.count == 1 {
-            format!(in self.alloc; "{new}")
-        } else {
-            format!(in self.alloc; "{new},{}", edit.count)
+    // The numbers of new lines in a unified diff, of which the first would be this one. Where there is none, the line
+    // before is named.
+    fn new_lines(&self, edit: &Edit, first: usize) -> Result<String, AllocError> {
+        match edit.count {
+            0 => format!(in self.alloc; "{},0", first.saturating_sub(1)),
+            1 => format!(in self.alloc; "{first}"),
+            count => format!(in self.alloc; "{first},{count}"),
         }
     }
 
-    // Lines that are changed or inserted, where so many were inserted before them.
-    fn add_edit(&mut self, edit: &Edit, inserted: usize) -> Result<(), AllocError> {
-        let new = self.new_lines(edit, inserted)?;
+    // Lines that are changed, inserted or removed, of which the first has this number in the new text.
+    fn add_edit(&mut self, edit: &Edit, first: usize) -> Result<(), AllocError> {
+        let new = self.new_lines(edit, first)?;
         match &edit.old {
             Some(old) => {
                 let head = format!(in self.alloc; "@@ -{} +{new} @@\n", edit.line)?;
@@ -192,6 +192,9 @@ impl Page<'_> {
                 let head = format!(in self.alloc; "@@ -{before},0 +{new} @@\n")?;
                 self.add(&head)?;
             }
+        }
+        if edit.count == 0 {
+            return Ok(());
         }
         self.add_side(b'+', &edit.new)
     }
@@ -209,15 +212,31 @@ impl Page<'_> {
         let name = name_in_diff(self.alloc, self.file)?;
         let head = format!(in self.alloc; "--- {name}\n+++ {name}\n")?;
         self.add(&head)?;
-        let mut inserted = 0usize;
+        let (mut come, mut gone) = (0usize, 0usize);
         'edits: for edit in &mended.edits {
-            self.add_edit(edit, inserted)?;
-            inserted = inserted.saturating_add(edit.count);
+            self.add_edit(edit, edit.line.saturating_add(come).saturating_sub(gone))?;
+            come = come.saturating_add(edit.count);
             if edit.old.is_some() {
-                inserted = inserted.saturating_sub(1);
+                gone = gone.saturating_add(1);
             }
         }
         Ok(())
+    }
+
+    // How much was tried where no change was found.
+    fn add_tried(&mut self, tried: &Tried) -> Result<(), AllocError> {
+        let (steps, checks) = (tried.steps, tried.checks);
+        let line = match tried.latest {
+            None => format!(in self.alloc;
+                "{}: no change found: steps {steps}, checks {checks}\n",
+                self.file
+            )?,
+            Some(latest) => format!(in self.alloc;
+                "{}: no change found: steps {steps}, checks {checks}; the best one came to {} at line {}\n",
+                self.file, latest.code, latest.line
+            )?,
+        };
+        self.add(&line)
     }
 
     // How many more faults were found.
@@ -255,8 +274,10 @@ pub fn as_text(
         page.add_diagnosis(diagnosis, "error")?;
     }
     page.add_more(told.more)?;
-    if let Remedy::Found(mended) = &told.remedy {
-        page.add_fix(mended)?;
+    match &told.remedy {
+        Remedy::Found(mended) => page.add_fix(mended)?,
+        Remedy::Missing(tried) => page.add_tried(tried)?,
+        Remedy::Unsought | Remedy::Untried => {}
     }
     'warnings: for warning in &told.warnings {
         page.add_diagnosis(warning, "warning")?;

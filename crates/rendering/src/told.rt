@@ -1,6 +1,6 @@
 // What is told of a program.
 
-use mend::Mended;
+use mend::{Located, Mended};
 use reasons::Diagnosis;
 use std::alloc::Global;
 
@@ -13,10 +13,21 @@ pub enum Remedy {
     /// A text that differs from the source in its directives alone, and whose program is accepted, with the lines that
     /// differ.
     Found(Mended),
-    /// None of the changes that are tried helps.
-    Missing,
+    /// None of the changes that were tried helps.
+    Missing(Tried),
     /// None was looked for, or not as far as `fix` looks.
     Unsought,
+    /// None was looked for, since none is tried of such a fault.
+    Untried,
+}
+
+/// How much was tried where no change was found.
+#[derive(Clone, Copy)]
+pub struct Tried {
+    pub steps: usize,
+    pub checks: usize,
+    /// The latest of the first faults of what was tried, where it came later than that of the source.
+    pub latest: Option<Located>,
 }
 
 /// What is told of a program. One that is accepted has no faults.
@@ -37,7 +48,7 @@ impl Told {
         Told {
             diagnoses: Vec::new(alloc),
             more: 0,
-            remedy: Remedy::Missing,
+            remedy: Remedy::Untried,
             warnings: Vec::new(alloc),
         }
     }

@@ -11,10 +11,16 @@ mod UnlinedNesting
 mod UnlinedSequences
 mod UnlinedMacros
 mod UnlinedDeclaredFunctions
+mod UnlinedNeedless
+mod UnlinedFound
+mod UnlinedFine
+mod UnlinedTypes
 mod UnlinedAllocations
 mod UnlinedGlobals
 mod UnlinedChanges
+mod UnlinedPassed
 mod UnlinedCalls
+mod UnlinedHeads
 mod UnlinedFunctions
 mod UnlinedPointers
 mod UnlinedStructs

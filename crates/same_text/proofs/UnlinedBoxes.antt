@@ -7,15 +7,15 @@ use Rattle.c_grammar.specs.Terminal.{Terminal, Fixed, Mark, Name, Num, Line, Unk
 use Rattle.c_grammar.specs.Texts.{Item}
 use Rattle.c_grammar.specs.Blocks.{Items, bare, is_directive}
 use Rattle.c_grammar.specs.Allocations.{begins_main}
-use Rattle.c_grammar.specs.Boxes.{Declared, Found, Local, NoName, Other, all_listed, announced, at_begin, before_main, boxed, boxed_item, boxed_lines, boxed_tokens, boxes_of, clauses_for, declared_at, declared_name, ends_name, found, is_declared, listed, listed_on, named_before, nothing_found, only, sectioned, to_clause, to_clauses, uses, with_declared}
+use Rattle.c_grammar.specs.Boxes.{Declared, Found, Local, NoName, Other, all_listed, announced, at_begin, before_main, boxed, boxed_item, boxed_lines, boxed_tokens, boxes_of, clauses_for, declared_at, declared_name, ends_name, found, listed, listed_on, named_before, nothing_found, only, sectioned, to_clause, to_clauses, with_declared}
 use Rattle.c_grammar.specs.Constants.{Names, depth_behind, is_among, is_mark, with_tokens}
 use Rattle.c_grammar.specs.Expressions.{placed_of}
 use Rattle.c_grammar.specs.Lines.{is_omp}
-use Rattle.c_grammar.specs.Presence.{before_end, is_target, target_column, uses_on}
+use Rattle.c_grammar.specs.Presence.{before_end, is_target, target_column, uses}
 use Rattle.same_text.specs.Laws.{unlined}
 use Rattle.same_text.proofs.Unlined.{AreUnlined, all_unlined, bare_unlined, either, one}
 use Rattle.same_text.proofs.UnlinedAllocations.{main_same}
-use Rattle.same_text.proofs.UnlinedPresence.{line_unlined, on_unlined, same_if}
+use Rattle.same_text.proofs.UnlinedPresence.{line_unlined, uses_unlined}
 
 -- ---- which scalars are boxed
 
@@ -61,21 +61,6 @@ boxes_unlined is =
     ∙ ap (only (found 0 false nothing_found (bare is))) (listed_unlined is [])
 
 -- ---- their sections, and what a target uses
-
-before_unlined : (x : List ℕ) (i : Item Terminal) (is : Items) → is_declared x (unlined i) (all_unlined is) ≡ is_declared x i is
-before_unlined x i [] = refl
-before_unlined x i (j ∷ is) = refl
-
-pub uses_unlined : (x : List ℕ) (is : Items) (d : ℕ) → uses x d (all_unlined is) ≡ uses x d is
-uses_unlined x [] d = refl
-uses_unlined x (i ∷ is) d =
-    ap (λ (b : Bool). cond b false (cond (same (Name x) i.terminal) true rest)) (before_unlined x i is)
-    ∙ same_if (is_declared x i is) _ _ _ _ refl
-    (same_if (same (Name x) i.terminal) _ _ _ _ refl
-    (on_unlined d i is (λ k. uses x k is) (λ k. uses x k (all_unlined is)) (uses_unlined x is)))
-  where
-    rest : Bool
-    rest = uses_on d (unlined i) (all_unlined is) (λ k. uses x k (all_unlined is))
 
 to_unlined : (names : Names) (column : ℕ) (taken : Names) (is : Items) →
     to_clauses names column taken (all_unlined is) ≡ to_clauses names column taken is

@@ -13,7 +13,7 @@ use Rattle.c_grammar.specs.Unset.{zero_at}
 use Rattle.c_grammar.specs.Choices.{Onward, Parts, State, all_alone, alone, assigned, begin, begins_condition, behind, brackets_before, brackets_behind, choice_len, choice_of, chosen, chosen_in, chosen_on, closes, condition_len, cut, cut_by, declared, either_at, ends_second, first_len, held_name, is_bracket, is_choice, is_initial, is_question, is_set, is_setting, left_len, lifted, lifted_by, max_between, max_choices, mentions, parts, parts_at, put_on, question_at, questions_behind, second_len, statement_len, with_first, with_second, written}
 use Rattle.same_text.specs.Laws.{unlined}
 use Rattle.same_text.proofs.Unlined.{AreUnlined, all_unlined, bare_unlined, either, one, some}
-use Rattle.same_text.proofs.UnlinedCalls.{drop_unlined, length_unlined, take_unlined}
+use Rattle.same_text.proofs.UnlinedPassed.{drop_unlined, length_unlined, take_unlined}
 use Rattle.same_text.proofs.UnlinedTargets.{reversed_same}
 
 -- ---- the parts of a statement

@@ -14,7 +14,7 @@ use Rattle.c_grammar.specs.Triangles.{Parts, cut, max_head, max_open, names}
 use Rattle.c_grammar.specs.Descents.{Called, Loop, Onward, Open, Part, Plain, Signed, State, Turned, all_at, are_int, are_parts, before_sum, begin, behind, behind_sum, block_of, blocks_behind, counts_down, ends, head, in_brackets, inside, is_bound, is_descent, is_int, is_part, is_positive, len, line_for, loop_at, loop_in, loop_named, loop_of, loop_with, name_in, next_behind, one_more, opens_round, part_of, parts_of, put, put_all, put_on_line, small_in, small_named, stand, stands, stands_of, step, terminal_of, turned_on, upward, upward_in, upward_on, upward_step}
 use Rattle.same_text.specs.Laws.{unlined}
 use Rattle.same_text.proofs.Unlined.{AreUnlined, all_unlined, bare_unlined, either, one, some}
-use Rattle.same_text.proofs.UnlinedCalls.{length_unlined, take_unlined}
+use Rattle.same_text.proofs.UnlinedPassed.{length_unlined, take_unlined}
 use Rattle.same_text.proofs.UnlinedTriangles.{cut_same, names_same, parts_unlined}
 
 -- ---- tokens outside of directive lines

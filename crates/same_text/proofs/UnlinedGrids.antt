@@ -14,7 +14,8 @@ use Rattle.c_grammar.specs.Functions.{index_len}
 use Rattle.c_grammar.specs.Grids.{Declared, Elsewhere, Grids, Index, OnOperand, Onward, Open, Range, Ranges, added_on, closing_on, declared, declared_as, declared_on, flat, flat_declaration, flat_line, flat_on, grid_on, has_second, in_rows, index, index_from, index_in, is_row, len_below, loop_range, named_on, named_range, operand, opens_index, operator_on, product, range, row_begins, row_ends, second_len, token_on, with_product, with_range}
 use Rattle.same_text.specs.Laws.{unlined}
 use Rattle.same_text.proofs.Unlined.{AreUnlined, all_unlined, bare_unlined, either, one, some}
-use Rattle.same_text.proofs.UnlinedCalls.{drop_unlined, index_same, take_unlined}
+use Rattle.same_text.proofs.UnlinedCalls.{index_same}
+use Rattle.same_text.proofs.UnlinedPassed.{drop_unlined, take_unlined}
 
 picked : (b : Bool) (x y x' y' : Option Index) → x' ≡ x → y' ≡ y → cond b x' y' ≡ cond b x y
 picked true x y x' y' e f = e

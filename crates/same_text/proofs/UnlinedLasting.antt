@@ -11,7 +11,7 @@ use Rattle.c_grammar.specs.Changes.{is_boundary, is_mark}
 use Rattle.c_grammar.specs.Counters.{is_type}
 use Rattle.c_grammar.specs.Declarations.{is_given, is_name}
 use Rattle.c_grammar.specs.Loops.{is_word, steps}
-use Rattle.c_grammar.specs.Lasting.{Place, Elsewhere, Heading, Sizing, Dividing, State, allocates, alters, begin, begins_array, begins_change, begins_word, begun, behind, closed, const_at, const_for, declares, divides_by, has_value, is_lasting, is_looked, is_part, lasting, lasting_in, lasts, lasts_as, may_declare, moved, next, opens, wants}
+use Rattle.c_grammar.specs.Lasting.{Place, Elsewhere, Heading, Sizing, Dividing, State, allocates, alters, begin, begins_array, begins_change, begins_word, begun, behind, closed, const_at, const_for, declares, divides_by, has_value, is_lasting, is_line, is_looked, is_part, lasting, lasting_in, lasts, lasts_as, may_declare, moved, next, opens, wants}
 use Rattle.same_text.specs.Laws.{unlined}
 use Rattle.same_text.proofs.Unlined.{AreUnlined, all_unlined, bare_unlined, either, one, some}
 
@@ -103,7 +103,7 @@ behind_same : (s : State) (i : Item Terminal) (is : Items) → behind s (unlined
 behind_same s i is = λ k. record {
   depth = depth_behind i.terminal s.depth;
   main = s.main || same (Fixed Main) i.terminal;
-  starts = is_boundary i.terminal;
+  starts = is_boundary i.terminal || (is_line i.terminal && s.starts);
   left = cond (looked_same s i is k) (s.left - 1) s.left;
 }
 

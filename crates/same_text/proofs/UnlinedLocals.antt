@@ -14,7 +14,7 @@ use Rattle.c_grammar.specs.Triangles.{Loop, len, loop_in}
 use Rattle.c_grammar.specs.Locals.{Cells, Declared, Has, Index, Join, Last, Onward, Open, Pass, Put, Replace, State, Unroll, Wants, array_of, begin, body_len, body_put, cell_name, declared, declared_as, declared_in, declared_put, depth_behind, first_join, has_array, declares_array, hides, hides_in, in_scalars, in_settings, index_from, index_in, indexed_put, is_ended, is_indexed, is_inside, is_taken, is_unrolled, line_at, line_twice, list_len, listed_put, loop_put, max_ahead, max_cells, max_index, max_put, max_turns, named_put, next_at, next_setting, numbers_of, on_next, opens_list, or_plain, put, put_at, put_len, scalars, scalars_put, scan, scan_on, setting, settings, turns, turns_put, unrolled, unrolled_at, used_put, with_array, with_number, with_outer}
 use Rattle.same_text.specs.Laws.{unlined}
 use Rattle.same_text.proofs.Unlined.{AreUnlined, all_unlined, bare_unlined, either, one, some}
-use Rattle.same_text.proofs.UnlinedCalls.{drop_unlined, length_unlined, take_unlined}
+use Rattle.same_text.proofs.UnlinedPassed.{drop_unlined, length_unlined, take_unlined}
 use Rattle.same_text.proofs.UnlinedTriangles.{in_same, len_same, loop_unlined}
 
 -- ---- declarations

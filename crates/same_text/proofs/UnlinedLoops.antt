@@ -11,7 +11,7 @@ use Rattle.c_grammar.specs.Choices.{brackets_behind, closes}
 use Rattle.c_grammar.specs.Loops.{Branch, Left, Limit, OnSeen, Onward, Open, Plain, Seen, State, Turn, adds, back_limit, begin, behind, bounded, bounded_at, bounded_by, changes, close_at, closing, counts, ends_branch, front_limit, grows, grows_by, grows_on, grows_past, head_at, is_branch, is_joined, is_named, is_sum, is_word, last_limit, leaves, left, limit_in, loop_at, looped, looped_in, looped_on, max_between, max_open, one_of, put_on, seen_at, step_at, step_len, turn_name, turned_on}
 use Rattle.same_text.specs.Laws.{unlined}
 use Rattle.same_text.proofs.Unlined.{AreUnlined, all_unlined, bare_unlined, one, some}
-use Rattle.same_text.proofs.UnlinedCalls.{drop_unlined, length_unlined, take_unlined}
+use Rattle.same_text.proofs.UnlinedPassed.{drop_unlined, length_unlined, take_unlined}
 
 -- ---- the condition
 

@@ -6,13 +6,13 @@ use Rattle.c_grammar.specs.Lexeme.{Uint64}
 use Rattle.c_grammar.specs.Terminal.{Terminal, Fixed, Name, same}
 use Rattle.c_grammar.specs.Texts.{Item}
 use Rattle.c_grammar.specs.Blocks.{Items, at, bare, is_directive}
-use Rattle.c_grammar.specs.Boxes.{is_declared}
 use Rattle.c_grammar.specs.Changes.{is_ended}
 use Rattle.c_grammar.specs.Constants.{Names, is_mark}
+use Rattle.c_grammar.specs.Presence.{is_declared}
 use Rattle.c_grammar.specs.Moves.{Barred, Before, Ending, Onward, Other, Stand, Starts, Typed, all_moved, begin, behind, behind_put, declares, is_ending, is_fresh, is_moved, mentioned, moved, moved_names, moved_on, name_put, other_put, owns, passed, stands, unless, unset, unspoiled, with_name, with_unset}
 use Rattle.same_text.specs.Laws.{unlined}
 use Rattle.same_text.proofs.Unlined.{AreUnlined, all_unlined, bare_unlined, either, one, some}
-use Rattle.same_text.proofs.UnlinedPresence.{same_if}
+use Rattle.same_text.proofs.UnlinedPresence.{declared_unlined, same_if}
 
 ended_unlined : (is : Items) → is_ended (all_unlined is) ≡ is_ended is
 ended_unlined [] = refl
@@ -80,10 +80,6 @@ name_unlined Starts s i = either (s.owned == 0) (s.owned == 0) (at i (Fixed Uint
 name_unlined Other s i = refl
 name_unlined Barred s i = refl
 name_unlined Ending s i = refl
-
-declared_unlined : (x : List ℕ) (i : Item Terminal) (is : Items) → is_declared x (unlined i) (all_unlined is) ≡ is_declared x i is
-declared_unlined x i [] = refl
-declared_unlined x i (j ∷ is) = refl
 
 other_unlined : (x : List ℕ) (b : Before) (i : Item Terminal) (is : Items) →
     AreUnlined (other_put x b (unlined i) (all_unlined is)) (other_put x b i is)

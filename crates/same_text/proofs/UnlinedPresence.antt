@@ -5,14 +5,14 @@ use Rattle.c_tokens.specs.declared.kind.Sign.TheVariants as sign
 use Rattle.c_grammar.specs.Lexeme.{Lexeme, Placed}
 use Rattle.c_grammar.specs.Terminal.{Terminal, Fixed, Mark, Name, Num, Line, Unknown, Unworked, End, same}
 use Rattle.c_grammar.specs.Texts.{Item}
-use Rattle.c_grammar.specs.Blocks.{Items, is_directive}
+use Rattle.c_grammar.specs.Blocks.{Items, bare}
 use Rattle.c_grammar.specs.Changes.{is_mark}
 use Rattle.c_grammar.specs.Constants.{Names, with_tokens}
 use Rattle.c_grammar.specs.Expressions.{placed_of}
 use Rattle.c_grammar.specs.Lines.{is_omp}
-use Rattle.c_grammar.specs.Presence.{before_end, clauses_for, goes_on, guarded, guarded_item, guarded_tokens, is_mapped, is_target, opens_part, present_clause, target_column, uses, uses_on}
+use Rattle.c_grammar.specs.Presence.{before_end, clauses_for, goes_on, guarded, guarded_item, guarded_tokens, is_declared, is_mapped, is_target, line_clauses, no_clause, opens_part, orders, present_clause, target_column, uses, uses_on}
 use Rattle.same_text.specs.Laws.{unlined}
-use Rattle.same_text.proofs.Unlined.{AreUnlined, all_unlined}
+use Rattle.same_text.proofs.Unlined.{AreUnlined, all_unlined, bare_unlined}
 
 pub same_if : (b x y x' y' : Bool) → x' ≡ x → y' ≡ y → cond b x' y' ≡ cond b x y
 same_if true x y x' y' e f = e
@@ -31,12 +31,20 @@ on_unlined d i is go go' r =
     (same_if (is_mark sign.CloseParen i) _ _ _ _ (r (d - 1))
     (same_if (is_mark sign.Semicolon i && (d == 0)) _ _ _ _ refl (r d))))
 
-uses_unlined : (x : List ℕ) (is : Items) (d : ℕ) → uses x d (all_unlined is) ≡ uses x d is
+pub declared_unlined : (x : List ℕ) (i : Item Terminal) (is : Items) → is_declared x (unlined i) (all_unlined is) ≡ is_declared x i is
+declared_unlined x i [] = refl
+declared_unlined x i (j ∷ is) = refl
+
+pub uses_unlined : (x : List ℕ) (is : Items) (d : ℕ) → uses x d (all_unlined is) ≡ uses x d is
 uses_unlined x [] d = refl
 uses_unlined x (i ∷ is) d =
-    same_if (is_directive i.terminal) _ _ _ _ refl
+    ap (λ (b : Bool). cond b false (cond (same (Name x) i.terminal) true rest)) (declared_unlined x i is)
+    ∙ same_if (is_declared x i is) _ _ _ _ refl
     (same_if (same (Name x) i.terminal) _ _ _ _ refl
     (on_unlined d i is (λ k. uses x k is) (λ k. uses x k (all_unlined is)) (uses_unlined x is)))
+  where
+    rest : Bool
+    rest = uses_on d (unlined i) (all_unlined is) (λ k. uses x k (all_unlined is))
 
 clauses_unlined : (names : Names) (column : ℕ) (ts : List Lexeme) (is : Items) →
     clauses_for names column ts (all_unlined is) ≡ clauses_for names column ts is
@@ -47,6 +55,16 @@ clauses_unlined (x ∷ xs) column ts is =
     ∙ ap (λ (ps : List Placed). cond (uses x 0 is && not (is_mapped x 0 false ts)) (present_clause column x) [] ++ ps)
     (clauses_unlined xs column ts is)
 
+-- what is put on a line
+put_unlined : (names : Names) (column : ℕ) (ts : List Lexeme) (is : Items) →
+    line_clauses names column ts (all_unlined is) ≡ line_clauses names column ts is
+put_unlined names column [] is = refl
+put_unlined names column (p ∷ []) is = refl
+put_unlined names column (p ∷ o ∷ []) is = refl
+put_unlined names column (p ∷ o ∷ t ∷ ts) is =
+    ap (λ (new : List Placed). cond (is_target (p ∷ o ∷ t ∷ ts)) new [] ++ cond (orders names 0 false false ts) (no_clause column) [])
+    (clauses_unlined names column (p ∷ o ∷ t ∷ ts) is)
+
 pub line_unlined : (i : Item Terminal) (ts : List Lexeme) (ps : List Placed) (b : Bool) →
     cond b (with_tokens (unlined i) ts ps) (unlined i) ≡ unlined (cond b (with_tokens i ts ps) i)
 line_unlined i ts ps true = refl
@@ -56,9 +74,9 @@ item_unlined : (names : Names) (i : Item Terminal) (t : Terminal) (is : Items) �
     guarded_item names (unlined i) t (all_unlined is) ≡ unlined (guarded_item names i t is)
 item_unlined names i (Line ts) is =
     let ps : List Placed = placed_of ts i.columns in
-    ap (λ (new : List Placed). cond (is_omp ts && is_target ts) (with_tokens (unlined i) ts (before_end new ps)) (unlined i))
-    (clauses_unlined names (target_column ps) ts is)
-    ∙ line_unlined i ts (guarded_tokens names ts is ps) (is_omp ts && is_target ts)
+    ap (λ (new : List Placed). cond (is_omp ts) (with_tokens (unlined i) ts (before_end new ps)) (unlined i))
+    (put_unlined names (target_column ps) ts is)
+    ∙ line_unlined i ts (guarded_tokens names ts is ps) (is_omp ts)
 item_unlined names i (Fixed w) is = refl
 item_unlined names i (Mark s) is = refl
 item_unlined names i (Name x) is = refl
@@ -70,5 +88,6 @@ item_unlined names i End is = refl
 pub guarded_unlined : (names : Names) (is : Items) → AreUnlined (guarded names (all_unlined is)) (guarded names is)
 guarded_unlined names [] = refl
 guarded_unlined names (i ∷ is) =
-    ap (λ (j : Item Terminal). j ∷ guarded names (all_unlined is)) (item_unlined names i i.terminal is)
-    ∙ ap (λ (js : Items). unlined (guarded_item names i i.terminal is) ∷ js) (guarded_unlined names is)
+    ap (λ (js : Items). guarded_item names (unlined i) i.terminal js ∷ guarded names (all_unlined is)) (bare_unlined is)
+    ∙ ap (λ (j : Item Terminal). j ∷ guarded names (all_unlined is)) (item_unlined names i i.terminal (bare is))
+    ∙ ap (λ (js : Items). unlined (guarded_item names i i.terminal (bare is)) ∷ js) (guarded_unlined names is)

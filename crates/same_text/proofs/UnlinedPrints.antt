@@ -1,12 +1,11 @@
 -- Calls of printf are written out without a look at the lines of the tokens.
-use Rattle.std.proofs.Common.{◌≡◌, ℕ, zero, suc, Bool, true, false, cond, List, [], ◌∷◌, refl, ap, ◌∙◌}
+use Rattle.std.proofs.Common.{◌≡◌, ℕ, zero, suc, Bool, true, false, cond, List, [], ◌∷◌, refl, ap, ap₂, ◌∙◌}
 use Rattle.std.specs.Prelude.{◌&&◌, codes}
-use Rattle.c_tokens.specs.declared.kind.Sign.TheVariants as sign
 use Rattle.c_grammar.specs.Lexeme.{Print}
-use Rattle.c_grammar.specs.Terminal.{Terminal, Fixed, Mark, Name, Unknown, same}
+use Rattle.c_grammar.specs.Terminal.{Terminal, Fixed, Name, Unknown, same}
 use Rattle.c_grammar.specs.Texts.{Item}
 use Rattle.c_grammar.specs.Blocks.{Items, is_directive, bare, at}
-use Rattle.c_grammar.specs.Prints.{begins_with, one_text, joined_text, text_len, is_text, alone, print_at, print_on, printed}
+use Rattle.c_grammar.specs.Prints.{begins_with, int_text, one_text, joined_text, text_len, is_text, alone, print_at, print_on, printed, stays}
 use Rattle.same_text.specs.Laws.{unlined}
 use Rattle.same_text.proofs.Unlined.{all_unlined, AreUnlined, either, one, bare_unlined}
 
@@ -17,8 +16,11 @@ begins_same (t ∷ ts) (i ∷ is) = ap (λ (b : Bool). same t i.terminal && b) (
 
 len_same : (is : Items) → text_len (all_unlined is) ≡ text_len is
 len_same is =
-    ap (λ (b : Bool). cond b 2 (cond (begins_with joined_text (all_unlined is)) 4 0)) (begins_same one_text is)
-    ∙ ap (λ (b : Bool). cond (begins_with one_text is) 2 (cond b 4 0)) (begins_same joined_text is)
+    ap
+    (λ (b : Bool). cond b 2 (cond (begins_with joined_text (all_unlined is)) 4
+    (cond (begins_with int_text (all_unlined is)) 1 0))) (begins_same one_text is)
+    ∙ ap₂ (λ (b c : Bool). cond (begins_with one_text is) 2 (cond b 4 (cond c 1 0))) (begins_same joined_text is)
+    (begins_same int_text is)
 
 alone_unlined : (i : Item Terminal) → alone (unlined i) ≡ unlined (alone i)
 alone_unlined i = go (is_text i.terminal)
@@ -41,7 +43,7 @@ print_on_unlined : (k : ℕ) (i : Item Terminal) (n : ℕ) (go go' : ℕ → Ite
     AreUnlined (print_on k (unlined i) n go') (print_on k i n go)
 print_on_unlined zero i n go go' r = print_unlined i n go go' r
 print_on_unlined (suc k) i n go go' r =
-    either (same (Mark sign.OpenParen) i.terminal) _ _ _ _ _ refl
+    either (stays i.terminal) _ _ _ _ _ refl
     (one i (go (suc k)) (go' (suc k)) (r (suc k))) (r k)
 
 pub printed_unlined : (is : Items) (k : ℕ) → AreUnlined (printed k (all_unlined is)) (printed k is)

@@ -5,19 +5,19 @@ use Rattle.c_grammar.specs.Lexeme.{Lexeme, Placed}
 use Rattle.c_grammar.specs.Terminal.{Terminal, Fixed, Mark, Name, Num, Line, Unknown, Unworked, End}
 use Rattle.c_grammar.specs.Texts.{Item}
 use Rattle.c_grammar.specs.Blocks.{Items, bare}
-use Rattle.c_grammar.specs.Boxes.{boxes_of, uses}
+use Rattle.c_grammar.specs.Boxes.{boxes_of}
 use Rattle.c_grammar.specs.Constants.{Names, depth_behind}
 use Rattle.c_grammar.specs.Counters.{is_set}
 use Rattle.c_grammar.specs.Expressions.{placed_of}
 use Rattle.c_grammar.specs.Lines.{is_omp}
 use Rattle.c_grammar.specs.Nesting.{has}
-use Rattle.c_grammar.specs.Presence.{before_end, is_target, no_clause, target_column, uses_on}
-use Rattle.c_grammar.specs.Shared.{Region, all_kept, apart, array_at, awaited, behind, block_arrays, copies_at, copies_one, is_elsewhere, is_mapped, is_shared, kept_on, marked, marked_at, region_of, shares, shares_at, unshared, uses_one, waits_at}
+use Rattle.c_grammar.specs.Presence.{before_end, is_target, no_clause, target_column, uses, uses_on}
+use Rattle.c_grammar.specs.Shared.{Region, all_kept, apart, array_at, awaited, behind, block_arrays, copies_at, copies_one, is_copied, is_elsewhere, is_mapped, is_parted, is_shared, kept_on, marked, marked_at, region_of, shares, shares_at, unshared, uses_one, waits_at}
 use Rattle.c_grammar.specs.Updates.{is_combined}
 use Rattle.same_text.specs.Laws.{unlined}
 use Rattle.same_text.proofs.Unlined.{AreUnlined, all_unlined, bare_unlined}
-use Rattle.same_text.proofs.UnlinedBoxes.{boxes_unlined, uses_unlined}
-use Rattle.same_text.proofs.UnlinedPresence.{line_unlined, on_unlined, same_if}
+use Rattle.same_text.proofs.UnlinedBoxes.{boxes_unlined}
+use Rattle.same_text.proofs.UnlinedPresence.{line_unlined, on_unlined, same_if, uses_unlined}
 
 -- ---- lines
 
@@ -64,7 +64,8 @@ shares_unlined ts (i ∷ is) r d =
     rest = uses_on d (unlined i) (all_unlined is) (λ k. shares ts (behind r i) k (all_unlined is))
 
 at_unlined : (t : Terminal) (is : Items) → shares_at t (all_unlined is) ≡ shares_at t is
-at_unlined (Line ts) is = ap (λ (b : Bool). is_combined ts && b) (shares_unlined ts is (region_of ts) 0)
+at_unlined (Line ts) is =
+    ap (λ (b : Bool). is_copied ts 0 false ts || is_parted ts || (is_combined ts && b)) (shares_unlined ts is (region_of ts) 0)
 at_unlined (Fixed w) is = refl
 at_unlined (Mark s) is = refl
 at_unlined (Name x) is = refl

@@ -11,7 +11,7 @@ use Rattle.c_grammar.specs.Texts.{Item}
 use Rattle.c_grammar.specs.Blocks.{Items, at, bare, is_directive}
 use Rattle.c_grammar.specs.Allocations.{depth_behind, is_boundary}
 use Rattle.c_grammar.specs.Constants.{is_mark, is_name}
-use Rattle.c_grammar.specs.Functions.{is_qualifier}
+use Rattle.c_grammar.specs.FunctionHeads.{is_qualifier}
 use Rattle.c_grammar.specs.Structs.{Array, Before, Body, Declared, Definition, Form, Found, Holder, Nothing, OfLength, OfMany, OfOne, OfRow, OfType, OnType, One, Onward, Pointer, Put, Spot, State, Struct, Use, agree, agreed, arrow_put, before_behind, before_name, begin, begins_name, behind, behind_index, behind_other, behind_typedef, body, body_on, braced, closed, closes, count, count_in, declared, declared_behind, declared_by, declared_put, declared_with, definition_at, definition_put, dot_put, ends, ends_first, ends_length, found, held_by, hold, holder_of, in_rows, index_at, indices_behind, innermost, is_struct, is_struct_word, is_zero, lengths, member_put, name_put, named, noted, nothing_found, number_in, number_of, own_name, pointer, pointer_on, put_at, put_behind, put_on, renamed, row_length, rows_from, rows_on, spoil, spot_behind, struct_at, struct_of, structured, tagged_use, typedef_word, use_at, use_of, variable, variable_on, with_body, with_declared, with_definition, with_name, with_own, with_struct, with_tag, without_own}
 use Rattle.same_text.specs.Laws.{unlined}
 use Rattle.same_text.proofs.Unlined.{AreUnlined, all_unlined, bare_unlined, either, one, some}

@@ -30,6 +30,8 @@ use Rattle.c_grammar.specs.Nesting.{nested}
 use Rattle.c_grammar.specs.Sequences.{in_parts}
 use Rattle.c_grammar.specs.Macros.{replaced}
 use Rattle.c_grammar.specs.DeclaredFunctions.{undeclared}
+use Rattle.c_grammar.specs.Needless.{needed}
+use Rattle.c_grammar.specs.Types.{of_one_type}
 use Rattle.c_grammar.specs.Prints.{printed}
 use Rattle.c_grammar.specs.Source as forms
 use Rattle.c_source.specs.Source.{written_out}
@@ -41,6 +43,8 @@ use Rattle.same_text.proofs.UnlinedNesting.{nested_unlined}
 use Rattle.same_text.proofs.UnlinedSequences.{parts_all_unlined}
 use Rattle.same_text.proofs.UnlinedMacros.{replaced_unlined}
 use Rattle.same_text.proofs.UnlinedDeclaredFunctions.{undeclared_unlined}
+use Rattle.same_text.proofs.UnlinedNeedless.{needed_unlined}
+use Rattle.same_text.proofs.UnlinedTypes.{types_unlined}
 use Rattle.same_text.proofs.UnlinedPrints.{printed_unlined}
 use Rattle.same_text.proofs.UnlinedConstants.{worked_unlined}
 use Rattle.same_text.proofs.UnlinedFunctions.{expanded_unlined}
@@ -89,9 +93,11 @@ forms_unlined is =
     let n : Items = nested z in
     let p : Items = printed 0 n in
     let a : Items = typed 0 p in
-    let s : Items = in_rows a in
+    let needs : Items = needed a in
+    let s : Items = in_rows needs in
     let u : Items = undeclared false s in
-    let b : Items = in_blocks nothing_read u in
+    let one_type : Items = of_one_type u in
+    let b : Items = in_blocks nothing_read one_type in
     let t : Items = unshared b in
     let l : Items = counted t in
     let v : Items = upward l in
@@ -125,16 +131,19 @@ forms_unlined is =
     let since_counted : Items → Items = λ js. since_upward (upward js) in
     let since_shared : Items → Items = λ js. since_counted (counted js) in
     let since_blocks : Items → Items = λ js. since_shared (unshared js) in
-    let since_structs : Items → Items = λ js. since_blocks (in_blocks nothing_read (undeclared false js)) in
-    let since_typed : Items → Items = λ js. since_structs (in_rows js) in
+    let since_structs : Items → Items = λ js.
+    since_blocks (in_blocks nothing_read (of_one_type (undeclared false js))) in
+    let since_typed : Items → Items = λ js. since_structs (in_rows (needed js)) in
     ap (λ (js : Items). since_typed (typed 0 (printed 0 (nested (in_parts js))))) (replaced_unlined is)
     ∙ ap (λ (js : Items). since_typed (typed 0 (printed 0 (nested js)))) (parts_all_unlined m)
     ∙ ap (λ (js : Items). since_typed (typed 0 (printed 0 js))) (nested_unlined z)
     ∙ ap (λ (js : Items). since_typed (typed 0 js)) (printed_unlined n 0)
     ∙ ap since_typed (typed_unlined p 0)
-    ∙ ap since_structs (rows_unlined a)
-    ∙ ap (λ (js : Items). since_blocks (in_blocks nothing_read js)) (undeclared_unlined s false)
-    ∙ ap since_blocks (blocks_unlined u nothing_read)
+    ∙ ap (λ (js : Items). since_structs (in_rows js)) (needed_unlined a)
+    ∙ ap since_structs (rows_unlined needs)
+    ∙ ap (λ (js : Items). since_blocks (in_blocks nothing_read (of_one_type js))) (undeclared_unlined s false)
+    ∙ ap (λ (js : Items). since_blocks (in_blocks nothing_read js)) (types_unlined u)
+    ∙ ap since_blocks (blocks_unlined one_type nothing_read)
     ∙ ap since_shared (unshared_unlined b)
     ∙ ap since_counted (counted_unlined t)
     ∙ ap since_upward (upward_unlined l)

@@ -12,7 +12,7 @@ use Rattle.c_grammar.specs.Loops.{is_word}
 use Rattle.c_grammar.specs.Triangles.{Bound, Loop, Named, Onward, Open, Parts, Plain, State, Step, adds, asks, begin, begins_block, behind, between, block_of, bound_from, bound_in, closing, counts, cut, cut_at, cut_behind, cut_by, end_of, guard, guard_for, head, hull_end, is_guarded, is_written, len, limit_sign, loop_at, loop_in, loop_named, loop_of, loop_on, loop_to, loop_with, lower, max_head, max_open, name_in, names, number_for, on_bound, operand, put_on, rectangular, rectangular_in, rectangular_on, semicolon_at, step, step_by, step_in, sum_step, turned_on, upper, with_operand}
 use Rattle.same_text.specs.Laws.{unlined}
 use Rattle.same_text.proofs.Unlined.{AreUnlined, all_unlined, bare_unlined, either, one, some}
-use Rattle.same_text.proofs.UnlinedCalls.{drop_unlined, length_unlined, take_unlined}
+use Rattle.same_text.proofs.UnlinedPassed.{drop_unlined, length_unlined, take_unlined}
 
 -- ---- the bounds
 

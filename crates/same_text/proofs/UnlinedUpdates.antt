@@ -15,7 +15,8 @@ use Rattle.c_grammar.specs.Presence.{goes_on, opens_part}
 use Rattle.c_grammar.specs.Updates.{BySign, ByExtreme, Extreme, Inside, OnRegion, Onward, Operation, Outside, Reduction, Region, again, again_at, all_mapped, allowed, allowed_at, allowed_on, are_summed, atomic_tokens, begins_with, behind, changed, changed_behind, changing, clause_on, commuting, directive_on, equal, extreme_at, extreme_of, flat, has_extreme, has_update, is_assigned, is_atomic, is_by, is_changed, is_combined, is_commuting, is_compare, is_extreme, is_gathered, is_named, is_reduced, is_round, is_short, is_summed, is_taken, is_updated, lexemes, line_on, mapped_words, mark_at, marked, mention, named_update, none_mapped, other, place_len, reduced, reduction_at, sign_at, summed, taken, taken_at, token_on, update, with_names}
 use Rattle.same_text.specs.Laws.{unlined}
 use Rattle.same_text.proofs.Unlined.{AreUnlined, all_unlined, bare_unlined, one}
-use Rattle.same_text.proofs.UnlinedCalls.{drop_unlined, index_same, length_unlined, take_unlined}
+use Rattle.same_text.proofs.UnlinedCalls.{index_same}
+use Rattle.same_text.proofs.UnlinedPassed.{drop_unlined, length_unlined, take_unlined}
 use Rattle.same_text.proofs.UnlinedPresence.{goes_unlined, same_if}
 
 -- ---- updates of a cell or a scalar

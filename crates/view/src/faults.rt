@@ -91,6 +91,9 @@ fn add_edit(page: &mut Page, edit: &Edit) -> Result<(), AllocError> {
         page.add_bytes(old)?;
         page.add("</code>\n")?;
     }
+    if edit.count == 0 {
+        return Ok(());
+    }
     page.add("<code class=new>+ ")?;
     page.add_bytes(&edit.new)?;
     page.add("</code>\n")

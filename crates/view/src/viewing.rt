@@ -11,11 +11,11 @@ use crate::scene::{LoopNames, Scene, arrays_of, kept_of};
 use base::fault::{CheckFault, OutlineFault, ReadFault, SourceFault};
 use base::tree::Program;
 use c_read::read_program;
-use explain::{all_told, place_told, warnings_of};
-use mapcheck::check;
+use explain::{all_told, place_told, text_told, warnings_of};
+use mapcheck::checked;
 use outline::{Outlined, outline};
 use pipeline::tell;
-use reasons::{Diagnosis, text_diagnosis, too_many};
+use reasons::{Diagnosis, too_many};
 use rendering::Told;
 use std::alloc::{AllocError, Global};
 use std::io;
@@ -90,15 +90,18 @@ fn view_outlined<W: Write>(
     ensures accepted { IfOk result (λ w. OnOk w (IsAccepted (plan outlined.now))) }
     ensures fault { IfErr result (IsUnaccepted outlined.now) }
 {
-    let fault = match check(source.alloc, outlined) {
+    let refused = match checked(source.alloc, outlined) {
         Ok(accepted) => {
             accepted.is_accepted();
             return Ok(source.write_accepted(outlined, out));
         }
-        Err(CheckFault::OutOfMemory) => return Err(SourceFault::Check(CheckFault::OutOfMemory)),
-        Err(fault) => fault,
+        Err(refused) => refused,
     };
-    let told = all_told(source.alloc, source.bytes, outlined, &fault);
+    let fault = refused.fault();
+    if matches!(fault, CheckFault::OutOfMemory) {
+        return Err(SourceFault::Check(fault));
+    }
+    let told = all_told(source.alloc, source.bytes, outlined, &refused);
     match source.write_told(outlined, told, out) {
         Ok(()) => Err(SourceFault::Check(fault)),
         Err(error) => Ok(Err(error)),
@@ -117,7 +120,7 @@ fn view_text<W: Write>(
     let ReadFault::Text(text) = fault else {
         return Err(SourceFault::Read(fault));
     };
-    let told = text_diagnosis(source.alloc, source.bytes, &text);
+    let told = text_told(source.alloc, source.bytes, &text);
     match source.write_one(told, out) {
         Ok(()) => Err(SourceFault::Read(fault)),
         Err(error) => Ok(Err(error)),

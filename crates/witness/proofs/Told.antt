@@ -7,7 +7,7 @@ use Rattle.std.specs.Io.KnownBytes.{Appends}
 use Rattle.std.proofs.KnownBytes.{Appends-nil, Appends-trans}
 use Rattle.base.specs.declared.item.Answer.{Answer}
 use Rattle.witness.specs.declared.trial.Witness.{Witness}
-use Rattle.witness.specs.Texts.{comma_list, difference_bytes, difference_from, difference_line, end_bytes, front_line, list_option, order_line, prefixed, run_bytes, runs_from, runs_list, runs_option, stop_line, turns_line, witness_bytes}
+use Rattle.witness.specs.Texts.{comma_list, command_line, difference_bytes, difference_from, difference_line, end_bytes, front_line, list_option, order_line, prefixed, run_bytes, runs_from, runs_list, runs_option, stop_line, turns_line, witness_bytes}
 
 -- what is appended is the front of a text of which the rest is still to be written
 pub record IsFront (old new : Option (List ℕ)) (all rest : List ℕ) : Type 0 where
@@ -101,14 +101,12 @@ front_ends (Ok x) a b c all rest f w =
     subst (λ (xs : List ℕ). Appends a c xs) f.whole (Appends-trans a b c f.told rest f.appended w)
 front_ends (Err e) a b c all rest f w = tt
 
-runs_bytes : (word xs : List ℕ) → false ≡ (length xs == 0) → word ++ runs_list xs ≡ runs_option word xs
-runs_bytes word [] h = cc
-runs_bytes word (x ∷ xs) h = refl
-
-pub runs_written : {X E : Type 0} (r : Result X E) (a b c : Option (List ℕ)) (word xs : List ℕ) → false ≡ (length xs == 0) → Appends a b word
-    → OnOk r (Appends b c (runs_list xs)) → OnOk r (Appends a c (runs_option word xs))
-runs_written r a b c word xs h f s =
-    subst (λ (text : List ℕ). OnOk r (Appends a c text)) (runs_bytes word xs h) (then_on r a b c word (runs_list xs) f s)
+-- a list behind its word, and the mark behind it
+pub runs_written : {X E : Type 0} (r : Result X E) (a b c d : Option (List ℕ)) (word xs : List ℕ) (n : ℕ) (ns : List ℕ) → xs ≡ n ∷ ns
+    → Appends a b word → Appends b c (runs_from n 1 ns) → OnOk r (Appends c d (codes "'")) → OnOk r (Appends a d (runs_option word xs))
+runs_written r a b c d word xs n ns e f s w =
+    subst (λ (ys : List ℕ). OnOk r (Appends a d (runs_option word ys))) (sym e)
+    (then_on r a b d word (runs_from n 1 ns ++ codes "'") f (then_on r b c d (runs_from n 1 ns) (codes "'") s w))
 
 -- a byte more that two texts have in common
 pub common_byte : (n b : ℕ) (own other xs ys left right : List ℕ) → left ≡ b ∷ xs → right ≡ b ∷ ys → (b == 10) ≡ false
@@ -136,15 +134,15 @@ difference_written r a b c d e f n own other head is s1 s2 s3 s4 s5 =
     ∙ ap (λ (xs : List ℕ). codes "first difference line " ++ xs) (append_assoc (decimal n) (codes ": ") from2)))
     (then_on r a b f head from2 s1 r2)
 
-pub all_written : {X E : Type 0} (r : Result X E) (z a b c d e f v g u h i j k : Option (List ℕ))
-    (name : List ℕ) (w : Witness) (plain : Answer) (c1 t1 c2 t2 word o1 o2 call c3 t3 : List ℕ) → c1 ≡ w.choices.items → t1 ≡ w.turns.items
+pub all_written : {X E : Type 0} (r : Result X E) (z a b c d e f v g u k : Option (List ℕ))
+    (name : List ℕ) (w : Witness) (plain : Answer) (c1 t1 c2 t2 word o1 o2 own c3 t3 : List ℕ) → c1 ≡ w.choices.items → t1 ≡ w.turns.items
     → c2 ≡ w.choices.items → t2 ≡ w.turns.items → word ≡ codes "erased output " → o1 ≡ plain.out.items → o2 ≡ plain.out.items
-    → call ≡ codes "ompc step --fine " ++ name → c3 ≡ w.choices.items → t3 ≡ w.turns.items
+    → own ≡ name → c3 ≡ w.choices.items → t3 ≡ w.turns.items
     → Appends z a (order_line c1 t1) → Appends a b (codes "choices") → Appends b c (runs_list c2) → Appends c d (codes "\n") → Appends d e (turns_line t2)
-    → Appends e f (end_bytes w.end) → Appends f v (stop_line w.stop) → Appends v g (prefixed word true o1) → Appends g u (difference_line w.end o2) → Appends u h call
-    → Appends h i (runs_option (codes " --choice-runs") c3) → Appends i j (list_option (codes " --turns") t3) → OnOk r (Appends j k (codes "\n"))
+    → Appends e f (end_bytes w.end) → Appends f v (stop_line w.stop) → Appends v g (prefixed word true o1) → Appends g u (difference_line w.end o2)
+    → OnOk r (Appends u k (command_line own c3 t3))
     → OnOk r (Appends z k (witness_bytes name w plain))
-all_written r z a b c d e f v g u h i j k name w plain c1 t1 c2 t2 word o1 o2 call c3 t3 e1 e2 e3 e4 e5 e6 e7 is e9 e10 p0 s1 p2 s3 p4 s5 sv p6 p7 s8 p9 p10 s11 =
+all_written r z a b c d e f v g u k name w plain c1 t1 c2 t2 word o1 o2 own c3 t3 e1 e2 e3 e4 e5 e6 e7 e8 e9 e10 p0 s1 p2 s3 p4 s5 sv p6 p7 p8 =
     let list : List ℕ = w.choices.items in
     let order : List ℕ = w.turns.items in
     let s0 : Appends z a (order_line list order) =
@@ -154,12 +152,11 @@ all_written r z a b c d e f v g u h i j k name w plain c1 t1 c2 t2 word o1 o2 ca
     let s6 : Appends v g (prefixed (codes "erased output ") true plain.out.items) =
     subst (λ (xs : List ℕ). Appends v g (prefixed (codes "erased output ") true xs)) e6 (subst (λ (xs : List ℕ). Appends v g (prefixed xs true o1)) e5 p6) in
     let s7 : Appends g u (difference_line w.end plain.out.items) = subst (λ (xs : List ℕ). Appends g u (difference_line w.end xs)) e7 p7 in
-    let s9 : Appends h i (runs_option (codes " --choice-runs") list) = subst (λ (xs : List ℕ). Appends h i (runs_option (codes " --choice-runs") xs)) e9 p9 in
-    let s10 : Appends i j (list_option (codes " --turns") order) = subst (λ (xs : List ℕ). Appends i j (list_option (codes " --turns") xs)) e10 p10 in
-    let t8 : Appends u h (codes "ompc step --fine " ++ name) = subst (λ (xs : List ℕ). Appends u h xs) is s8 in
-    let from9 : List ℕ = list_option (codes " --turns") order ++ codes "\n" in
-    let from8 : List ℕ = runs_option (codes " --choice-runs") list ++ from9 in
-    let from7 : List ℕ = codes "ompc step --fine " ++ (name ++ from8) in
+    let from7 : List ℕ = command_line name list order in
+    let r8 : OnOk r (Appends u k from7) =
+    subst (λ (xs : List ℕ). OnOk r (Appends u k (command_line name list xs))) e10
+    (subst (λ (xs : List ℕ). OnOk r (Appends u k (command_line name xs t3))) e9
+    (subst (λ (xs : List ℕ). OnOk r (Appends u k (command_line xs c3 t3))) e8 p8)) in
     let from6 : List ℕ = difference_line w.end plain.out.items ++ from7 in
     let from5 : List ℕ = prefixed (codes "erased output ") true plain.out.items ++ from6 in
     let fromv : List ℕ = stop_line w.stop ++ from5 in
@@ -168,11 +165,6 @@ all_written r z a b c d e f v g u h i j k name w plain c1 t1 c2 t2 word o1 o2 ca
     let from2 : List ℕ = codes "\n" ++ from3 in
     let from1 : List ℕ = runs_list list ++ from2 in
     let from0 : List ℕ = codes "choices" ++ from1 in
-    let r10 : OnOk r (Appends i k from9) = then_on r i j k (list_option (codes " --turns") order) (codes "\n") s10 s11 in
-    let r9 : OnOk r (Appends h k from8) = then_on r h i k (runs_option (codes " --choice-runs") list) from9 s9 r10 in
-    let r8 : OnOk r (Appends u k from7) =
-    subst (λ (xs : List ℕ). OnOk r (Appends u k xs)) (append_assoc (codes "ompc step --fine ") name from8)
-    (then_on r u h k (codes "ompc step --fine " ++ name) from8 t8 r9) in
     let r7 : OnOk r (Appends g k from6) = then_on r g u k (difference_line w.end plain.out.items) from7 s7 r8 in
     let r6 : OnOk r (Appends v k from5) = then_on r v g k (prefixed (codes "erased output ") true plain.out.items) from6 s6 r7 in
     let rv : OnOk r (Appends f k fromv) = then_on r f v k (stop_line w.stop) from5 sv r6 in

@@ -7,6 +7,7 @@ use Rattle.base.specs.declared.item.Section.{Section}
 use Rattle.actions.specs.declared.action.Action.{Action}
 use Rattle.actions.specs.declared.action.Action.TheVariants.{Load, Store, Combine, Enter, Leave, Remove, CopyIn, CopyOut}
 use Rattle.stepper.specs.declared.stops.Stop.{Stop}
+use Rattle.witness.specs.Shell.{is_dashed, shell_word}
 use Rattle.witness.specs.declared.stopped.Stopped.{Stopped}
 use Rattle.witness.specs.declared.trial.Ended.{Ended}
 use Rattle.witness.specs.declared.trial.Ended.TheVariants.{Absent, Done}
@@ -37,9 +38,10 @@ abbrev pub runs_list : List ℕ → List ℕ
 runs_list [] = []
 runs_list (n ∷ ns) = codes " " ++ runs_from n 1 ns
 
+-- behind a word that ends with a quotation mark, since shells take a star for a pattern
 abbrev pub runs_option : List ℕ → List ℕ → List ℕ
 runs_option word [] = []
-runs_option word (n ∷ ns) = word ++ runs_list (n ∷ ns)
+runs_option word (n ∷ ns) = word ++ (runs_from n 1 ns ++ codes "'")
 
 -- what is said where the run by no choices differs: later items need not go first
 abbrev pub order_line : List ℕ → List ℕ → List ℕ
@@ -115,6 +117,18 @@ abbrev pub turns_line : List ℕ → List ℕ
 turns_line [] = []
 turns_line (n ∷ ns) = codes "turns" ++ (comma_list (codes " ") (n ∷ ns) ++ codes "\n")
 
+-- the options of the command that makes a run again, and where the name of its source stands: behind them, and behind two
+-- dashes, where it could be taken for an option
+abbrev pub options : List ℕ → List ℕ → List ℕ
+options choices turns = runs_option (codes " --choice-runs '") choices ++ list_option (codes " --turns") turns
+
+abbrev pub named : List ℕ → List ℕ → List ℕ
+named name options =
+    if is_dashed name then options ++ (codes " -- " ++ shell_word name) else codes " " ++ (shell_word name ++ options)
+
+abbrev pub command_line : List ℕ → List ℕ → List ℕ → List ℕ
+command_line name choices turns = codes "ompc step --fine" ++ (named name (options choices turns) ++ codes "\n")
+
 -- the choices and the order of turns, both outputs or where the run stops, their first difference, and the command that makes
 -- the run again
 abbrev pub witness_bytes : List ℕ → Witness → Answer → List ℕ
@@ -122,8 +136,7 @@ witness_bytes name w plain =
     order_line w.choices.items w.turns.items ++ (codes "choices" ++ (runs_list w.choices.items ++ (codes "\n"
     ++ (turns_line w.turns.items ++ (end_bytes w.end ++ (stop_line w.stop
     ++ (prefixed (codes "erased output ") true plain.out.items ++ (difference_line w.end plain.out.items
-    ++ (codes "ompc step --fine " ++ (name ++ (runs_option (codes " --choice-runs") w.choices.items
-    ++ (list_option (codes " --turns") w.turns.items ++ codes "\n"))))))))))))
+    ++ command_line name w.choices.items w.turns.items))))))))
 
 -- that no run of an accepted program differs, and that none of the 512 tries does
 abbrev pub accepted_line : List ℕ

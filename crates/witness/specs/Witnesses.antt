@@ -11,9 +11,10 @@ use Rattle.actions.specs.declared.action.Action.{Action}
 use Rattle.actions.specs.declared.action.Action.TheVariants.{Load, Store, Combine, Enter, Leave, Remove, CopyIn, CopyOut}
 use Rattle.c_read.specs.Spells.{Spells}
 use Rattle.erasure.specs.Erased.{erased_text}
-use Rattle.pipeline.specs.Checking.{IsRefusedProgram}
+use Rattle.mapcheck.specs.Passes.{IsCheckFault}
 use Rattle.pipeline.specs.Fine.{IsFineSourceAnswer, IsFineSourceFault}
 use Rattle.report.specs.Listing.{name_of}
+use Rattle.stepper.specs.Answering.{AreShown}
 use Rattle.stepper.specs.Stops.{IsStop}
 use Rattle.witness.specs.declared.stopped.Stopped.{Stopped}
 use Rattle.witness.specs.declared.trial.Ended.{Ended}
@@ -22,8 +23,9 @@ use Rattle.witness.specs.declared.trial.Run.{Run as RunOutcome}
 use Rattle.witness.specs.declared.trial.Run.TheVariants.{Ended as EndedSo, Full}
 use Rattle.witness.specs.declared.trial.Trials.{Trials}
 use Rattle.witness.specs.declared.trial.Witness.{Witness}
-use Rattle.witness.specs.declared.search.Finding.{Finding}
-use Rattle.witness.specs.declared.search.Finding.TheVariants as finding
+use Rattle.witness.specs.declared.search.Found.{Found}
+use Rattle.witness.specs.declared.search.Judged.{Judged}
+use Rattle.witness.specs.declared.search.Judged.TheVariants as judged
 
 -- what the run of a source by these choices and this order of turns, action by action, ends with
 abbrev pub IsEnd : List ℕ → List ℕ → List ℕ → List ℕ → ℕ → Ended → Type 0
@@ -76,14 +78,11 @@ pub record IsWitness (bytes input : List ℕ) (capacity : ℕ) (w : Witness) (pl
   pub spelled : Spells bytes program
   pub told : IsTold program input w.choices.items w.turns.items capacity w.end w.stop
 
--- the bytes spell a program that is accepted
-pub record IsAcceptedSource (bytes : List ℕ) : Type 0 where
-  pub program : Program
-  pub spelled : Spells bytes program
-  pub accepted : IsAccepted (plan program)
+abbrev pub IsFound : List ℕ → List ℕ → ℕ → Found → Type 0
+IsFound bytes input capacity f = IsWitness bytes input capacity f.witness f.plain
 
-abbrev pub IsFinding : List ℕ → List ℕ → ℕ → Finding → Type 0
-IsFinding bytes input capacity (finding.Differs w plain) = IsWitness bytes input capacity w plain
-IsFinding bytes input capacity finding.None = ⊤
-IsFinding bytes input capacity finding.Accepted = IsAcceptedSource bytes
-IsFinding bytes input capacity (finding.OutOfRange f) = IsRefusedProgram bytes f
+-- a program is accepted, or has a fault of range, or is refused otherwise, and then no array of it is shown
+abbrev pub IsJudged : Program → Judged → Type 0
+IsJudged p judged.Accepted = IsAccepted (plan p)
+IsJudged p (judged.OutOfRange f) = IsCheckFault (plan p) f
+IsJudged p (judged.Wrong meeting) = AreShown p []

@@ -7,21 +7,20 @@ ghost use Rattle.base.specs.Limits.{most_items};
 ghost use Rattle.c_read.specs.Spells.{Spells};
 ghost use Rattle.mapcheck.specs.Passes.{IsCheckFault};
 ghost use Rattle.mapwalk.specs.Walk.{HasNoRangeFault};
-ghost use Rattle.pipeline.specs.Checking.{IsRefused};
 ghost use Rattle.stepper.specs.Answering.{AreShown};
-ghost use Rattle.witness.specs.Witnesses.{IsFinding, IsToldOf, IsTrial};
+ghost use Rattle.witness.specs.Witnesses.{IsFound, IsJudged, IsToldOf, IsTrial};
 
 use crate::lists::{drawn_list, last_first};
 use crate::orders::{drawn_order, orders, turns_that_meet};
 use crate::shorten::{MOST_CUTS, shorten};
 use crate::stopped::failed_action;
 use crate::trial::{Budget, Trials, Witness, try_lists};
-use base::fault::{CheckFault, ReadFault, SourceFault};
+use base::fault::CheckFault;
 use base::item::Answer;
 use erasure::erase;
 use mapcheck::check;
 use outline::Outlined;
-use pipeline::{Loaded, items, read, run_source_fine};
+use pipeline::{Loaded, run_source_fine};
 use std::alloc::{AllocError, Global};
 
 /// The most runs that are tried.
@@ -30,17 +29,22 @@ pub const MOST_TRIES: usize = 512;
 /// Once the runs had so many events together, none is tried any more.
 pub const MOST_EVENTS: usize = 16_777_216;
 
-/// What a search finds.
-#[derive(Drop)]
-pub enum Finding {
-    /// A run that differs, and what the source prints without its directives.
-    Differs(Witness, Answer),
-    /// No lists that were tried make a run that differs.
-    None,
-    /// The program is accepted, so that no run differs.
+/// What is known of a program before it is run.
+#[derive(Clone, Copy, Debug)]
+pub enum Judged {
+    /// It is accepted, so that no run differs.
     Accepted,
-    /// The program has a fault of range, and is not run.
+    /// It has a fault of range, and is not run.
     OutOfRange(CheckFault),
+    /// It is refused otherwise. Where that is so because two turns of a kernel meet, this is how many it has.
+    Wrong(Option<u64>),
+}
+
+/// A run that differs, and what the source prints without its directives.
+#[derive(Drop)]
+pub struct Found {
+    pub witness: Witness,
+    pub plain: Answer,
 }
 
 // Choices and an order of turns, by a number that says which: where no turns meet choices alone, else by every second
@@ -167,43 +171,6 @@ fn search_and_shorten(
     Ok(Some(with_stop(trials, outlined, found)?))
 }
 
-// What is found of a program that is refused without a fault of range, so that no array is shown. Where two turns of a
-// kernel meet, `meeting` is how many it has.
-fn find(
-    alloc: Global,
-    bytes: &[u8],
-    outlined: &Outlined<'_>,
-    input: &[u64],
-    capacity: u64,
-    meeting: Option<u64>,
-) -> Result<Finding, SourceFault>
-    requires spelled { Spells bytes.now outlined.now }
-    requires few { length (plan outlined.now).items ≤ most_items }
-    requires shown { AreShown outlined.now [] }
-    ensures found { IfOk result (IsFinding bytes.now input.now capacity) }
-    ensures fault { IfErr result (IsRefused bytes.now) }
-{
-    let Ok(erased) = erase(alloc, bytes) else {
-        return Err(SourceFault::Read(ReadFault::OutOfMemory));
-    };
-    let Ok(plain) = run_source_fine(alloc, &erased, input, &[], &[], capacity) else {
-        return Err(SourceFault::Read(ReadFault::OutOfMemory));
-    };
-    let source = Loaded::new(alloc, bytes, outlined, &[]);
-    let trials = Trials {
-        alloc,
-        source: &source,
-        input,
-        capacity,
-        plain: &plain.out,
-    };
-    match search_and_shorten(trials, outlined, meeting) {
-        Ok(Some(found)) => Ok(Finding::Differs(found, plain)),
-        Ok(None) => Ok(Finding::None),
-        Err(_) => Err(SourceFault::Read(ReadFault::OutOfMemory)),
-    }
-}
-
 // Whether a program is accepted, whatever the borrows that are in it outlive.
 fn checked(alloc: Global, outlined: &Outlined<'_>) -> Result<(), CheckFault>
     ensures accepted { OnOk result (IsAccepted (plan outlined.now)) }
@@ -218,35 +185,59 @@ fn checked(alloc: Global, outlined: &Outlined<'_>) -> Result<(), CheckFault>
     }
 }
 
+/// Whether a program has runs that may differ, which takes no input.
+pub fn judge(alloc: Global, outlined: &Outlined<'_>) -> Result<Judged, AllocError>
+    ensures { IfOk result (IsJudged outlined.now) }
+{
+    match checked(alloc, outlined) {
+        Ok(()) => Ok(Judged::Accepted),
+        Err(CheckFault::OutOfMemory) => Err(AllocError),
+        Err(CheckFault::Range { item, fault }) => {
+            Ok(Judged::OutOfRange(CheckFault::Range { item, fault }))
+        }
+        Err(CheckFault::Order(_)) => Ok(Judged::Wrong(None)),
+        Err(CheckFault::Refused(refusal)) => {
+            Ok(Judged::Wrong(turns_that_meet(outlined, &refusal)))
+        }
+    }
+}
+
 /// Looks for choices and an order of turns by which the run of a program that is refused, action by action, prints something
-/// else than the source does without its directives, or stops because a cell is not on the device. It tries at most
-/// [`MOST_TRIES`] runs, and none once they had [`MOST_EVENTS`] events: that by no choices; where the program is refused
-/// because two turns meet, runs in which one turn of each kernel goes before the others; one that lets later items go
-/// first; and runs by lists that a generator with fixed seeds draws. The lists that are found are made shorter, by at most
-/// [`MOST_CUTS`] runs. Runs in which a device is full say nothing. The fault is that of the text or of the number of items;
-/// want of memory may come in place of any answer.
-#[tactic(auto, using(pipeline::proofs::Texts::unlisted_refused))]
-pub fn witness(
+/// else than the source does without its directives, or stops because a cell is not on the device. `meeting` is what
+/// [`judge`] tells. It tries at most [`MOST_TRIES`] runs, and none once they had [`MOST_EVENTS`] events: that by no choices;
+/// where the program is refused because two turns meet, runs in which one turn of each kernel goes before the others; one
+/// that lets later items go first; and runs by lists that a generator with fixed seeds draws. The lists that are found are
+/// made shorter, by at most [`MOST_CUTS`] runs. Runs in which a device is full say nothing. The error is want of memory.
+pub fn find(
     alloc: Global,
     bytes: &[u8],
+    outlined: &Outlined<'_>,
     input: &[u64],
     capacity: u64,
-) -> Result<Finding, SourceFault>
-    ensures found { IfOk result (IsFinding bytes.now input.now capacity) }
-    ensures fault { IfErr result (IsRefused bytes.now) }
+    meeting: Option<u64>,
+) -> Result<Option<Found>, AllocError>
+    requires spelled { Spells bytes.now outlined.now }
+    requires few { length (plan outlined.now).items ≤ most_items }
+    requires shown { AreShown outlined.now [] }
+    ensures { IfOk result (λ found. IfSome found (IsFound bytes.now input.now capacity)) }
 {
-    let program = read(alloc, bytes)?;
-    let outlined = items(alloc, &program)?;
-    match checked(alloc, &outlined) {
-        Ok(()) => Ok(Finding::Accepted),
-        Err(CheckFault::OutOfMemory) => Err(SourceFault::Read(ReadFault::OutOfMemory)),
-        Err(CheckFault::Range { item, fault }) => {
-            Ok(Finding::OutOfRange(CheckFault::Range { item, fault }))
-        }
-        Err(CheckFault::Order(_)) => find(alloc, bytes, &outlined, input, capacity, None),
-        Err(CheckFault::Refused(refusal)) => {
-            let meeting = turns_that_meet(&outlined, &refusal);
-            find(alloc, bytes, &outlined, input, capacity, meeting)
-        }
+    let Ok(erased) = erase(alloc, bytes) else {
+        return Err(AllocError);
+    };
+    let Ok(plain) = run_source_fine(alloc, &erased, input, &[], &[], capacity) else {
+        return Err(AllocError);
+    };
+    let source = Loaded::new(alloc, bytes, outlined, &[]);
+    let trials = Trials {
+        alloc,
+        source: &source,
+        input,
+        capacity,
+        plain: &plain.out,
+    };
+    match search_and_shorten(trials, outlined, meeting) {
+        Ok(Some(witness)) => Ok(Some(Found { witness, plain })),
+        Ok(None) => Ok(None),
+        Err(error) => Err(error),
     }
 }

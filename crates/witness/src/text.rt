@@ -3,9 +3,10 @@
 ghost use Rattle.std.specs.Prelude.{◌≡◌, ◌≤◌, ◌++◌, ◌∷◌, [], List, MatchOption, OnOk, codes, if◌then◌else◌, length, true, ℕ};
 ghost use Rattle.std.specs.List.{prefix_len};
 ghost use Rattle.std.specs.Io.KnownBytes.{Appends};
-ghost use Rattle.witness.specs.Texts.{accepted_line, action_text, cell_text, comma_list, difference_bytes, difference_from, difference_line, end_bytes, is_no_feed, front_line, list_option, none_line, order_line, prefixed, run_bytes, runs_list, runs_option, section_text, side_text, stop_line, told_line, turns_line, witness_bytes};
+ghost use Rattle.witness.specs.Texts.{accepted_line, action_text, cell_text, comma_list, command_line, difference_bytes, difference_from, difference_line, end_bytes, is_no_feed, front_line, list_option, named, none_line, options, order_line, prefixed, run_bytes, runs_from, runs_list, runs_option, section_text, side_text, stop_line, told_line, turns_line, witness_bytes};
 
 use crate::search::MOST_TRIES;
+use crate::shell::{is_dashed, word_text};
 use crate::stopped::Stopped;
 use crate::trial::{Ended, Witness};
 use actions::Action;
@@ -47,14 +48,10 @@ fn first_of(list: &[u32]) -> Option<(u32, &[u32])>
     }
 }
 
-// The numbers with commas between them, equal ones that follow each other once, and a blank before the first.
-fn runs_text<W: Write>(list: &[u32], out: &mut W) -> io::Result<()>
-    ensures { OnOk result (Appends (W.contents out.old) (W.contents out.new) (runs_list list.now)) }
+// Numbers with commas between them, of which equal ones that follow each other are written once.
+fn runs_from<W: Write>(first: u32, behind: &[u32], out: &mut W) -> io::Result<()>
+    ensures { OnOk result (Appends (W.contents out.old) (W.contents out.new) (runs_from first 1 behind.now)) }
 {
-    let Some((first, behind)) = first_of(list) else {
-        return Ok(());
-    };
-    write!(out, " ")?;
     let (mut number, mut times) = (first, 1usize);
     let mut rest = behind;
     'numbers: while let Some((next, more)) = first_of(rest) {
@@ -70,15 +67,27 @@ fn runs_text<W: Write>(list: &[u32], out: &mut W) -> io::Result<()>
     run_text(number, times, out)
 }
 
-// An option that gives such a list; nothing where that is empty.
+// The same, and a blank before the first.
+fn runs_text<W: Write>(list: &[u32], out: &mut W) -> io::Result<()>
+    ensures { OnOk result (Appends (W.contents out.old) (W.contents out.new) (runs_list list.now)) }
+{
+    let Some((first, behind)) = first_of(list) else {
+        return Ok(());
+    };
+    write!(out, " ")?;
+    runs_from(first, behind, out)
+}
+
+// An option that gives such a list, behind its word and a quotation mark; nothing where the list is empty.
 fn runs_option<W: Write>(word: &str, list: &[u32], out: &mut W) -> io::Result<()>
     ensures { OnOk result (Appends (W.contents out.old) (W.contents out.new) (runs_option word.now list.now)) }
 {
-    if list.is_empty() {
+    let Some((first, behind)) = first_of(list) else {
         return Ok(());
-    }
+    };
     write!(out, "{word}")?;
-    runs_text(list, out)
+    runs_from(first, behind, out)?;
+    write!(out, "'")
 }
 
 // That the run by no choices differs.
@@ -281,6 +290,41 @@ fn turns_line<W: Write>(turns: &[u32], out: &mut W) -> io::Result<()>
     writeln!(out)
 }
 
+fn options<W: Write>(choices: &[u32], turns: &[u32], out: &mut W) -> io::Result<()>
+    ensures { OnOk result (Appends (W.contents out.old) (W.contents out.new) (options choices.now turns.now)) }
+{
+    runs_option(" --choice-runs '", choices, out)?;
+    list_option(" --turns", turns, out)
+}
+
+// The name of a source and the options: behind them where it could be taken for one.
+fn named<W: Write>(name: &[u8], choices: &[u32], turns: &[u32], out: &mut W) -> io::Result<()>
+    ensures { OnOk result (Appends (W.contents out.old) (W.contents out.new) (named name.now (options choices.now turns.now))) }
+{
+    if is_dashed(name) {
+        options(choices, turns, out)?;
+        write!(out, " -- ")?;
+        return word_text(name, out);
+    }
+    write!(out, " ")?;
+    word_text(name, out)?;
+    options(choices, turns, out)
+}
+
+// The command that makes a run again.
+fn command_line<W: Write>(
+    name: &[u8],
+    choices: &[u32],
+    turns: &[u32],
+    out: &mut W,
+) -> io::Result<()>
+    ensures { OnOk result (Appends (W.contents out.old) (W.contents out.new) (command_line name.now choices.now turns.now)) }
+{
+    write!(out, "ompc step --fine")?;
+    named(name, choices, turns, out)?;
+    writeln!(out)
+}
+
 /// Writes a witness: whether it is the run in program order, the choices and the order of turns, what their run prints or
 /// the action at which it fails, what the source prints without its directives, the first line that differs, and a
 /// command that makes the run of the source of that name again. An error of the writer is answered, and ends the text.
@@ -301,10 +345,7 @@ pub fn witness_text<W: Write>(
     stop_line(&witness.stop, out)?;
     lines_text(b"erased output ".as_slice(), &plain.out, out)?;
     difference_line(&witness.end, &plain.out, out)?;
-    write!(out, "ompc step --fine {name}")?;
-    runs_option(" --choice-runs", &witness.choices, out)?;
-    list_option(" --turns", &witness.turns, out)?;
-    writeln!(out)
+    command_line(name.as_bytes(), &witness.choices, &witness.turns, out)
 }
 
 /// Writes, in one line, that a program is accepted, so that no run differs. An error of the writer is answered.

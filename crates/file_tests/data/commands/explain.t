@@ -62,6 +62,7 @@ empty_section.c:1:10: note: A has the cells 0 to 3
 empty_section.c:3:39: help: a section is FIRST:LENGTH; A[1:3] is what fits at most
     3 | #pragma omp target enter data map(to: A[1:0])
       |                                       ^~~~~~
+empty_section.c: no change found: steps 1, checks 1
 [1]
 $ ompc explain long_loop.c
 long_loop.c:2:1: error: the loops of this region have 1048577 turns together, and 1048576 is the most [E303]
@@ -135,6 +136,11 @@ left_twice.c:5:42: note: item 1 removed A[0] from device 0 here
     5 | #pragma omp target exit data map(delete: A)
       |                                          ^
 left_twice.c:5:42: help: take this line away: the block that ends at line 6 leaves A[0:2] there
+left_twice.c:5:1: help: this change is accepted
+--- left_twice.c
++++ left_twice.c
+@@ -5 +4,0 @@
+-#pragma omp target exit data map(delete: A)
 [1]
 $ ompc explain left_already.c
 left_already.c:5:42: error: `target exit data` leaves A[0:4], which is not on device 0 [E502]
@@ -146,11 +152,33 @@ left_already.c:4:40: note: item 1 removed A[0] from device 0 here
 left_already.c:5:42: help: item 1 left A[0:4] at line 4 already: take this line away
     5 | #pragma omp target exit data map(delete: A)
       |                                          ^
-left_already.c:4:1: help: this change is accepted
+left_already.c:5:1: help: this change is accepted
 --- left_already.c
 +++ left_already.c
-@@ -3,0 +4 @@
-+#pragma omp target enter data map(to: A)
+@@ -5 +4,0 @@
+-#pragma omp target exit data map(delete: A)
+[1]
+$ ompc explain left_with_another.c
+left_with_another.c:6:40: error: `target exit data` leaves A[0:4], which is not on device 0 [E502]
+    6 | #pragma omp target exit data map(from: A, B)
+      |                                        ^
+left_with_another.c:5:40: note: item 1 removed A[0] from device 0 here
+    5 | #pragma omp target exit data map(from: A)
+      |                                        ^
+left_with_another.c:6:40: help: item 1 left A[0:4] at line 5 already: take this map item away
+    6 | #pragma omp target exit data map(from: A, B)
+      |                                        ^
+left_with_another.c:6:1: help: this change is accepted
+--- left_with_another.c
++++ left_with_another.c
+@@ -6 +6 @@
+-#pragma omp target exit data map(from: A, B)
++#pragma omp target exit data map(from: B)
+@@ -8 +8 @@
+-#pragma omp target exit data \
++
+@@ -9 +8,0 @@
+-    map(release: A)
 [1]
 $ ompc explain left_before_the_next_turn.c
 left_before_the_next_turn.c:7:40: error: `target exit data` leaves A[0:4], which is not on device 0 (in the turn t = 1) [E502]
@@ -165,8 +193,10 @@ left_before_the_next_turn.c:7:40: help: this line left A[0:4] in an earlier turn
 left_before_the_next_turn.c:7:1: help: this change is accepted
 --- left_before_the_next_turn.c
 +++ left_before_the_next_turn.c
-@@ -6,0 +7 @@
-+#pragma omp target enter data map(to: A)
+@@ -7 +6,0 @@
+-#pragma omp target exit data map(from: A)
+@@ -8,0 +8 @@
++#pragma omp target exit data map(from: A)
 [1]
 $ ompc explain update_alone.c
 update_alone.c:3:30: error: `target update` copies A[0:4], which is not on device 0 [E503]
@@ -232,6 +262,15 @@ both_one_short.c:3:37: note: A[0:7] is on device 0 since item 0, which entered i
     3 | #pragma omp target data map(tofrom: A[0:7])
       |                                     ^~~~~~
 both_one_short.c:3:37: help: widen the section here to A[0:8] too
+both_one_short.c:3:1: help: this change is accepted
+--- both_one_short.c
++++ both_one_short.c
+@@ -3 +3 @@
+-#pragma omp target data map(tofrom: A[0:7])
++#pragma omp target data map(tofrom: A[0:8])
+@@ -5 +5 @@
+-#pragma omp target map(tofrom: A[0:7])
++#pragma omp target map(tofrom: A[0:8])
 [1]
 $ ompc explain present_alone.c
 present_alone.c:3:37: error: `map(present, to: A[0:4])` of the target says that A[0:4] is present, and it is not on device 0 [E509]
@@ -536,6 +575,11 @@ written_or_not_on_the_host.c:8:10: note: A[1] is written here, on the host, by i
 written_or_not_on_the_host.c:8:1: help: write `#pragma omp target update from(A)` before this, which copies it to the host
     8 | if (s) { A[1] = 7; }
       | ^~
+written_or_not_on_the_host.c:8:1: help: this change is accepted
+--- written_or_not_on_the_host.c
++++ written_or_not_on_the_host.c
+@@ -7,0 +8 @@
++#pragma omp target update from(A)
 [1]
 
 # turns that may run in any order, of which one writes what another one reads or writes
@@ -1057,6 +1101,7 @@ $ ompc explain halves.c --format json
   "file": "halves.c",
   "fixes": [],
   "more": 0,
+  "tried": null,
   "version": 1,
   "warnings": []
 }
@@ -1133,6 +1178,7 @@ $ ompc explain mapped_to_only.c --format json
     }
   ],
   "more": 0,
+  "tried": null,
   "version": 1,
   "warnings": []
 }
@@ -1169,6 +1215,7 @@ $ ompc explain undeclared.c --format json
   "file": "undeclared.c",
   "fixes": [],
   "more": 0,
+  "tried": null,
   "version": 1,
   "warnings": []
 }
@@ -1492,6 +1539,89 @@ $ ompc explain --format json stale_on_another_device.c
     }
   ],
   "more": 0,
+  "tried": null,
+  "version": 1,
+  "warnings": []
+}
+[1]
+
+# of two faults the first is mended by a type, and the other one by no change that is tried: how far it came is told
+$ ompc explain mended_in_part.c
+mended_in_part.c:6:7: error: the host reads A[1], whose last value is on device 0: nothing has copied it to the host since [E506]
+    6 | print(A[1]);
+      |       ^~~~
+mended_in_part.c:5:39: note: A[1] is written here, on device 0, by the target (item 0) (in the turn i = 1)
+    5 | for (uint64_t i = 0; i < 4; i += 1) { A[i] = i; }
+      |                                       ^~~~
+mended_in_part.c:4:28: note: `map(to: A[0:4])` of item 0 removes A[1] from device 0 here without copying it to the host
+    4 | #pragma omp target map(to: A)
+      |                            ^
+mended_in_part.c:4:28: help: write `tofrom` in place of `to` here, which copies it to the host
+mended_in_part.c: no change found: steps 3, checks 5; the best one came to E510 at line 7
+[1]
+$ ompc explain --format json mended_in_part.c
+{
+  "accepted": false,
+  "diagnostics": [
+    {
+      "array": "A",
+      "cell": 1,
+      "code": "E506",
+      "column": 7,
+      "end_column": 11,
+      "end_line": 6,
+      "item": 1,
+      "line": 6,
+      "loops": [],
+      "message": "the host reads A[1], whose last value is on device 0: nothing has copied it to the host since",
+      "notes": [
+        {
+          "column": 39,
+          "end_column": 43,
+          "end_line": 5,
+          "kind": "note",
+          "line": 5,
+          "loops": [
+            {
+              "name": "i",
+              "value": 1
+            }
+          ],
+          "message": "A[1] is written here, on device 0, by the target (item 0) (in the turn i = 1)"
+        },
+        {
+          "column": 28,
+          "end_column": 29,
+          "end_line": 4,
+          "kind": "note",
+          "line": 4,
+          "loops": [],
+          "message": "`map(to: A[0:4])` of item 0 removes A[1] from device 0 here without copying it to the host"
+        },
+        {
+          "column": 28,
+          "end_column": 29,
+          "end_line": 4,
+          "kind": "help",
+          "line": 4,
+          "loops": [],
+          "message": "write `tofrom` in place of `to` here, which copies it to the host"
+        }
+      ],
+      "rule": "the host reads current values alone"
+    }
+  ],
+  "file": "mended_in_part.c",
+  "fixes": [],
+  "more": 0,
+  "tried": {
+    "checks": 5,
+    "latest": {
+      "code": "E510",
+      "line": 7
+    },
+    "steps": 3
+  },
   "version": 1,
   "warnings": []
 }

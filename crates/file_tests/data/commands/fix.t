@@ -219,7 +219,33 @@ $ ompc fix an_item_many_times.c
 $ ompc fix cut_off.c
 ! E102 line 1 column 17
 [1]
-$ ompc fix left_twice.c
-! E502 item 2 A[0]
-! no change found: steps 1, checks 2
+$ ompc fix mended_in_part.c
+! E506 item 1 A[1]
+! no change found: steps 3, checks 5
 [1]
+
+# an exit too many goes: of a block that is left at its end, and of a section that was left before; one in each turn goes
+# behind the loop
+$ ompc fix left_twice.c
+uint64_t A[2];
+int main(void) {
+#pragma omp target data map(to: A)
+{
+}
+}
+$ ompc fix left_already.c
+uint64_t A[4];
+int main(void) {
+#pragma omp target enter data map(to: A)
+#pragma omp target exit data map(from: A)
+}
+$ ompc fix left_before_the_next_turn.c
+uint64_t A[4];
+int main(void) {
+#pragma omp target enter data map(to: A)
+for (uint64_t t = 0; t < 3; t += 1) {
+#pragma omp target
+for (uint64_t i = 0; i < 4; i += 1) { A[i] = A[i] + 1; }
+}
+#pragma omp target exit data map(from: A)
+}

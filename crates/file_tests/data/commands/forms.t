@@ -149,7 +149,40 @@ $ ompc explain forms/int_list.c
 forms/int_list.c:3:1: error: `int` cannot stand here [E102]
     3 | int i, n;
       | ^~~
-forms/int_list.c:3:1: help: the one type is `uint64_t`, also written `size_t`, `unsigned long` or `unsigned long long`, without other words before it; the name of a loop, a constant, `int k = i / 8;`, whose value is made of these and which nothing changes, and a scalar that counts or tells, `errors++` and `ok = a < b`, may be an `int`
+forms/int_list.c:4:31: note: an `int` is read where each value is seen to be from 0 to 2147483647, and this one is not
+    4 | for (i = 0; i < 4; i++) { n = A[i]; A[i] = n; }
+      |                               ^~~~
+forms/int_list.c:3:1: help: the one type is `uint64_t`, also written `size_t`, `unsigned long` or `unsigned long long`, without other words before it; `int` is read where each value that an `int` gets anywhere in the source is seen to be from 0 to 2^31 - 1: made of such numbers, of cells and names that are an `int` and of comparisons, without `-`, `~` and numbers of 64 bits
+    3 | int i, n;
+      | ^~~
+[1]
+$ ompc explain forms/int_values.c
+forms/int_values.c:1:5: error: `a` cannot stand here [E102]
+    1 | int a[4], b[4] = {1, -2};
+      |     ^~~~
+forms/int_values.c:1:22: note: an `int` is read where each value is seen to be from 0 to 2147483647, and this one is not
+    1 | int a[4], b[4] = {1, -2};
+      |                      ^
+forms/int_values.c:2:38: note: an `int` is read where each value is seen to be from 0 to 2147483647, and this one is not
+    2 | int distance(int x, int y) { int d = x - y; return d; }
+      |                                      ^
+forms/int_values.c:2:52: note: an `int` is read where each value is seen to be from 0 to 2147483647, and this one is not
+    2 | int distance(int x, int y) { int d = x - y; return d; }
+      |                                                    ^
+forms/int_values.c:1:5: help: the one type is `uint64_t`, also written `size_t`, `unsigned long` or `unsigned long long`, without other words before it; `int` is read where each value that an `int` gets anywhere in the source is seen to be from 0 to 2^31 - 1: made of such numbers, of cells and names that are an `int` and of comparisons, without `-`, `~` and numbers of 64 bits
+    1 | int a[4], b[4] = {1, -2};
+      |     ^~~~
+[1]
+$ ompc explain forms/int_steps.c
+forms/int_steps.c:4:1: error: `int` cannot stand here [E102]
+    4 | int n = 5;
+      | ^~~
+forms/int_steps.c:5:2: note: an `int` is read where each value is seen to be from 0 to 2147483647, and this one is not
+    5 | n--;
+      |  ^~
+forms/int_steps.c:4:1: help: the one type is `uint64_t`, also written `size_t`, `unsigned long` or `unsigned long long`, without other words before it; `int` is read where each value that an `int` gets anywhere in the source is seen to be from 0 to 2^31 - 1: made of such numbers, of cells and names that are an `int` and of comparisons, without `-`, `~` and numbers of 64 bits
+    4 | int n = 5;
+      | ^~~
 [1]
 $ ompc explain forms/two_names.c
 forms/two_names.c:2:11: error: `,` cannot stand here [E102]
@@ -239,7 +272,7 @@ $ ompc explain forms/size.c
 forms/size.c:2:1: error: `unsigned` is not declared here [E103]
     2 | unsigned x = 4;
       | ^~~~~~~~
-forms/size.c:2:1: help: the one type is `uint64_t`, also written `size_t`, `unsigned long` or `unsigned long long`, without other words before it; the name of a loop, a constant, `int k = i / 8;`, whose value is made of these and which nothing changes, and a scalar that counts or tells, `errors++` and `ok = a < b`, may be an `int`
+forms/size.c:2:1: help: the one type is `uint64_t`, also written `size_t`, `unsigned long` or `unsigned long long`, without other words before it; `int` is read where each value that an `int` gets anywhere in the source is seen to be from 0 to 2^31 - 1: made of such numbers, of cells and names that are an `int` and of comparisons, without `-`, `~` and numbers of 64 bits
 [1]
 
 # numbers and texts
@@ -630,5 +663,10 @@ $ ompc explain forms/no_temporary.c
 forms/no_temporary.c:3:35: error: `int` cannot stand here [E102]
     3 |     for (int i = 0; i < 8; i++) { int x = i + s; A[x % 8] = 1; }
       |                                   ^~~
-forms/no_temporary.c:3:35: help: the one type is `uint64_t`, also written `size_t`, `unsigned long` or `unsigned long long`, without other words before it; the name of a loop, a constant, `int k = i / 8;`, whose value is made of these and which nothing changes, and a scalar that counts or tells, `errors++` and `ok = a < b`, may be an `int`
+forms/no_temporary.c:3:43: note: an `int` is read where each value is seen to be from 0 to 2147483647, and this one is not
+    3 |     for (int i = 0; i < 8; i++) { int x = i + s; A[x % 8] = 1; }
+      |                                           ^
+forms/no_temporary.c:3:35: help: the one type is `uint64_t`, also written `size_t`, `unsigned long` or `unsigned long long`, without other words before it; `int` is read where each value that an `int` gets anywhere in the source is seen to be from 0 to 2^31 - 1: made of such numbers, of cells and names that are an `int` and of comparisons, without `-`, `~` and numbers of 64 bits
+    3 |     for (int i = 0; i < 8; i++) { int x = i + s; A[x % 8] = 1; }
+      |                                   ^~~
 [1]

@@ -192,6 +192,7 @@ $ ompc explain tofrom_in_c.c --format json
   "file": "tofrom_in_c.c",
   "fixes": [],
   "more": 0,
+  "tried": null,
   "version": 1,
   "warnings": [
     {
@@ -313,3 +314,43 @@ counted_by_int.c:8:17: warning: in C this is an `int`, which may not hold the nu
     8 | for (int i = 0; i < 3000000000; i += 1000000000) A[0] += i;
       |                 ^
 counted_by_int.c:8:17: help: let its type be `uint64_t`
+
+# what C cuts to an int, or computes in 32 bits, also where it stands in no expression of the program
+$ ompc explain given_to_int.c
+given_to_int.c: accepted
+given_to_int.c:3:1: warning: in C this has type `unsigned int`, and may be another number, since that type has 32 bits [W601]
+    3 | #define N (0xFFFFFFFF + 3)
+      | ^~~~~~~~~~~~~~~~~~~~~~~~~~
+given_to_int.c:3:1: help: make an operand a `uint64_t`: `(0ul + ..)`
+given_to_int.c:5:39: warning: in C this has type `uint64_t`, and what is made of it is cut to an `int` [W601]
+    5 | int pick(uint64_t u) { return u > 3 ? 2ul : 1ul; }
+      |                                       ^~~
+given_to_int.c:5:39: help: write `2`, or give it to a `uint64_t`
+given_to_int.c:5:45: warning: in C this has type `uint64_t`, and what is made of it is cut to an `int` [W601]
+    5 | int pick(uint64_t u) { return u > 3 ? 2ul : 1ul; }
+      |                                             ^~~
+given_to_int.c:5:45: help: write `1`, or give it to a `uint64_t`
+given_to_int.c:8:13: warning: in C this has type `uint64_t`, and what is made of it is cut to an `int` [W601]
+    8 |     int n = M;
+      |             ^
+given_to_int.c:8:13: help: give it to a `uint64_t`
+given_to_int.c:9:16: warning: in C this has type `unsigned int`, and what is made of it is cut to an `int` [W601]
+    9 |     int mask = 0xFFFFFFFF;
+      |                ^~~~~~~~~~
+given_to_int.c:9:16: help: give it to a `uint64_t`
+given_to_int.c:10:29: warning: in C this has type `unsigned int`, and is 3; here it is 4294967299 [W601]
+   10 |     uint64_t k = 0xFFFFFFFF + 4;
+      |                             ^
+given_to_int.c:10:29: help: make an operand a `uint64_t`: `4294967295ul`
+given_to_int.c:11:48: warning: in C this has type `unsigned int`, and what is made of it is cut to an `int` [W601]
+   11 |     for (int i = 0; i < 4; i++) { int h = (i * 2654435761u) >> 22; print(h); }
+      |                                                ^~~~~~~~~~~
+given_to_int.c:11:48: help: give it to a `uint64_t`
+given_to_int.c:12:26: warning: in C this has type `unsigned int`, and is 2; here it is 4294967298 [W601]
+   12 |     print(n + mask + w % N + k);
+      |                          ^
+given_to_int.c:12:26: help: write `4294967298ul`
+given_to_int.c:14:14: warning: in C this has type `unsigned int`, and may be another number, since that type has 32 bits [W601]
+   14 |     w = half(4u * 1073741824u);
+      |              ^~
+given_to_int.c:14:14: help: make an operand a `uint64_t`: `(0ul + ..)`

@@ -144,6 +144,7 @@ $ ompc explain sum_in_one_cell.c --format json
     }
   ],
   "more": 0,
+  "tried": null,
   "version": 1,
   "warnings": []
 }

@@ -45,4 +45,36 @@ nested_sweep.c:19:46: help: let this write to another array: then other turns re
 nested_sweep.c:16:1: help: without the lines of constructs inside it this `target` has its turns in order
    16 | #pragma omp target map(tofrom: y)
       | ^~~~~~~~~~~~~~~~~~~~~~~~~~~~~~~~~
+nested_sweep.c: no change found: steps 1, checks 2
+[1]
+
+# the semicolon is what the target does, and the host does the block behind it; the number of a name of loops elsewhere stays
+$ ompc explain empty_target.c
+empty_target.c:13:11: error: the host reads A[0], whose last value was on the host, and `from(A[0:4])` of item 4 copied over it what device 0 had [E506]
+   13 |     print(A[0]);
+      |           ^~~~
+empty_target.c:12:36: note: `from(A[0:4])` of item 4 copies A[0] from device 0 to the host here, whatever it is there
+   12 |     #pragma omp target update from(A)
+      |                                    ^
+empty_target.c:11:7: note: A[0] is written here, on the host, by item 3
+   11 |     { A[0] = 1; }
+      |       ^~~~
+empty_target.c:11:17: help: write `#pragma omp target update to(A[0:1])` after this, which copies it to device 0
+   11 |     { A[0] = 1; }
+      |                 ^
+empty_target.c:12:1: help: this change is accepted
+--- empty_target.c
++++ empty_target.c
+@@ -12 +12 @@
+-    #pragma omp target update from(A)
++    #pragma omp target update to(A)
+[1]
+# conditions of a target alone
+$ ompc run condition_of_a_target.c
+15
+$ ompc check condition_that_leaves_threads.c
+! E202 line 5 column 20
+[1]
+$ ompc check condition_of_another_part.c
+! E202 line 5 column 20
 [1]

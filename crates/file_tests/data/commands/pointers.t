@@ -90,3 +90,24 @@ global_pointer_given_twice.c:1:10: error: `*` cannot stand here [E102]
       |          ^
 global_pointer_given_twice.c:1:10: help: there are no pointers: an array is a global, `uint64_t A[4];`, or `uint64_t *A;` that `main` assigns once, `A = malloc(4 * sizeof(uint64_t));`
 [1]
+# a pointer that stands behind an atomic line
+$ ompc explain pointer_behind_an_atomic.c
+pointer_behind_an_atomic.c:4:13: error: the target uses `p`, a pointer in C, which it names in no `map` clause, and A[0:8] is not on device 0 [E509]
+    4 | #pragma omp target map(tofrom: q[0:8])
+      |             ^~~~~~
+pointer_behind_an_atomic.c:12:1: note: called from here
+   12 | f(A, B);
+      | ^
+pointer_behind_an_atomic.c:8:1: note: `p` is used here: a target maps no pointer by itself
+    8 | p[i] = i;
+      | ^~~~
+pointer_behind_an_atomic.c:4:13: help: write `map(tofrom: p[0:8])` on this line, or enter it before
+    4 | #pragma omp target map(tofrom: q[0:8])
+      |             ^~~~~~
+pointer_behind_an_atomic.c:4:1: help: this change is accepted
+--- pointer_behind_an_atomic.c
++++ pointer_behind_an_atomic.c
+@@ -4 +4 @@
+-#pragma omp target map(tofrom: q[0:8])
++#pragma omp target map(tofrom: q[0:8], p[0:8])
+[1]

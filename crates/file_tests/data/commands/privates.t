@@ -9,10 +9,10 @@ $ ompc run privates.c
 6644
 7028
 $ ompc explain not_private.c
-not_private.c:4:13: error: `target` lacks a clause for a variable that stands in its region [E202]
+not_private.c:4:13: error: `target` lacks a clause for a variable that stands in its region, or bounds in one [E202]
     4 | #pragma omp target teams distribute parallel for
       |             ^~~~~~
-not_private.c:4:13: help: `map(tofrom: s)` or `reduction` for a scalar that another line maps, of which C makes a copy here; `private(t)`, or a declaration in the loop, for a scalar that each turn assigns before all else, and for the name of an inner loop, which all turns share; no `nowait` where an array of a block is used
+not_private.c:4:13: help: `map(tofrom: s)` or `reduction` for a scalar that another line maps, of which C makes a copy here; `private(t)`, or a declaration in the loop, for a scalar that each turn assigns before all else, and for the name of an inner loop, which all turns share; no `nowait` where an array of a block is used; in `depend` a section behind a pointer, `p[0:N]`; in `reduction` the bounds that `map` has
 [1]
 $ ompc explain private_read_first.c
 private_read_first.c:4:50: error: `private` is no clause that this directive takes [E202]

@@ -491,3 +491,88 @@ $ ompc run deferred_data.c --workers 16 < seven_nine.txt
 18
 20
 9
+
+$ ompc run below_zero.c --workers 1 --finals
+18446744073709551615
+$ ompc run below_zero.c --workers 2 --finals
+18446744073709551615
+$ ompc run below_zero.c --workers 4 --finals
+18446744073709551615
+$ ompc run below_zero.c --workers 16 --finals
+18446744073709551615
+$ ompc run updates_in_a_loop.c --workers 1 --finals
+A: 1 0 0 0
+$ ompc run updates_in_a_loop.c --workers 2 --finals
+A: 1 0 0 0
+$ ompc run updates_in_a_loop.c --workers 4 --finals
+A: 1 0 0 0
+$ ompc run updates_in_a_loop.c --workers 16 --finals
+A: 1 0 0 0
+$ ompc run last_number.c --workers 1 --finals
+18446744073709551614
+$ ompc run last_number.c --workers 2 --finals
+18446744073709551614
+$ ompc run last_number.c --workers 4 --finals
+18446744073709551614
+$ ompc run last_number.c --workers 16 --finals
+18446744073709551614
+$ ompc run present_in_data.c --workers 1 --finals
+6
+$ ompc run present_in_data.c --workers 2 --finals
+6
+$ ompc run present_in_data.c --workers 4 --finals
+6
+$ ompc run present_in_data.c --workers 16 --finals
+6
+$ ompc run many_kernels.c --workers 1 --finals
+A: 0
+$ ompc run many_kernels.c --workers 2 --finals
+A: 0
+$ ompc run many_kernels.c --workers 4 --finals
+A: 0
+$ ompc run many_kernels.c --workers 16 --finals
+A: 0
+$ ompc run apart_on_two_devices.c --workers 1 --finals
+A: 0 0 0 0
+$ ompc run apart_on_two_devices.c --workers 2 --finals
+A: 0 0 0 0
+$ ompc run apart_on_two_devices.c --workers 4 --finals
+A: 0 0 0 0
+$ ompc run apart_on_two_devices.c --workers 16 --finals
+A: 0 0 0 0
+$ ompc run brought_to_another_device.c --workers 1 --finals
+7
+7
+A: 7 7
+$ ompc run brought_to_another_device.c --workers 2 --finals
+7
+7
+A: 7 7
+$ ompc run brought_to_another_device.c --workers 4 --finals
+7
+7
+A: 7 7
+$ ompc run brought_to_another_device.c --workers 16 --finals
+7
+7
+A: 7 7
+$ ompc run kernels_on_two_devices.c --workers 1 --finals
+7
+13
+A: 0 1 2 3 4 5 6 7
+B: 13 10 10 10 10 10 10 10
+$ ompc run kernels_on_two_devices.c --workers 2 --finals
+7
+13
+A: 0 1 2 3 4 5 6 7
+B: 13 10 10 10 10 10 10 10
+$ ompc run kernels_on_two_devices.c --workers 4 --finals
+7
+13
+A: 0 1 2 3 4 5 6 7
+B: 13 10 10 10 10 10 10 10
+$ ompc run kernels_on_two_devices.c --workers 16 --finals
+7
+13
+A: 0 1 2 3 4 5 6 7
+B: 13 10 10 10 10 10 10 10

@@ -4,7 +4,7 @@ choices 0*6,1,0,1*3
 output 1
 erased output 2
 first difference line 1: 1, erased 2
-ompc step --fine lost_addition.c --choice-runs 0*6,1,0,1*3
+ompc step --fine lost_addition.c --choice-runs '0*6,1,0,1*3'
 $ ompc step --fine lost_addition.c --choices 0,0,0 --choice-runs 0*3,1,0*1,1*003
 1
 open 0
@@ -65,6 +65,15 @@ output 0
 erased output 7
 first difference line 1: 0, erased 7
 ompc step --fine update_forgotten.c
+
+# a name that a shell would read otherwise
+$ ompc witness it's.c
+in program order
+choices
+output 0
+erased output 5
+first difference line 1: 0, erased 5
+ompc step --fine 'it'\''s.c'
 
 # an order of turns: both load the cell before the first stores it; the last turn stores before the one before it
 $ ompc witness added_in_two_turns.c
@@ -135,7 +144,7 @@ choices 0*9,1*2
 stopped F4
 stopped at line 3: copy from A[0] on device 0
 erased output 2
-ompc step --fine no_wait_before_the_end.c --choice-runs 0*9,1*2
+ompc step --fine no_wait_before_the_end.c --choice-runs '0*9,1*2'
 
 # an update that fails where it is opened has no action
 $ ompc witness present_update_alone.c
@@ -158,5 +167,8 @@ $ ompc witness cut_off.c
 ! E102 line 1 column 17
 [1]
 $ ompc witness double.c < letter.txt
+! accepted: no schedule differs
+[3]
+$ ompc witness lost_addition.c < letter.txt
 ! bad input
 [2]

@@ -1,6 +1,6 @@
 use Rattle.std.proofs.Common.{◌∙◌, ◌+◌, List, length, Some, ap, sym, arith}
 use Rattle.c_grammar.specs.Blocks.{Items}
-use Rattle.c_grammar.specs.Functions.{Adds, Begins, Closes, Declared, Goes, Stops, parameters}
+use Rattle.c_grammar.specs.FunctionHeads.{Adds, Begins, Closes, Declared, Goes, Stops, parameters}
 use Rattle.c_terminals.specs.Ahead.{ahead}
 use Rattle.c_written.specs.Functions.{all_declared, seen_head, seen_sort}
 use Rattle.c_terminals.specs.Seen.{seen}

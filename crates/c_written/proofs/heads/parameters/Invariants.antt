@@ -1,5 +1,5 @@
 use Rattle.std.proofs.Common.{◌≡◌, ◌+◌, ◌≤◌, [], length}
-use Rattle.c_grammar.specs.Functions.{Begins, parameters}
+use Rattle.c_grammar.specs.FunctionHeads.{Begins, parameters}
 use Rattle.c_terminals.specs.Ahead.{ahead}
 use Rattle.c_written.specs.Functions.{all_declared, seen_head}
 use Rattle.c_written.proofs.heads.parameters.Given as goal

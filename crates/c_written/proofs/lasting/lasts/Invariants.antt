@@ -1,4 +1,4 @@
-use Rattle.std.proofs.Common.{◌≡◌, false, length}
+use Rattle.std.proofs.Common.{◌≡◌, length}
 use Rattle.c_grammar.specs.Lasting.{Elsewhere, lasts}
 use Rattle.c_terminals.specs.Ahead.{ahead}
 use Rattle.c_written.specs.Lasting.{seen_place}

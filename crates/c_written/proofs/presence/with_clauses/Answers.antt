@@ -1,6 +1,7 @@
 use Rattle.std.proofs.Common.{◌∙◌, ℕ, List, sym, ap, refl}
+use Rattle.c_grammar.specs.Blocks.{bare}
 use Rattle.c_grammar.specs.Lexeme.{Placed}
-use Rattle.c_grammar.specs.Presence.{clauses_for, target_column}
+use Rattle.c_grammar.specs.Presence.{line_clauses, target_column}
 use Rattle.directives.specs.Ahead.{seen_line}
 use Rattle.directives.specs.Seen.{is_whole}
 use Rattle.directives.specs.Spells.{kinds_of}
@@ -18,7 +19,7 @@ of-requires c =
     c.append.new.self.items c.extend_from_slice-2.new.self.items c.in_ok-clauses.clauses.items _ _ c.saturating_sub-last.ensures
     refl c.tokens-tokens.ensures.whole c.new-put.ensures.items c.in_ok-extend_from_slice.ensures.items c.in_ok-append.ensures.items
     c.in_ok-extend_from_slice-2.ensures.items c.in_ok-clauses.ensures)
-    ∙ clauses_whole (all_names c.args.names.now) c.target_column-column.result (all_kinds ts) (seen_all c.args.behind.now)
+    ∙ clauses_whole (all_names c.args.names.now) c.target_column-column.result (all_kinds ts) (bare (seen_all c.args.behind.now))
     (all_placed ts) c.tokens-tokens.ensures.whole
 
 pub returns : goal.returns
@@ -32,6 +33,6 @@ returns c =
     c.new-put.ensures.items c.in_ok-extend_from_slice.ensures.items c.in_ok-append.ensures.items
     c.in_ok-extend_from_slice-2.ensures.items
     (c.in_ok-clauses.ensures
-    ∙ ap (λ (n : ℕ). clauses_for (all_names c.args.names.now) n (all_kinds ts) (seen_all c.args.behind.now)) c.target_column-column.ensures
-    ∙ ap (λ (ls : List Placed). clauses_for (all_names c.args.names.now) (target_column ls) (kinds_of ls) (seen_all c.args.behind.now))
+    ∙ ap (λ (n : ℕ). line_clauses (all_names c.args.names.now) n (all_kinds ts) (bare (seen_all c.args.behind.now))) c.target_column-column.ensures
+    ∙ ap (λ (ls : List Placed). line_clauses (all_names c.args.names.now) (target_column ls) (kinds_of ls) (bare (seen_all c.args.behind.now)))
     c.tokens-tokens.ensures.tokens)

@@ -20,6 +20,7 @@ use Rattle.c_grammar.specs.Locals.{in_scalars}
 use Rattle.c_grammar.specs.Loops.{looped}
 use Rattle.c_grammar.specs.Macros.{replaced}
 use Rattle.c_grammar.specs.MainArrays.{lifted}
+use Rattle.c_grammar.specs.Needless.{needed}
 use Rattle.c_grammar.specs.Nesting.{nested}
 use Rattle.c_grammar.specs.Pointers.{pointed}
 use Rattle.c_grammar.specs.Prints.{printed}
@@ -29,6 +30,7 @@ use Rattle.c_grammar.specs.Shared.{apart, awaited, unshared}
 use Rattle.c_grammar.specs.Source.{item_of}
 use Rattle.c_grammar.specs.Structs.{in_rows}
 use Rattle.c_grammar.specs.Triangles.{rectangular}
+use Rattle.c_grammar.specs.Types.{of_one_type}
 use Rattle.c_grammar.specs.Unset.{zeroed}
 use Rattle.c_grammar.specs.Updates.{Outside, commuting}
 use Rattle.c_terminals.specs.Held.{written_all}
@@ -40,7 +42,7 @@ returns c =
     let raw : Items = map (item_of c.args.bytes.now) (tokens_of c.args.bytes.now) in
     let constants : Items → Items = λ is.
     worked [] [] 0 (settled Other (zeroed (lasting (owned (upward (counted (unshared (in_blocks nothing_read
-    (undeclared false (in_rows (typed 0 (printed 0 (nested (in_parts (replaced is))))))))))))))) in
+    (of_one_type (undeclared false (in_rows (needed (typed 0 (printed 0 (nested (in_parts (replaced is))))))))))))))))) in
     let calls : Items → Items = λ is.
     expanded (pointed is) in
     let rows : Items → Items = λ is.

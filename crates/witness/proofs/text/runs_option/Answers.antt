@@ -3,5 +3,5 @@ use Rattle.witness.proofs.text.runs_option.Goals as goal
 
 pub returns : goal.returns
 returns g c =
-    runs_written c.runs_text.result _ _ _ c.args.word.now c.args.list.now c.if-is_empty.ensures
-    c.in_ok-write.ensures.bytes c.runs_text.ensures
+    runs_written c.write-2.result _ _ _ _ c.args.word.now c.args.list.now _ _ c.in-Some.ensures
+    c.in_ok-write.ensures.bytes c.in_ok-runs_from.ensures c.write-2.ensures.bytes
