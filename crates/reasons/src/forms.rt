@@ -3,7 +3,7 @@
 use crate::around::{Around, begins_word, ends_operand};
 use crate::lines::{BOUND, unexpected_on_line};
 use crate::rules::{read_help, read_words};
-use crate::source::{Naming, is_type};
+use crate::source::{Naming, has_word, is_type};
 use base::fault::ReadCode;
 
 /// What is said of what stands at a place, and what can be written.
@@ -53,7 +53,19 @@ const LOCAL_ARRAY: &str =
     "write numbers as its subscripts, or names of loops around that have numbers for bounds and at most 64 turns; or declare it before `main`";
 
 const FUNCTION: &str =
-    "a function stands before `main`, `void f(uint64_t *a, uint64_t n) { .. }` or `uint64_t f(uint64_t n) { .. return e; }`, and is called as a statement, `f(A, 8);`, or as all of a right side, `x = f(8);`, with the name of an array for an array, a constant for an `int`, and any value for a `uint64_t`";
+    "a function stands before `main`, `void f(uint64_t *a, uint64_t n) { .. }` or `uint64_t f(uint64_t n) { .. return e; }` with its one `return` as its last statement, and is called as a statement, `f(A, 8);`, or once in a value that is assigned, `x += f(8) % 4;`, with the name of an array for an array, any value for a `uint64_t`, and a constant or a value that is seen to be small for an `int`";
+
+const CALL: &str =
+    "a function is called behind its definition, as a statement, `f(A, 8);`, or, where it gives a value, once in a value that is assigned, `x += f(8) % 4;`, with the name of an array for an array, any value for a `uint64_t`, and a constant or a value that is seen to be small for an `int`";
+
+const SETTING: &str =
+    "cells are set one by one: `for (uint64_t i = 0; i < 4; i += 1) { A[i] = 0; }`";
+
+const DECLARED_DATA: &str =
+    "`declare target` is read around functions alone: take it away, and enter the global where `main` begins, `#pragma omp target enter data map(to: A)`";
+
+const BLOCK_ARRAY: &str =
+    "an array of a block has one dimension and a constant number of cells, at most 256, and no directive names it: declare it before `main`, or in `main` outside of its blocks, and pass it to the function that uses it";
 
 const READ: &str = "`read()` is all of a right side: `x = read();`";
 
@@ -160,7 +172,7 @@ fn outside(around: &Around<'_>) -> Option<&'static str> {
 fn declared(word: &str) -> Option<&'static str> {
     match word {
         ";" | "," => Some(LOCAL),
-        "[" => Some("arrays are global: declare it before `main`"),
+        "[" => Some(BLOCK_ARRAY),
         _ => None,
     }
 }
@@ -239,6 +251,9 @@ pub fn unexpected(around: &Around<'_>) -> Option<&'static str> {
     if around.word == "else" {
         return Some("an `else` stands right behind the body of an `if`");
     }
+    if around.word == "#" && has_word(around.rest, b"declare") {
+        return Some(DECLARED_DATA);
+    }
     if around.is_outside {
         return outside(around);
     }
@@ -259,7 +274,7 @@ fn misused(naming: Naming, around: &Around<'_>) -> Option<Telling> {
         }),
         Naming::LocalArray if is_on_line => Some(Telling {
             said: "is an array of a block, which no directive names",
-            help: "declare it in the block of the `target`, or before `main`",
+            help: "declare it before `main`, or in `main` outside of its blocks, and pass it to the function that uses it; one that a `target` alone uses is declared in its block",
         }),
         Naming::LocalArray if around.next == b'[' => Some(Telling {
             said: "is an array of a block: it ends with that, and its subscripts are numbers below its length",
@@ -273,7 +288,11 @@ fn misused(naming: Naming, around: &Around<'_>) -> Option<Telling> {
             said: "is a scalar, where the name of an array has to stand",
             help: "declare it in `main`, as a `uint64_t`, or hold it in an array of one cell, `uint64_t s[1];`",
         }),
-        Naming::Scalar if around.next == b'[' && !is_on_line => Some(Telling {
+        Naming::Scalar if is_on_line => Some(Telling {
+            said: "is no constant and no name of a loop around, and stands in a bound",
+            help: BOUND,
+        }),
+        Naming::Scalar if around.next == b'[' => Some(Telling {
             said: "is a scalar, and has a subscript here",
             help: "declare it as an array, `uint64_t A[NUM];`",
         }),
@@ -314,10 +333,11 @@ fn foreign(around: &Around<'_>) -> Option<&'static str> {
             "a number and a line feed are printed by `print(e);` or `printf(\"%lu\\n\", e);`",
         );
     }
+    if is_one_of(word, &["memset", "memcpy"]) {
+        return Some(SETTING);
+    }
     if around.next == b'(' && around.line.is_empty() {
-        return Some(
-            "a function is called behind its definition, as a statement, `f(A, 8);`, or, where it gives a value, as all of a right side, `x = f(8);`, with the name of an array for an array, a constant for an `int`, and any value for a `uint64_t`",
-        );
+        return Some(CALL);
     }
     None
 }

@@ -184,7 +184,7 @@ pub enum Naming {
 
 /// Whether a type ends by this word.
 pub fn is_type(word: &str) -> bool {
-    word == "uint64_t" || word == "size_t" || word == "long"
+    word == "uint64_t" || word == "size_t" || word == "long" || word == "int"
 }
 
 // Whether a declaration has ended at this token.

@@ -194,7 +194,7 @@ $ ompc explain forms/local_array.c
 forms/local_array.c:2:11: error: `[` cannot stand here [E102]
     2 | uint64_t A[4][4];
       |           ^
-forms/local_array.c:2:11: help: arrays are global: declare it before `main`
+forms/local_array.c:2:11: help: an array of a block has one dimension and a constant number of cells, at most 256, and no directive names it: declare it before `main`, or in `main` outside of its blocks, and pass it to the function that uses it
 [1]
 $ ompc explain forms/local_subscript.c
 forms/local_subscript.c:4:8: error: `t` is an array of a block: it ends with that, and its subscripts are numbers below its length [E103]
@@ -206,7 +206,43 @@ $ ompc explain forms/local_array_on_a_line.c
 forms/local_array_on_a_line.c:4:32: error: `t` is an array of a block, which no directive names [E103]
     4 | #pragma omp target map(tofrom: t)
       |                                ^
-forms/local_array_on_a_line.c:4:32: help: declare it in the block of the `target`, or before `main`
+forms/local_array_on_a_line.c:4:32: help: declare it before `main`, or in `main` outside of its blocks, and pass it to the function that uses it; one that a `target` alone uses is declared in its block
+[1]
+$ ompc explain forms/array_of_a_function.c
+forms/array_of_a_function.c:2:6: error: `[` cannot stand here [E102]
+    2 | int t[300];
+      |      ^
+forms/array_of_a_function.c:2:6: help: an array of a block has one dimension and a constant number of cells, at most 256, and no directive names it: declare it before `main`, or in `main` outside of its blocks, and pass it to the function that uses it
+[1]
+$ ompc explain forms/int_pointer.c
+forms/int_pointer.c:2:5: error: `*` cannot stand here [E102]
+    2 | int *t = malloc(n * sizeof(int));
+      |     ^
+forms/int_pointer.c:2:5: help: an array is a global, `uint64_t A[4];`, or `main` allocates it, outside of its blocks, with a number of cells that is a product of constants: `uint64_t *A = malloc(4 * sizeof(uint64_t));`
+[1]
+$ ompc explain forms/declared_data.c
+forms/declared_data.c:1:1: error: this line cannot stand here [E102]
+    1 | #pragma omp declare target
+      | ^~~~~~~~~~~~~~~~~~~~~~~~~~
+forms/declared_data.c:1:1: help: `declare target` is read around functions alone: take it away, and enter the global where `main` begins, `#pragma omp target enter data map(to: A)`
+[1]
+$ ompc explain forms/cells_set.c
+forms/cells_set.c:3:1: error: `memset` is not declared here [E103]
+    3 | memset(A, 0, 32);
+      | ^~~~~~
+forms/cells_set.c:3:1: help: cells are set one by one: `for (uint64_t i = 0; i < 4; i += 1) { A[i] = 0; }`
+[1]
+$ ompc explain forms/temporary_in_a_bound.c
+forms/temporary_in_a_bound.c:5:34: error: `n` is no constant and no name of a loop around, and stands in a bound [E103]
+    5 | #pragma omp target map(tofrom: A[n:2])
+      |                                  ^
+forms/temporary_in_a_bound.c:5:34: help: a bound is a constant expression, or terms with `+` and `-` between them: constants, names of loops around, and products `NUM * NAME` of both
+[1]
+$ ompc explain forms/mapped_count.c
+forms/mapped_count.c:3:32: error: `count` is a scalar, where the name of an array has to stand [E103]
+    3 | #pragma omp target map(tofrom: count)
+      |                                ^~~~~
+forms/mapped_count.c:3:32: help: declare it in `main`, as a `uint64_t`, or hold it in an array of one cell, `uint64_t s[1];`
 [1]
 $ ompc explain forms/four_dimensions.c
 forms/four_dimensions.c:1:20: error: `[` cannot stand here [E102]
@@ -336,13 +372,13 @@ $ ompc explain forms/function.c
 forms/function.c:1:11: error: `(` cannot stand here [E102]
     1 | uint64_t f(uint64_t x) {
       |           ^
-forms/function.c:1:11: help: a function stands before `main`, `void f(uint64_t *a, uint64_t n) { .. }` or `uint64_t f(uint64_t n) { .. return e; }`, and is called as a statement, `f(A, 8);`, or as all of a right side, `x = f(8);`, with the name of an array for an array, a constant for an `int`, and any value for a `uint64_t`
+forms/function.c:1:11: help: a function stands before `main`, `void f(uint64_t *a, uint64_t n) { .. }` or `uint64_t f(uint64_t n) { .. return e; }` with its one `return` as its last statement, and is called as a statement, `f(A, 8);`, or once in a value that is assigned, `x += f(8) % 4;`, with the name of an array for an array, any value for a `uint64_t`, and a constant or a value that is seen to be small for an `int`
 [1]
 $ ompc explain forms/call.c
 forms/call.c:2:1: error: `f` is not declared here [E103]
     2 | f(1);
       | ^
-forms/call.c:2:1: help: a function is called behind its definition, as a statement, `f(A, 8);`, or, where it gives a value, as all of a right side, `x = f(8);`, with the name of an array for an array, a constant for an `int`, and any value for a `uint64_t`
+forms/call.c:2:1: help: a function is called behind its definition, as a statement, `f(A, 8);`, or, where it gives a value, once in a value that is assigned, `x += f(8) % 4;`, with the name of an array for an array, any value for a `uint64_t`, and a constant or a value that is seen to be small for an `int`
 [1]
 $ ompc explain forms/nothing.c
 forms/nothing.c:1:1: error: the end of the text cannot stand here [E102]

@@ -37,5 +37,5 @@ $ ompc explain macro_before_its_line.c
 macro_before_its_line.c:2:27: error: `TWICE` is not declared here [E103]
     2 | uint64_t f(void) { return TWICE(4); }
       |                           ^~~~~
-macro_before_its_line.c:2:27: help: a function is called behind its definition, as a statement, `f(A, 8);`, or, where it gives a value, as all of a right side, `x = f(8);`, with the name of an array for an array, a constant for an `int`, and any value for a `uint64_t`
+macro_before_its_line.c:2:27: help: a function is called behind its definition, as a statement, `f(A, 8);`, or, where it gives a value, once in a value that is assigned, `x += f(8) % 4;`, with the name of an array for an array, any value for a `uint64_t`, and a constant or a value that is seen to be small for an `int`
 [1]
