@@ -82,8 +82,7 @@ impl Scene<'_> {
         };
         let block = self.section_text(&entered.section)?;
         let message = format!(in self.alloc;
-            "{block} is on device {device} since item {}, which entered it here",
-            entered.item
+            "{block} is on device {device} since it was entered here"
         )?;
         add(notes, Weight::Note, place_of(map), message)
     }
@@ -236,7 +235,7 @@ impl Scene<'_> {
                 let here = self
                     .item(number)
                     .map_or("here", |item| self.here_text(item));
-                format!(in self.alloc; "item {number} removed {name} from device {device} {here}")
+                format!(in self.alloc; "{name} was removed from device {device} {here}")
             }
         }
     }
@@ -308,7 +307,6 @@ impl Scene<'_> {
         &self,
         item: &Item,
         map: &MapItem,
-        number: u32,
         earlier: &Item,
         notes: &mut Vec<Note>,
     ) -> Result<(), AllocError> {
@@ -319,9 +317,7 @@ impl Scene<'_> {
             )?
         } else {
             let (what, line) = (line_text(item), self.done_at(earlier).line);
-            format!(in self.alloc;
-                "item {number} left {section} at line {line} already: take {what} away"
-            )?
+            format!(in self.alloc; "{section} was left at line {line} already: take {what} away")?
         };
         add(notes, Weight::Help, place_of(map), message)
     }
@@ -370,7 +366,7 @@ impl Scene<'_> {
             return Ok(());
         };
         match (item.kind, earlier.kind) {
-            (ItemKind::Exit, _) => self.help_exit(item, map, number, earlier, notes),
+            (ItemKind::Exit, _) => self.help_exit(item, map, earlier, notes),
             (ItemKind::End, ItemKind::Exit) => self.help_exit_inside(item, earlier, exit, notes),
             _ => self.help_enter(item, map, notes),
         }

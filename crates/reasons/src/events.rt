@@ -29,7 +29,7 @@ impl Scene<'_> {
         side: Side,
     ) -> Result<String, AllocError> {
         let (name, there) = (self.cell_text(cell)?, side_text(self.alloc, side)?);
-        let what = self.doer_text(number, item)?;
+        let what = self.doer_text(item)?;
         format!(in self.alloc; "{name} is written on {there} by {what}")
     }
 
@@ -54,10 +54,9 @@ impl Scene<'_> {
         access: &Access,
     ) -> Result<String, AllocError> {
         let (name, there) = (self.cell_text(cell)?, side_text(self.alloc, side)?);
-        let what = self.doer_text(number, item)?;
         let doubt = self.doubt_text(number, cell, access);
         let turn = self.turn_at(access.place, &access.loops)?;
-        format!(in self.alloc; "{name} is written here, on {there}, by {what}{doubt}{turn}")
+        format!(in self.alloc; "{name} is written here, on {there}{doubt}{turn}")
     }
 
     // Where the region of an item writes a cell.
@@ -137,7 +136,7 @@ impl Scene<'_> {
     ) -> Result<String, AllocError> {
         let (text, name) = (self.map_text(item, map)?, self.cell_text(cell)?);
         let deed = self.deed_text(event, &name, self.here_text(item))?;
-        format!(in self.alloc; "{text} of item {} {deed}", event.item)
+        format!(in self.alloc; "{text} {deed}")
     }
 
     // The map item of that place by which an event came about.

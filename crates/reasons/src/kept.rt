@@ -111,9 +111,9 @@ impl Scene<'_> {
 
     fn kept_text(&self, item: &Item, map: &MapItem, kept: &Kept) -> Result<String, AllocError> {
         let (text, block) = (self.map_text(item, map)?, self.section_text(&kept.block)?);
-        let (number, device) = (kept.item, item.device.number);
+        let device = item.device.number;
         format!(in self.alloc;
-            "{text} of item {number} copies nothing to the host here, since {block} was on device {device} before"
+            "{text} copies nothing to the host here, since {block} was on device {device} before"
         )
     }
 
@@ -130,9 +130,9 @@ impl Scene<'_> {
             times_text(self.alloc, count.entries.len() as u64)?,
             times_text(self.alloc, count.left)?,
         );
-        let (number, here) = (kept.item, self.here_text(item));
+        let here = self.here_text(item);
         format!(in self.alloc;
-            "{text} of item {number} copies nothing to the host {here}: {block} was entered {entered}, and left {left}"
+            "{text} copies nothing to the host {here}: {block} was entered {entered}, and left {left}"
         )
     }
 
@@ -149,7 +149,7 @@ impl Scene<'_> {
             return Ok(());
         };
         let block = self.section_text(&last.section)?;
-        let message = format!(in self.alloc; "item {} entered {block} once more here", last.item)?;
+        let message = format!(in self.alloc; "{block} was entered once more here")?;
         add(notes, Weight::Note, place_of(map), message)
     }
 
@@ -264,7 +264,7 @@ impl Scene<'_> {
             return Ok(());
         };
         let (text, name) = (self.map_text(item, map)?, self.cell_text(cell)?);
-        let message = format!(in self.alloc; "{text} of item {number} does not have {name}")?;
+        let message = format!(in self.alloc; "{text} does not have {name}")?;
         add(notes, Weight::Note, place_of(map), message)
     }
 }

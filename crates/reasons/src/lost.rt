@@ -52,9 +52,9 @@ impl Scene<'_> {
         let there = side_text(self.alloc, side)?;
         match event.how {
             How::Written(other) => {
-                let (number, other) = (event.item, side_text(self.alloc, other)?);
+                let (what, other) = (self.item_text(event.item)?, side_text(self.alloc, other)?);
                 format!(in self.alloc;
-                    "whose last value was on {there}, and which item {number} may have written on {other} since"
+                    "whose last value was on {there}, and which {what} may have written on {other} since"
                 )
             }
             _ => format!(in self.alloc; "whose last value was on {there}"),
@@ -149,9 +149,9 @@ impl Scene<'_> {
         let number = over.event.item;
         match (self.item(number), self.map_item(number, over.map)) {
             (Some(item), Some(map)) => {
-                let text = self.map_text(item, map)?;
+                let (text, line) = (self.map_text(item, map)?, self.done_at(item).line);
                 format!(in self.alloc;
-                    "whose last value was on {there}, and {text} of item {number} copied over it what {from} had"
+                    "whose last value was on {there}, and {text} at line {line} copied over it what {from} had"
                 )
             }
             _ => format!(in self.alloc; "whose last value was on {there}"),

@@ -82,30 +82,24 @@ impl Scene<'_> {
     }
 
     fn note_wait(&self, wait: &Item, other: u32, notes: &mut Vec<Note>) -> Result<(), AllocError> {
-        let depends = self.depends_text(wait)?;
+        let (depends, what) = (self.depends_text(wait)?, self.item_text(other)?);
         let message = format!(in self.alloc;
-            "this `taskwait` waits for {depends} alone, and not for item {other}"
+            "this `taskwait` waits for {depends} alone, and not for {what}"
         )?;
         add(notes, Weight::Note, wait.place, message)
     }
 
     // Why no `depend` clauses order two items.
-    fn no_depend_text(
-        &self,
-        refusal: &Refusal,
-        other: u32,
-        earlier: &Item,
-        later: &Item,
-    ) -> Result<String, AllocError> {
+    fn no_depend_text(&self, earlier: &Item, later: &Item) -> Result<String, AllocError> {
         let (one, two) = (earlier.depends.is_empty(), later.depends.is_empty());
         let why = if !takes_depend(later) {
             ""
         } else if one && two {
             ", and neither has a `depend` clause"
         } else if one || two {
-            let without = if one { other } else { refusal.item };
+            let without = self.placed_text(if one { earlier } else { later })?;
             return format!(in self.alloc;
-                "no `taskwait` between the two waits for it, and item {without} has no `depend` clause"
+                "no `taskwait` between the two waits for it, and {without} has no `depend` clause"
             );
         } else if have_common(earlier, later) {
             ", and where their `depend` clauses name one section both are `in`"
@@ -124,8 +118,9 @@ impl Scene<'_> {
         later: &Item,
         notes: &mut Vec<Note>,
     ) -> Result<(), AllocError> {
-        let deferred = format!(in self.alloc;
-            "item {other} is deferred by `nowait`: what stands after it does not wait for it"
+        let deferred = String::from_str(
+            self.alloc,
+            "this is deferred by `nowait`: what stands after it does not wait for it",
         )?;
         add(notes, Weight::Note, earlier.place, deferred)?;
         if let Some(wait) = self.partial_wait(other, refusal.item) {
@@ -134,7 +129,7 @@ impl Scene<'_> {
                 return Ok(());
             }
         }
-        let message = self.no_depend_text(refusal, other, earlier, later)?;
+        let message = self.no_depend_text(earlier, later)?;
         add(notes, Weight::Note, self.done_at(later), message)
     }
 
@@ -231,13 +226,15 @@ impl Scene<'_> {
             (None, Some(two)) => {
                 let word = self.word_beside(other, earlier, cell, two)?;
                 let section = self.depend_section_text(two, is_one_turn)?;
-                format!(in self.alloc; "`depend({word}: {section})` on item {other}")?
+                let what = self.placed_text(earlier)?;
+                format!(in self.alloc; "`depend({word}: {section})` on {what}")?
             }
             (Some(_), Some(_)) if conflict.second.writes => {
                 String::from_str(self.alloc, "`inout` in place of `in` on it")?
             }
             (Some(_), Some(_)) => {
-                format!(in self.alloc; "`inout` in place of `in` on item {other}")?
+                let what = self.placed_text(earlier)?;
+                format!(in self.alloc; "`inout` in place of `in` on {what}")?
             }
         };
         Ok(Some(text))

@@ -91,17 +91,11 @@ impl Scene<'_> {
         }
     }
 
-    fn loss_text(
-        &self,
-        number: u32,
-        item: &Item,
-        map: &MapItem,
-        cell: Cell,
-    ) -> Result<String, AllocError> {
+    fn loss_text(&self, item: &Item, map: &MapItem, cell: Cell) -> Result<String, AllocError> {
         let (text, name) = (self.map_text(item, map)?, self.cell_text(cell)?);
         let (device, here) = (item.device.number, self.here_text(item));
         format!(in self.alloc;
-            "{text} of item {number} removes {name} from device {device} {here} without copying it to the host"
+            "{text} removes {name} from device {device} {here} without copying it to the host"
         )
     }
 
@@ -138,7 +132,7 @@ impl Scene<'_> {
         ) else {
             return Ok(());
         };
-        let message = self.loss_text(number, item, map, cell)?;
+        let message = self.loss_text(item, map, cell)?;
         add(notes, Weight::Note, place_of(map), message)?;
         self.help_loss(map, &acts.block, notes)
     }

@@ -11,7 +11,7 @@ use crate::runs::hull;
 use crate::scene::{Scene, has_cell, is_same, overlap, place_of};
 use crate::search::Wanted;
 use crate::touching::is_same_loc;
-use crate::words::add;
+use crate::words::{add, construct};
 use base::fault::{OrderFault, Refusal};
 use base::item::{Cell, Depend, Item, ItemKind, Loc, MapItem};
 use base::tree::Place;
@@ -348,11 +348,10 @@ impl Scene<'_> {
     {
         let first = self.told(earlier, clash.earlier, refusal.cell)?;
         let second = self.told(later, clash.later, refusal.cell)?;
-        let what = self.doer_text(refusal.item, later)?;
-        let which = self.doer_text(other, earlier)?;
+        let (what, which) = (self.placed_text(later)?, self.doer_text(earlier)?);
         let message = self.conflict_text(&what, &which, &first, &second)?;
         let mut notes = Vec::new(self.alloc);
-        self.note_first(&which, &first, &mut notes)?;
+        self.note_first(construct(earlier.kind), &first, &mut notes)?;
         self.note_order(refusal, other, earlier, later, &mut notes)?;
         self.help_order(refusal, &clash.conflict, earlier, later, &mut notes)?;
         Ok(Diagnosis {
@@ -396,20 +395,19 @@ impl Scene<'_> {
         second: &Depend,
     ) -> Result<String, AllocError> {
         let (second, name) = (self.depend_text(second)?, self.cell_text(fault.cell)?);
+        let what = self.item_text(fault.other)?;
         format!(in self.alloc;
-            "{second} overlaps {first} of item {} in {name}, and is not the same section",
-            fault.other
+            "{second} overlaps {first} of {what} in {name}, and is not the same section"
         )
     }
 
     fn note_clash(
         &self,
-        fault: &OrderFault,
         first: &str,
         place: Place,
         notes: &mut Vec<Note>,
     ) -> Result<(), AllocError> {
-        let told = format!(in self.alloc; "{first} of item {} stands here", fault.other)?;
+        let told = format!(in self.alloc; "{first} stands here")?;
         add(notes, Weight::Note, place, told)
     }
 
@@ -437,7 +435,7 @@ impl Scene<'_> {
         let (first, place) = (self.depend_text(one)?, depend_place(two));
         let message = self.clash_text(fault, &first, two)?;
         let mut notes = Vec::new(self.alloc);
-        self.note_clash(fault, &first, depend_place(one), &mut notes)?;
+        self.note_clash(&first, depend_place(one), &mut notes)?;
         self.help_clash(one, two, &mut notes)?;
         Ok(Diagnosis {
             code: ORDER_CODE,

@@ -252,11 +252,26 @@ impl Scene<'_> {
         Ok(())
     }
 
-    /// An item as the one that did something.
-    pub fn doer_text(&self, number: u32, item: &Item) -> Result<String, AllocError> {
-        match item.kind {
-            ItemKind::Host => format!(in self.alloc; "item {number}"),
-            _ => format!(in self.alloc; "{} (item {number})", construct(item.kind)),
+    /// An item by its line.
+    pub fn placed_text(&self, item: &Item) -> Result<String, AllocError> {
+        let line = self.done_at(item).line;
+        format!(in self.alloc; "{} at line {line}", construct(item.kind))
+    }
+
+    /// An item as the one that did something, by its line and its turn.
+    pub fn doer_text(&self, item: &Item) -> Result<String, AllocError> {
+        let (what, turn) = (
+            self.placed_text(item)?,
+            self.turn_at(item.place, &item.loops.values)?,
+        );
+        format!(in self.alloc; "{what}{turn}")
+    }
+
+    /// The same of an item by its number.
+    pub fn item_text(&self, number: u32) -> Result<String, AllocError> {
+        match self.item(number) {
+            None => format!(in self.alloc; "item {number}"),
+            Some(item) => self.doer_text(item),
         }
     }
 }
