@@ -83,7 +83,7 @@ $ ompc explain mapped_in_part.c
 mapped_in_part.c:6:1: error: the implicit `map(tofrom: A[0:8])` overlaps A[0:4], which is on device 0, without lying inside it [E501]
     6 | for (uint64_t i = 0; i < 4; i += 1) { A[i] = i + 5; }
       | ^~~
-mapped_in_part.c:3:36: note: A[0:4] is on device 0 since item 0, which entered it here
+mapped_in_part.c:3:36: note: A[0:4] is on device 0 since it was entered here
     3 | #pragma omp target data map(alloc: A[0:4])
       |                                    ^~~~~~
 mapped_in_part.c:5:1: help: write `map(tofrom: A[0:4])` on this line, which maps all of A[0:8] without it
@@ -100,7 +100,7 @@ $ ompc explain in_part_on_one_device.c
 in_part_on_one_device.c:4:39: error: `map(to: A[1:3])` overlaps A[0:3], which is on device 0, without lying inside it [E501]
     4 | #pragma omp target enter data map(to: A[1:3])
       |                                       ^~~~~~
-in_part_on_one_device.c:3:39: note: A[0:3] is on device 0 since item 0, which entered it here
+in_part_on_one_device.c:3:39: note: A[0:3] is on device 0 since it was entered here
     3 | #pragma omp target enter data map(to: A[0:3])
       |                                       ^~~~~~
 in_part_on_one_device.c:4:39: help: name A[0:3] here, or a section inside it; or enter all of A[1:3] there
@@ -117,7 +117,7 @@ $ ompc explain block_one_short.c
 block_one_short.c:5:32: error: `map(tofrom: A[0:8])` overlaps A[0:7], which is on device 0, without lying inside it [E501]
     5 | #pragma omp target map(tofrom: A)
       |                                ^
-block_one_short.c:3:37: note: A[0:7] is on device 0 since item 0, which entered it here
+block_one_short.c:3:37: note: A[0:7] is on device 0 since it was entered here
     3 | #pragma omp target data map(tofrom: A[0:7])
       |                                     ^~~~~~
 block_one_short.c:3:37: help: enter all of A[0:8] here: the target touches A[0:8], and A[0:7] is not enough
@@ -132,7 +132,7 @@ $ ompc explain left_twice.c
 left_twice.c:3:33: error: the end of `target data` leaves A[0:2], which is not on device 0 [E502]
     3 | #pragma omp target data map(to: A)
       |                                 ^
-left_twice.c:5:42: note: item 1 removed A[0] from device 0 here
+left_twice.c:5:42: note: A[0] was removed from device 0 here
     5 | #pragma omp target exit data map(delete: A)
       |                                          ^
 left_twice.c:5:42: help: take this line away: the block that ends at line 6 leaves A[0:2] there
@@ -146,10 +146,10 @@ $ ompc explain left_already.c
 left_already.c:5:42: error: `target exit data` leaves A[0:4], which is not on device 0 [E502]
     5 | #pragma omp target exit data map(delete: A)
       |                                          ^
-left_already.c:4:40: note: item 1 removed A[0] from device 0 here
+left_already.c:4:40: note: A[0] was removed from device 0 here
     4 | #pragma omp target exit data map(from: A)
       |                                        ^
-left_already.c:5:42: help: item 1 left A[0:4] at line 4 already: take this line away
+left_already.c:5:42: help: A[0:4] was left at line 4 already: take this line away
     5 | #pragma omp target exit data map(delete: A)
       |                                          ^
 left_already.c:5:1: help: this change is accepted
@@ -162,10 +162,10 @@ $ ompc explain left_with_another.c
 left_with_another.c:6:40: error: `target exit data` leaves A[0:4], which is not on device 0 [E502]
     6 | #pragma omp target exit data map(from: A, B)
       |                                        ^
-left_with_another.c:5:40: note: item 1 removed A[0] from device 0 here
+left_with_another.c:5:40: note: A[0] was removed from device 0 here
     5 | #pragma omp target exit data map(from: A)
       |                                        ^
-left_with_another.c:6:40: help: item 1 left A[0:4] at line 5 already: take this map item away
+left_with_another.c:6:40: help: A[0:4] was left at line 5 already: take this map item away
     6 | #pragma omp target exit data map(from: A, B)
       |                                        ^
 left_with_another.c:6:1: help: this change is accepted
@@ -184,7 +184,7 @@ $ ompc explain left_before_the_next_turn.c
 left_before_the_next_turn.c:7:40: error: `target exit data` leaves A[0:4], which is not on device 0 (in the turn t = 1) [E502]
     7 | #pragma omp target exit data map(from: A)
       |                                        ^
-left_before_the_next_turn.c:6:1: note: item 3 removed A[0] from device 0 here
+left_before_the_next_turn.c:6:1: note: A[0] was removed from device 0 here
     6 | for (uint64_t i = 0; i < 4; i += 1) { A[i] = A[i] + 1; }
       | ^~~
 left_before_the_next_turn.c:7:40: help: this line left A[0:4] in an earlier turn: write it behind the loop, or enter A[0:4] in each turn
@@ -219,7 +219,7 @@ updated_on_another_device.c:4:30: error: `target update` copies A[0:4], which is
     4 | #pragma omp target update to(A)
       |                              ^
 updated_on_another_device.c:4:30: note: nothing before has entered A[0] on device 0
-updated_on_another_device.c:3:39: note: A[0:4] is on device 2 since item 0, which entered it here
+updated_on_another_device.c:3:39: note: A[0:4] is on device 2 since it was entered here
     3 | #pragma omp target enter data map(to: A) device(2)
       |                                       ^
 updated_on_another_device.c:4:30: help: write `device(2)` on this line: A[0:4] is present there
@@ -258,7 +258,7 @@ both_one_short.c:5:32: note: `map(tofrom: A[0:7])` maps no more than A[0:7] to t
     5 | #pragma omp target map(tofrom: A[0:7])
       |                                ^~~~~~
 both_one_short.c:5:32: help: widen the section here to A[0:8]
-both_one_short.c:3:37: note: A[0:7] is on device 0 since item 0, which entered it here
+both_one_short.c:3:37: note: A[0:7] is on device 0 since it was entered here
     3 | #pragma omp target data map(tofrom: A[0:7])
       |                                     ^~~~~~
 both_one_short.c:3:37: help: widen the section here to A[0:8] too
@@ -310,10 +310,10 @@ $ ompc explain mapped_to_only.c
 mapped_to_only.c:6:45: error: the host reads A[0], whose last value is on device 0: nothing has copied it to the host since (in the turn i = 0) [E506]
     6 | for (uint64_t i = 0; i < 4; i += 1) { print(A[i]); }
       |                                             ^~~~
-mapped_to_only.c:5:39: note: A[0] is written here, on device 0, by the target (item 1) (in the turn i = 0)
+mapped_to_only.c:5:39: note: A[0] is written here, on device 0 (in the turn i = 0)
     5 | for (uint64_t i = 0; i < 4; i += 1) { A[i] = A[i] * 2 + 1; }
       |                                       ^~~~
-mapped_to_only.c:4:28: note: `map(to: A[0:4])` of item 1 removes A[0] from device 0 here without copying it to the host
+mapped_to_only.c:4:28: note: `map(to: A[0:4])` removes A[0] from device 0 here without copying it to the host
     4 | #pragma omp target map(to: A[0:4])
       |                            ^~~~~~
 mapped_to_only.c:4:28: help: write `tofrom` in place of `to` here, which copies it to the host
@@ -328,10 +328,10 @@ $ ompc explain stale_part.c
 stale_part.c:8:7: error: the host reads A[2], whose last value is on device 0: nothing has copied it to the host since [E506]
     8 | print(A[2]);
       |       ^~~~
-stale_part.c:6:39: note: A[2] is written here, on device 0, by the target (item 1) (in the turn i = 2)
+stale_part.c:6:39: note: A[2] is written here, on device 0 (in the turn i = 2)
     6 | for (uint64_t i = 0; i < 4; i += 1) { A[i] = i + 5; }
       |                                       ^~~~
-stale_part.c:7:32: note: `from(A[0:2])` of item 2 does not have A[2]
+stale_part.c:7:32: note: `from(A[0:2])` does not have A[2]
     7 | #pragma omp target update from(A[0:2])
       |                                ^~~~~~
 stale_part.c:8:7: help: write `#pragma omp target update from(A[2:2])` before this
@@ -347,13 +347,13 @@ $ ompc explain stays_on_the_device.c
 stays_on_the_device.c:7:7: error: the host reads A[0], whose last value is on device 0: nothing has copied it to the host since [E506]
     7 | print(A[0]);
       |       ^~~~
-stays_on_the_device.c:6:39: note: A[0] is written here, on device 0, by the target (item 1) (in the turn i = 0)
+stays_on_the_device.c:6:39: note: A[0] is written here, on device 0 (in the turn i = 0)
     6 | for (uint64_t i = 0; i < 4; i += 1) { A[i] = i; }
       |                                       ^~~~
-stays_on_the_device.c:5:30: note: `map(from: A[0:4])` of item 1 copies nothing to the host here, since A[0:4] was on device 0 before
+stays_on_the_device.c:5:30: note: `map(from: A[0:4])` copies nothing to the host here, since A[0:4] was on device 0 before
     5 | #pragma omp target map(from: A)
       |                              ^
-stays_on_the_device.c:3:33: note: A[0:4] is on device 0 since item 0, which entered it here
+stays_on_the_device.c:3:33: note: A[0:4] is on device 0 since it was entered here
     3 | #pragma omp target data map(to: A)
       |                                 ^
 stays_on_the_device.c:5:30: help: write `always, from` in place of `from` here, which copies it to the host each time
@@ -372,16 +372,16 @@ $ ompc explain entered_twice.c
 entered_twice.c:8:7: error: the host reads A[0], whose last value is on device 0: nothing has copied it to the host since [E506]
     8 | print(A[0]);
       |       ^~~~
-entered_twice.c:6:39: note: A[0] is written here, on device 0, by the target (item 2) (in the turn i = 0)
+entered_twice.c:6:39: note: A[0] is written here, on device 0 (in the turn i = 0)
     6 | for (uint64_t i = 0; i < 4; i += 1) { A[i] = i; }
       |                                       ^~~~
-entered_twice.c:7:40: note: `map(from: A[0:4])` of item 3 copies nothing to the host here: A[0:4] was entered 2 times, and left once
+entered_twice.c:7:40: note: `map(from: A[0:4])` copies nothing to the host here: A[0:4] was entered 2 times, and left once
     7 | #pragma omp target exit data map(from: A)
       |                                        ^
-entered_twice.c:3:39: note: A[0:4] is on device 0 since item 0, which entered it here
+entered_twice.c:3:39: note: A[0:4] is on device 0 since it was entered here
     3 | #pragma omp target enter data map(to: A)
       |                                       ^
-entered_twice.c:4:39: note: item 1 entered A[0:4] once more here
+entered_twice.c:4:39: note: A[0:4] was entered once more here
     4 | #pragma omp target enter data map(to: A)
       |                                       ^
 entered_twice.c:8:7: help: write `#pragma omp target update from(A)` before this
@@ -397,11 +397,11 @@ $ ompc explain written_or_not_and_read.c
 written_or_not_and_read.c:6:7: error: the host reads A[0], which was copied to the host from device 0, where it was not current itself [E506]
     6 | print(A[0]);
       |       ^~~~
-written_or_not_and_read.c:4:30: note: `map(from: A[0:2])` of item 1 copies A[0] from device 0 to the host here, whatever it is there
+written_or_not_and_read.c:4:30: note: `map(from: A[0:2])` copies A[0] from device 0 to the host here, whatever it is there
     4 | #pragma omp target map(from: A)
       |                              ^
-written_or_not_and_read.c:4:30: note: `map(from: A[0:2])` of item 1 creates A[0] on device 0 here, and copies nothing to it
-written_or_not_and_read.c:5:12: note: A[0] is written here, on device 0, by the target (item 1), only under a condition
+written_or_not_and_read.c:4:30: note: `map(from: A[0:2])` creates A[0] on device 0 here, and copies nothing to it
+written_or_not_and_read.c:5:12: note: A[0] is written here, on device 0, only under a condition
     5 | { if (s) { A[0] = 1; A[1] = 2; } }
       |            ^~~~
 written_or_not_and_read.c:4:30: help: write `tofrom` in place of `from` here, which copies A[0] from the host, or write A[0] on the device before it is read
@@ -418,11 +418,11 @@ $ ompc explain written_at_some_cell.c
 written_at_some_cell.c:7:7: error: the host reads A[2], which was copied to the host from device 0, where it was not current itself [E506]
     7 | print(A[2]);
       |       ^~~~
-written_at_some_cell.c:5:30: note: `map(from: A[0:4])` of item 1 copies A[2] from device 0 to the host here, whatever it is there
+written_at_some_cell.c:5:30: note: `map(from: A[0:4])` copies A[2] from device 0 to the host here, whatever it is there
     5 | #pragma omp target map(from: A)
       |                              ^
-written_at_some_cell.c:5:30: note: `map(from: A[0:4])` of item 1 creates A[2] on device 0 here, and copies nothing to it
-written_at_some_cell.c:6:3: note: A[2] is written here, on device 0, by the target (item 1), only where the subscript is that of this cell
+written_at_some_cell.c:5:30: note: `map(from: A[0:4])` creates A[2] on device 0 here, and copies nothing to it
+written_at_some_cell.c:6:3: note: A[2] is written here, on device 0, only where the subscript is that of this cell
     6 | { A[s & 3] = 1; }
       |   ^~~~~~~~
 written_at_some_cell.c:5:30: help: write `tofrom` in place of `from` here, which copies A[2] from the host, or write A[2] on the device before it is read
@@ -439,13 +439,13 @@ $ ompc explain stale_on_the_device.c
 stale_on_the_device.c:7:46: error: the target reads A[0], whose last value is on the host: nothing has copied it to device 0 since (in the turn i = 0) [E507]
     7 | for (uint64_t i = 0; i < 2; i += 1) { B[i] = A[i] + 1; }
       |                                              ^~~~
-stale_on_the_device.c:5:1: note: A[0] is written here, on the host, by item 1
+stale_on_the_device.c:5:1: note: A[0] is written here, on the host
     5 | A[0] = 5;
       | ^~~~
 stale_on_the_device.c:6:28: note: `map(to: A[0:2])` copies nothing here, since A[0:2] is on device 0 already
     6 | #pragma omp target map(to: A) map(from: B)
       |                            ^
-stale_on_the_device.c:4:39: note: A[0:2] is on device 0 since item 0, which entered it here
+stale_on_the_device.c:4:39: note: A[0:2] is on device 0 since it was entered here
     4 | #pragma omp target enter data map(to: A)
       |                                       ^
 stale_on_the_device.c:6:1: help: write `#pragma omp target update to(A[0:1])` before this, or `map(always, to: A[0:2])` in it
@@ -461,13 +461,13 @@ $ ompc explain stale_on_another_device.c
 stale_on_another_device.c:8:10: error: the target reads A[0], whose last value is on device 0: nothing has copied it to device 1 since [E507]
     8 | { A[1] = A[0]; }
       |          ^~~~
-stale_on_another_device.c:6:3: note: A[0] is written here, on device 0, by the target (item 2)
+stale_on_another_device.c:6:3: note: A[0] is written here, on device 0
     6 | { A[0] = 7; }
       |   ^~~~
 stale_on_another_device.c:8:1: note: the implicit `map(tofrom: A[0:2])` copies nothing here, since A[0:2] is on device 1 already
     8 | { A[1] = A[0]; }
       | ^
-stale_on_another_device.c:4:39: note: A[0:2] is on device 1 since item 1, which entered it here
+stale_on_another_device.c:4:39: note: A[0:2] is on device 1 since it was entered here
     4 | #pragma omp target enter data map(to: A) device(1)
       |                                       ^
 stale_on_another_device.c:7:1: help: write `#pragma omp target update from(A[0:1])` before this
@@ -484,13 +484,13 @@ stale_on_another_device.c:7:1: help: this change is accepted
 
 # last values that were copied over, or may have been written over
 $ ompc explain updated_the_wrong_way.c
-updated_the_wrong_way.c:7:7: error: the host reads A[1], whose last value was on device 0, and `to(A[0:4])` of item 2 copied over it what the host had [E506]
+updated_the_wrong_way.c:7:7: error: the host reads A[1], whose last value was on device 0, and `to(A[0:4])` at line 6 copied over it what the host had [E506]
     7 | print(A[1]);
       |       ^~~~
-updated_the_wrong_way.c:5:39: note: A[1] is written here, on device 0, by the target (item 1) (in the turn i = 1)
+updated_the_wrong_way.c:5:39: note: A[1] is written here, on device 0 (in the turn i = 1)
     5 | for (uint64_t i = 0; i < 4; i += 1) { A[i] = i + 1; }
       |                                       ^~~~
-updated_the_wrong_way.c:6:30: note: `to(A[0:4])` of item 2 copies A[1] from the host to device 0 here, whatever it is there
+updated_the_wrong_way.c:6:30: note: `to(A[0:4])` copies A[1] from the host to device 0 here, whatever it is there
     6 | #pragma omp target update to(A)
       |                              ^
 updated_the_wrong_way.c:6:30: help: write `from` in place of `to` here, which copies it to the host
@@ -502,13 +502,13 @@ updated_the_wrong_way.c:6:1: help: this change is accepted
 +#pragma omp target update from(A)
 [1]
 $ ompc explain host_write_not_sent.c
-host_write_not_sent.c:11:7: error: the host reads A[0], whose last value was on the host, and `map(tofrom: A[0:8])` of item 4 copied over it what device 0 had [E506]
+host_write_not_sent.c:11:7: error: the host reads A[0], whose last value was on the host, and `map(tofrom: A[0:8])` at line 10 copied over it what device 0 had [E506]
    11 | print(A[0]);
       |       ^~~~
-host_write_not_sent.c:3:37: note: `map(tofrom: A[0:8])` of item 4 copies A[0] from device 0 to the host at the end of its block, whatever it is there
+host_write_not_sent.c:3:37: note: `map(tofrom: A[0:8])` copies A[0] from device 0 to the host at the end of its block, whatever it is there
     3 | #pragma omp target data map(tofrom: A)
       |                                     ^
-host_write_not_sent.c:8:1: note: A[0] is written here, on the host, by item 3
+host_write_not_sent.c:8:1: note: A[0] is written here, on the host
     8 | A[0] = A[6];
       | ^~~~
 host_write_not_sent.c:9:27: help: write `#pragma omp target update to(A[0:1])` after this, which copies it to device 0
@@ -521,13 +521,13 @@ host_write_not_sent.c:10:1: help: this change is accepted
 +#pragma omp target update to(A[0:1])
 [1]
 $ ompc explain copied_over_at_the_end.c
-copied_over_at_the_end.c:8:7: error: the host reads A[1], whose last value was on the host, and `map(from: A[0:4])` of item 2 copied over it what device 0 had [E506]
+copied_over_at_the_end.c:8:7: error: the host reads A[1], whose last value was on the host, and `map(from: A[0:4])` at line 7 copied over it what device 0 had [E506]
     8 | print(A[1]);
       |       ^~~~
-copied_over_at_the_end.c:3:35: note: `map(from: A[0:4])` of item 2 copies A[1] from device 0 to the host at the end of its block, whatever it is there
+copied_over_at_the_end.c:3:35: note: `map(from: A[0:4])` copies A[1] from device 0 to the host at the end of its block, whatever it is there
     3 | #pragma omp target data map(from: A)
       |                                   ^
-copied_over_at_the_end.c:6:39: note: A[1] is written here, on device 1, by the target (item 1) (in the turn i = 1)
+copied_over_at_the_end.c:6:39: note: A[1] is written here, on device 1 (in the turn i = 1)
     6 | for (uint64_t i = 0; i < 4; i += 1) { A[i] = i + 1; }
       |                                       ^~~~
 copied_over_at_the_end.c:7:1: help: write `#pragma omp target update to(A)` before the end of this block, which copies it to device 0
@@ -544,13 +544,13 @@ $ ompc explain copied_over_and_entered_again.c
 copied_over_and_entered_again.c:8:46: error: the target reads A[1], which was copied to device 0 from the host, where it was not current itself (in the turn i = 1) [E507]
     8 | for (uint64_t i = 0; i < 4; i += 1) { B[i] = A[i]; }
       |                                              ^~~~
-copied_over_and_entered_again.c:7:28: note: `map(to: A[0:4])` of item 3 copies A[1] from the host to device 0 here, whatever it is there
+copied_over_and_entered_again.c:7:28: note: `map(to: A[0:4])` copies A[1] from the host to device 0 here, whatever it is there
     7 | #pragma omp target map(to: A) map(from: B)
       |                            ^
-copied_over_and_entered_again.c:6:40: note: `map(from: A[0:4])` of item 2 copies A[1] from device 0 to the host here, whatever it is there
+copied_over_and_entered_again.c:6:40: note: `map(from: A[0:4])` copies A[1] from device 0 to the host here, whatever it is there
     6 | #pragma omp target exit data map(from: A)
       |                                        ^
-copied_over_and_entered_again.c:5:1: note: A[1] is written here, on the host, by item 1
+copied_over_and_entered_again.c:5:1: note: A[1] is written here, on the host
     5 | A[1] = 5;
       | ^~~~
 copied_over_and_entered_again.c:5:9: help: write `#pragma omp target update to(A[1:1])` after this, which copies it to device 0
@@ -563,13 +563,13 @@ copied_over_and_entered_again.c:6:1: help: this change is accepted
 +#pragma omp target update to(A[1:1])
 [1]
 $ ompc explain written_or_not_on_the_host.c
-written_or_not_on_the_host.c:10:7: error: the host reads A[1], whose last value was on device 0, and which item 3 may have written on the host since [E506]
+written_or_not_on_the_host.c:10:7: error: the host reads A[1], whose last value was on device 0, and which the host at line 8 may have written on the host since [E506]
    10 | print(A[1]);
       |       ^~~~
-written_or_not_on_the_host.c:7:39: note: A[1] is written here, on device 0, by the target (item 2) (in the turn i = 1)
+written_or_not_on_the_host.c:7:39: note: A[1] is written here, on device 0 (in the turn i = 1)
     7 | for (uint64_t i = 0; i < 4; i += 1) { A[i] = i; }
       |                                       ^~~~
-written_or_not_on_the_host.c:8:10: note: A[1] is written here, on the host, by item 3, only under a condition
+written_or_not_on_the_host.c:8:10: note: A[1] is written here, on the host, only under a condition
     8 | if (s) { A[1] = 7; }
       |          ^~~~
 written_or_not_on_the_host.c:8:1: help: write `#pragma omp target update from(A)` before this, which copies it to the host
@@ -628,10 +628,10 @@ one_cell_of_two_turns.c:3:1: help: this change is accepted
 
 # items with no order between them
 $ ompc explain depends_overlap.c
-depends_overlap.c:5:53: error: `depend(in: A[2:4])` overlaps `depend(out: A[0:4])` of item 0 in A[2], and is not the same section [E505]
+depends_overlap.c:5:53: error: `depend(in: A[2:4])` overlaps `depend(out: A[0:4])` of the target at line 3 in A[2], and is not the same section [E505]
     5 | #pragma omp target map(tofrom: A) nowait depend(in: A[2:4])
       |                                                     ^~~~~~
-depends_overlap.c:3:54: note: `depend(out: A[0:4])` of item 0 stands here
+depends_overlap.c:3:54: note: `depend(out: A[0:4])` stands here
     3 | #pragma omp target map(tofrom: A) nowait depend(out: A[0:4])
       |                                                      ^~~~~~
 depends_overlap.c:5:53: help: name the same section in both, as A[0:6]: tasks are ordered by equal sections alone
@@ -648,13 +648,13 @@ depends_overlap.c:3:1: help: this change is accepted
 +#pragma omp target map(tofrom: A) nowait depend(in: A[0:6])
 [1]
 $ ompc explain broken_chain.c
-broken_chain.c:10:3: error: the target (item 2) writes C[0] on device 0, and the target (item 0) writes C[0] on device 0, with no order between them [E508]
+broken_chain.c:10:3: error: the target at line 9 writes C[0] on device 0, and the target at line 5 writes C[0] on device 0, with no order between them [E508]
    10 | { C[0] = C[0] + 5; }
       |   ^~~~
-broken_chain.c:6:3: note: the target (item 0) writes C[0] on device 0 here
+broken_chain.c:6:3: note: the target writes C[0] on device 0 here
     6 | { C[0] = 1; }
       |   ^~~~
-broken_chain.c:5:1: note: item 0 is deferred by `nowait`: what stands after it does not wait for it
+broken_chain.c:5:1: note: this is deferred by `nowait`: what stands after it does not wait for it
     5 | #pragma omp target map(tofrom: C) nowait depend(out: A)
       | ^~~~~~~~~~~~~~~~~~~~~~~~~~~~~~~~~~~~~~~~~~~~~~~~~~~~~~~
 broken_chain.c:9:1: note: no `taskwait` between the two waits for it, and their `depend` clauses name no section in common
@@ -672,13 +672,13 @@ broken_chain.c:5:1: help: this change is accepted
 +#pragma omp target map(tofrom: C) nowait depend(in: B) depend(inout: C)
 [1]
 $ ompc explain readers_create_both.c
-readers_create_both.c:7:28: error: the target (item 1) copies A[0] from the host to device 0, and the target (item 0) reads A[0] on device 0, with no order between them [E508]
+readers_create_both.c:7:28: error: the target at line 7 copies A[0] from the host to device 0, and the target at line 5 reads A[0] on device 0, with no order between them [E508]
     7 | #pragma omp target map(to: A) map(from: C) nowait
       |                            ^
-readers_create_both.c:6:46: note: the target (item 0) reads A[0] on device 0 here (in the turn i = 0)
+readers_create_both.c:6:46: note: the target reads A[0] on device 0 here (in the turn i = 0)
     6 | for (uint64_t i = 0; i < 4; i += 1) { B[i] = A[i] + 1; }
       |                                              ^~~~
-readers_create_both.c:5:1: note: item 0 is deferred by `nowait`: what stands after it does not wait for it
+readers_create_both.c:5:1: note: this is deferred by `nowait`: what stands after it does not wait for it
     5 | #pragma omp target map(to: A) map(from: B) nowait
       | ^~~~~~~~~~~~~~~~~~~~~~~~~~~~~~~~~~~~~~~~~~~~~~~~~
 readers_create_both.c:7:1: note: no `taskwait` between the two waits for it, and neither has a `depend` clause
@@ -696,13 +696,13 @@ readers_create_both.c:5:1: help: this change is accepted
 +#pragma omp target map(to: A) map(from: C) nowait depend(inout: A)
 [1]
 $ ompc explain host_beside_a_copy_in.c
-host_beside_a_copy_in.c:5:24: error: item 2 writes A[5] on the host, and `target update` (item 1) copies A[5] from the host to device 0, with no order between them [E508]
+host_beside_a_copy_in.c:5:24: error: the host at line 5 writes A[5] on the host, and `target update` at line 4 copies A[5] from the host to device 0, with no order between them [E508]
     5 | A[1] = 1; print(A[6]); A[5] = 1;
       |                        ^~~~
-host_beside_a_copy_in.c:4:30: note: `target update` (item 1) copies A[5] from the host to device 0 here
+host_beside_a_copy_in.c:4:30: note: `target update` copies A[5] from the host to device 0 here
     4 | #pragma omp target update to(A[4:4]) nowait
       |                              ^~~~~~
-host_beside_a_copy_in.c:4:1: note: item 1 is deferred by `nowait`: what stands after it does not wait for it
+host_beside_a_copy_in.c:4:1: note: this is deferred by `nowait`: what stands after it does not wait for it
     4 | #pragma omp target update to(A[4:4]) nowait
       | ^~~~~~~~~~~~~~~~~~~~~~~~~~~~~~~~~~~~~~~~~~~
 host_beside_a_copy_in.c:5:1: note: no `taskwait` between the two waits for it
@@ -716,13 +716,13 @@ host_beside_a_copy_in.c:5:1: help: this change is accepted
 +#pragma omp taskwait
 [1]
 $ ompc explain exit_before_the_wait.c
-exit_before_the_wait.c:8:40: error: `target exit data` (item 3) copies A[0] from device 0 to the host, and the target (item 1) writes A[0] on device 0, with no order between them [E508]
+exit_before_the_wait.c:8:40: error: `target exit data` at line 8 copies A[0] from device 0 to the host, and the target at line 4 writes A[0] on device 0, with no order between them [E508]
     8 | #pragma omp target exit data map(from: A)
       |                                        ^
-exit_before_the_wait.c:5:39: note: the target (item 1) writes A[0] on device 0 here (in the turn i = 0)
+exit_before_the_wait.c:5:39: note: the target writes A[0] on device 0 here (in the turn i = 0)
     5 | for (uint64_t i = 0; i < 4; i += 1) { A[i] = i + 1; }
       |                                       ^~~~
-exit_before_the_wait.c:4:1: note: item 1 is deferred by `nowait`: what stands after it does not wait for it
+exit_before_the_wait.c:4:1: note: this is deferred by `nowait`: what stands after it does not wait for it
     4 | #pragma omp target map(tofrom: A[0:4]) nowait
       | ^~~~~~~~~~~~~~~~~~~~~~~~~~~~~~~~~~~~~~~~~~~~~
 exit_before_the_wait.c:8:1: note: no `taskwait` between the two waits for it, and neither has a `depend` clause
@@ -732,7 +732,7 @@ exit_before_the_wait.c:8:1: help: write `#pragma omp taskwait` before this, or `
 exit_before_the_wait.c:10:32: error: `target update` copies A[0:8], which is not on device 0 [E503]
    10 | #pragma omp target update from(A)
       |                                ^
-exit_before_the_wait.c:8:40: note: item 3 removed A[0] from device 0 here
+exit_before_the_wait.c:8:40: note: A[0] was removed from device 0 here
     8 | #pragma omp target exit data map(from: A)
       |                                        ^
 exit_before_the_wait.c:10:1: help: enter it before, as by `#pragma omp target enter data map(to: A[0:8])`
@@ -749,13 +749,13 @@ exit_before_the_wait.c:4:1: help: this change is accepted
 +#pragma omp target exit data map(release: A)
 [1]
 $ ompc explain several_cells.c
-several_cells.c:8:16: error: the target (item 2) writes A[5] on device 0, and the target (item 1) reads A[5] on device 0, with no order between them [E508]
+several_cells.c:8:16: error: the target at line 7 writes A[5] on device 0, and the target at line 5 reads A[5] on device 0, with no order between them [E508]
     8 | { B[0] = A[7]; A[5] = 1; }
       |                ^~~~
-several_cells.c:6:30: note: the target (item 1) reads A[5] on device 0 here
+several_cells.c:6:30: note: the target reads A[5] on device 0 here
     6 | { B[0] = 1; A[7] = 1; B[1] = A[5]; }
       |                              ^~~~
-several_cells.c:5:1: note: item 1 is deferred by `nowait`: what stands after it does not wait for it
+several_cells.c:5:1: note: this is deferred by `nowait`: what stands after it does not wait for it
     5 | #pragma omp target nowait
       | ^~~~~~~~~~~~~~~~~~~~~~~~~
 several_cells.c:7:1: note: no `taskwait` between the two waits for it, and neither has a `depend` clause
@@ -773,16 +773,16 @@ several_cells.c:5:1: help: this change is accepted
 +#pragma omp target nowait depend(inout: A)
 [1]
 $ ompc explain waits_for_another_array.c
-waits_for_another_array.c:9:7: error: item 3 reads B[0] on the host, and the target (item 1) copies B[0] from device 0 to the host, with no order between them [E508]
+waits_for_another_array.c:9:7: error: the host at line 9 reads B[0] on the host, and the target at line 6 copies B[0] from device 0 to the host, with no order between them [E508]
     9 | print(B[0]);
       |       ^~~~
-waits_for_another_array.c:6:30: note: the target (item 1) copies B[0] from device 0 to the host here
+waits_for_another_array.c:6:30: note: the target copies B[0] from device 0 to the host here
     6 | #pragma omp target map(from: B) nowait depend(out: B)
       |                              ^
-waits_for_another_array.c:6:1: note: item 1 is deferred by `nowait`: what stands after it does not wait for it
+waits_for_another_array.c:6:1: note: this is deferred by `nowait`: what stands after it does not wait for it
     6 | #pragma omp target map(from: B) nowait depend(out: B)
       | ^~~~~~~~~~~~~~~~~~~~~~~~~~~~~~~~~~~~~~~~~~~~~~~~~~~~~
-waits_for_another_array.c:8:1: note: this `taskwait` waits for `depend(in: A[0:4])` alone, and not for item 1
+waits_for_another_array.c:8:1: note: this `taskwait` waits for `depend(in: A[0:4])` alone, and not for the target at line 6
     8 | #pragma omp taskwait depend(in: A)
       | ^~~~~~~~~~~~~~~~~~~~~~~~~~~~~~~~~~
 waits_for_another_array.c:9:1: help: write `#pragma omp taskwait` before this
@@ -795,13 +795,13 @@ waits_for_another_array.c:9:1: help: this change is accepted
 +#pragma omp taskwait
 [1]
 $ ompc explain no_wait_before_the_end.c
-no_wait_before_the_end.c:3:37: error: the end of `target data` (item 2) copies A[0] from device 0 to the host, and the target (item 1) writes A[0] on device 0, with no order between them [E508]
+no_wait_before_the_end.c:3:37: error: the end of `target data` at line 7 copies A[0] from device 0 to the host, and the target at line 5 writes A[0] on device 0, with no order between them [E508]
     3 | #pragma omp target data map(tofrom: A)
       |                                     ^
-no_wait_before_the_end.c:6:39: note: the target (item 1) writes A[0] on device 0 here (in the turn i = 0)
+no_wait_before_the_end.c:6:39: note: the target writes A[0] on device 0 here (in the turn i = 0)
     6 | for (uint64_t i = 0; i < 4; i += 1) { A[i] = i + 1; }
       |                                       ^~~~
-no_wait_before_the_end.c:5:1: note: item 1 is deferred by `nowait`: what stands after it does not wait for it
+no_wait_before_the_end.c:5:1: note: this is deferred by `nowait`: what stands after it does not wait for it
     5 | #pragma omp target nowait
       | ^~~~~~~~~~~~~~~~~~~~~~~~~
 no_wait_before_the_end.c:7:1: note: no `taskwait` between the two waits for it
@@ -815,16 +815,16 @@ no_wait_before_the_end.c:7:1: help: this change is accepted
 +#pragma omp taskwait
 [1]
 $ ompc explain reader_without_depend.c
-reader_without_depend.c:9:46: error: the target (item 2) reads A[0] on device 0, and the target (item 1) writes A[0] on device 0, with no order between them (in the turn i = 0) [E508]
+reader_without_depend.c:9:46: error: the target at line 8 reads A[0] on device 0, and the target at line 6 writes A[0] on device 0, with no order between them (in the turn i = 0) [E508]
     9 | for (uint64_t i = 0; i < 2; i += 1) { B[i] = A[i]; }
       |                                              ^~~~
-reader_without_depend.c:7:39: note: the target (item 1) writes A[0] on device 0 here (in the turn i = 0)
+reader_without_depend.c:7:39: note: the target writes A[0] on device 0 here (in the turn i = 0)
     7 | for (uint64_t i = 0; i < 2; i += 1) { A[i] = i; }
       |                                       ^~~~
-reader_without_depend.c:6:1: note: item 1 is deferred by `nowait`: what stands after it does not wait for it
+reader_without_depend.c:6:1: note: this is deferred by `nowait`: what stands after it does not wait for it
     6 | #pragma omp target nowait depend(out: A[0:2])
       | ^~~~~~~~~~~~~~~~~~~~~~~~~~~~~~~~~~~~~~~~~~~~~
-reader_without_depend.c:8:1: note: no `taskwait` between the two waits for it, and item 2 has no `depend` clause
+reader_without_depend.c:8:1: note: no `taskwait` between the two waits for it, and the target at line 8 has no `depend` clause
     8 | #pragma omp target nowait
       | ^~~~~~~~~~~~~~~~~~~~~~~~~
 reader_without_depend.c:8:1: help: write `#pragma omp taskwait` before this, or `depend(in: A[0:2])` on it
@@ -836,13 +836,13 @@ reader_without_depend.c:8:1: help: this change is accepted
 +#pragma omp target nowait depend(in: A[0:2])
 [1]
 $ ompc explain other_half_named.c
-other_half_named.c:8:39: error: the target (item 2) writes A[2] on device 0, and the target (item 1) writes A[2] on device 0, with no order between them (in the turn i = 2) [E508]
+other_half_named.c:8:39: error: the target at line 7 writes A[2] on device 0, and the target at line 5 writes A[2] on device 0, with no order between them (in the turn i = 2) [E508]
     8 | for (uint64_t i = 2; i < 4; i += 1) { A[i] = A[i] * 5; }
       |                                       ^~~~
-other_half_named.c:6:39: note: the target (item 1) writes A[2] on device 0 here (in the turn i = 2)
+other_half_named.c:6:39: note: the target writes A[2] on device 0 here (in the turn i = 2)
     6 | for (uint64_t i = 2; i < 4; i += 1) { A[i] = i; }
       |                                       ^~~~
-other_half_named.c:5:1: note: item 1 is deferred by `nowait`: what stands after it does not wait for it
+other_half_named.c:5:1: note: this is deferred by `nowait`: what stands after it does not wait for it
     5 | #pragma omp target nowait depend(out: A[2:2])
       | ^~~~~~~~~~~~~~~~~~~~~~~~~~~~~~~~~~~~~~~~~~~~~
 other_half_named.c:7:1: note: no `taskwait` between the two waits for it, and their `depend` clauses name no section in common
@@ -897,19 +897,19 @@ four_faults_of_range.c:10:3: help: put it under an `if` that the values of the l
       |   ^~~~
 [1]
 $ ompc explain two_overlaps.c
-two_overlaps.c:5:53: error: `depend(in: A[2:4])` overlaps `depend(out: A[0:4])` of item 0 in A[2], and is not the same section [E505]
+two_overlaps.c:5:53: error: `depend(in: A[2:4])` overlaps `depend(out: A[0:4])` of the target at line 3 in A[2], and is not the same section [E505]
     5 | #pragma omp target map(tofrom: A) nowait depend(in: A[2:4])
       |                                                     ^~~~~~
-two_overlaps.c:3:54: note: `depend(out: A[0:4])` of item 0 stands here
+two_overlaps.c:3:54: note: `depend(out: A[0:4])` stands here
     3 | #pragma omp target map(tofrom: A) nowait depend(out: A[0:4])
       |                                                      ^~~~~~
 two_overlaps.c:5:53: help: name the same section in both, as A[0:6]: tasks are ordered by equal sections alone
     5 | #pragma omp target map(tofrom: A) nowait depend(in: A[2:4])
       |                                                     ^~~~~~
-two_overlaps.c:7:53: error: `depend(in: A[3:4])` overlaps `depend(out: A[0:4])` of item 0 in A[3], and is not the same section [E505]
+two_overlaps.c:7:53: error: `depend(in: A[3:4])` overlaps `depend(out: A[0:4])` of the target at line 3 in A[3], and is not the same section [E505]
     7 | #pragma omp target map(tofrom: A) nowait depend(in: A[3:4])
       |                                                     ^~~~~~
-two_overlaps.c:3:54: note: `depend(out: A[0:4])` of item 0 stands here
+two_overlaps.c:3:54: note: `depend(out: A[0:4])` stands here
     3 | #pragma omp target map(tofrom: A) nowait depend(out: A[0:4])
       |                                                      ^~~~~~
 two_overlaps.c:7:53: help: name the same section in both, as A[0:7]: tasks are ordered by equal sections alone
@@ -929,26 +929,26 @@ two_overlaps.c:3:1: help: this change is accepted
 +#pragma omp target map(tofrom: A) nowait depend(in: A[0:6])
 [1]
 $ ompc explain three_faults.c
-three_faults.c:8:3: error: the target (item 1) writes A[0] on device 0, and the target (item 0) writes A[0] on device 0, with no order between them [E508]
+three_faults.c:8:3: error: the target at line 7 writes A[0] on device 0, and the target at line 5 writes A[0] on device 0, with no order between them [E508]
     8 | { A[0] = A[0] + 1; }
       |   ^~~~
-three_faults.c:6:3: note: the target (item 0) writes A[0] on device 0 here
+three_faults.c:6:3: note: the target writes A[0] on device 0 here
     6 | { A[0] = A[0] + 1; }
       |   ^~~~
-three_faults.c:5:1: note: item 0 is deferred by `nowait`: what stands after it does not wait for it
+three_faults.c:5:1: note: this is deferred by `nowait`: what stands after it does not wait for it
     5 | #pragma omp target map(tofrom: A) nowait
       | ^~~~~~~~~~~~~~~~~~~~~~~~~~~~~~~~~~~~~~~~
 three_faults.c:7:1: note: no `taskwait` between the two waits for it, and neither has a `depend` clause
     7 | #pragma omp target map(tofrom: A) nowait
       | ^~~~~~~~~~~~~~~~~~~~~~~~~~~~~~~~~~~~~~~~
 three_faults.c:7:1: help: write `#pragma omp taskwait` before this, or `depend(inout: A)` on both
-three_faults.c:10:3: error: the target (item 2) writes A[0] on device 0, and the target (item 0) writes A[0] on device 0, with no order between them [E508]
+three_faults.c:10:3: error: the target at line 9 writes A[0] on device 0, and the target at line 5 writes A[0] on device 0, with no order between them [E508]
    10 | { A[0] = A[0] + 1; C[0] = 1; }
       |   ^~~~
-three_faults.c:6:3: note: the target (item 0) writes A[0] on device 0 here
+three_faults.c:6:3: note: the target writes A[0] on device 0 here
     6 | { A[0] = A[0] + 1; }
       |   ^~~~
-three_faults.c:5:1: note: item 0 is deferred by `nowait`: what stands after it does not wait for it
+three_faults.c:5:1: note: this is deferred by `nowait`: what stands after it does not wait for it
     5 | #pragma omp target map(tofrom: A) nowait
       | ^~~~~~~~~~~~~~~~~~~~~~~~~~~~~~~~~~~~~~~~
 three_faults.c:9:1: note: no `taskwait` between the two waits for it, and neither has a `depend` clause
@@ -958,10 +958,10 @@ three_faults.c:9:1: help: write `#pragma omp taskwait` before this, or `depend(i
 three_faults.c:12:7: error: the host reads C[0], whose last value is on device 0: nothing has copied it to the host since [E506]
    12 | print(C[0]);
       |       ^~~~
-three_faults.c:10:20: note: C[0] is written here, on device 0, by the target (item 2)
+three_faults.c:10:20: note: C[0] is written here, on device 0
    10 | { A[0] = A[0] + 1; C[0] = 1; }
       |                    ^~~~
-three_faults.c:9:43: note: `map(to: C[0:8])` of item 2 removes C[0] from device 0 here without copying it to the host
+three_faults.c:9:43: note: `map(to: C[0:8])` removes C[0] from device 0 here without copying it to the host
     9 | #pragma omp target map(tofrom: A) map(to: C) nowait
       |                                           ^
 three_faults.c:9:43: help: write `tofrom` in place of `to` here, which copies it to the host
@@ -1059,10 +1059,10 @@ $ ompc explain dear_check.c
 dear_check.c:13:7: error: the host reads A[0], whose last value is on device 0: nothing has copied it to the host since [E506]
    13 | print(A[0]);
       |       ^~~~
-dear_check.c:12:3: note: A[0] is written here, on device 0, by the target (item 8)
+dear_check.c:12:3: note: A[0] is written here, on device 0
    12 | { A[0] = 1; }
       |   ^~~~
-dear_check.c:11:28: note: `map(to: A[0:4])` of item 8 removes A[0] from device 0 here without copying it to the host
+dear_check.c:11:28: note: `map(to: A[0:4])` removes A[0] from device 0 here without copying it to the host
    11 | #pragma omp target map(to: A)
       |                            ^
 dear_check.c:11:28: help: write `tofrom` in place of `to` here, which copies it to the host
@@ -1138,7 +1138,7 @@ $ ompc explain mapped_to_only.c --format json
               "value": 0
             }
           ],
-          "message": "A[0] is written here, on device 0, by the target (item 1) (in the turn i = 0)"
+          "message": "A[0] is written here, on device 0 (in the turn i = 0)"
         },
         {
           "column": 28,
@@ -1147,7 +1147,7 @@ $ ompc explain mapped_to_only.c --format json
           "kind": "note",
           "line": 4,
           "loops": [],
-          "message": "`map(to: A[0:4])` of item 1 removes A[0] from device 0 here without copying it to the host"
+          "message": "`map(to: A[0:4])` removes A[0] from device 0 here without copying it to the host"
         },
         {
           "column": 28,
@@ -1311,7 +1311,7 @@ $ ompc explain mapped_to_only.c --format sarif
             {
               "id": 0,
               "message": {
-                "text": "note: A[0] is written here, on device 0, by the target (item 1) (in the turn i = 0)"
+                "text": "note: A[0] is written here, on device 0 (in the turn i = 0)"
               },
               "physicalLocation": {
                 "artifactLocation": {
@@ -1336,7 +1336,7 @@ $ ompc explain mapped_to_only.c --format sarif
             {
               "id": 1,
               "message": {
-                "text": "note: `map(to: A[0:4])` of item 1 removes A[0] from device 0 here without copying it to the host"
+                "text": "note: `map(to: A[0:4])` removes A[0] from device 0 here without copying it to the host"
               },
               "physicalLocation": {
                 "artifactLocation": {
@@ -1412,13 +1412,13 @@ $ ompc explain stale_on_another_device.c --color always
 [1mstale_on_another_device.c:8:10: [1;31merror: [0mthe target reads A[0], whose last value is on device 0: nothing has copied it to device 1 since [E507]
     8 | { A[1] = A[0]; }
       | [1;32m         ^~~~[0m
-[1mstale_on_another_device.c:6:3: [1;36mnote: [0mA[0] is written here, on device 0, by the target (item 2)
+[1mstale_on_another_device.c:6:3: [1;36mnote: [0mA[0] is written here, on device 0
     6 | { A[0] = 7; }
       | [1;32m  ^~~~[0m
 [1mstale_on_another_device.c:8:1: [1;36mnote: [0mthe implicit `map(tofrom: A[0:2])` copies nothing here, since A[0:2] is on device 1 already
     8 | { A[1] = A[0]; }
       | [1;32m^[0m
-[1mstale_on_another_device.c:4:39: [1;36mnote: [0mA[0:2] is on device 1 since item 1, which entered it here
+[1mstale_on_another_device.c:4:39: [1;36mnote: [0mA[0:2] is on device 1 since it was entered here
     4 | #pragma omp target enter data map(to: A) device(1)
       | [1;32m                                      ^[0m
 [1mstale_on_another_device.c:7:1: [1;32mhelp: [0mwrite `#pragma omp target update from(A[0:1])` before this
@@ -1481,7 +1481,7 @@ $ ompc explain --format json stale_on_another_device.c
           "kind": "note",
           "line": 6,
           "loops": [],
-          "message": "A[0] is written here, on device 0, by the target (item 2)"
+          "message": "A[0] is written here, on device 0"
         },
         {
           "column": 1,
@@ -1499,7 +1499,7 @@ $ ompc explain --format json stale_on_another_device.c
           "kind": "note",
           "line": 4,
           "loops": [],
-          "message": "A[0:2] is on device 1 since item 1, which entered it here"
+          "message": "A[0:2] is on device 1 since it was entered here"
         },
         {
           "column": 1,
@@ -1550,10 +1550,10 @@ $ ompc explain mended_in_part.c
 mended_in_part.c:6:7: error: the host reads A[1], whose last value is on device 0: nothing has copied it to the host since [E506]
     6 | print(A[1]);
       |       ^~~~
-mended_in_part.c:5:39: note: A[1] is written here, on device 0, by the target (item 0) (in the turn i = 1)
+mended_in_part.c:5:39: note: A[1] is written here, on device 0 (in the turn i = 1)
     5 | for (uint64_t i = 0; i < 4; i += 1) { A[i] = i; }
       |                                       ^~~~
-mended_in_part.c:4:28: note: `map(to: A[0:4])` of item 0 removes A[1] from device 0 here without copying it to the host
+mended_in_part.c:4:28: note: `map(to: A[0:4])` removes A[1] from device 0 here without copying it to the host
     4 | #pragma omp target map(to: A)
       |                            ^
 mended_in_part.c:4:28: help: write `tofrom` in place of `to` here, which copies it to the host
@@ -1587,7 +1587,7 @@ $ ompc explain --format json mended_in_part.c
               "value": 1
             }
           ],
-          "message": "A[1] is written here, on device 0, by the target (item 0) (in the turn i = 1)"
+          "message": "A[1] is written here, on device 0 (in the turn i = 1)"
         },
         {
           "column": 28,
@@ -1596,7 +1596,7 @@ $ ompc explain --format json mended_in_part.c
           "kind": "note",
           "line": 4,
           "loops": [],
-          "message": "`map(to: A[0:4])` of item 0 removes A[1] from device 0 here without copying it to the host"
+          "message": "`map(to: A[0:4])` removes A[1] from device 0 here without copying it to the host"
         },
         {
           "column": 28,

@@ -167,10 +167,10 @@ $ ompc explain below_in_c.c
 below_in_c.c:6:11: error: the host reads A[0], whose last value is on device 0: nothing has copied it to the host since [E506]
     6 |     print(A[0]);
       |           ^~~~
-below_in_c.c:5:7: note: A[0] is written here, on device 0, by the target (item 0)
+below_in_c.c:5:7: note: A[0] is written here, on device 0
     5 |     { A[0] = 1 - 2; }
       |       ^~~~
-below_in_c.c:4:32: note: `map(to: A[0:4])` of item 0 removes A[0] from device 0 here without copying it to the host
+below_in_c.c:4:32: note: `map(to: A[0:4])` removes A[0] from device 0 here without copying it to the host
     4 |     #pragma omp target map(to: A)
       |                                ^
 below_in_c.c:4:32: help: write `tofrom` in place of `to` here, which copies it to the host

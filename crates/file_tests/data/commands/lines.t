@@ -5,10 +5,10 @@ $ ompc explain broken_lines.c
 broken_lines.c:19:39: error: the host reads B[0], whose last value is on device 0: nothing has copied it to the host since (in the turn i = 0) [E506]
    19 |     for (int i = 0; i < N; i++) print(B[i]);
       |                                       ^~~~
-broken_lines.c:17:39: note: B[0] is written here, on device 0, by the target (item 3) (in the turn i = 0)
+broken_lines.c:17:39: note: B[0] is written here, on device 0 (in the turn i = 0)
    17 |         for (int i = 0; i < N; i++) { B[i] = A[i]; }
       |                                       ^~~~
-broken_lines.c:13:36: note: `map(alloc: B[0:8])` of item 4 removes B[0] from device 0 at the end of its block without copying it to the host
+broken_lines.c:13:36: note: `map(alloc: B[0:8])` removes B[0] from device 0 at the end of its block without copying it to the host
    13 |                         map(alloc: B[0:N])
       |                                    ^~~~~~
 broken_lines.c:13:36: help: write `from` in place of `alloc` here, which copies it to the host

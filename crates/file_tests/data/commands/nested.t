@@ -18,7 +18,7 @@ $ ompc explain nested_stale.c
 nested_stale.c:15:59: error: the target reads x[0], which is undefined on device 0: it was created there, and nothing was copied to it (in the turn i = 0) [E507]
    15 |     for (uint64_t i = 0; i < N; i++) y[i] = product(A[i], x[i]);
       |                                                           ^~~~
-nested_stale.c:12:55: note: `map(alloc: x[0:8])` of item 1 creates x[0] on device 0 here, and copies nothing to it
+nested_stale.c:12:55: note: `map(alloc: x[0:8])` creates x[0] on device 0 here, and copies nothing to it
    12 | #pragma omp target map(to: A) map(from: y) map(alloc: x)
       |                                                       ^
 nested_stale.c:12:55: help: write `to` in place of `alloc` here, which copies x[0] from the host, or write x[0] on the device before it is read
@@ -50,13 +50,13 @@ nested_sweep.c: no change found: steps 1, checks 2
 
 # the semicolon is what the target does, and the host does the block behind it; the number of a name of loops elsewhere stays
 $ ompc explain empty_target.c
-empty_target.c:13:11: error: the host reads A[0], whose last value was on the host, and `from(A[0:4])` of item 4 copied over it what device 0 had [E506]
+empty_target.c:13:11: error: the host reads A[0], whose last value was on the host, and `from(A[0:4])` at line 12 copied over it what device 0 had [E506]
    13 |     print(A[0]);
       |           ^~~~
-empty_target.c:12:36: note: `from(A[0:4])` of item 4 copies A[0] from device 0 to the host here, whatever it is there
+empty_target.c:12:36: note: `from(A[0:4])` copies A[0] from device 0 to the host here, whatever it is there
    12 |     #pragma omp target update from(A)
       |                                    ^
-empty_target.c:11:7: note: A[0] is written here, on the host, by item 3
+empty_target.c:11:7: note: A[0] is written here, on the host
    11 |     { A[0] = 1; }
       |       ^~~~
 empty_target.c:11:17: help: write `#pragma omp target update to(A[0:1])` after this, which copies it to device 0

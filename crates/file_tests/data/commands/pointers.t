@@ -44,7 +44,7 @@ pointer_read_too_early.c:6:43: error: the host reads cells[0], whose last value 
 pointer_read_too_early.c:14:18: note: called from here
    14 |     uint64_t s = sum(cells, N);
       |                  ^~~
-pointer_read_too_early.c:13:38: note: cells[0] is written here, on device 0, by the target (item 2) (in the turn i = 0)
+pointer_read_too_early.c:13:38: note: cells[0] is written here, on device 0 (in the turn i = 0)
    13 |     for (uint64_t i = 0; i < N; i++) cells[i] = i;
       |                                      ^~~~~~~~
 pointer_read_too_early.c:6:43: help: write `#pragma omp target update from(cells[0:4])` before this

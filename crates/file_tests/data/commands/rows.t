@@ -6,10 +6,10 @@ $ ompc explain row_not_copied.c
 row_not_copied.c:8:7: error: the host reads A[2][3], whose last value is on device 0: nothing has copied it to the host since [E506]
     8 | print(A[2][3]);
       |       ^~~~~~~
-row_not_copied.c:5:57: note: A[2][3] is written here, on device 0, by the target (item 1) (in the turn i = 2, j = 3)
+row_not_copied.c:5:57: note: A[2][3] is written here, on device 0 (in the turn i = 2, j = 3)
     5 | for (int i = 0; i < 4; i++) for (int j = 0; j < 8; j++) A[i][j] = i + j;
       |                                                         ^~~~~~~
-row_not_copied.c:6:32: note: `from(A[0:2][0:8])` of item 2 does not have A[2][3]
+row_not_copied.c:6:32: note: `from(A[0:2][0:8])` does not have A[2][3]
     6 | #pragma omp target update from(A[0:2])
       |                                ^~~~~~
 row_not_copied.c:8:7: help: write `#pragma omp target update from(A[2:2][0:8])` before this
@@ -28,10 +28,10 @@ $ ompc explain row_of_three_not_copied.c
 row_of_three_not_copied.c:8:7: error: the host reads A[2][1][3], whose last value is on device 0: nothing has copied it to the host since [E506]
     8 | print(A[2][1][3]);
       |       ^~~~~~~~~~
-row_of_three_not_copied.c:5:85: note: A[2][1][3] is written here, on device 0, by the target (item 1) (in the turn i = 2, j = 1, k = 3)
+row_of_three_not_copied.c:5:85: note: A[2][1][3] is written here, on device 0 (in the turn i = 2, j = 1, k = 3)
     5 | for (int i = 0; i < 4; i++) for (int j = 0; j < 2; j++) for (int k = 0; k < 8; k++) A[i][j][k] = i + j + k;
       |                                                                                     ^~~~~~~~~~
-row_of_three_not_copied.c:6:32: note: `from(A[0:2][0:2][0:8])` of item 2 does not have A[2][1][3]
+row_of_three_not_copied.c:6:32: note: `from(A[0:2][0:2][0:8])` does not have A[2][1][3]
     6 | #pragma omp target update from(A[0:2])
       |                                ^~~~~~
 row_of_three_not_copied.c:8:7: help: write `#pragma omp target update from(A[2:2][0:2][0:8])` before this

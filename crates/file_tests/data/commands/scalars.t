@@ -32,10 +32,10 @@ $ ompc explain scalar_stale.c
 scalar_stale.c:8:21: error: the host reads count[0], whose last value is on device 0: nothing has copied it to the host since [E506]
     8 |     printf("%lu\n", count);
       |                     ^~~~~
-scalar_stale.c:7:7: note: count[0] is written here, on device 0, by the target (item 1)
+scalar_stale.c:7:7: note: count[0] is written here, on device 0
     7 |     { count = count + 1; }
       |       ^~~~~
-scalar_stale.c:6:28: note: `map(to: count[0:1])` of item 1 removes count[0] from device 0 here without copying it to the host
+scalar_stale.c:6:28: note: `map(to: count[0:1])` removes count[0] from device 0 here without copying it to the host
     6 | #pragma omp target map(to: count)
       |                            ^~~~~
 scalar_stale.c:6:28: help: write `tofrom` in place of `to` here, which copies it to the host
@@ -47,13 +47,13 @@ scalar_stale.c:6:1: help: this change is accepted
 +#pragma omp target map(tofrom: count)
 [1]
 $ ompc explain scalar_overtaken.c
-scalar_overtaken.c:11:5: error: item 3 writes n[0] on the host, and the target (item 2) copies n[0] from the host to device 0, with no order between them [E508]
+scalar_overtaken.c:11:5: error: the host at line 11 writes n[0] on the host, and the target at line 9 copies n[0] from the host to device 0, with no order between them [E508]
    11 |     n = 9;
       |     ^
-scalar_overtaken.c:9:13: note: the target (item 2) copies n[0] from the host to device 0 here
+scalar_overtaken.c:9:13: note: the target copies n[0] from the host to device 0 here
     9 | #pragma omp target nowait map(from: A)
       |             ^~~~~~
-scalar_overtaken.c:9:1: note: item 2 is deferred by `nowait`: what stands after it does not wait for it
+scalar_overtaken.c:9:1: note: this is deferred by `nowait`: what stands after it does not wait for it
     9 | #pragma omp target nowait map(from: A)
       | ^~~~~~~~~~~~~~~~~~~~~~~~~~~~~~~~~~~~~~
 scalar_overtaken.c:11:5: note: no `taskwait` between the two waits for it
